@@ -1,0 +1,98 @@
+//! Module definitions: what a definition file says.
+
+ghost use Rattle.implib.specs.Definition.{definition_view, empty_definition, empty_export, export_view};
+ghost use Rattle.std.specs.Prelude.{◌≡◌, IfOk};
+
+use std::alloc::{AllocError, Global};
+
+pub mod lexer;
+
+/// One export of a module definition.
+#[derive(Debug, Drop)]
+pub struct ShortExport {
+    /// The name to link by; the name inside the DLL where `ext_name` is given.
+    pub name: String,
+    /// The name outside the DLL, where it differs.
+    pub ext_name: Option<String>,
+    /// The symbol of a short record, where it differs from `name`; parsing leaves it empty.
+    pub symbol_name: String,
+    /// What the name is a weak alias for; empty for none.
+    pub alias_target: String,
+    /// The ordinal, or the hint of an export that is asked for by name.
+    pub ordinal: u16,
+    /// Whether the export is asked for by its ordinal.
+    pub no_name: bool,
+    /// Whether it is data.
+    pub is_data: bool,
+    /// Whether it is left out of the import library.
+    pub private: bool,
+    /// Whether it is a constant.
+    pub constant: bool,
+}
+
+/// A module definition.
+#[derive(Debug, Drop)]
+pub struct ModuleDef {
+    /// The exports, in the order of the text.
+    pub exports: Vec<ShortExport>,
+    /// The name of the DLL or program.
+    pub import_name: String,
+    /// `BASE`: the address of the image.
+    pub image_base: u64,
+    /// `STACKSIZE`, the bytes to reserve.
+    pub stack_reserve: u64,
+    /// `STACKSIZE`, the bytes to commit.
+    pub stack_commit: u64,
+    /// `HEAPSIZE`, the bytes to reserve.
+    pub heap_reserve: u64,
+    /// `HEAPSIZE`, the bytes to commit.
+    pub heap_commit: u64,
+    /// `VERSION`, before the point.
+    pub major_image_version: u32,
+    /// `VERSION`, after the point.
+    pub minor_image_version: u32,
+    /// No statement sets it.
+    pub major_os_version: u32,
+    /// No statement sets it.
+    pub minor_os_version: u32,
+}
+
+impl ShortExport {
+    /// An export with empty texts, the number 0 and no flag.
+    pub fn empty(alloc: Global) -> Self
+        ensures { export_view result ≡ empty_export }
+    {
+        ShortExport {
+            name: String::new(alloc),
+            ext_name: None,
+            symbol_name: String::new(alloc),
+            alias_target: String::new(alloc),
+            ordinal: 0,
+            no_name: false,
+            is_data: false,
+            private: false,
+            constant: false,
+        }
+    }
+}
+
+impl ModuleDef {
+    /// A definition with no exports, an empty name and all numbers 0.
+    pub fn empty(alloc: Global) -> Self
+        ensures { definition_view result ≡ empty_definition }
+    {
+        ModuleDef {
+            exports: Vec::new(alloc),
+            import_name: String::new(alloc),
+            image_base: 0,
+            stack_reserve: 0,
+            stack_commit: 0,
+            heap_reserve: 0,
+            heap_commit: 0,
+            major_image_version: 0,
+            minor_image_version: 0,
+            major_os_version: 0,
+            minor_os_version: 0,
+        }
+    }
+}

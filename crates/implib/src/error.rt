@@ -1,0 +1,79 @@
+//! What a call answers in place of its result.
+
+ghost use Rattle.implib.specs.declared.error.Error.TheVariants.{OutOfMemory};
+ghost use Rattle.std.specs.Prelude.{◌≡◌};
+
+use crate::def::lexer::TokenKind;
+use std::alloc::{AllocError, AllocFailed};
+
+/// What is wrong with a text or with a definition.
+///
+/// A `usize` is the export's index in the definition, from 0, private exports counted.
+#[derive(Debug, PartialEq, Eq, Drop, thiserror::Error)]
+pub enum Fault {
+    /// `parse`: a statement begins with this value, which is no directive.
+    #[error("unknown directive: {0}")]
+    UnknownDirective(String),
+    /// `parse`: a token of this kind stands where an identifier is owed.
+    #[error("expected identifier, found: {0}")]
+    ExpectedIdentifier(TokenKind),
+    /// `parse`: a token of this kind stands where `=` is owed.
+    #[error("expected equal, found: {0}")]
+    ExpectedEqual(TokenKind),
+    /// `parse`: an identifier is no number of the type that is owed.
+    #[error("expected integer")]
+    ExpectedInteger,
+    /// `parse`: the value after `@` is no `u16` number.
+    #[error("invalid ordinal: {0}")]
+    InvalidOrdinal(String),
+    /// `parse`: `@` stands as the name after `=`.
+    #[error("lone @ after =")]
+    LoneAt,
+    /// `members`: the import name is empty.
+    #[error("import name is empty")]
+    EmptyImportName,
+    /// `members`: the import name holds a NUL.
+    #[error("import name contains null byte")]
+    NulInImportName,
+    /// `members`: this export's name is empty.
+    #[error("export name is empty")]
+    EmptyName(usize),
+    /// `members`: this export's name, symbol name or alias target holds a NUL.
+    #[error("export name contains null byte")]
+    NulInExport(usize),
+    /// `members`: this export asks the DLL for an empty name.
+    #[error("asked name is empty")]
+    EmptyAskedName(usize),
+    /// `members`, `write`: a member would be longer than 2^32 - 1 bytes.
+    #[error("member too long")]
+    MemberTooLong,
+}
+
+/// A fault of the input, or a growth that was refused.
+#[derive(Debug, Drop, thiserror::Error)]
+pub enum Error {
+    /// The text or the definition is refused.
+    #[error("{0}")]
+    Invalid(Fault),
+    /// Memory was asked for and not given.
+    #[error("out of memory")]
+    OutOfMemory(AllocError),
+}
+
+impl From<AllocError> for Error {
+    ghost from_gives = { λ refused error. error ≡ OutOfMemory refused };
+
+    fn from(refused: AllocError) -> Error {
+        Error::OutOfMemory(refused)
+    }
+}
+
+impl<T: Drop> From<AllocFailed<T>> for Error {
+    ghost use Rattle.std.specs.Prelude.{◌≡◌, alloc_error};
+
+    ghost from_gives = { λ _ error. error ≡ OutOfMemory alloc_error };
+
+    fn from(refused: AllocFailed<T>) -> Error {
+        Error::OutOfMemory(AllocError::from(refused))
+    }
+}

@@ -1,0 +1,12 @@
+//! Windows import objects from module definition files.
+#![tactic(auto)]
+
+pub mod coff;
+pub mod def;
+mod error;
+mod library;
+mod machine;
+
+pub use error::{Error, Fault};
+pub use library::{Flavor, ImportLibrary, Member};
+pub use machine::MachineType;

@@ -1,0 +1,41 @@
+//! The machines that import objects are made for.
+
+ghost use Rattle.implib.specs.Machine.{is_32bit, machine_number};
+ghost use Rattle.std.specs.Prelude.{◌≡◌};
+
+/// A machine by its name in the PE/COFF specification, "Machine Types".
+#[derive(Clone, Copy, Debug, PartialEq, Eq)]
+pub enum MachineType {
+    /// x86, 32 bits.
+    I386,
+    /// ARM Thumb-2, 32 bits.
+    ARMNT,
+    /// x86-64.
+    AMD64,
+    /// ARM64.
+    ARM64,
+}
+
+impl MachineType {
+    /// The number that stands for the machine in a file header.
+    pub fn number(self) -> u16
+        ensures { result ≡ machine_number self }
+    {
+        match self {
+            MachineType::I386 => 0x14C,
+            MachineType::ARMNT => 0x1C4,
+            MachineType::AMD64 => 0x8664,
+            MachineType::ARM64 => 0xAA64,
+        }
+    }
+
+    /// Whether addresses have 32 bits.
+    pub fn is_32bit(self) -> bool
+        ensures { result ≡ is_32bit self }
+    {
+        match self {
+            MachineType::I386 | MachineType::ARMNT => true,
+            MachineType::AMD64 | MachineType::ARM64 => false,
+        }
+    }
+}

@@ -1,0 +1,4 @@
+//! Prints the members of a module definition's import library.
+#![tactic(auto)]
+
+fn main() {}
