@@ -3,5 +3,9 @@ pub mod Definition
 pub mod Fault
 pub mod Token
 pub mod Parses
+pub mod Renaming
+pub mod Import
+pub mod Record
+pub mod Msvc
 pub mod Made
 pub mod Library

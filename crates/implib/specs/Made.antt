@@ -1,9 +1,15 @@
--- What the members of a definition are. (Stand-in, until the tables are here.)
-use Rattle.std.specs.Prelude.{ℕ, List, Option, None}
+-- What the members of a definition are, and which definitions are refused.
+use Rattle.std.specs.Prelude.{◌≡◌, ℕ, ◌+◌, ◌^◌, ◌<◌, Bool, true, false, ◌&&◌, ◌||◌, not, nat_lt, List, [], ◌∷◌, map, All, Option, Some, None, if◌then◌else◌}
+use Rattle.std.specs.List.{list_any}
 use Rattle.implib.specs.declared.library.Flavor.{Flavor}
+use Rattle.implib.specs.declared.library.Flavor.TheVariants.{Msvc}
 use Rattle.implib.specs.declared.machine.MachineType.{MachineType}
-use Rattle.implib.specs.Definition.{DefinitionView}
-use Rattle.implib.specs.Fault.{Cause}
+use Rattle.implib.specs.Definition.{DefinitionView, ExportView}
+use Rattle.implib.specs.Fault.{Cause, EmptyImportName, NulInImportName, EmptyName, NulInExport, EmptyAskedName, MemberTooLong}
+use Rattle.implib.specs.Import.{holds, public_exports}
+use Rattle.implib.specs.Msvc.{record_of, record_size, record_bytes, record_listed, asked_by_record}
+use Rattle.implib.specs.Record.{ShortRecord}
+use Rattle.implib.specs.Renaming.{renamed}
 
 -- what a member shows
 pub record MemberView : Type 0 where
@@ -11,14 +17,93 @@ pub record MemberView : Type 0 where
   pub bytes : List ℕ
   pub symbols : List (List ℕ)
 
--- each external name that is given is the name
-unfoldable pub renamed : DefinitionView → DefinitionView
-renamed d = d
+-- what a member's file is
+pub data Contents : Type 0 where
+  ARecord : ShortRecord → Contents
 
--- the first rule that refuses the definition
-unfoldable pub refusal : DefinitionView → MachineType → Flavor → Option Cause
-refusal _ _ _ = None
+-- a member before it is bytes
+pub record Plan : Type 0 where
+  pub name : List ℕ
+  pub contents : Contents
+  pub listed : List (List ℕ)
 
--- the members are those of the definition
-unfoldable pub Made : DefinitionView → MachineType → Flavor → List MemberView → Type 0
-Made _ _ _ _ = Unit {0}
+-- the length of a member's file
+abbrev pub contents_size : Contents → ℕ
+contents_size (ARecord r) = record_size r
+
+-- a member's file
+abbrev pub contents_bytes : Contents → List ℕ
+contents_bytes (ARecord r) = record_bytes r
+
+-- a member, laid out
+abbrev pub member_of : Plan → MemberView
+member_of p = record { name = p.name; bytes = contents_bytes p.contents; symbols = p.listed }
+
+-- the plan of an export's short record; every member for Microsoft's linker is named as the DLL
+abbrev pub record_plan : MachineType → List ℕ → ExportView → Plan
+record_plan machine dll e = record { name = dll; contents = ARecord (record_of machine dll e); listed = record_listed e }
+
+-- the members of a definition whose exports are under their names to link by
+abbrev pub plans_of : DefinitionView → MachineType → Flavor → List Plan
+plans_of d machine Msvc = map (record_plan machine d.import_name) (public_exports d)
+
+-- the name that an export asks for in a flavour
+abbrev pub asked_in : Flavor → MachineType → ExportView → List ℕ
+asked_in Msvc machine e = asked_by_record machine e
+
+-- whether a text is empty
+abbrev pub is_empty_text : List ℕ → Bool
+is_empty_text [] = true
+is_empty_text (first ∷ rest) = false
+
+-- the first rule on names that an export breaks
+abbrev pub name_refusal : Flavor → MachineType → ℕ → ExportView → Option Cause
+name_refusal flavor machine index e =
+    if is_empty_text e.name then Some (EmptyName index)
+    else if holds 0 e.name || holds 0 e.symbol_name || holds 0 e.alias_target then Some (NulInExport index)
+    else if not e.no_name && is_empty_text (asked_in flavor machine e) then Some (EmptyAskedName index)
+    else None
+
+-- the first of two answers
+abbrev pub first_of_both : Option Cause → Option Cause → Option Cause
+first_of_both (Some cause) later = Some cause
+first_of_both None later = later
+
+-- the first rule on names that an export breaks, the exports numbered from this index; private ones are skipped
+abbrev pub names_refusal : Flavor → MachineType → ℕ → List ExportView → Option Cause
+names_refusal flavor machine index [] = None
+names_refusal flavor machine index (e ∷ exports) =
+    first_of_both (if e.private then None else name_refusal flavor machine index e)
+    (names_refusal flavor machine (index + 1) exports)
+
+-- the first rule on the import name that is broken
+abbrev pub import_name_refusal : List ℕ → Option Cause
+import_name_refusal name =
+    if is_empty_text name then Some EmptyImportName
+    else if holds 0 name then Some NulInImportName
+    else None
+
+-- whether a member would be longer than a u32 can say
+abbrev pub is_too_long : Plan → Bool
+is_too_long p = nat_lt 0xFFFF_FFFF (contents_size p.contents)
+
+-- a member that is too long
+abbrev pub length_refusal : List Plan → Option Cause
+length_refusal plans = if list_any is_too_long plans then Some MemberTooLong else None
+
+-- the first rule on names that a definition breaks, its exports under their names to link by
+abbrev pub definition_names_refusal : DefinitionView → MachineType → Flavor → Option Cause
+definition_names_refusal d machine flavor =
+    first_of_both (import_name_refusal d.import_name) (names_refusal flavor machine 0 d.exports)
+
+-- the first rule that refuses a definition: on the import name, on the exports' names, on lengths
+abbrev pub refusal : DefinitionView → MachineType → Flavor → Option Cause
+refusal d machine flavor =
+    first_of_both (definition_names_refusal (renamed d) machine flavor)
+    (length_refusal (plans_of (renamed d) machine flavor))
+
+-- the members are those of the definition, which is not refused
+pub record Made (d : DefinitionView) (machine : MachineType) (flavor : Flavor) (members : List MemberView) : Type 0 where
+  pub accepted : refusal d machine flavor ≡ None
+  pub made : members ≡ map member_of (plans_of (renamed d) machine flavor)
+  pub ordinals : All (λ e. e.ordinal < 2 ^ 16) (public_exports (renamed d))
