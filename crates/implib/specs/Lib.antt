@@ -5,3 +5,5 @@ pub mod Token
 pub mod Parses
 pub mod Made
 pub mod Library
+pub mod Bytes
+pub mod Pass
