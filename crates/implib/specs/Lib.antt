@@ -9,3 +9,5 @@ pub mod Record
 pub mod Msvc
 pub mod Made
 pub mod Library
+pub mod Bytes
+pub mod Pass

@@ -1,1 +1,5 @@
 //! COFF objects.
+
+pub mod pass;
+
+pub use pass::Pass;

@@ -1,0 +1,12 @@
+-- View of the code's state: a pass over bytes to be written.
+use Rattle.std.specs.Prelude.{◌≡◌, ℕ, ◌+◌, List, ◌++◌, length}
+
+-- what was put into a pass, and the number of bytes that still fit
+pub record Written : Type 0 where
+  pub put : List ℕ
+  pub left : ℕ
+
+-- the bytes were put after what was there, into room that was left
+pub record Puts (old new : Written) (bytes : List ℕ) : Type 0 where
+  pub put : new.put ≡ old.put ++ bytes
+  pub left : new.left + length bytes ≡ old.left
