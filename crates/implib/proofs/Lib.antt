@@ -1,2 +1,5 @@
 pub mod Bytes
 pub mod Pass
+pub mod AskedName
+pub mod Renaming
+pub mod Made

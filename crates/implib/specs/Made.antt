@@ -1,11 +1,12 @@
 -- What the members of a definition are, and which definitions are refused.
-use Rattle.std.specs.Prelude.{◌≡◌, ℕ, ◌+◌, ◌^◌, ◌<◌, Bool, true, false, ◌&&◌, ◌||◌, not, nat_lt, List, [], ◌∷◌, map, All, Option, Some, None, if◌then◌else◌}
-use Rattle.std.specs.List.{list_any}
+use Rattle.std.specs.Prelude.{◌≡◌, ℕ, ◌+◌, ◌^◌, ◌<◌, Bool, true, false, ◌&&◌, ◌||◌, not, nat_lt, List, [], ◌∷◌, map, All, Option, Some, None, Result, IsErrAnd, if◌then◌else◌}
+use Rattle.std.specs.List.{list_all, list_any}
+use Rattle.implib.specs.declared.error.Error.{Error}
 use Rattle.implib.specs.declared.library.Flavor.{Flavor}
 use Rattle.implib.specs.declared.library.Flavor.TheVariants.{Msvc}
 use Rattle.implib.specs.declared.machine.MachineType.{MachineType}
 use Rattle.implib.specs.Definition.{DefinitionView, ExportView}
-use Rattle.implib.specs.Fault.{Cause, EmptyImportName, NulInImportName, EmptyName, NulInExport, EmptyAskedName, MemberTooLong}
+use Rattle.implib.specs.Fault.{Cause, EmptyImportName, NulInImportName, EmptyName, NulInExport, EmptyAskedName, MemberTooLong, error_cause}
 use Rattle.implib.specs.Import.{holds, public_exports}
 use Rattle.implib.specs.Msvc.{record_of, record_size, record_bytes, record_listed, asked_by_record}
 use Rattle.implib.specs.Record.{ShortRecord}
@@ -96,14 +97,26 @@ abbrev pub definition_names_refusal : DefinitionView → MachineType → Flavor 
 definition_names_refusal d machine flavor =
     first_of_both (import_name_refusal d.import_name) (names_refusal flavor machine 0 d.exports)
 
--- the first rule that refuses a definition: on the import name, on the exports' names, on lengths
+-- the first rule that such a definition breaks: on the import name, on the exports' names, on lengths
+abbrev pub renamed_refusal : DefinitionView → MachineType → Flavor → Option Cause
+renamed_refusal d machine flavor =
+    first_of_both (definition_names_refusal d machine flavor) (length_refusal (plans_of d machine flavor))
+
+-- the first rule that refuses a definition
 abbrev pub refusal : DefinitionView → MachineType → Flavor → Option Cause
-refusal d machine flavor =
-    first_of_both (definition_names_refusal (renamed d) machine flavor)
-    (length_refusal (plans_of (renamed d) machine flavor))
+refusal d machine flavor = renamed_refusal (renamed d) machine flavor
+
+-- whether an ordinal is a 16-bit number, as every ordinal of the program is
+abbrev pub has_u16_ordinal : ExportView → Bool
+has_u16_ordinal e = nat_lt e.ordinal 0x1_0000
 
 -- the members are those of the definition, which is not refused
 pub record Made (d : DefinitionView) (machine : MachineType) (flavor : Flavor) (members : List MemberView) : Type 0 where
   pub accepted : refusal d machine flavor ≡ None
   pub made : members ≡ map member_of (plans_of (renamed d) machine flavor)
-  pub ordinals : All (λ e. e.ordinal < 2 ^ 16) (public_exports (renamed d))
+  pub ordinals : list_all has_u16_ordinal (public_exports (renamed d)) ≡ true
+
+-- where a rule on names refuses the definition, the answer is that refusal, whatever memory there is
+abbrev pub RefusesAlways : {T : Type 0} → DefinitionView → MachineType → Flavor → Result T Error → Type 0
+RefusesAlways d machine flavor result =
+    (cause : Cause) → definition_names_refusal (renamed d) machine flavor ≡ Some cause → IsErrAnd result (λ error. error_cause error ≡ Some cause)

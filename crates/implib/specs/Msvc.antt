@@ -1,7 +1,7 @@
 -- The members for Microsoft's linker, as tables (docs/FORMATS.md, "Short import records").
 use Rattle.std.specs.Prelude.{ℕ, ◌+◌, ◌*◌, Bool, ◌&&◌, not, List, [], ◌∷◌, ◌++◌, length, map, bytes_eq, if◌then◌else◌}
-use Rattle.std.specs.Int.{to_le_bytes, w16, w32}
 use Rattle.implib.specs.declared.machine.MachineType.{MachineType}
+use Rattle.implib.specs.Bytes.{u16_bytes, u32_bytes}
 use Rattle.implib.specs.Machine.{machine_number}
 use Rattle.implib.specs.Definition.{DefinitionView, ExportView}
 use Rattle.implib.specs.Import.{is_i386, begins_with, holds, underscore, at_sign, import_symbols}
@@ -52,9 +52,8 @@ record_size r = record_header_size + record_data_size r
 -- the header: 0, 0xFFFF, version, machine, time, size of the data, ordinal or hint, the two types
 abbrev pub record_header : ShortRecord → List ℕ
 record_header r =
-    to_le_bytes w16 0 ++ (to_le_bytes w16 0xFFFF ++ (to_le_bytes w16 r.version ++ (to_le_bytes w16 r.machine ++
-    (to_le_bytes w32 r.time ++ (to_le_bytes w32 (record_data_size r) ++ (to_le_bytes w16 r.ordinal ++
-    to_le_bytes w16 (r.kind + 4 * r.name_type)))))))
+    u16_bytes 0 ++ (u16_bytes 0xFFFF ++ (u16_bytes r.version ++ (u16_bytes r.machine ++ (u32_bytes r.time ++
+    (u32_bytes (record_data_size r) ++ (u16_bytes r.ordinal ++ u16_bytes (r.kind + 4 * r.name_type)))))))
 
 -- a record
 abbrev pub record_bytes : ShortRecord → List ℕ

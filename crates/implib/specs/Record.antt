@@ -3,7 +3,7 @@
 -- The reader takes what it finds in the bytes, and knows nothing of who wrote them.
 use Rattle.std.specs.Prelude.{ℕ, ◌+◌, ◌-◌, ◌*◌, ◌/◌, ◌%◌, Bool, ◌&&◌, ◌==◌, nat_le, List, [], ◌∷◌, ◌++◌, length, take, drop, Option, Some, None, IsSomeAnd, option_and_then, if◌then◌else◌}
 use Rattle.std.specs.Int.{from_le_bytes, w16, w32}
-use Rattle.std.specs.List.{Contains}
+use Rattle.std.specs.List.{Contains, before_first}
 use Rattle.implib.specs.Import.{Ask, Ordinal, Name, Import, import_symbols, without_first, begins_with, underscore, at_sign}
 
 -- the fields of a record
@@ -101,8 +101,7 @@ without_prefix symbol =
 
 -- a symbol up to its first `@`
 abbrev pub before_at_sign : List ℕ → List ℕ
-before_at_sign [] = []
-before_at_sign (byte ∷ rest) = if byte == at_sign then [] else byte ∷ before_at_sign rest
+before_at_sign symbol = before_first (λ byte. byte == at_sign) symbol
 
 -- the name that a record asks for, by its name type. The specification leaves open what the last
 -- two cut off; this is this project's reading of it.

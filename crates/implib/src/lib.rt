@@ -6,6 +6,8 @@ pub mod def;
 mod error;
 mod library;
 mod machine;
+mod msvc;
+mod refusal;
 
 pub use error::{Error, Fault};
 pub use library::{Flavor, ImportLibrary, Member};
