@@ -3,3 +3,4 @@ pub mod Pass
 pub mod AskedName
 pub mod Renaming
 pub mod Made
+pub mod Record

@@ -11,3 +11,4 @@ pub mod Made
 pub mod Library
 pub mod Bytes
 pub mod Pass
+pub mod Reads
