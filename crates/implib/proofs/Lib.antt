@@ -4,3 +4,4 @@ pub mod AskedName
 pub mod Renaming
 pub mod Made
 pub mod Record
+pub mod Import
