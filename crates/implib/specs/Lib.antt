@@ -7,3 +7,5 @@ pub mod Made
 pub mod Library
 pub mod Bytes
 pub mod Pass
+pub mod Object
+pub mod Picture
