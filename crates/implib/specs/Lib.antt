@@ -12,3 +12,5 @@ pub mod Library
 pub mod Bytes
 pub mod Pass
 pub mod Reads
+pub mod Object
+pub mod Picture

@@ -1,0 +1,166 @@
+-- How an object is read (PE/COFF specification, "COFF File Header", "Section Table", "COFF
+-- Relocations", "COFF Symbol Table", "COFF String Table"): the places and counts in its bytes
+-- are followed, and there is no object where one of them leads out.
+use Rattle.std.specs.Prelude.{ℕ, zero, suc, ◌+◌, ◌*◌, Bool, true, false, List, [], ◌∷◌, Option, None, Some, length, take, drop, nat_le, nat_eq, slice_index, if◌then◌else◌}
+use Rattle.std.specs.Int.{w16, w32, from_le_bytes}
+use Rattle.std.specs.Option.{option_and_then, option_map}
+use Rattle.implib.specs.declared.coff.object.Relocation.{Relocation}
+
+-- a section: its name filled with NUL, its flags, data and relocations
+pub record ObjectSection : Type 0 where
+  pub name : List ℕ
+  pub flags : ℕ
+  pub bytes : List ℕ
+  pub relocations : List Relocation
+
+-- a symbol; a section counts from 1, 0 is undefined, 0xFFFF absolute, 0xFFFE debug
+pub record ObjectSymbol : Type 0 where
+  pub name : List ℕ
+  pub value : ℕ
+  pub section : ℕ
+  pub kind : ℕ
+  pub class : ℕ
+
+-- an entry of the symbol table: a symbol, or an auxiliary record of the symbol before it
+pub data Entry : Type 0 where
+  ASymbol : ObjectSymbol → Entry
+  Auxiliary : List ℕ → Entry
+
+-- an object; an entry's place in the list is its index
+pub record Object : Type 0 where
+  pub machine : ℕ
+  pub time : ℕ
+  pub optional_header_size : ℕ
+  pub characteristics : ℕ
+  pub sections : List ObjectSection
+  pub entries : List Entry
+
+-- the bytes from a place on, so many, if they are there
+unfoldable pub bytes_at : List ℕ → ℕ → ℕ → Option (List ℕ)
+bytes_at bytes place count =
+    if nat_le (place + count) (length bytes) then Some (take count (drop place bytes)) else None
+
+-- the number in the two bytes from an offset of a record on
+unfoldable pub u16_at : List ℕ → ℕ → ℕ
+u16_at bytes offset = from_le_bytes w16 (take 2 (drop offset bytes))
+
+-- the number in the four bytes from an offset of a record on
+unfoldable pub u32_at : List ℕ → ℕ → ℕ
+u32_at bytes offset = from_le_bytes w32 (take 4 (drop offset bytes))
+
+-- what is read at a place, then at the next one a width further on, so many times
+unfoldable pub each_at : {X : Type 0} → (ℕ → Option X) → ℕ → ℕ → ℕ → Option (List X)
+each_at read place width zero = Some []
+each_at read place width (suc count) = option_and_then
+    (λ x. option_map (λ xs. x ∷ xs) (each_at read (place + width) width count))
+    (read place)
+
+-- the bytes before the first NUL, or all where there is none
+unfoldable pub up_to_nul : List ℕ → List ℕ
+up_to_nul [] = []
+up_to_nul (zero ∷ rest) = []
+up_to_nul (suc n ∷ rest) = suc n ∷ up_to_nul rest
+
+-- the bytes before the first NUL, if there is one
+unfoldable pub before_nul : List ℕ → Option (List ℕ)
+before_nul [] = None
+before_nul (zero ∷ rest) = Some []
+before_nul (suc n ∷ rest) = option_map (λ text. suc n ∷ text) (before_nul rest)
+
+-- a relocation's record of 10 bytes
+unfoldable pub relocation_of : List ℕ → Relocation
+relocation_of record_bytes = record {
+  offset = u32_at record_bytes 0;
+  symbol = u32_at record_bytes 4;
+  kind = u16_at record_bytes 8;
+}
+
+-- the relocation at a place
+unfoldable pub relocation_at : List ℕ → ℕ → Option Relocation
+relocation_at bytes place = option_map relocation_of (bytes_at bytes place 10)
+
+-- a section's data: none is in the file where its place is 0
+unfoldable pub data_at : List ℕ → ℕ → ℕ → Option (List ℕ)
+data_at bytes place size = if nat_eq place 0 then Some [] else bytes_at bytes place size
+
+-- the section that a header of 40 bytes describes
+unfoldable pub section_of : List ℕ → List ℕ → Option ObjectSection
+section_of bytes header = option_and_then
+    (λ section_data. option_map
+      (λ relocations. record {
+        name = take 8 header;
+        flags = u32_at header 36;
+        bytes = section_data;
+        relocations = relocations;
+      })
+      (each_at (relocation_at bytes) (u32_at header 24) 10 (u16_at header 32)))
+    (data_at bytes (u32_at header 20) (u32_at header 16))
+
+-- the section whose header is at a place
+unfoldable pub section_at : List ℕ → ℕ → Option ObjectSection
+section_at bytes place = option_and_then (section_of bytes) (bytes_at bytes place 40)
+
+-- the name in the 8 bytes of a field: after four zero bytes an offset into the string table,
+-- otherwise the bytes up to the first NUL
+unfoldable pub name_of : List ℕ → List ℕ → Option (List ℕ)
+name_of strings (zero ∷ zero ∷ zero ∷ zero ∷ offset) = before_nul (drop (u32_at offset 0) strings)
+name_of strings field = Some (up_to_nul field)
+
+-- the symbol in a record of 18 bytes
+unfoldable pub symbol_of : List ℕ → List ℕ → Option ObjectSymbol
+symbol_of strings record_bytes = option_map
+    (λ name. record {
+      name = name;
+      value = u32_at record_bytes 8;
+      section = u16_at record_bytes 12;
+      kind = u16_at record_bytes 14;
+      class = slice_index record_bytes 16;
+    })
+    (name_of strings (take 8 record_bytes))
+
+-- so many entries from a place on, the first few of them auxiliary records
+unfoldable pub entries_at : List ℕ → List ℕ → ℕ → ℕ → ℕ → Option (List Entry)
+entries_at bytes strings place zero zero = Some []
+entries_at bytes strings place (suc auxiliary) zero = None
+entries_at bytes strings place (suc auxiliary) (suc count) = option_and_then
+    (λ record_bytes. option_map
+      (λ entries. Auxiliary record_bytes ∷ entries)
+      (entries_at bytes strings (place + 18) auxiliary count))
+    (bytes_at bytes place 18)
+entries_at bytes strings place zero (suc count) = option_and_then
+    (λ record_bytes. option_and_then
+      (λ symbol. option_map
+        (λ entries. ASymbol symbol ∷ entries)
+        (entries_at bytes strings (place + 18) (slice_index record_bytes 17) count))
+      (symbol_of strings record_bytes))
+    (bytes_at bytes place 18)
+
+-- the string table at a place: its size counts the four bytes of the size
+unfoldable pub strings_at : List ℕ → ℕ → Option (List ℕ)
+strings_at bytes place = option_and_then
+    (λ size. bytes_at bytes place (u32_at size 0))
+    (bytes_at bytes place 4)
+
+-- the object that a header of 20 bytes describes
+unfoldable pub object_of_header : List ℕ → List ℕ → Option Object
+object_of_header bytes header =
+    let symbols_place : ℕ = u32_at header 8 in
+    let records : ℕ = u32_at header 12 in
+    option_and_then
+      (λ strings. option_and_then
+        (λ sections. option_map
+          (λ entries. record {
+            machine = u16_at header 0;
+            time = u32_at header 4;
+            optional_header_size = u16_at header 16;
+            characteristics = u16_at header 18;
+            sections = sections;
+            entries = entries;
+          })
+          (entries_at bytes strings symbols_place 0 records))
+        (each_at (section_at bytes) (20 + u16_at header 16) 40 (u16_at header 2)))
+      (strings_at bytes (symbols_place + 18 * records))
+
+-- the object in a file's bytes
+unfoldable pub object_in : List ℕ → Option Object
+object_in bytes = option_and_then (object_of_header bytes) (bytes_at bytes 0 20)

@@ -1,0 +1,214 @@
+-- The layout of an object (this project's layout, docs/FORMATS.md, "The layout of an object"; the
+-- fields are those of the PE/COFF specification): header, section headers, the contents of each
+-- section, symbol records, string table, with nothing between them.
+use Rattle.std.specs.Prelude.{◌≡◌, ◌≢◌, ℕ, zero, suc, ◌+◌, ◌-◌, ◌*◌, ◌<◌, ◌≤◌, ◌^◌, Contains, List, [], ◌∷◌, ◌++◌, Option, None, Some, length, take, map, replicate, slice_index_or, nat_eq, if◌then◌else◌}
+use Rattle.std.specs.List.{AllByRecursion, flat_map, sum_by}
+use Rattle.implib.specs.declared.coff.object.Relocation.{Relocation}
+use Rattle.implib.specs.Bytes.{u16_bytes, u32_bytes}
+use Rattle.implib.specs.Object.{Entry, ASymbol, Auxiliary, Object, ObjectSection, ObjectSymbol}
+
+-- where a symbol's name stands: in its record, or in the string table, as the string of this
+-- index from 0
+pub data SymbolName : Type 0 where
+  InRecord : List ℕ → SymbolName
+  Listed : ℕ → SymbolName
+
+-- a symbol to be written
+pub record PictureSymbol : Type 0 where
+  pub name : SymbolName
+  pub value : ℕ
+  pub section : ℕ
+  pub class : ℕ
+  pub aux : Option (List ℕ)
+
+-- an object to be written; the strings are what the string table lists, in order
+pub record Picture : Type 0 where
+  pub machine : ℕ
+  pub characteristics : ℕ
+  pub sections : List ObjectSection
+  pub symbols : List PictureSymbol
+  pub strings : List (List ℕ)
+
+-- the bytes of a section's data and relocations
+unfoldable pub contents_size : ObjectSection → ℕ
+contents_size s = length s.bytes + 10 * length s.relocations
+
+-- the symbol records of a symbol: its own, and the auxiliary one
+unfoldable pub record_count : PictureSymbol → ℕ
+record_count s = elim s.aux [ None ↦ 1 | Some aux ↦ 2 ]
+
+-- the bytes of a string, with its NUL
+unfoldable pub string_size : List ℕ → ℕ
+string_size text = length text + 1
+
+-- the bytes of the string table, its size counted
+unfoldable pub strings_size : List (List ℕ) → ℕ
+strings_size strings = 4 + sum_by string_size strings
+
+-- where the contents of the sections begin
+unfoldable pub contents_place : Picture → ℕ
+contents_place p = 20 + 40 * length p.sections
+
+-- where the symbol table begins
+unfoldable pub symbols_place : Picture → ℕ
+symbols_place p = contents_place p + sum_by contents_size p.sections
+
+-- the symbol records of a picture, auxiliary ones counted
+unfoldable pub records : Picture → ℕ
+records p = sum_by record_count p.symbols
+
+-- the bytes of a picture
+unfoldable pub layout_size : Picture → ℕ
+layout_size p = symbols_place p + 18 * records p + strings_size p.strings
+
+-- the file header of a picture
+unfoldable pub header_bytes : Picture → List ℕ
+header_bytes p =
+    u16_bytes p.machine
+    ++ (u16_bytes (length p.sections)
+    ++ (u32_bytes 0
+    ++ (u32_bytes (symbols_place p)
+    ++ (u32_bytes (records p)
+    ++ (u16_bytes 0
+    ++ u16_bytes p.characteristics)))))
+
+-- a place, or 0 where nothing stands there
+unfoldable pub place_of : ℕ → ℕ → ℕ
+place_of count place = if nat_eq count 0 then 0 else place
+
+-- the header of a section whose contents begin at a place
+unfoldable pub section_header : ℕ → ObjectSection → List ℕ
+section_header place s =
+    s.name
+    ++ (u32_bytes 0
+    ++ (u32_bytes 0
+    ++ (u32_bytes (length s.bytes)
+    ++ (u32_bytes (place_of (length s.bytes) place)
+    ++ (u32_bytes (place_of (length s.relocations) (place + length s.bytes))
+    ++ (u32_bytes 0
+    ++ (u16_bytes (length s.relocations)
+    ++ (u16_bytes 0
+    ++ u32_bytes s.flags))))))))
+
+-- the headers of sections whose contents follow one another from a place on
+unfoldable pub section_headers : ℕ → List ObjectSection → List ℕ
+section_headers place [] = []
+section_headers place (s ∷ rest) = section_header place s ++ section_headers (place + contents_size s) rest
+
+-- a relocation
+unfoldable pub relocation_bytes : Relocation → List ℕ
+relocation_bytes r = u32_bytes r.offset ++ (u32_bytes r.symbol ++ u16_bytes r.kind)
+
+-- a section's data, then its relocations
+unfoldable pub contents : ObjectSection → List ℕ
+contents s = s.bytes ++ flat_map relocation_bytes s.relocations
+
+-- the offset of the string of an index in the string table
+unfoldable pub string_offset : List (List ℕ) → ℕ → ℕ
+string_offset strings index = strings_size (take index strings)
+
+-- the 8 bytes of a symbol's name
+unfoldable pub name_field : List (List ℕ) → SymbolName → List ℕ
+name_field strings (InRecord text) = text ++ replicate (8 - length text) 0
+name_field strings (Listed index) = u32_bytes 0 ++ u32_bytes (string_offset strings index)
+
+-- the auxiliary record that follows a symbol, if any
+unfoldable pub auxiliary_bytes : Option (List ℕ) → List ℕ
+auxiliary_bytes None = []
+auxiliary_bytes (Some aux) = aux
+
+-- a symbol's record, and the auxiliary one
+unfoldable pub symbol_bytes : List (List ℕ) → PictureSymbol → List ℕ
+symbol_bytes strings s =
+    name_field strings s.name
+    ++ (u32_bytes s.value
+    ++ (u16_bytes s.section
+    ++ (u16_bytes 0
+    ++ (s.class ∷ (record_count s - 1) ∷ auxiliary_bytes s.aux))))
+
+-- a string, ended by NUL
+unfoldable pub string_bytes_of : List ℕ → List ℕ
+string_bytes_of text = text ++ 0 ∷ []
+
+-- the string table: its size, then the strings
+unfoldable pub string_table : List (List ℕ) → List ℕ
+string_table strings = u32_bytes (strings_size strings) ++ flat_map string_bytes_of strings
+
+-- the bytes of a picture
+unfoldable pub layout : Picture → List ℕ
+layout p =
+    header_bytes p
+    ++ (section_headers (contents_place p) p.sections
+    ++ (flat_map contents p.sections
+    ++ (flat_map (symbol_bytes p.strings) p.symbols
+    ++ string_table p.strings)))
+
+-- the text that a symbol's name is
+unfoldable pub name_text : List (List ℕ) → SymbolName → List ℕ
+name_text strings (InRecord text) = text
+name_text strings (Listed index) = slice_index_or strings index []
+
+-- the entries of the symbol table that a symbol makes
+unfoldable pub entries_of : List (List ℕ) → PictureSymbol → List Entry
+entries_of strings s =
+    ASymbol (record {
+      name = name_text strings s.name;
+      value = s.value;
+      section = s.section;
+      kind = 0;
+      class = s.class;
+    }) ∷ elim s.aux [ None ↦ [] | Some aux ↦ Auxiliary aux ∷ [] ]
+
+-- the object that a picture shows
+unfoldable pub object_of : Picture → Object
+object_of p = record {
+  machine = p.machine;
+  time = 0;
+  optional_header_size = 0;
+  characteristics = p.characteristics;
+  sections = p.sections;
+  entries = flat_map (entries_of p.strings) p.symbols;
+}
+
+-- no byte is NUL
+unfoldable pub HasNoNul : List ℕ → Type 0
+HasNoNul text = Contains text 0 → ⊥
+
+-- each field of a relocation has its range
+pub record FitsRelocation (r : Relocation) : Type 0 where
+  pub offset : r.offset < 2 ^ 32
+  pub symbol : r.symbol < 2 ^ 32
+  pub kind : r.kind < 2 ^ 16
+
+-- each field of a section's header has its range, sizes and places aside
+pub record FitsSection (s : ObjectSection) : Type 0 where
+  pub name : length s.name ≡ 8
+  pub flags : s.flags < 2 ^ 32
+  pub count : length s.relocations < 2 ^ 16
+  pub relocations : AllByRecursion FitsRelocation s.relocations
+
+-- a name in its record is a text of 1 to 8 bytes, and one in the string table is listed there
+unfoldable pub FitsName : List (List ℕ) → SymbolName → Type 0
+FitsName strings (InRecord text) = (0 < length text) × (length text ≤ 8) × HasNoNul text
+FitsName strings (Listed index) = index < length strings
+
+-- an auxiliary record has 18 bytes
+unfoldable pub FitsAuxiliary : Option (List ℕ) → Type 0
+FitsAuxiliary None = Unit {0}
+FitsAuxiliary (Some aux) = length aux ≡ 18
+
+-- each field of a symbol's record has its range
+pub record FitsSymbol (strings : List (List ℕ)) (s : PictureSymbol) : Type 0 where
+  pub name : FitsName strings s.name
+  pub value : s.value < 2 ^ 32
+  pub section : s.section < 2 ^ 16
+  pub aux : FitsAuxiliary s.aux
+
+-- the fields of a picture have their ranges, and its names are texts
+pub record Fits (p : Picture) : Type 0 where
+  pub machine : p.machine < 2 ^ 16
+  pub characteristics : p.characteristics < 2 ^ 16
+  pub count : length p.sections < 2 ^ 16
+  pub sections : AllByRecursion FitsSection p.sections
+  pub symbols : AllByRecursion (FitsSymbol p.strings) p.symbols
+  pub strings : AllByRecursion HasNoNul p.strings
