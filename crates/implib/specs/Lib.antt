@@ -14,3 +14,5 @@ pub mod Pass
 pub mod Reads
 pub mod Object
 pub mod Picture
+pub mod Constants
+pub mod MsvcObjects
