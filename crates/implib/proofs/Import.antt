@@ -10,7 +10,7 @@ use Rattle.implib.specs.Import.{Ask, Import, Ordinal, Name, holds, begins_with, 
 use Rattle.implib.specs.Machine.{machine_number}
 use Rattle.implib.specs.Msvc.{record_of, record_symbol, symbol_or_name, kind_of, name_type_of, record_listed, asked_by_record, record_bytes, record_size}
 use Rattle.implib.specs.Reads.{FitsRecord, import_written, ask_written}
-use Rattle.implib.specs.Record.{ShortRecord, import_in, import_of_record, short_record_in, ask_of_record, asked_by_name_type, import_ordinal, import_name, import_name_noprefix, import_name_undecorate, import_code, import_data, import_const, without_prefix, before_at_sign}
+use Rattle.implib.specs.Record.{ShortRecord, import_of_record, ask_of_record, asked_by_name_type, import_ordinal, import_name, import_name_noprefix, import_name_undecorate, import_code, import_data, import_const, without_prefix, before_at_sign}
 use Rattle.std.proofs.lemmas.Slice.Eq.{bytes_eq-Decides}
 use Rattle.implib.proofs.Record.{short_record_in-record_bytes}
 
@@ -88,12 +88,6 @@ import_of_record-record_of machine dll e =
       (chosen_nonzero (begins_with underscore e.name && holds at_sign e.name) 1 _ refl
       (chosen_nonzero (not (bytes_eq (record_symbol e) e.name)) 3 _ refl
       (chosen_nonzero (is_i386 machine && begins_with underscore (record_symbol e)) 2 1 refl refl))))
-
--- the bytes of the record of an export are read as that import
-pub import_in-record_bytes : (machine : MachineType) (dll : List ℕ) (e : ExportView) → FitsRecord (record_of machine dll e) →
-    record_size (record_of machine dll e) ≤ 0xFFFF_FFFF → import_in (record_bytes (record_of machine dll e)) ≡ Some (import_written machine dll e)
-import_in-record_bytes machine dll e fits short =
-    ap (option_and_then import_of_record) (short_record_in-record_bytes (record_of machine dll e) fits short) ∙ import_of_record-record_of machine dll e
 
 without_prefix-underscore : (name : List ℕ) → begins_with underscore name ≡ true → without_prefix name ≡ without_first name
 without_prefix-underscore [] begins = cc

@@ -15,6 +15,7 @@ use Rattle.implib.specs.Renaming.{renamed}
 -- the refusal by names comes first
 pub refused_by_names : (d : DefinitionView) (machine : MachineType) (flavor : Flavor) (cause : Cause) → renamed d ≡ d →
     Some cause ≡ definition_names_refusal d machine flavor → refusal d machine flavor ≡ Some cause
+unfolding refusal renamed_refusal
 refused_by_names d machine flavor cause same found =
     ap (λ (x : DefinitionView). renamed_refusal x machine flavor) same
     ∙ ap (λ (x : Option Cause). first_of_both x (length_refusal (plans_of d machine flavor))) (sym found)
@@ -32,6 +33,7 @@ pub made_of : {T : Type 0} (shown : T → List MemberView) (d : DefinitionView) 
     OnOk result (list_any is_too_long (plans_of d machine flavor) ≡ false) →
     OnOk result (list_all has_u16_ordinal (public_exports d) ≡ true) →
     IfOk result (λ members. Made d machine flavor (shown members))
+unfolding refusal renamed_refusal
 made_of shown d machine flavor (Err error) same names made fit ordinals = tt
 made_of shown d machine flavor (Ok members) same names made fit ordinals = record {
   accepted =
@@ -47,6 +49,7 @@ pub refused_by_length : {T : Type 0} (d : DefinitionView) (machine : MachineType
     renamed d ≡ d → None ≡ definition_names_refusal d machine flavor →
     IfInvalid result (λ cause. (cause ≡ MemberTooLong) × (list_any is_too_long (plans_of d machine flavor) ≡ true)) →
     IfInvalid result (λ cause. refusal d machine flavor ≡ Some cause)
+unfolding refusal renamed_refusal
 refused_by_length d machine flavor (Ok members) same names too_long = tt
 refused_by_length d machine flavor (Err (OutOfMemory refused)) same names too_long = tt
 refused_by_length d machine flavor (Err (Invalid fault)) same names too_long =

@@ -1,7 +1,7 @@
 -- What a program imports by a definition: of which DLL, under which symbols, asking for what.
 -- Nothing here knows a byte of a file, nor for whose linker the files are.
-use Rattle.std.specs.Prelude.{ℕ, Bool, true, false, ◌&&◌, ◌==◌, not, List, [], ◌∷◌, ◌++◌, map, if◌then◌else◌, codes}
-use Rattle.std.specs.List.{filter, list_any}
+use Rattle.std.specs.Prelude.{ℕ, Bool, true, false, ◌&&◌, ◌==◌, not, List, [], ◌∷◌, ◌++◌, map, if◌then◌else◌, codes, bytes_eq}
+use Rattle.std.specs.List.{filter, flat_map, list_any}
 use Rattle.implib.specs.declared.machine.MachineType.{MachineType}
 use Rattle.implib.specs.declared.machine.MachineType.TheVariants.{I386, ARMNT, AMD64, ARM64}
 use Rattle.implib.specs.Definition.{DefinitionView, ExportView}
@@ -74,6 +74,33 @@ import_meant machine dll e = record {
   ask = ask_meant machine e;
 }
 
+-- a symbol that stands for another where nothing defines it (PE/COFF specification, "Auxiliary Format 3: Weak Externals")
+pub record Alias : Type 0 where
+  pub weak : List ℕ
+  pub target : List ℕ
+
+-- whether two names are one
+abbrev pub same_name : List ℕ → List ℕ → Bool
+same_name first second = bytes_eq first second
+
+-- whether a text is empty
+abbrev pub is_empty_text : List ℕ → Bool
+is_empty_text [] = true
+is_empty_text (first ∷ rest) = false
+
+-- whether a symbol is to stand for an alias target: there is one, and it is another symbol
+abbrev pub is_alias : List ℕ → List ℕ → Bool
+is_alias target symbol = not (is_empty_text target) && not (same_name target symbol)
+
+-- the aliases of a symbol for a target: of the name, and of its address
+abbrev pub aliases_for : List ℕ → List ℕ → List Alias
+aliases_for symbol target =
+    if is_alias target symbol then
+      record { weak = symbol; target = target }
+      ∷ record { weak = address_symbol symbol; target = address_symbol target }
+      ∷ []
+    else []
+
 -- the exports that are not private
 abbrev pub public_exports : DefinitionView → List ExportView
 public_exports d = filter (λ e. not e.private) d.exports
@@ -81,3 +108,7 @@ public_exports d = filter (λ e. not e.private) d.exports
 -- the imports that a definition means, in its order
 abbrev pub imports_of : MachineType → DefinitionView → List Import
 imports_of machine d = map (import_meant machine d.import_name) (public_exports (renamed d))
+
+-- the aliases that a definition means, in its order
+abbrev pub aliases_of : DefinitionView → List Alias
+aliases_of d = flat_map (λ e. aliases_for e.name e.alias_target) (public_exports (renamed d))

@@ -16,3 +16,4 @@ pub mod Object
 pub mod Picture
 pub mod Constants
 pub mod MsvcObjects
+pub mod File

@@ -1,14 +1,16 @@
 -- What the members of a definition are, and which definitions are refused.
-use Rattle.std.specs.Prelude.{◌≡◌, ℕ, ◌+◌, ◌^◌, ◌<◌, Bool, true, false, ◌&&◌, ◌||◌, not, nat_lt, List, [], ◌∷◌, map, All, Option, Some, None, Result, IsErrAnd, if◌then◌else◌}
-use Rattle.std.specs.List.{list_all, list_any}
+use Rattle.std.specs.Prelude.{◌≡◌, ℕ, ◌+◌, ◌^◌, ◌<◌, Bool, true, false, ◌&&◌, ◌||◌, not, nat_lt, List, [], ◌∷◌, ◌++◌, map, All, Option, Some, None, Result, IsErrAnd, if◌then◌else◌}
+use Rattle.std.specs.List.{flat_map, list_all, list_any}
 use Rattle.implib.specs.declared.error.Error.{Error}
 use Rattle.implib.specs.declared.library.Flavor.{Flavor}
 use Rattle.implib.specs.declared.library.Flavor.TheVariants.{Msvc}
 use Rattle.implib.specs.declared.machine.MachineType.{MachineType}
 use Rattle.implib.specs.Definition.{DefinitionView, ExportView}
 use Rattle.implib.specs.Fault.{Cause, EmptyImportName, NulInImportName, EmptyName, NulInExport, EmptyAskedName, MemberTooLong, error_cause}
-use Rattle.implib.specs.Import.{holds, public_exports}
-use Rattle.implib.specs.Msvc.{record_of, record_size, record_bytes, record_listed, asked_by_record}
+use Rattle.implib.specs.Import.{address_symbol, holds, is_alias, is_empty_text, public_exports}
+use Rattle.implib.specs.Msvc.{record_of, record_size, record_bytes, record_listed, record_symbol, asked_by_record}
+use Rattle.implib.specs.MsvcObjects.{descriptor, descriptor_symbol, null_descriptor, null_descriptor_symbol, null_thunk, null_thunk_symbol, weak_object}
+use Rattle.implib.specs.Picture.{Picture, layout, layout_size}
 use Rattle.implib.specs.Record.{ShortRecord}
 use Rattle.implib.specs.Renaming.{renamed}
 
@@ -18,9 +20,10 @@ pub record MemberView : Type 0 where
   pub bytes : List ℕ
   pub symbols : List (List ℕ)
 
--- what a member's file is
+-- what a member's file is: a short record, or an object
 pub data Contents : Type 0 where
   ARecord : ShortRecord → Contents
+  AnObject : Picture → Contents
 
 -- a member before it is bytes
 pub record Plan : Type 0 where
@@ -31,31 +34,56 @@ pub record Plan : Type 0 where
 -- the length of a member's file
 abbrev pub contents_size : Contents → ℕ
 contents_size (ARecord r) = record_size r
+contents_size (AnObject p) = layout_size p
 
 -- a member's file
 abbrev pub contents_bytes : Contents → List ℕ
 contents_bytes (ARecord r) = record_bytes r
+contents_bytes (AnObject p) = layout p
 
 -- a member, laid out
 abbrev pub member_of : Plan → MemberView
 member_of p = record { name = p.name; bytes = contents_bytes p.contents; symbols = p.listed }
 
--- the plan of an export's short record; every member for Microsoft's linker is named as the DLL
+-- Every member for Microsoft's linker is named as the DLL.
+
+-- what begins the members: the import descriptor, the null descriptor and the null thunk
+unfoldable pub heading_plans : MachineType → List ℕ → List Plan
+heading_plans machine dll =
+    record { name = dll; contents = AnObject (descriptor machine dll); listed = descriptor_symbol dll ∷ [] }
+    ∷ record { name = dll; contents = AnObject (null_descriptor machine); listed = null_descriptor_symbol ∷ [] }
+    ∷ record { name = dll; contents = AnObject (null_thunk machine dll); listed = null_thunk_symbol dll ∷ [] }
+    ∷ []
+
+-- the plan of a weak external
+abbrev pub weak_plan : MachineType → List ℕ → List ℕ → List ℕ → Plan
+weak_plan machine dll weak target = record { name = dll; contents = AnObject (weak_object machine weak target); listed = weak ∷ [] }
+
+-- the plans of the weak externals of an export: of its symbol, and of its address
+unfoldable pub weak_plans : MachineType → List ℕ → ExportView → List Plan
+weak_plans machine dll e =
+    if is_alias e.alias_target (record_symbol e) then
+      weak_plan machine dll (record_symbol e) e.alias_target
+      ∷ weak_plan machine dll (address_symbol (record_symbol e)) (address_symbol e.alias_target)
+      ∷ []
+    else []
+
+-- the plan of an export's short record
 abbrev pub record_plan : MachineType → List ℕ → ExportView → Plan
 record_plan machine dll e = record { name = dll; contents = ARecord (record_of machine dll e); listed = record_listed e }
 
+-- the plans of an export
+abbrev pub export_plans : MachineType → List ℕ → ExportView → List Plan
+export_plans machine dll e = weak_plans machine dll e ++ record_plan machine dll e ∷ []
+
 -- the members of a definition whose exports are under their names to link by
 abbrev pub plans_of : DefinitionView → MachineType → Flavor → List Plan
-plans_of d machine Msvc = map (record_plan machine d.import_name) (public_exports d)
+plans_of d machine Msvc =
+    heading_plans machine d.import_name ++ flat_map (export_plans machine d.import_name) (public_exports d)
 
 -- the name that an export asks for in a flavour
 abbrev pub asked_in : Flavor → MachineType → ExportView → List ℕ
 asked_in Msvc machine e = asked_by_record machine e
-
--- whether a text is empty
-abbrev pub is_empty_text : List ℕ → Bool
-is_empty_text [] = true
-is_empty_text (first ∷ rest) = false
 
 -- the first rule on names that an export breaks
 abbrev pub name_refusal : Flavor → MachineType → ℕ → ExportView → Option Cause
@@ -98,12 +126,12 @@ definition_names_refusal d machine flavor =
     first_of_both (import_name_refusal d.import_name) (names_refusal flavor machine 0 d.exports)
 
 -- the first rule that such a definition breaks: on the import name, on the exports' names, on lengths
-abbrev pub renamed_refusal : DefinitionView → MachineType → Flavor → Option Cause
+unfoldable pub renamed_refusal : DefinitionView → MachineType → Flavor → Option Cause
 renamed_refusal d machine flavor =
     first_of_both (definition_names_refusal d machine flavor) (length_refusal (plans_of d machine flavor))
 
 -- the first rule that refuses a definition
-abbrev pub refusal : DefinitionView → MachineType → Flavor → Option Cause
+unfoldable pub refusal : DefinitionView → MachineType → Flavor → Option Cause
 refusal d machine flavor = renamed_refusal (renamed d) machine flavor
 
 -- whether an ordinal is a 16-bit number, as every ordinal of the program is

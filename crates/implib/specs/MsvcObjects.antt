@@ -10,20 +10,20 @@ use Rattle.implib.specs.Object.{ObjectSection}
 use Rattle.implib.specs.Picture.{Picture, PictureSymbol, SymbolName, InRecord, Listed}
 
 -- the DLL's name without a last `.dll` or `.exe`
-abbrev pub base_name : List ℕ → List ℕ
+unfoldable pub base_name : List ℕ → List ℕ
 base_name dll =
     if ends_with nat_eq dll (codes ".dll") || ends_with nat_eq dll (codes ".exe") then take (length dll - 4) dll else dll
 
 -- the symbol of the import descriptor
-abbrev pub descriptor_symbol : List ℕ → List ℕ
+unfoldable pub descriptor_symbol : List ℕ → List ℕ
 descriptor_symbol dll = codes "__IMPORT_DESCRIPTOR_" ++ base_name dll
 
 -- the symbol of the descriptor that ends the import directory
-abbrev pub null_descriptor_symbol : List ℕ
+unfoldable pub null_descriptor_symbol : List ℕ
 null_descriptor_symbol = codes "__NULL_IMPORT_DESCRIPTOR"
 
 -- the symbol of the thunks that end the tables of a DLL
-abbrev pub null_thunk_symbol : List ℕ → List ℕ
+unfoldable pub null_thunk_symbol : List ℕ → List ℕ
 null_thunk_symbol dll = 0x7F ∷ (base_name dll ++ codes "_NULL_THUNK_DATA")
 
 -- the bytes of an entry of the address table and the lookup table
@@ -51,7 +51,7 @@ abbrev pub descriptor_size : ℕ
 descriptor_size = 20
 
 -- the import descriptor: the lookup table's address at 0, the name's at 12, the address table's at 16
-abbrev pub descriptor : MachineType → List ℕ → Picture
+unfoldable pub descriptor : MachineType → List ℕ → Picture
 descriptor machine dll = record {
   machine = machine_number machine;
   characteristics = descriptor_characteristics machine;
@@ -82,7 +82,7 @@ descriptor machine dll = record {
 }
 
 -- the descriptor of zeros that ends the import directory
-abbrev pub null_descriptor : MachineType → Picture
+unfoldable pub null_descriptor : MachineType → Picture
 null_descriptor machine = record {
   machine = machine_number machine;
   characteristics = descriptor_characteristics machine;
@@ -108,7 +108,7 @@ null_thunk_section machine name = record {
 }
 
 -- the thunks of zeros that end the address table and the lookup table
-abbrev pub null_thunk : MachineType → List ℕ → Picture
+unfoldable pub null_thunk : MachineType → List ℕ → Picture
 null_thunk machine dll = record {
   machine = machine_number machine;
   characteristics = descriptor_characteristics machine;
@@ -122,7 +122,7 @@ abbrev pub weak_auxiliary : ℕ → List ℕ
 weak_auxiliary index = u32_bytes index ++ (u32_bytes search_alias ++ zeros 10)
 
 -- an object that makes one symbol weak for another
-abbrev pub weak_object : MachineType → List ℕ → List ℕ → Picture
+unfoldable pub weak_object : MachineType → List ℕ → List ℕ → Picture
 weak_object machine weak target = record {
   machine = machine_number machine;
   characteristics = 0;

@@ -1,9 +1,9 @@
 -- Reading a short import record (PE/COFF specification, "Import Library Format"):
 -- a header of 20 bytes, then the symbol and the DLL's name, each ended by a NUL.
 -- The reader takes what it finds in the bytes, and knows nothing of who wrote them.
-use Rattle.std.specs.Prelude.{ℕ, ◌+◌, ◌-◌, ◌*◌, ◌/◌, ◌%◌, Bool, ◌&&◌, ◌==◌, nat_le, List, [], ◌∷◌, ◌++◌, length, take, drop, Option, Some, None, IsSomeAnd, option_and_then, if◌then◌else◌}
+use Rattle.std.specs.Prelude.{ℕ, ◌+◌, ◌-◌, ◌*◌, ◌/◌, ◌%◌, Bool, ◌&&◌, ◌==◌, nat_le, List, [], ◌∷◌, ◌++◌, length, take, drop, Option, Some, None, if◌then◌else◌}
 use Rattle.std.specs.Int.{from_le_bytes, w16, w32}
-use Rattle.std.specs.List.{Contains, before_first}
+use Rattle.std.specs.List.{before_first}
 use Rattle.implib.specs.Import.{Ask, Ordinal, Name, Import, import_symbols, without_first, begins_with, underscore, at_sign}
 
 -- the fields of a record
@@ -125,11 +125,3 @@ import_of_record r =
       declared = import_symbols (r.kind == import_data) r.symbol;
       ask = ask_of_record r;
     } else None
-
--- the import that these bytes stand for
-abbrev pub import_in : List ℕ → Option Import
-import_in bytes = option_and_then import_of_record (short_record_in bytes)
-
--- the bytes are a record that declares the symbol
-abbrev pub Declares : List ℕ → List ℕ → Type 0
-Declares bytes symbol = IsSomeAnd (import_in bytes) (λ i. Contains i.declared symbol)
