@@ -3,7 +3,7 @@ use Rattle.std.proofs.Common.{◌≡◌, ℕ, suc, ◌+◌, ◌*◌, ◌-◌, �
 use Rattle.std.specs.List.{AllByRecursion, flat_map, sum_by}
 use Rattle.std.proofs.lemmas.List.Sums.{sum_by-cons}
 use Rattle.implib.specs.Object.{ASymbol, Auxiliary, Entry, each_at, entries_at, object_in, object_of_header, section_at}
-use Rattle.implib.specs.Picture.{Fits, FitsAuxiliary, FitsSymbol, HasNoNul, Picture, PictureSymbol, SymbolName, auxiliary_bytes, contents, contents_place, contents_size, entries_of, header_bytes, layout, layout_size, object_of, record_count, records, section_headers, string_table, strings_size, symbol_bytes, symbols_place}
+use Rattle.implib.specs.Picture.{Fits, FitsAuxiliary, FitsSymbol, HasNoNul, Picture, PictureSymbol, SymbolName, auxiliary_bytes, contents, contents_place, contents_size, entries_of, header_bytes, layout, layout_size, object_of, record_count, records, section_headers, string_offsets, string_table, strings_size, symbol_bytes, symbols_place}
 use Rattle.implib.proofs.Fields.{header-characteristics, header-machine, header-optional, header-records, header-sections, header-symbols_place, header-time, length-header_bytes}
 use Rattle.implib.proofs.Stands.{Stands, bytes_at-stands, stands_first, stands_next, stands_whole}
 use Rattle.implib.proofs.Symbols.{length-all_contents, length-record_bytes, length-section_headers, length-string_table, record-auxiliary, record_bytes, sections_read, shown, strings_read, symbol_bytes-parts, symbol_of-record}
@@ -30,13 +30,13 @@ auxiliary_symbol bytes place strings s fits aux count rest all below more long s
 
 -- where a symbol's bytes stand, its own record does, and then its auxiliary record
 
-symbol_parts : (bytes : List ℕ) (place : ℕ) (strings : List (List ℕ)) (s : PictureSymbol) → Stands bytes place (symbol_bytes strings s) → Stands bytes place (record_bytes strings s ++ auxiliary_bytes s.aux)
+symbol_parts : (bytes : List ℕ) (place : ℕ) (strings : List (List ℕ)) (s : PictureSymbol) → Stands bytes place (symbol_bytes (string_offsets strings) s) → Stands bytes place (record_bytes strings s ++ auxiliary_bytes s.aux)
 symbol_parts bytes place strings s stands = rw (symbol_bytes-parts strings s) at stands
 
-record_stands : (bytes : List ℕ) (place : ℕ) (strings : List (List ℕ)) (s : PictureSymbol) → Stands bytes place (symbol_bytes strings s) → Stands bytes place (record_bytes strings s)
+record_stands : (bytes : List ℕ) (place : ℕ) (strings : List (List ℕ)) (s : PictureSymbol) → Stands bytes place (symbol_bytes (string_offsets strings) s) → Stands bytes place (record_bytes strings s)
 record_stands bytes place strings s stands = stands_first (record_bytes strings s) (auxiliary_bytes s.aux) (symbol_parts bytes place strings s stands)
 
-auxiliary_stands : (bytes : List ℕ) (place : ℕ) (strings : List (List ℕ)) (s : PictureSymbol) → FitsSymbol strings s → Stands bytes place (symbol_bytes strings s) → Stands bytes (place + 18) (auxiliary_bytes s.aux)
+auxiliary_stands : (bytes : List ℕ) (place : ℕ) (strings : List (List ℕ)) (s : PictureSymbol) → FitsSymbol strings s → Stands bytes place (symbol_bytes (string_offsets strings) s) → Stands bytes (place + 18) (auxiliary_bytes s.aux)
 auxiliary_stands bytes place strings s fits stands =
     stands_next (record_bytes strings s) (auxiliary_bytes s.aux) 18 (length-record_bytes strings s fits) (symbol_parts bytes place strings s stands)
 
@@ -44,7 +44,7 @@ auxiliary_stands bytes place strings s fits stands =
 one_symbol : (bytes : List ℕ) (place : ℕ) (strings : List (List ℕ)) (name : SymbolName) (value section class : ℕ) (aux : Option (List ℕ)) (count : ℕ) (rest : List Entry)
     → FitsSymbol strings (record { name = name; value = value; section = section; class = class; aux = aux })
     → AllByRecursion HasNoNul strings → strings_size strings < 2 ^ 32
-    → Stands bytes place (symbol_bytes strings (record { name = name; value = value; section = section; class = class; aux = aux }))
+    → Stands bytes place (symbol_bytes (string_offsets strings) (record { name = name; value = value; section = section; class = class; aux = aux }))
     → entries_at bytes (string_table strings) (place + 18 * record_count (record { name = name; value = value; section = section; class = class; aux = aux })) 0 count ≡ Some rest
     → entries_at bytes (string_table strings) place 0 (record_count (record { name = name; value = value; section = section; class = class; aux = aux }) + count)
     ≡ Some (entries_of strings (record { name = name; value = value; section = section; class = class; aux = aux }) ++ rest)
@@ -67,32 +67,32 @@ unfolding FitsAuxiliary auxiliary_bytes
 auxiliary_counted None fits = refl
 auxiliary_counted (Some aux) fits = ap (λ n. 18 + n) fits
 
-pub length-symbol_bytes : (strings : List (List ℕ)) (s : PictureSymbol) → FitsSymbol strings s → length (symbol_bytes strings s) ≡ 18 * record_count s
+pub length-symbol_bytes : (strings : List (List ℕ)) (s : PictureSymbol) → FitsSymbol strings s → length (symbol_bytes (string_offsets strings) s) ≡ 18 * record_count s
 unfolding record_count
 length-symbol_bytes strings s fits =
     ap length (symbol_bytes-parts strings s)
     ∙ (length-append (record_bytes strings s) (auxiliary_bytes s.aux)
     ∙ (ap (λ n. n + length (auxiliary_bytes s.aux)) (length-record_bytes strings s fits) ∙ auxiliary_counted s.aux fits.aux))
 
-pub length-all_symbols : (strings : List (List ℕ)) (ss : List PictureSymbol) → AllByRecursion (FitsSymbol strings) ss → length (flat_map (symbol_bytes strings) ss) ≡ 18 * sum_by record_count ss
+pub length-all_symbols : (strings : List (List ℕ)) (ss : List PictureSymbol) → AllByRecursion (FitsSymbol strings) ss → length (flat_map (symbol_bytes (string_offsets strings)) ss) ≡ 18 * sum_by record_count ss
 length-all_symbols strings [] all = refl
 length-all_symbols strings (s ∷ ss) all =
-    omega (arith, length-append (symbol_bytes strings s) (flat_map (symbol_bytes strings) ss), length-symbol_bytes strings s all.0, length-all_symbols strings ss all.1, sum_by-cons record_count s ss)
+    omega (arith, length-append (symbol_bytes (string_offsets strings) s) (flat_map (symbol_bytes (string_offsets strings)) ss), length-symbol_bytes strings s all.0, length-all_symbols strings ss all.1, sum_by-cons record_count s ss)
 
 entries_none : (bytes table : List ℕ) (place : ℕ) → entries_at bytes table place 0 0 ≡ Some []
 unfolding entries_at
 entries_none bytes table place = refl
 
 entries_read : (bytes : List ℕ) (place : ℕ) (strings : List (List ℕ)) (ss : List PictureSymbol) → AllByRecursion (FitsSymbol strings) ss → AllByRecursion HasNoNul strings → strings_size strings < 2 ^ 32
-    → Stands bytes place (flat_map (symbol_bytes strings) ss)
+    → Stands bytes place (flat_map (symbol_bytes (string_offsets strings)) ss)
     → entries_at bytes (string_table strings) place 0 (sum_by record_count ss) ≡ Some (flat_map (entries_of strings) ss)
 entries_read bytes place strings [] all texts below stands = entries_none bytes (string_table strings) place
 entries_read bytes place strings (s ∷ ss) all texts below stands =
     rw (sum_by-cons record_count s ss)
     (one_symbol bytes place strings s.name s.value s.section s.class s.aux (sum_by record_count ss) (flat_map (entries_of strings) ss) all.0 texts below
-    (stands_first (symbol_bytes strings s) (flat_map (symbol_bytes strings) ss) stands)
+    (stands_first (symbol_bytes (string_offsets strings) s) (flat_map (symbol_bytes (string_offsets strings)) ss) stands)
     (entries_read bytes (place + 18 * record_count s) strings ss all.1 texts below
-    (stands_next (symbol_bytes strings s) (flat_map (symbol_bytes strings) ss) (18 * record_count s) (length-symbol_bytes strings s all.0) stands)))
+    (stands_next (symbol_bytes (string_offsets strings) s) (flat_map (symbol_bytes (string_offsets strings)) ss) (18 * record_count s) (length-symbol_bytes strings s all.0) stands)))
 
 -- the picture
 
@@ -105,7 +105,7 @@ module _ (p : Picture) (fits : Fits p) (short : layout_size p < 2 ^ 32) where
   unfolding contents_place
   headers_long = length-section_headers (20 + 40 * length p.sections) p.sections fits.sections (omega (arith, places_below))
 
-  after_header : Stands (layout p) 20 (section_headers (contents_place p) p.sections ++ (flat_map contents p.sections ++ (flat_map (symbol_bytes p.strings) p.symbols ++ string_table p.strings)))
+  after_header : Stands (layout p) 20 (section_headers (contents_place p) p.sections ++ (flat_map contents p.sections ++ (flat_map (symbol_bytes (string_offsets p.strings)) p.symbols ++ string_table p.strings)))
   unfolding layout
   after_header = stands_next (header_bytes p) _ 20 (length-header_bytes p) (stands_whole (layout p))
 
@@ -114,25 +114,25 @@ module _ (p : Picture) (fits : Fits p) (short : layout_size p < 2 ^ 32) where
   header_stands = stands_first (header_bytes p) _ (stands_whole (layout p))
 
   headers_stand : Stands (layout p) 20 (section_headers (contents_place p) p.sections)
-  headers_stand = stands_first _ (flat_map contents p.sections ++ (flat_map (symbol_bytes p.strings) p.symbols ++ string_table p.strings)) after_header
+  headers_stand = stands_first _ (flat_map contents p.sections ++ (flat_map (symbol_bytes (string_offsets p.strings)) p.symbols ++ string_table p.strings)) after_header
 
-  after_headers : Stands (layout p) (contents_place p) (flat_map contents p.sections ++ (flat_map (symbol_bytes p.strings) p.symbols ++ string_table p.strings))
+  after_headers : Stands (layout p) (contents_place p) (flat_map contents p.sections ++ (flat_map (symbol_bytes (string_offsets p.strings)) p.symbols ++ string_table p.strings))
   unfolding contents_place
   after_headers = stands_next (section_headers (contents_place p) p.sections) _ (40 * length p.sections) headers_long after_header
 
   contents_stand : Stands (layout p) (contents_place p) (flat_map contents p.sections)
   contents_stand = stands_first (flat_map contents p.sections) _ after_headers
 
-  after_contents : Stands (layout p) (symbols_place p) (flat_map (symbol_bytes p.strings) p.symbols ++ string_table p.strings)
+  after_contents : Stands (layout p) (symbols_place p) (flat_map (symbol_bytes (string_offsets p.strings)) p.symbols ++ string_table p.strings)
   unfolding symbols_place
   after_contents = stands_next (flat_map contents p.sections) _ (sum_by contents_size p.sections) (length-all_contents p.sections) after_headers
 
-  symbols_stand : Stands (layout p) (symbols_place p) (flat_map (symbol_bytes p.strings) p.symbols)
-  symbols_stand = stands_first (flat_map (symbol_bytes p.strings) p.symbols) _ after_contents
+  symbols_stand : Stands (layout p) (symbols_place p) (flat_map (symbol_bytes (string_offsets p.strings)) p.symbols)
+  symbols_stand = stands_first (flat_map (symbol_bytes (string_offsets p.strings)) p.symbols) _ after_contents
 
   strings_stand : Stands (layout p) (symbols_place p + 18 * records p) (string_table p.strings)
   unfolding records
-  strings_stand = stands_next (flat_map (symbol_bytes p.strings) p.symbols) _ (18 * sum_by record_count p.symbols) (length-all_symbols p.strings p.symbols fits.symbols) after_contents
+  strings_stand = stands_next (flat_map (symbol_bytes (string_offsets p.strings)) p.symbols) _ (18 * sum_by record_count p.symbols) (length-all_symbols p.strings p.symbols fits.symbols) after_contents
 
   strings_below : strings_size p.strings < 2 ^ 32
   strings_below = omega (arith, places_below)
@@ -180,10 +180,10 @@ module _ (p : Picture) (fits : Fits p) (short : layout_size p < 2 ^ 32) where
   unfolding layout layout_size symbols_place contents_place records
   length-layout = omega (
     arith,
-    length-append (header_bytes p) (section_headers (contents_place p) p.sections ++ (flat_map contents p.sections ++ (flat_map (symbol_bytes p.strings) p.symbols ++ string_table p.strings))),
-    length-append (section_headers (contents_place p) p.sections) (flat_map contents p.sections ++ (flat_map (symbol_bytes p.strings) p.symbols ++ string_table p.strings)),
-    length-append (flat_map contents p.sections) (flat_map (symbol_bytes p.strings) p.symbols ++ string_table p.strings),
-    length-append (flat_map (symbol_bytes p.strings) p.symbols) (string_table p.strings),
+    length-append (header_bytes p) (section_headers (contents_place p) p.sections ++ (flat_map contents p.sections ++ (flat_map (symbol_bytes (string_offsets p.strings)) p.symbols ++ string_table p.strings))),
+    length-append (section_headers (contents_place p) p.sections) (flat_map contents p.sections ++ (flat_map (symbol_bytes (string_offsets p.strings)) p.symbols ++ string_table p.strings)),
+    length-append (flat_map contents p.sections) (flat_map (symbol_bytes (string_offsets p.strings)) p.symbols ++ string_table p.strings),
+    length-append (flat_map (symbol_bytes (string_offsets p.strings)) p.symbols) (string_table p.strings),
     length-header_bytes p,
     headers_long,
     length-all_contents p.sections,

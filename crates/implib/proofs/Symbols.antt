@@ -8,7 +8,7 @@ use Rattle.std.proofs.lemmas.List.Sums.{sum_by-append, sum_by-cons}
 use Rattle.std.proofs.lemmas.Nat.{from_le_bytes-to_le_bytes_2, from_le_bytes-to_le_bytes_4}
 use Rattle.implib.specs.Bytes.{u16_bytes, u32_bytes}
 use Rattle.implib.specs.Object.{ObjectSection, ObjectSymbol, before_nul, each_at, name_of, section_at, strings_at, symbol_of, u16_at, u32_at, up_to_nul}
-use Rattle.implib.specs.Picture.{FitsName, FitsSection, FitsSymbol, HasNoNul, InRecord, Listed, PictureSymbol, SymbolName, auxiliary_bytes, contents, contents_size, name_field, name_text, record_count, section_header, section_headers, string_bytes_of, string_offset, string_size, string_table, strings_size, symbol_bytes}
+use Rattle.implib.specs.Picture.{FitsName, FitsSection, FitsSymbol, HasNoNul, InRecord, Listed, PictureSymbol, SymbolName, auxiliary_bytes, contents, contents_size, name_field, name_text, record_count, section_header, section_headers, string_bytes_of, string_offsets, offsets_from, string_size, string_table, strings_size, symbol_bytes}
 use Rattle.implib.proofs.Bytes.{length-u32_bytes}
 use Rattle.implib.proofs.Fields.{length-relocation_bytes, length-section_header, section_at-stands, u16_at-after, u32_at-after}
 use Rattle.implib.proofs.Stands.{Stands, bytes_at-stands, stands_first, stands_next}
@@ -118,6 +118,21 @@ first_string : (text : List ℕ) (rest : List (List ℕ)) → flat_map string_by
 unfolding string_bytes_of
 first_string text rest = append_assoc text (0 ∷ []) (flat_map string_bytes_of rest)
 
+-- where the string of an index begins
+string_offset : List (List ℕ) → ℕ → ℕ
+string_offset strings index = strings_size (take index strings)
+
+offsets_from-index : (offset : ℕ) (strings : List (List ℕ)) (index : ℕ) → index < length strings → slice_index (offsets_from offset strings) index ≡ offset + sum_by string_size (take index strings)
+unfolding offsets_from
+offsets_from-index offset [] index within = absurd (omega (arith, within))
+offsets_from-index offset (text ∷ strings) zero within = omega arith
+offsets_from-index offset (text ∷ strings) (suc index) within =
+    omega (arith, offsets_from-index (offset + string_size text) strings index (omega (arith, within)), sum_by-cons string_size text (take index strings))
+
+string_offsets-index : (strings : List (List ℕ)) (index : ℕ) → index < length strings → slice_index (string_offsets strings) index ≡ string_offset strings index
+unfolding string_offsets string_offset strings_size
+string_offsets-index strings index within = offsets_from-index 4 strings index within
+
 -- from its offset on, the string table holds the string, a NUL, and the others
 string_at_offset : (strings : List (List ℕ)) (index : ℕ) → index < length strings → drop (string_offset strings index) (string_table strings) ≡ slice_index_or strings index [] ++ (0 ∷ flat_map string_bytes_of (drop (index + 1) strings))
 unfolding string_offset string_table
@@ -128,7 +143,7 @@ string_at_offset strings index within =
 
 -- names
 
-pub length-name_field : (strings : List (List ℕ)) (name : SymbolName) → FitsName strings name → length (name_field strings name) ≡ 8
+pub length-name_field : (strings : List (List ℕ)) (name : SymbolName) → FitsName strings name → length (name_field (string_offsets strings) name) ≡ 8
 unfolding name_field FitsName u32_bytes
 length-name_field strings (InRecord text) fits = omega (arith, length-append text (replicate (8 - length text) 0), length-replicate {A = ℕ} (8 - length text) 0)
 length-name_field strings (Listed index) fits = refl
@@ -154,60 +169,61 @@ in_record_read table [] count some none = absurd (omega (arith, some))
 in_record_read table (zero ∷ text) count some none = absurd (HasNoNul-head 0 text none refl)
 in_record_read table (suc n ∷ text) count some none = ap Some (up_to_nul-padded (suc n ∷ text) count none)
 
-pub name_of-field : (strings : List (List ℕ)) (name : SymbolName) → FitsName strings name → AllByRecursion HasNoNul strings → strings_size strings < 2 ^ 32 → name_of (string_table strings) (name_field strings name) ≡ Some (name_text strings name)
+pub name_of-field : (strings : List (List ℕ)) (name : SymbolName) → FitsName strings name → AllByRecursion HasNoNul strings → strings_size strings < 2 ^ 32 → name_of (string_table strings) (name_field (string_offsets strings) name) ≡ Some (name_text strings name)
 unfolding name_field name_text FitsName
 name_of-field strings (InRecord text) fits all below = in_record_read (string_table strings) text (8 - length text) fits.0 fits.2
 name_of-field strings (Listed index) fits all below =
-    listed_read (string_table strings) (string_offset strings index) (string_offset-below strings index below)
+    rw (string_offsets-index strings index fits)
+    (listed_read (string_table strings) (string_offset strings index) (string_offset-below strings index below)
     ∙ (ap before_nul (string_at_offset strings index fits)
-    ∙ before_nul-ended (slice_index_or strings index []) (flat_map string_bytes_of (drop (index + 1) strings)) (string_has_no_nul strings index all fits))
+    ∙ before_nul-ended (slice_index_or strings index []) (flat_map string_bytes_of (drop (index + 1) strings)) (string_has_no_nul strings index all fits)))
 
 -- symbols
 
 -- the 18 bytes of a symbol's own record
 unfoldable pub record_bytes : List (List ℕ) → PictureSymbol → List ℕ
 record_bytes strings s =
-    name_field strings s.name
+    name_field (string_offsets strings) s.name
     ++ (u32_bytes s.value ++ (u16_bytes s.section ++ (u16_bytes 0 ++ (s.class ∷ (record_count s - 1) ∷ []))))
 
-pub symbol_bytes-parts : (strings : List (List ℕ)) (s : PictureSymbol) → symbol_bytes strings s ≡ record_bytes strings s ++ auxiliary_bytes s.aux
+pub symbol_bytes-parts : (strings : List (List ℕ)) (s : PictureSymbol) → symbol_bytes (string_offsets strings) s ≡ record_bytes strings s ++ auxiliary_bytes s.aux
 unfolding symbol_bytes record_bytes u16_bytes u32_bytes
-symbol_bytes-parts strings s = sym (append_assoc (name_field strings s.name) _ (auxiliary_bytes s.aux))
+symbol_bytes-parts strings s = sym (append_assoc (name_field (string_offsets strings) s.name) _ (auxiliary_bytes s.aux))
 
 slice_index-after : (front rest : List ℕ) (offset : ℕ) → length front ≡ 8 → slice_index (front ++ rest) (8 + offset) ≡ slice_index rest offset
 slice_index-after front rest offset e = rw (← e) (get_or-append-add front rest offset 0)
 
 module _ (strings : List (List ℕ)) (s : PictureSymbol) (fits : FitsSymbol strings s) where
-  long : length (name_field strings s.name) ≡ 8
+  long : length (name_field (string_offsets strings) s.name) ≡ 8
   long = length-name_field strings s.name fits.name
 
   pub length-record_bytes : length (record_bytes strings s) ≡ 18
   unfolding record_bytes u16_bytes u32_bytes
-  length-record_bytes = length-append (name_field strings s.name) _ ∙ (rw long refl)
+  length-record_bytes = length-append (name_field (string_offsets strings) s.name) _ ∙ (rw long refl)
 
-  record-name : take 8 (record_bytes strings s) ≡ name_field strings s.name
+  record-name : take 8 (record_bytes strings s) ≡ name_field (string_offsets strings) s.name
   unfolding record_bytes
-  record-name = take_at (name_field strings s.name) _ 8 long
+  record-name = take_at (name_field (string_offsets strings) s.name) _ 8 long
 
   record-value : u32_at (record_bytes strings s) 8 ≡ s.value
   unfolding record_bytes u16_bytes u32_bytes u32_at
-  record-value = u32_at-after (name_field strings s.name) _ 0 long ∙ from_le_bytes-to_le_bytes_4 s.value fits.value
+  record-value = u32_at-after (name_field (string_offsets strings) s.name) _ 0 long ∙ from_le_bytes-to_le_bytes_4 s.value fits.value
 
   record-section : u16_at (record_bytes strings s) 12 ≡ s.section
   unfolding record_bytes u16_bytes u32_bytes u16_at
-  record-section = u16_at-after (name_field strings s.name) _ 4 long ∙ from_le_bytes-to_le_bytes_2 s.section fits.section
+  record-section = u16_at-after (name_field (string_offsets strings) s.name) _ 4 long ∙ from_le_bytes-to_le_bytes_2 s.section fits.section
 
   record-kind : u16_at (record_bytes strings s) 14 ≡ 0
   unfolding record_bytes u16_bytes u32_bytes u16_at
-  record-kind = u16_at-after (name_field strings s.name) _ 6 long
+  record-kind = u16_at-after (name_field (string_offsets strings) s.name) _ 6 long
 
   record-class : slice_index (record_bytes strings s) 16 ≡ s.class
   unfolding record_bytes u16_bytes u32_bytes
-  record-class = slice_index-after (name_field strings s.name) _ 8 long
+  record-class = slice_index-after (name_field (string_offsets strings) s.name) _ 8 long
 
   pub record-auxiliary : slice_index (record_bytes strings s) 17 ≡ record_count s - 1
   unfolding record_bytes u16_bytes u32_bytes
-  record-auxiliary = slice_index-after (name_field strings s.name) _ 9 long
+  record-auxiliary = slice_index-after (name_field (string_offsets strings) s.name) _ 9 long
 
   -- the symbol that a reader finds
   unfoldable pub shown : ObjectSymbol
