@@ -5,3 +5,7 @@ pub mod Renaming
 pub mod Made
 pub mod Record
 pub mod Import
+pub mod Stands
+pub mod Fields
+pub mod Symbols
+pub mod Reading

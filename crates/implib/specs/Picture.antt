@@ -1,11 +1,11 @@
 -- The layout of an object (this project's layout, docs/FORMATS.md, "The layout of an object"; the
 -- fields are those of the PE/COFF specification): header, section headers, the contents of each
 -- section, symbol records, string table, with nothing between them.
-use Rattle.std.specs.Prelude.{◌≡◌, ◌≢◌, ℕ, zero, suc, ◌+◌, ◌-◌, ◌*◌, ◌<◌, ◌≤◌, ◌^◌, Contains, List, [], ◌∷◌, ◌++◌, Option, None, Some, length, take, map, replicate, slice_index_or, nat_eq, if◌then◌else◌}
+use Rattle.std.specs.Prelude.{◌≡◌, ℕ, ◌+◌, ◌-◌, ◌*◌, ◌<◌, ◌≤◌, ◌^◌, Contains, List, [], ◌∷◌, ◌++◌, Option, None, Some, length, replicate, slice_index, slice_index_or, nat_eq, if◌then◌else◌}
 use Rattle.std.specs.List.{AllByRecursion, flat_map, sum_by}
 use Rattle.implib.specs.declared.coff.object.Relocation.{Relocation}
 use Rattle.implib.specs.Bytes.{u16_bytes, u32_bytes}
-use Rattle.implib.specs.Object.{Entry, ASymbol, Auxiliary, Object, ObjectSection, ObjectSymbol}
+use Rattle.implib.specs.Object.{Entry, ASymbol, Auxiliary, Object, ObjectSection}
 
 -- where a symbol's name stands: in its record, or in the string table, as the string of this
 -- index from 0
@@ -103,14 +103,19 @@ relocation_bytes r = u32_bytes r.offset ++ (u32_bytes r.symbol ++ u16_bytes r.ki
 unfoldable pub contents : ObjectSection → List ℕ
 contents s = s.bytes ++ flat_map relocation_bytes s.relocations
 
--- the offset of the string of an index in the string table
-unfoldable pub string_offset : List (List ℕ) → ℕ → ℕ
-string_offset strings index = strings_size (take index strings)
+-- the offsets of strings that stand one after another from an offset on
+unfoldable pub offsets_from : ℕ → List (List ℕ) → List ℕ
+offsets_from offset [] = []
+offsets_from offset (text ∷ rest) = offset ∷ offsets_from (offset + string_size text) rest
 
--- the 8 bytes of a symbol's name
-unfoldable pub name_field : List (List ℕ) → SymbolName → List ℕ
-name_field strings (InRecord text) = text ++ replicate (8 - length text) 0
-name_field strings (Listed index) = u32_bytes 0 ++ u32_bytes (string_offset strings index)
+-- the offset of each string in the string table, whose first 4 bytes are its size
+unfoldable pub string_offsets : List (List ℕ) → List ℕ
+string_offsets strings = offsets_from 4 strings
+
+-- the 8 bytes of a symbol's name, by the offsets of the strings
+unfoldable pub name_field : List ℕ → SymbolName → List ℕ
+name_field offsets (InRecord text) = text ++ replicate (8 - length text) 0
+name_field offsets (Listed index) = u32_bytes 0 ++ u32_bytes (slice_index offsets index)
 
 -- the auxiliary record that follows a symbol, if any
 unfoldable pub auxiliary_bytes : Option (List ℕ) → List ℕ
@@ -118,9 +123,9 @@ auxiliary_bytes None = []
 auxiliary_bytes (Some aux) = aux
 
 -- a symbol's record, and the auxiliary one
-unfoldable pub symbol_bytes : List (List ℕ) → PictureSymbol → List ℕ
-symbol_bytes strings s =
-    name_field strings s.name
+unfoldable pub symbol_bytes : List ℕ → PictureSymbol → List ℕ
+symbol_bytes offsets s =
+    name_field offsets s.name
     ++ (u32_bytes s.value
     ++ (u16_bytes s.section
     ++ (u16_bytes 0
@@ -140,7 +145,7 @@ layout p =
     header_bytes p
     ++ (section_headers (contents_place p) p.sections
     ++ (flat_map contents p.sections
-    ++ (flat_map (symbol_bytes p.strings) p.symbols
+    ++ (flat_map (symbol_bytes (string_offsets p.strings)) p.symbols
     ++ string_table p.strings)))
 
 -- the text that a symbol's name is

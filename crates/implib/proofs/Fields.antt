@@ -1,0 +1,182 @@
+-- The fields of the records of an object, read from the bytes that are laid out for them.
+use Rattle.std.proofs.Common.{◌≡◌, ℕ, zero, suc, ◌+◌, ◌≤◌, ◌<◌, ◌^◌, List, [], ◌∷◌, ◌++◌, Some, length, take, drop, refl, ◌∙◌, ap, arith, length-append, nat_eq, false, ne_eqb}
+use Rattle.std.specs.List.{AllByRecursion, flat_map}
+use Rattle.std.specs.Int.{w16, w32, from_le_bytes}
+use Rattle.std.proofs.Math.Seq.{drop-append-add}
+use Rattle.std.proofs.lemmas.List.{take_at}
+use Rattle.std.proofs.lemmas.Nat.{from_le_bytes-to_le_bytes_2, from_le_bytes-to_le_bytes_4}
+use Rattle.implib.specs.declared.coff.object.Relocation.{Relocation}
+use Rattle.implib.specs.Bytes.{u16_bytes, u32_bytes}
+use Rattle.implib.specs.Object.{ObjectSection, data_at, each_at, relocation_at, relocation_of, section_at, section_of, u16_at, u32_at}
+use Rattle.implib.specs.Picture.{FitsRelocation, FitsSection, Picture, contents, contents_size, header_bytes, place_of, records, relocation_bytes, section_header, symbols_place}
+use Rattle.implib.proofs.Stands.{Stands, bytes_at-stands, each_at-stands, stands_first, stands_second}
+
+-- a field past a front of 8 bytes is that field of the rest
+
+drop-after : (front rest : List ℕ) (offset : ℕ) → length front ≡ 8 → drop (8 + offset) (front ++ rest) ≡ drop offset rest
+drop-after front rest offset e = rw (← e) (drop-append-add front rest offset)
+
+pub u16_at-after : (front rest : List ℕ) (offset : ℕ) → length front ≡ 8 → u16_at (front ++ rest) (8 + offset) ≡ u16_at rest offset
+unfolding u16_at
+u16_at-after front rest offset e = ap (λ t. from_le_bytes w16 (take 2 t)) (drop-after front rest offset e)
+
+pub u32_at-after : (front rest : List ℕ) (offset : ℕ) → length front ≡ 8 → u32_at (front ++ rest) (8 + offset) ≡ u32_at rest offset
+unfolding u32_at
+u32_at-after front rest offset e = ap (λ t. from_le_bytes w32 (take 4 t)) (drop-after front rest offset e)
+
+-- the file header
+
+pub length-header_bytes : (p : Picture) → length (header_bytes p) ≡ 20
+unfolding header_bytes u16_bytes u32_bytes
+length-header_bytes p = refl
+
+pub header-machine : (p : Picture) → p.machine < 2 ^ 16 → u16_at (header_bytes p) 0 ≡ p.machine
+unfolding header_bytes u16_bytes u32_bytes u16_at
+header-machine p below = from_le_bytes-to_le_bytes_2 p.machine below
+
+pub header-sections : (p : Picture) → length p.sections < 2 ^ 16 → u16_at (header_bytes p) 2 ≡ length p.sections
+unfolding header_bytes u16_bytes u32_bytes u16_at
+header-sections p below = from_le_bytes-to_le_bytes_2 (length p.sections) below
+
+pub header-time : (p : Picture) → u32_at (header_bytes p) 4 ≡ 0
+unfolding header_bytes u16_bytes u32_bytes u32_at
+header-time p = refl
+
+pub header-symbols_place : (p : Picture) → symbols_place p < 2 ^ 32 → u32_at (header_bytes p) 8 ≡ symbols_place p
+unfolding header_bytes u16_bytes u32_bytes u32_at
+header-symbols_place p below = from_le_bytes-to_le_bytes_4 (symbols_place p) below
+
+pub header-records : (p : Picture) → records p < 2 ^ 32 → u32_at (header_bytes p) 12 ≡ records p
+unfolding header_bytes u16_bytes u32_bytes u32_at
+header-records p below = from_le_bytes-to_le_bytes_4 (records p) below
+
+pub header-optional : (p : Picture) → u16_at (header_bytes p) 16 ≡ 0
+unfolding header_bytes u16_bytes u32_bytes u16_at
+header-optional p = refl
+
+pub header-characteristics : (p : Picture) → p.characteristics < 2 ^ 16 → u16_at (header_bytes p) 18 ≡ p.characteristics
+unfolding header_bytes u16_bytes u32_bytes u16_at
+header-characteristics p below = from_le_bytes-to_le_bytes_2 p.characteristics below
+
+-- a relocation
+
+pub length-relocation_bytes : (r : Relocation) → length (relocation_bytes r) ≡ 10
+unfolding relocation_bytes u16_bytes u32_bytes
+length-relocation_bytes r = refl
+
+relocation-offset : (r : Relocation) → FitsRelocation r → u32_at (relocation_bytes r) 0 ≡ r.offset
+unfolding relocation_bytes u16_bytes u32_bytes u32_at
+relocation-offset r fits = from_le_bytes-to_le_bytes_4 r.offset fits.offset
+
+relocation-symbol : (r : Relocation) → FitsRelocation r → u32_at (relocation_bytes r) 4 ≡ r.symbol
+unfolding relocation_bytes u16_bytes u32_bytes u32_at
+relocation-symbol r fits = from_le_bytes-to_le_bytes_4 r.symbol fits.symbol
+
+relocation-kind : (r : Relocation) → FitsRelocation r → u16_at (relocation_bytes r) 8 ≡ r.kind
+unfolding relocation_bytes u16_bytes u32_bytes u16_at
+relocation-kind r fits = from_le_bytes-to_le_bytes_2 r.kind fits.kind
+
+relocation_of-bytes : (r : Relocation) → FitsRelocation r → relocation_of (relocation_bytes r) ≡ r
+unfolding relocation_of
+relocation_of-bytes r fits = rw (relocation-offset r fits, relocation-symbol r fits, relocation-kind r fits) refl
+
+pub relocation_at-stands : (bytes : List ℕ) (r : Relocation) (place : ℕ) → FitsRelocation r → Stands bytes place (relocation_bytes r) → relocation_at bytes place ≡ Some r
+unfolding relocation_at
+relocation_at-stands bytes r place fits s =
+    rw (bytes_at-stands 10 (length-relocation_bytes r) s) (ap Some (relocation_of-bytes r fits))
+
+relocations_read : (bytes : List ℕ) (place : ℕ) (rs : List Relocation) → AllByRecursion FitsRelocation rs → Stands bytes place (flat_map relocation_bytes rs) → each_at (relocation_at bytes) place 10 (length rs) ≡ Some rs
+relocations_read bytes place rs all s =
+    each_at-stands relocation_bytes (relocation_at bytes) 10 bytes FitsRelocation
+    (λ r at fits stands. relocation_at-stands bytes r at fits stands)
+    (λ r fits. length-relocation_bytes r)
+    rs place all s
+
+-- a place of nothing is 0
+pub place_of-zero : (place : ℕ) → place_of 0 place ≡ 0
+unfolding place_of
+place_of-zero place = refl
+
+-- a place of something is the place
+pub place_of-suc : (count place : ℕ) → place_of (suc count) place ≡ place
+unfolding place_of
+place_of-suc count place = let off : nat_eq (suc count) 0 ≡ false = ne_eqb (suc count) 0 (λ e. absurd (omega (arith, e))) in rw off refl
+
+pub place_of-le : (count place : ℕ) → place_of count place ≤ place
+place_of-le zero place = rw place_of-zero (omega arith)
+place_of-le (suc count) place = rw place_of-suc (omega arith)
+
+relocations_at_place : (bytes : List ℕ) (place : ℕ) (rs : List Relocation) → AllByRecursion FitsRelocation rs → Stands bytes place (flat_map relocation_bytes rs) → each_at (relocation_at bytes) (place_of (length rs) place) 10 (length rs) ≡ Some rs
+unfolding each_at
+relocations_at_place bytes place [] all s = refl
+relocations_at_place bytes place (r ∷ rs) all s = rw place_of-suc (relocations_read bytes place (r ∷ rs) all s)
+
+data_at_place : (bytes : List ℕ) (place : ℕ) (xs : List ℕ) → 0 < place → Stands bytes place xs → data_at bytes (place_of (length xs) place) (length xs) ≡ Some xs
+unfolding data_at
+data_at_place bytes place [] above s = rw place_of-zero refl
+data_at_place bytes place (x ∷ xs) above s =
+    let off : nat_eq place 0 ≡ false = ne_eqb place 0 (λ e. absurd (omega (arith, e))) in
+    rw (place_of-suc, off) (bytes_at-stands (length (x ∷ xs)) refl s)
+
+-- a section header
+
+module _ (place : ℕ) (s : ObjectSection) (fits : FitsSection s) (short : place + contents_size s < 2 ^ 32) where
+  pub length-section_header : length (section_header place s) ≡ 40
+  unfolding section_header u16_bytes u32_bytes
+  length-section_header = length-append s.name _ ∙ (rw fits.name refl)
+
+  header-name : take 8 (section_header place s) ≡ s.name
+  unfolding section_header
+  header-name = take_at s.name _ 8 fits.name
+
+  size_below : length s.bytes < 2 ^ 32
+  unfolding contents_size
+  size_below = omega arith
+
+  place_below : place_of (length s.bytes) place < 2 ^ 32
+  unfolding contents_size
+  place_below = omega (arith, place_of-le (length s.bytes) place)
+
+  relocations_below : place_of (length s.relocations) (place + length s.bytes) < 2 ^ 32
+  unfolding contents_size
+  relocations_below = omega (arith, place_of-le (length s.relocations) (place + length s.bytes))
+
+  header-size : u32_at (section_header place s) 16 ≡ length s.bytes
+  unfolding section_header u16_bytes u32_bytes u32_at
+  header-size = u32_at-after s.name _ 8 fits.name ∙ from_le_bytes-to_le_bytes_4 (length s.bytes) size_below
+
+  header-place : u32_at (section_header place s) 20 ≡ place_of (length s.bytes) place
+  unfolding section_header u16_bytes u32_bytes u32_at
+  header-place = u32_at-after s.name _ 12 fits.name ∙ from_le_bytes-to_le_bytes_4 _ place_below
+
+  header-relocations : u32_at (section_header place s) 24 ≡ place_of (length s.relocations) (place + length s.bytes)
+  unfolding section_header u16_bytes u32_bytes u32_at
+  header-relocations = u32_at-after s.name _ 16 fits.name ∙ from_le_bytes-to_le_bytes_4 _ relocations_below
+
+  header-count : u16_at (section_header place s) 32 ≡ length s.relocations
+  unfolding section_header u16_bytes u32_bytes u16_at
+  header-count = u16_at-after s.name _ 24 fits.name ∙ from_le_bytes-to_le_bytes_2 _ fits.count
+
+  header-flags : u32_at (section_header place s) 36 ≡ s.flags
+  unfolding section_header u16_bytes u32_bytes u32_at
+  header-flags = u32_at-after s.name _ 28 fits.name ∙ from_le_bytes-to_le_bytes_4 _ fits.flags
+
+  section_of-header : (bytes : List ℕ) → 0 < place → Stands bytes place (contents s) → section_of bytes (section_header place s) ≡ Some s
+  unfolding section_of contents
+  section_of-header bytes above stands =
+      rw (
+        header-place,
+        header-size,
+        header-relocations,
+        header-count,
+        header-name,
+        header-flags,
+        data_at_place bytes place s.bytes above (stands_first s.bytes (flat_map relocation_bytes s.relocations) stands),
+        relocations_at_place bytes (place + length s.bytes) s.relocations fits.relocations (stands_second s.bytes (flat_map relocation_bytes s.relocations) stands),
+      )
+      refl
+
+  pub section_at-stands : (bytes : List ℕ) (header : ℕ) → 0 < place → Stands bytes header (section_header place s) → Stands bytes place (contents s) → section_at bytes header ≡ Some s
+  unfolding section_at
+  section_at-stands bytes header above head stands =
+      rw (bytes_at-stands 40 length-section_header head) (section_of-header bytes above stands)
