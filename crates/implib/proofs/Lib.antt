@@ -9,3 +9,4 @@ pub mod Stands
 pub mod Fields
 pub mod Symbols
 pub mod Reading
+pub mod MsvcObjects
