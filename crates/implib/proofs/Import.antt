@@ -35,7 +35,7 @@ name_type_of_fits machine e =
     (chosen_below (not (bytes_eq (record_symbol e) e.name)) 3 _ 4 (omega arith)
     (chosen_below (is_i386 machine && begins_with underscore (record_symbol e)) 2 1 4 (omega arith) (omega arith))))
 
-symbol_without_nul : (symbol name : List ℕ) → holds 0 symbol ≡ false → holds 0 name ≡ false → holds 0 (symbol_or_name symbol name) ≡ false
+pub symbol_without_nul : (symbol name : List ℕ) → holds 0 symbol ≡ false → holds 0 name ≡ false → holds 0 (symbol_or_name symbol name) ≡ false
 symbol_without_nul [] name symbol_free name_free = name_free
 symbol_without_nul (b ∷ symbol) name symbol_free name_free = symbol_free
 

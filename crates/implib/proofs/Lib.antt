@@ -10,3 +10,4 @@ pub mod Fields
 pub mod Symbols
 pub mod Reading
 pub mod MsvcObjects
+pub mod MemberReadings
