@@ -63,7 +63,7 @@ import_by_types : (r : ShortRecord) (is_data no_name : Bool) → nat_le r.kind i
     }
 import_by_types r is_data no_name kind name_type data' ordinal = rw (kind, name_type, data', ordinal) refl
 
-kind_is_data : (is_data constant : Bool) → ((if is_data then import_data else if constant then import_const else import_code) == import_data) ≡ is_data
+pub kind_is_data : (is_data constant : Bool) → ((if is_data then import_data else if constant then import_const else import_code) == import_data) ≡ is_data
 kind_is_data true constant = refl
 kind_is_data false true = refl
 kind_is_data false false = refl

@@ -11,3 +11,4 @@ pub mod Symbols
 pub mod Reading
 pub mod MsvcObjects
 pub mod MemberReadings
+pub mod MemberMeanings

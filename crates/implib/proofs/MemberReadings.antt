@@ -30,7 +30,7 @@ use Rattle.implib.proofs.Reading.{object_in-layout}
 use Rattle.implib.proofs.Record.{short_record_in-record_bytes}
 
 -- the file of a plan reads as what was planned
-abbrev ReadsBack : Contents → Type 0
+abbrev pub ReadsBack : Contents → Type 0
 ReadsBack contents = file_in (contents_bytes contents) ≡ Some (file_of contents)
 
 record_reads : (r : ShortRecord) → FitsRecord r → record_size r ≤ 0xFFFF_FFFF → file_in (record_bytes r) ≡ Some (RecordFile r)
@@ -71,7 +71,7 @@ record Sound (e : ExportView) : Type 0 where
   alias_target : holds 0 e.alias_target ≡ false
   ordinal : has_u16_ordinal e ≡ true
 
-all_append : {X : Type 0} (P : X → Type 0) (xs ys : List X) → AllByRecursion P xs → AllByRecursion P ys → AllByRecursion P (xs ++ ys)
+pub all_append : {X : Type 0} (P : X → Type 0) (xs ys : List X) → AllByRecursion P xs → AllByRecursion P ys → AllByRecursion P (xs ++ ys)
 all_append P [] ys first second = second
 all_append P (x ∷ xs) ys first second = (first.0, all_append P xs ys first.1 second)
 
@@ -187,11 +187,11 @@ all_sound (e ∷ exports) names ordinals =
 none_too_long : (plans : List Plan) → length_refusal plans ≡ None → list_any is_too_long plans ≡ false
 none_too_long plans none = (if_none (list_any is_too_long plans) MemberTooLong None none).0
 
-map_same : {X Y : Type 0} (f g : X → Y) (xs : List X) → AllByRecursion (λ x. f x ≡ g x) xs → map f xs ≡ map g xs
+pub map_same : {X Y : Type 0} (f g : X → Y) (xs : List X) → AllByRecursion (λ x. f x ≡ g x) xs → map f xs ≡ map g xs
 map_same f g [] same = refl
 map_same f g (x ∷ xs) same = let first : f x ≡ g x = same.0 in let rest : map f xs ≡ map g xs = map_same f g xs same.1 in cc
 
-map_after : {X Y Z : Type 0} (f : Y → Z) (g : X → Y) (xs : List X) → map f (map g xs) ≡ map (λ x. f (g x)) xs
+pub map_after : {X Y Z : Type 0} (f : Y → Z) (g : X → Y) (xs : List X) → map f (map g xs) ≡ map (λ x. f (g x)) xs
 map_after f g [] = refl
 map_after f g (x ∷ xs) = ap (λ ys. f (g x) ∷ ys) (map_after f g xs)
 
@@ -204,14 +204,17 @@ module _ (d : DefinitionView) (machine : MachineType) (members : List MemberView
   name_refusals : (import_name_refusal d.import_name ≡ None) × (names_refusal Msvc machine 0 (map renamed_export d.exports) ≡ None)
   name_refusals = first_none (import_name_refusal d.import_name) (names_refusal Msvc machine 0 (map renamed_export d.exports)) refusals.0
 
-  plans_read_back : AllByRecursion (λ p. ReadsBack p.contents) (plans_of (renamed d) machine Msvc)
+  pub import_name_is_free : holds 0 d.import_name ≡ false
+  import_name_is_free = import_name_free d.import_name name_refusals.0
+
+  pub plans_read_back : AllByRecursion (λ p. ReadsBack p.contents) (plans_of (renamed d) machine Msvc)
   plans_read_back =
-      plans_read machine d.import_name (import_name_free d.import_name name_refusals.0) (public_exports (renamed d))
+      plans_read machine d.import_name import_name_is_free (public_exports (renamed d))
         (all_sound (public_exports (renamed d)) (all_names_in_order Msvc machine 0 (map renamed_export d.exports) name_refusals.1) made.ordinals)
         (none_too_long (plans_of (renamed d) machine Msvc) refusals.1)
 
   -- a fact of each member's file is a fact of what was planned
-  of_members : {Y : Type 0} (f : MemberView → Y) → map f members ≡ map (λ p. f (member_of p)) (plans_of (renamed d) machine Msvc)
+  pub of_members : {Y : Type 0} (f : MemberView → Y) → map f members ≡ map (λ p. f (member_of p)) (plans_of (renamed d) machine Msvc)
   of_members f = ap (map f) made.made ∙ map_after f member_of (plans_of (renamed d) machine Msvc)
 
   pub files_read : map (λ m. file_in m.bytes) members ≡ map (λ p. Some (file_of p.contents)) (plans_of (renamed d) machine Msvc)
