@@ -4,8 +4,9 @@ use Rattle.std.specs.Prelude.{◌==◌, not, slice_get}
 use Rattle.std.specs.List.{AllByRecursion, filter, filter_map, flat_map, list_all}
 use Rattle.std.specs.Option.{option_and_then, option_map}
 use Rattle.std.proofs.lemmas.Bool.{and_parts}
-use Rattle.std.proofs.lemmas.List.{map-append}
+use Rattle.std.proofs.lemmas.List.{append-nil, map-append}
 use Rattle.std.proofs.lemmas.List.Elements.{filter_map-append}
+use Rattle.implib.specs.declared.library.Flavor.{Flavor}
 use Rattle.implib.specs.declared.library.Flavor.TheVariants.{Msvc}
 use Rattle.implib.specs.declared.machine.MachineType.{MachineType}
 use Rattle.implib.specs.Bytes.{u32_bytes}
@@ -98,3 +99,135 @@ exports_mean machine dll (e ∷ exports) =
     ∙ (ap (λ x. x ++ map (λ (p : Plan). meaning_of (file_of p.contents)) (flat_map (export_plans machine dll) exports)) (export_means machine dll e)
     ∙ (ap (λ x. map (λ m. Some m) (meanings_written machine dll e) ++ x) (exports_mean machine dll exports)
     ∙ sym (map-append (λ m. Some m) (meanings_written machine dll e) (flat_map (meanings_written machine dll) exports))))
+
+-- Without symbol names.
+
+no_imports : (aliases : List Alias) → filter_map import_among (map AnAlias aliases) ≡ []
+no_imports [] = refl
+no_imports (a ∷ aliases) = no_imports aliases
+
+all_aliases : (aliases : List Alias) → filter_map alias_among (map AnAlias aliases) ≡ aliases
+all_aliases [] = refl
+all_aliases (a ∷ aliases) = ap (λ x. a ∷ x) (all_aliases aliases)
+
+-- the import among what an export's members mean
+import_of_export : (machine : MachineType) (dll : List ℕ) (e : ExportView) → e.symbol_name ≡ [] →
+    filter_map import_among (meanings_written machine dll e) ≡ import_meant machine dll e ∷ []
+import_of_export machine dll e plain =
+    filter_map-append import_among (map AnAlias (aliases_for (record_symbol e) e.alias_target)) (AnImport (import_written machine dll e) ∷ [])
+    ∙ (ap (λ x. x ++ import_written machine dll e ∷ []) (no_imports (aliases_for (record_symbol e) e.alias_target))
+    ∙ ap (λ x. x ∷ []) (import_written-meant machine dll e plain))
+
+-- the aliases among them
+aliases_of_export : (machine : MachineType) (dll : List ℕ) (e : ExportView) → e.symbol_name ≡ [] →
+    filter_map alias_among (meanings_written machine dll e) ≡ aliases_for e.name e.alias_target
+aliases_of_export machine dll e plain =
+    filter_map-append alias_among (map AnAlias (aliases_for (record_symbol e) e.alias_target)) (AnImport (import_written machine dll e) ∷ [])
+    ∙ (ap (λ x. x ++ []) (all_aliases (aliases_for (record_symbol e) e.alias_target))
+    ∙ (append-nil (aliases_for (record_symbol e) e.alias_target)
+    ∙ ap (λ (s : List ℕ). aliases_for (symbol_or_name s e.name) e.alias_target) plain))
+
+imports_meant : (machine : MachineType) (dll : List ℕ) (exports : List ExportView) → AllByRecursion (λ e. e.symbol_name ≡ []) exports →
+    filter_map import_among (flat_map (meanings_written machine dll) exports) ≡ map (import_meant machine dll) exports
+imports_meant machine dll [] plain = refl
+imports_meant machine dll (e ∷ exports) plain =
+    filter_map-append import_among (meanings_written machine dll e) (flat_map (meanings_written machine dll) exports)
+    ∙ (ap (λ x. x ++ filter_map import_among (flat_map (meanings_written machine dll) exports)) (import_of_export machine dll e plain.0)
+    ∙ ap (λ x. import_meant machine dll e ∷ x) (imports_meant machine dll exports plain.1))
+
+aliases_meant : (machine : MachineType) (dll : List ℕ) (exports : List ExportView) → AllByRecursion (λ e. e.symbol_name ≡ []) exports →
+    filter_map alias_among (flat_map (meanings_written machine dll) exports) ≡ flat_map (λ e. aliases_for e.name e.alias_target) exports
+aliases_meant machine dll [] plain = refl
+aliases_meant machine dll (e ∷ exports) plain =
+    filter_map-append alias_among (meanings_written machine dll e) (flat_map (meanings_written machine dll) exports)
+    ∙ (ap (λ x. x ++ filter_map alias_among (flat_map (meanings_written machine dll) exports)) (aliases_of_export machine dll e plain.0)
+    ∙ ap (λ x. aliases_for e.name e.alias_target ++ x) (aliases_meant machine dll exports plain.1))
+
+empty_text : (text : List ℕ) → is_empty_text text ≡ true → text ≡ []
+empty_text [] empty = refl
+empty_text (b ∷ text) empty = cc
+
+kept_plain : (e : ExportView) (exports : List ExportView) (private : Bool) → e.symbol_name ≡ [] → AllByRecursion (λ (x : ExportView). x.symbol_name ≡ []) exports →
+    AllByRecursion (λ (x : ExportView). x.symbol_name ≡ []) (if not private then renamed_export e ∷ exports else exports)
+kept_plain e exports true plain others = others
+kept_plain e exports false plain others = (plain, others)
+
+public_plain : (exports : List ExportView) → list_all (λ e. is_empty_text e.symbol_name) exports ≡ true →
+    AllByRecursion (λ (e : ExportView). e.symbol_name ≡ []) (filter (λ e. not e.private) (map renamed_export exports))
+public_plain [] plain = tt
+public_plain (e ∷ exports) plain =
+    let parts = and_parts (is_empty_text e.symbol_name) (list_all (λ (x : ExportView). is_empty_text x.symbol_name) exports) plain in
+    kept_plain e (filter (λ e. not e.private) (map renamed_export exports)) e.private (empty_text e.symbol_name parts.0) (public_plain exports parts.1)
+
+-- The whole.
+
+dll_of_descriptor : (machine : MachineType) (dll : List ℕ) → holds 0 dll ≡ false → dll_of (ObjectFile (object_of (descriptor machine dll))) ≡ Some dll
+unfolding descriptor object_of
+dll_of_descriptor machine dll free = before_nul-ended dll [] (HasNoNul-from_holds dll free)
+
+-- what all plans after the first three mean
+after_heading : (machine : MachineType) (dll : List ℕ) (plans : List Plan) → AllByRecursion (λ p. ReadsBack p.contents) (heading_plans machine dll ++ plans) →
+    AllByRecursion (λ p. ReadsBack p.contents) plans
+unfolding heading_plans
+after_heading machine dll plans reads = reads.1.1.1
+
+drop_heading : (machine : MachineType) (dll : List ℕ) (plans : List Plan) → drop 3 (map member_of (heading_plans machine dll ++ plans)) ≡ map member_of plans
+unfolding heading_plans
+drop_heading machine dll plans = refl
+
+first_reads : (machine : MachineType) (dll : List ℕ) (plans : List Plan) → AllByRecursion (λ p. ReadsBack p.contents) (heading_plans machine dll ++ plans) →
+    option_and_then (λ (m : MemberView). dll_in m.bytes) (slice_get (map member_of (heading_plans machine dll ++ plans)) 0) ≡ dll_of (ObjectFile (object_of (descriptor machine dll)))
+unfolding heading_plans
+first_reads machine dll plans reads = ap (option_and_then dll_of) reads.0
+
+plans_mean : (plans : List Plan) → AllByRecursion (λ p. ReadsBack p.contents) plans →
+    map (λ (m : MemberView). meaning_in m.bytes) (map member_of plans) ≡ map (λ (p : Plan). meaning_of (file_of p.contents)) plans
+plans_mean [] reads = refl
+plans_mean (p ∷ plans) reads =
+    let first : meaning_in (contents_bytes p.contents) ≡ meaning_of (file_of p.contents) = ap (option_and_then meaning_of) reads.0 in
+    let rest = plans_mean plans reads.1 in
+    rw (first, rest) refl
+
+-- the members of a definition that is not refused are read as the definition means
+module _ (d : DefinitionView) (machine : MachineType) (members : List MemberView) (made : Made d machine Msvc members) where
+  meanings_read : map (λ (m : MemberView). meaning_in m.bytes) (drop 3 members) ≡ map (λ m. Some m) (flat_map (meanings_written machine d.import_name) (public_exports (renamed d)))
+  meanings_read =
+      let exports = flat_map (export_plans machine d.import_name) (public_exports (renamed d)) in
+      ap (λ x. map (λ (m : MemberView). meaning_in m.bytes) (drop 3 x)) made.made
+      ∙ (ap (map (λ (m : MemberView). meaning_in m.bytes)) (drop_heading machine d.import_name exports)
+      ∙ (plans_mean exports (after_heading machine d.import_name exports (plans_read_back d machine members made))
+      ∙ exports_mean machine d.import_name (public_exports (renamed d))))
+
+  pub reads_for_msvc : ReadsForMsvc d machine members
+  reads_for_msvc = record {
+    files = files_read d machine members made;
+    declared =
+        of_members d machine members made (λ m. option_map declared_by (file_in m.bytes))
+        ∙ (map_same (λ (p : Plan). option_map declared_by (file_in (contents_bytes p.contents))) (λ (p : Plan). Some p.listed) (plans_of (renamed d) machine Msvc)
+          (read_declares (plans_of (renamed d) machine Msvc) (plans_read_back d machine members made)
+            (all_append DeclaresListed (heading_plans machine d.import_name) (flat_map (export_plans machine d.import_name) (public_exports (renamed d)))
+              (heading_declares machine d.import_name) (exports_declare machine d.import_name (public_exports (renamed d)))))
+        ∙ sym (of_members d machine members made (λ m. Some m.symbols)));
+    dll =
+        ap (λ (x : List MemberView). option_and_then (λ (m : MemberView). dll_in m.bytes) (slice_get x 0)) made.made
+        ∙ (first_reads machine d.import_name (flat_map (export_plans machine d.import_name) (public_exports (renamed d))) (plans_read_back d machine members made)
+        ∙ dll_of_descriptor machine d.import_name (import_name_is_free d machine members made));
+    meanings = meanings_read;
+  }
+
+  pub means_what_is_meant : has_no_symbol_names d ≡ true → MeansWhatIsMeant d machine members
+  means_what_is_meant plain =
+      let exports = public_plain d.exports plain in
+      record {
+        meanings = flat_map (meanings_written machine d.import_name) (public_exports (renamed d));
+        read = meanings_read;
+        imports = imports_meant machine d.import_name (public_exports (renamed d)) exports;
+        aliases = aliases_meant machine d.import_name (public_exports (renamed d)) exports;
+      }
+
+-- the members of a definition that is not refused are read as the definition means
+pub Reads-from_Made : (d : DefinitionView) (machine : MachineType) (flavor : Flavor) (members : List MemberView) → Made d machine flavor members → Reads d machine flavor members
+Reads-from_Made d machine Msvc members made = record {
+  files = reads_for_msvc d machine members made;
+  meant = means_what_is_meant d machine members made;
+}
