@@ -12,3 +12,4 @@ pub mod Reading
 pub mod MsvcObjects
 pub mod MemberReadings
 pub mod MemberMeanings
+pub mod MembersLoop

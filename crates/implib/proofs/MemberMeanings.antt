@@ -13,7 +13,7 @@ use Rattle.implib.specs.Bytes.{u32_bytes}
 use Rattle.implib.specs.Definition.{DefinitionView, ExportView}
 use Rattle.implib.specs.File.{File, RecordFile, ObjectFile, Meaning, AnImport, AnAlias, alias_of_object, declared_by, dll_in, dll_of, file_in, meaning_in, meaning_of}
 use Rattle.implib.specs.Import.{Alias, Import, address_symbol, aliases_for, aliases_of, holds, import_meant, import_symbols, imports_of, is_alias, is_empty_text, public_exports}
-use Rattle.implib.specs.Made.{Contents, ARecord, AnObject, Plan, MemberView, Made, member_of, plans_of, heading_plans, weak_plan, weak_plans, export_plans, record_plan, contents_bytes}
+use Rattle.implib.specs.Made.{Contents, ARecord, AnObject, Plan, MemberView, Made, member_of, plans_of, descriptor_plan, null_descriptor_plan, null_thunk_plan, heading_plans, weak_plan, weak_plans, export_plans, record_plan, contents_bytes}
 use Rattle.implib.specs.Msvc.{record_listed, record_of, record_symbol, symbol_or_name, kind_of}
 use Rattle.implib.specs.MsvcObjects.{descriptor, descriptor_symbol, null_descriptor, null_thunk, weak_object}
 use Rattle.implib.specs.Object.{before_nul, u32_at}
@@ -33,7 +33,7 @@ abbrev DeclaresListed : Plan → Type 0
 DeclaresListed p = declared_by (file_of p.contents) ≡ p.listed
 
 heading_declares : (machine : MachineType) (dll : List ℕ) → AllByRecursion DeclaresListed (heading_plans machine dll)
-unfolding heading_plans descriptor null_descriptor null_thunk object_of entries_of name_text
+unfolding heading_plans descriptor_plan null_descriptor_plan null_thunk_plan descriptor null_descriptor null_thunk object_of entries_of name_text
 heading_declares machine dll = (refl, (refl, (refl, tt)))
 
 weak_declares : (machine : MachineType) (dll weak target : List ℕ) → DeclaresListed (weak_plan machine dll weak target)
@@ -168,16 +168,16 @@ dll_of_descriptor machine dll free = before_nul-ended dll [] (HasNoNul-from_hold
 -- what all plans after the first three mean
 after_heading : (machine : MachineType) (dll : List ℕ) (plans : List Plan) → AllByRecursion (λ p. ReadsBack p.contents) (heading_plans machine dll ++ plans) →
     AllByRecursion (λ p. ReadsBack p.contents) plans
-unfolding heading_plans
+unfolding heading_plans descriptor_plan null_descriptor_plan null_thunk_plan
 after_heading machine dll plans reads = reads.1.1.1
 
 drop_heading : (machine : MachineType) (dll : List ℕ) (plans : List Plan) → drop 3 (map member_of (heading_plans machine dll ++ plans)) ≡ map member_of plans
-unfolding heading_plans
+unfolding heading_plans descriptor_plan null_descriptor_plan null_thunk_plan
 drop_heading machine dll plans = refl
 
 first_reads : (machine : MachineType) (dll : List ℕ) (plans : List Plan) → AllByRecursion (λ p. ReadsBack p.contents) (heading_plans machine dll ++ plans) →
     option_and_then (λ (m : MemberView). dll_in m.bytes) (slice_get (map member_of (heading_plans machine dll ++ plans)) 0) ≡ dll_of (ObjectFile (object_of (descriptor machine dll)))
-unfolding heading_plans
+unfolding heading_plans descriptor_plan null_descriptor_plan null_thunk_plan
 first_reads machine dll plans reads = ap (option_and_then dll_of) reads.0
 
 plans_mean : (plans : List Plan) → AllByRecursion (λ p. ReadsBack p.contents) plans →

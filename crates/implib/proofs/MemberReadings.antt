@@ -15,7 +15,7 @@ use Rattle.implib.specs.Definition.{DefinitionView, ExportView}
 use Rattle.implib.specs.File.{File, RecordFile, ObjectFile, Meaning, AnImport, AnAlias, declared_by, dll_in, file_in, meaning_in, meaning_of, record_or_object}
 use Rattle.implib.specs.Import.{Alias, Import, address_symbol, aliases_for, aliases_of, holds, imports_of, is_alias, is_empty_text, public_exports}
 use Rattle.implib.specs.Machine.{machine_number}
-use Rattle.implib.specs.Made.{Contents, ARecord, AnObject, Plan, MemberView, Made, member_of, plans_of, heading_plans, weak_plan, weak_plans, export_plans, record_plan, is_too_long, contents_bytes, contents_size, has_u16_ordinal, first_of_both, import_name_refusal, name_refusal, names_refusal, definition_names_refusal, length_refusal, renamed_refusal, refusal}
+use Rattle.implib.specs.Made.{Contents, ARecord, AnObject, Plan, MemberView, Made, member_of, plans_of, descriptor_plan, null_descriptor_plan, null_thunk_plan, heading_plans, weak_plan, weak_plans, export_plans, record_plan, is_too_long, contents_bytes, contents_size, has_u16_ordinal, first_of_both, import_name_refusal, name_refusal, names_refusal, definition_names_refusal, length_refusal, renamed_refusal, refusal}
 use Rattle.implib.specs.Msvc.{record_bytes, record_listed, record_of, record_size, record_symbol}
 use Rattle.implib.specs.MsvcObjects.{descriptor, null_descriptor, null_thunk, weak_object}
 use Rattle.implib.specs.Object.{object_in}
@@ -117,7 +117,7 @@ module _ (machine : MachineType) (dll : List ℕ) (dll_free : holds 0 dll ≡ fa
         (export_plans_read e sound.0 parts.0) (exports_plans_read exports sound.1 parts.1)
 
   heading_plans_read : list_any is_too_long (heading_plans machine dll) ≡ false → AllByRecursion (λ p. ReadsBack p.contents) (heading_plans machine dll)
-  unfolding heading_plans descriptor null_descriptor null_thunk
+  unfolding heading_plans descriptor_plan null_descriptor_plan null_thunk_plan descriptor null_descriptor null_thunk
   heading_plans_read short =
       let first = or_parts (nat_lt 0xFFFF_FFFF (layout_size (descriptor machine dll))) _ short in
       let second = or_parts (nat_lt 0xFFFF_FFFF (layout_size (null_descriptor machine))) _ first.1 in
@@ -142,7 +142,7 @@ if_none : {X : Type 0} (test : Bool) (x : X) (otherwise : Option X) → (if test
 if_none true x otherwise none = cc
 if_none false x otherwise none = (refl, none)
 
-first_none : (first second : Option Cause) → first_of_both first second ≡ None → (first ≡ None) × (second ≡ None)
+pub first_none : (first second : Option Cause) → first_of_both first second ≡ None → (first ≡ None) × (second ≡ None)
 first_none (Some cause) second none = cc
 first_none None second none = (refl, none)
 

@@ -47,13 +47,21 @@ member_of p = record { name = p.name; bytes = contents_bytes p.contents; symbols
 
 -- Every member for Microsoft's linker is named as the DLL.
 
--- what begins the members: the import descriptor, the null descriptor and the null thunk
+-- the plan of the import descriptor
+unfoldable pub descriptor_plan : MachineType → List ℕ → Plan
+descriptor_plan machine dll = record { name = dll; contents = AnObject (descriptor machine dll); listed = descriptor_symbol dll ∷ [] }
+
+-- the plan of the null descriptor
+unfoldable pub null_descriptor_plan : MachineType → List ℕ → Plan
+null_descriptor_plan machine dll = record { name = dll; contents = AnObject (null_descriptor machine); listed = null_descriptor_symbol ∷ [] }
+
+-- the plan of the null thunk
+unfoldable pub null_thunk_plan : MachineType → List ℕ → Plan
+null_thunk_plan machine dll = record { name = dll; contents = AnObject (null_thunk machine dll); listed = null_thunk_symbol dll ∷ [] }
+
+-- what begins the members
 unfoldable pub heading_plans : MachineType → List ℕ → List Plan
-heading_plans machine dll =
-    record { name = dll; contents = AnObject (descriptor machine dll); listed = descriptor_symbol dll ∷ [] }
-    ∷ record { name = dll; contents = AnObject (null_descriptor machine); listed = null_descriptor_symbol ∷ [] }
-    ∷ record { name = dll; contents = AnObject (null_thunk machine dll); listed = null_thunk_symbol dll ∷ [] }
-    ∷ []
+heading_plans machine dll = descriptor_plan machine dll ∷ null_descriptor_plan machine dll ∷ null_thunk_plan machine dll ∷ []
 
 -- the plan of a weak external
 abbrev pub weak_plan : MachineType → List ℕ → List ℕ → List ℕ → Plan
@@ -85,11 +93,15 @@ plans_of d machine Msvc =
 abbrev pub asked_in : Flavor → MachineType → ExportView → List ℕ
 asked_in Msvc machine e = asked_by_record machine e
 
+-- whether one of an export's texts holds a NUL
+abbrev pub holds_nul : ExportView → Bool
+holds_nul e = holds 0 e.name || holds 0 e.symbol_name || holds 0 e.alias_target
+
 -- the first rule on names that an export breaks
 abbrev pub name_refusal : Flavor → MachineType → ℕ → ExportView → Option Cause
 name_refusal flavor machine index e =
     if is_empty_text e.name then Some (EmptyName index)
-    else if holds 0 e.name || holds 0 e.symbol_name || holds 0 e.alias_target then Some (NulInExport index)
+    else if holds_nul e then Some (NulInExport index)
     else if not e.no_name && is_empty_text (asked_in flavor machine e) then Some (EmptyAskedName index)
     else None
 

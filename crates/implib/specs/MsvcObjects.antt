@@ -50,6 +50,18 @@ relocation machine offset index = record { offset = offset; symbol = index; kind
 abbrev pub descriptor_size : ℕ
 descriptor_size = 20
 
+-- the symbols of the import descriptor
+abbrev pub descriptor_symbols : List PictureSymbol
+descriptor_symbols =
+    symbol (Listed 0) 1 external
+    ∷ symbol (InRecord (codes ".idata$2")) 1 section_class
+    ∷ symbol (InRecord (codes ".idata$6")) 2 static
+    ∷ symbol (InRecord (codes ".idata$4")) undefined section_class
+    ∷ symbol (InRecord (codes ".idata$5")) undefined section_class
+    ∷ symbol (Listed 1) undefined external
+    ∷ symbol (Listed 2) undefined external
+    ∷ []
+
 -- the import descriptor: the lookup table's address at 0, the name's at 12, the address table's at 16
 unfoldable pub descriptor : MachineType → List ℕ → Picture
 descriptor machine dll = record {
@@ -69,16 +81,17 @@ descriptor machine dll = record {
       relocations = [];
     }
     ∷ [];
-  symbols =
-    symbol (Listed 0) 1 external
-    ∷ symbol (InRecord (codes ".idata$2")) 1 section_class
-    ∷ symbol (InRecord (codes ".idata$6")) 2 static
-    ∷ symbol (InRecord (codes ".idata$4")) undefined section_class
-    ∷ symbol (InRecord (codes ".idata$5")) undefined section_class
-    ∷ symbol (Listed 1) undefined external
-    ∷ symbol (Listed 2) undefined external
-    ∷ [];
+  symbols = descriptor_symbols;
   strings = descriptor_symbol dll ∷ null_descriptor_symbol ∷ null_thunk_symbol dll ∷ [];
+}
+
+-- the section of the null descriptor
+abbrev pub null_descriptor_section : ObjectSection
+null_descriptor_section = record {
+  name = codes ".idata$3";
+  flags = initialized_data + align_4 + read_write;
+  bytes = zeros descriptor_size;
+  relocations = [];
 }
 
 -- the descriptor of zeros that ends the import directory
@@ -86,14 +99,7 @@ unfoldable pub null_descriptor : MachineType → Picture
 null_descriptor machine = record {
   machine = machine_number machine;
   characteristics = descriptor_characteristics machine;
-  sections =
-    record {
-      name = codes ".idata$3";
-      flags = initialized_data + align_4 + read_write;
-      bytes = zeros descriptor_size;
-      relocations = [];
-    }
-    ∷ [];
+  sections = null_descriptor_section ∷ [];
   symbols = symbol (Listed 0) 1 external ∷ [];
   strings = null_descriptor_symbol ∷ [];
 }
@@ -121,24 +127,30 @@ null_thunk machine dll = record {
 abbrev pub weak_auxiliary : ℕ → List ℕ
 weak_auxiliary index = u32_bytes index ++ (u32_bytes search_alias ++ zeros 10)
 
+-- the section of a weak external, without data
+abbrev pub weak_section : ObjectSection
+weak_section = record {
+  name = codes ".drectve";
+  flags = info + remove;
+  bytes = [];
+  relocations = [];
+}
+
+-- the symbols of a weak external: of the two names that are listed, the second is weak for the first
+abbrev pub weak_symbols : List PictureSymbol
+weak_symbols =
+    symbol (InRecord (codes "@comp.id")) absolute static
+    ∷ symbol (InRecord (codes "@feat.00")) absolute static
+    ∷ symbol (Listed 0) undefined external
+    ∷ record { name = Listed 1; value = 0; section = undefined; class = weak_external; aux = Some (weak_auxiliary 2) }
+    ∷ []
+
 -- an object that makes one symbol weak for another
 unfoldable pub weak_object : MachineType → List ℕ → List ℕ → Picture
 weak_object machine weak target = record {
   machine = machine_number machine;
   characteristics = 0;
-  sections =
-    record {
-      name = codes ".drectve";
-      flags = info + remove;
-      bytes = [];
-      relocations = [];
-    }
-    ∷ [];
-  symbols =
-    symbol (InRecord (codes "@comp.id")) absolute static
-    ∷ symbol (InRecord (codes "@feat.00")) absolute static
-    ∷ symbol (Listed 0) undefined external
-    ∷ record { name = Listed 1; value = 0; section = undefined; class = weak_external; aux = Some (weak_auxiliary 2) }
-    ∷ [];
+  sections = weak_section ∷ [];
+  symbols = weak_symbols;
   strings = target ∷ weak ∷ [];
 }
