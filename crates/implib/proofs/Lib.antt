@@ -4,3 +4,9 @@ pub mod Stands
 pub mod Fields
 pub mod Symbols
 pub mod Reading
+pub mod Sums
+pub mod Names
+pub mod Lengths
+pub mod Defaults
+pub mod Offsets
+pub mod PictureSizes

@@ -9,3 +9,4 @@ pub mod Bytes
 pub mod Pass
 pub mod Object
 pub mod Picture
+pub mod PictureView
