@@ -13,3 +13,9 @@ pub mod MsvcObjects
 pub mod MemberReadings
 pub mod MemberMeanings
 pub mod MembersLoop
+pub mod Sums
+pub mod Names
+pub mod Lengths
+pub mod Defaults
+pub mod Offsets
+pub mod PictureSizes

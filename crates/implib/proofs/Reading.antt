@@ -1,9 +1,9 @@
 -- A picture that fits reads back from its bytes.
-use Rattle.std.proofs.Common.{◌≡◌, ℕ, suc, ◌+◌, ◌*◌, ◌-◌, ◌<◌, ◌^◌, List, [], ◌∷◌, ◌++◌, Option, None, Some, length, refl, ◌∙◌, ap, arith, length-append, one-add}
+use Rattle.std.proofs.Common.{◌≡◌, ℕ, suc, ◌+◌, ◌*◌, ◌<◌, ◌^◌, List, [], ◌∷◌, ◌++◌, Option, None, Some, length, refl, ◌∙◌, ap, arith, length-append, one-add}
 use Rattle.std.specs.List.{AllByRecursion, flat_map, sum_by}
 use Rattle.std.proofs.lemmas.List.Sums.{sum_by-cons}
 use Rattle.implib.specs.Object.{ASymbol, Auxiliary, Entry, each_at, entries_at, object_in, object_of_header, section_at}
-use Rattle.implib.specs.Picture.{Fits, FitsAuxiliary, FitsSymbol, HasNoNul, Picture, PictureSymbol, SymbolName, auxiliary_bytes, contents, contents_place, contents_size, entries_of, header_bytes, layout, layout_size, object_of, record_count, records, section_headers, string_offsets, string_table, strings_size, symbol_bytes, symbols_place}
+use Rattle.implib.specs.Picture.{Fits, FitsAuxiliary, FitsSymbol, HasNoNul, Picture, PictureSymbol, SymbolName, auxiliary_bytes, auxiliary_count, contents, contents_place, contents_size, entries_of, header_bytes, layout, layout_size, object_of, record_count, records, section_headers, string_offsets, string_table, strings_size, symbol_bytes, symbols_place}
 use Rattle.implib.proofs.Fields.{header-characteristics, header-machine, header-optional, header-records, header-sections, header-symbols_place, header-time, length-header_bytes}
 use Rattle.implib.proofs.Stands.{Stands, bytes_at-stands, stands_first, stands_next, stands_whole}
 use Rattle.implib.proofs.Symbols.{length-all_contents, length-record_bytes, length-section_headers, length-string_table, record-auxiliary, record_bytes, sections_read, shown, strings_read, symbol_bytes-parts, symbol_of-record}
@@ -11,7 +11,7 @@ use Rattle.implib.proofs.Symbols.{length-all_contents, length-record_bytes, leng
 -- the entries of a symbol without an auxiliary record, and of one with it
 
 plain_symbol : (bytes : List ℕ) (place : ℕ) (strings : List (List ℕ)) (s : PictureSymbol) (fits : FitsSymbol strings s) (count : ℕ) (rest : List Entry)
-    → AllByRecursion HasNoNul strings → strings_size strings < 2 ^ 32 → record_count s - 1 ≡ 0
+    → AllByRecursion HasNoNul strings → strings_size strings < 2 ^ 32 → auxiliary_count s.aux ≡ 0
     → Stands bytes place (record_bytes strings s)
     → entries_at bytes (string_table strings) (place + 18) 0 count ≡ Some rest
     → entries_at bytes (string_table strings) place 0 (suc count) ≡ Some (ASymbol (shown strings s fits) ∷ rest)
@@ -20,7 +20,7 @@ plain_symbol bytes place strings s fits count rest all below plain stands others
     rw (bytes_at-stands 18 (length-record_bytes strings s fits) stands, symbol_of-record strings s fits all below, record-auxiliary strings s fits, plain, others) refl
 
 auxiliary_symbol : (bytes : List ℕ) (place : ℕ) (strings : List (List ℕ)) (s : PictureSymbol) (fits : FitsSymbol strings s) (aux : List ℕ) (count : ℕ) (rest : List Entry)
-    → AllByRecursion HasNoNul strings → strings_size strings < 2 ^ 32 → record_count s - 1 ≡ 1 → length aux ≡ 18
+    → AllByRecursion HasNoNul strings → strings_size strings < 2 ^ 32 → auxiliary_count s.aux ≡ 1 → length aux ≡ 18
     → Stands bytes place (record_bytes strings s) → Stands bytes (place + 18) aux
     → entries_at bytes (string_table strings) ((place + 18) + 18) 0 count ≡ Some rest
     → entries_at bytes (string_table strings) place 0 (suc (suc count)) ≡ Some (ASymbol (shown strings s fits) ∷ (Auxiliary aux ∷ rest))
@@ -48,7 +48,7 @@ one_symbol : (bytes : List ℕ) (place : ℕ) (strings : List (List ℕ)) (name 
     → entries_at bytes (string_table strings) (place + 18 * record_count (record { name = name; value = value; section = section; class = class; aux = aux })) 0 count ≡ Some rest
     → entries_at bytes (string_table strings) place 0 (record_count (record { name = name; value = value; section = section; class = class; aux = aux }) + count)
     ≡ Some (entries_of strings (record { name = name; value = value; section = section; class = class; aux = aux }) ++ rest)
-unfolding record_count entries_of shown auxiliary_bytes FitsAuxiliary
+unfolding record_count auxiliary_count entries_of shown auxiliary_bytes FitsAuxiliary
 one_symbol bytes place strings name value section class None count rest fits all below stands others =
     rw (one-add count)
     (plain_symbol bytes place strings (record { name = name; value = value; section = section; class = class; aux = None }) fits count rest all below refl
@@ -62,8 +62,8 @@ one_symbol bytes place strings name value section class (Some aux) count rest fi
     (auxiliary_stands bytes place strings (record { name = name; value = value; section = section; class = class; aux = Some aux }) fits stands)
     (rw further at others))
 
-auxiliary_counted : (aux : Option (List ℕ)) → FitsAuxiliary aux → 18 + length (auxiliary_bytes aux) ≡ 18 * elim aux [ None ↦ 1 | Some x ↦ 2 ]
-unfolding FitsAuxiliary auxiliary_bytes
+pub auxiliary_counted : (aux : Option (List ℕ)) → FitsAuxiliary aux → 18 + length (auxiliary_bytes aux) ≡ 18 * (1 + auxiliary_count aux)
+unfolding FitsAuxiliary auxiliary_bytes auxiliary_count
 auxiliary_counted None fits = refl
 auxiliary_counted (Some aux) fits = ap (λ n. 18 + n) fits
 
@@ -101,7 +101,7 @@ module _ (p : Picture) (fits : Fits p) (short : layout_size p < 2 ^ 32) where
   unfolding layout_size symbols_place contents_place records
   places_below = short
 
-  headers_long : length (section_headers (contents_place p) p.sections) ≡ 40 * length p.sections
+  pub headers_long : length (section_headers (contents_place p) p.sections) ≡ 40 * length p.sections
   unfolding contents_place
   headers_long = length-section_headers (20 + 40 * length p.sections) p.sections fits.sections (omega (arith, places_below))
 

@@ -8,7 +8,7 @@ use Rattle.std.proofs.lemmas.List.Sums.{sum_by-append, sum_by-cons}
 use Rattle.std.proofs.lemmas.Nat.{from_le_bytes-to_le_bytes_2, from_le_bytes-to_le_bytes_4}
 use Rattle.implib.specs.Bytes.{u16_bytes, u32_bytes}
 use Rattle.implib.specs.Object.{ObjectSection, ObjectSymbol, before_nul, each_at, name_of, section_at, strings_at, symbol_of, u16_at, u32_at, up_to_nul}
-use Rattle.implib.specs.Picture.{FitsName, FitsSection, FitsSymbol, HasNoNul, InRecord, Listed, PictureSymbol, SymbolName, auxiliary_bytes, contents, contents_size, name_field, name_text, record_count, section_header, section_headers, string_bytes_of, string_offsets, offsets_from, string_size, string_table, strings_size, symbol_bytes}
+use Rattle.implib.specs.Picture.{FitsName, FitsSection, FitsSymbol, HasNoNul, InRecord, Listed, PictureSymbol, SymbolName, auxiliary_bytes, contents, contents_size, name_field, name_text, auxiliary_count, section_header, section_headers, string_bytes_of, string_offsets, offsets_from, string_size, string_table, strings_size, symbol_bytes}
 use Rattle.implib.proofs.Bytes.{length-u32_bytes}
 use Rattle.implib.proofs.Fields.{length-relocation_bytes, length-section_header, section_at-stands, u16_at-after, u32_at-after}
 use Rattle.implib.proofs.Stands.{Stands, bytes_at-stands, stands_first, stands_next}
@@ -17,7 +17,7 @@ use Rattle.implib.specs.Picture.{relocation_bytes}
 
 -- the lengths of what is laid out
 
-length-relocations : (rs : List Relocation) → length (flat_map relocation_bytes rs) ≡ 10 * length rs
+pub length-relocations : (rs : List Relocation) → length (flat_map relocation_bytes rs) ≡ 10 * length rs
 length-relocations [] = refl
 length-relocations (r ∷ rs) = omega (arith, length-append (relocation_bytes r) (flat_map relocation_bytes rs), length-relocation_bytes r, length-relocations rs)
 
@@ -84,7 +84,7 @@ before_nul-ended (suc n ∷ text) rest none = rw (before_nul-ended text rest (Ha
 
 -- the string table
 
-length-strings : (strings : List (List ℕ)) → length (flat_map string_bytes_of strings) ≡ sum_by string_size strings
+pub length-strings : (strings : List (List ℕ)) → length (flat_map string_bytes_of strings) ≡ sum_by string_size strings
 unfolding string_bytes_of string_size
 length-strings [] = refl
 length-strings (text ∷ strings) = omega (arith, length-append (text ++ 0 ∷ []) (flat_map string_bytes_of strings), length-append text (0 ∷ []), length-strings strings, sum_by-cons string_size text strings)
@@ -184,7 +184,7 @@ name_of-field strings (Listed index) fits all below =
 unfoldable pub record_bytes : List (List ℕ) → PictureSymbol → List ℕ
 record_bytes strings s =
     name_field (string_offsets strings) s.name
-    ++ (u32_bytes s.value ++ (u16_bytes s.section ++ (u16_bytes 0 ++ (s.class ∷ (record_count s - 1) ∷ []))))
+    ++ (u32_bytes s.value ++ (u16_bytes s.section ++ (u16_bytes 0 ++ (s.class ∷ auxiliary_count s.aux ∷ []))))
 
 pub symbol_bytes-parts : (strings : List (List ℕ)) (s : PictureSymbol) → symbol_bytes (string_offsets strings) s ≡ record_bytes strings s ++ auxiliary_bytes s.aux
 unfolding symbol_bytes record_bytes u16_bytes u32_bytes
@@ -221,7 +221,7 @@ module _ (strings : List (List ℕ)) (s : PictureSymbol) (fits : FitsSymbol stri
   unfolding record_bytes u16_bytes u32_bytes
   record-class = slice_index-after (name_field (string_offsets strings) s.name) _ 8 long
 
-  pub record-auxiliary : slice_index (record_bytes strings s) 17 ≡ record_count s - 1
+  pub record-auxiliary : slice_index (record_bytes strings s) 17 ≡ auxiliary_count s.aux
   unfolding record_bytes u16_bytes u32_bytes
   record-auxiliary = slice_index-after (name_field (string_offsets strings) s.name) _ 9 long
 

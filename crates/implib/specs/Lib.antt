@@ -17,3 +17,4 @@ pub mod Picture
 pub mod Constants
 pub mod MsvcObjects
 pub mod File
+pub mod PictureView

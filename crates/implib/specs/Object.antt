@@ -1,7 +1,7 @@
 -- How an object is read (PE/COFF specification, "COFF File Header", "Section Table", "COFF
 -- Relocations", "COFF Symbol Table", "COFF String Table"): the places and counts in its bytes
 -- are followed, and there is no object where one of them leads out.
-use Rattle.std.specs.Prelude.{ℕ, zero, suc, ◌+◌, ◌*◌, Bool, true, false, List, [], ◌∷◌, Option, None, Some, length, take, drop, nat_le, nat_eq, slice_index, if◌then◌else◌}
+use Rattle.std.specs.Prelude.{ℕ, zero, suc, ◌+◌, ◌*◌, List, [], ◌∷◌, Option, None, Some, length, take, drop, nat_le, nat_eq, slice_index, if◌then◌else◌}
 use Rattle.std.specs.Int.{w16, w32, from_le_bytes}
 use Rattle.std.specs.Option.{option_and_then, option_map}
 use Rattle.implib.specs.declared.coff.object.Relocation.{Relocation}
@@ -87,13 +87,13 @@ data_at bytes place size = if nat_eq place 0 then Some [] else bytes_at bytes pl
 unfoldable pub section_of : List ℕ → List ℕ → Option ObjectSection
 section_of bytes header = option_and_then
     (λ section_data. option_map
-      (λ relocations. record {
-        name = take 8 header;
-        flags = u32_at header 36;
-        bytes = section_data;
-        relocations = relocations;
-      })
-      (each_at (relocation_at bytes) (u32_at header 24) 10 (u16_at header 32)))
+    (λ relocations. record {
+      name = take 8 header;
+      flags = u32_at header 36;
+      bytes = section_data;
+      relocations = relocations;
+    })
+    (each_at (relocation_at bytes) (u32_at header 24) 10 (u16_at header 32)))
     (data_at bytes (u32_at header 20) (u32_at header 16))
 
 -- the section whose header is at a place
@@ -124,15 +124,15 @@ entries_at bytes strings place zero zero = Some []
 entries_at bytes strings place (suc auxiliary) zero = None
 entries_at bytes strings place (suc auxiliary) (suc count) = option_and_then
     (λ record_bytes. option_map
-      (λ entries. Auxiliary record_bytes ∷ entries)
-      (entries_at bytes strings (place + 18) auxiliary count))
+    (λ entries. Auxiliary record_bytes ∷ entries)
+    (entries_at bytes strings (place + 18) auxiliary count))
     (bytes_at bytes place 18)
 entries_at bytes strings place zero (suc count) = option_and_then
     (λ record_bytes. option_and_then
-      (λ symbol. option_map
-        (λ entries. ASymbol symbol ∷ entries)
-        (entries_at bytes strings (place + 18) (slice_index record_bytes 17) count))
-      (symbol_of strings record_bytes))
+    (λ symbol. option_map
+    (λ entries. ASymbol symbol ∷ entries)
+    (entries_at bytes strings (place + 18) (slice_index record_bytes 17) count))
+    (symbol_of strings record_bytes))
     (bytes_at bytes place 18)
 
 -- the string table at a place: its size counts the four bytes of the size
@@ -147,19 +147,19 @@ object_of_header bytes header =
     let symbols_place : ℕ = u32_at header 8 in
     let records : ℕ = u32_at header 12 in
     option_and_then
-      (λ strings. option_and_then
-        (λ sections. option_map
-          (λ entries. record {
-            machine = u16_at header 0;
-            time = u32_at header 4;
-            optional_header_size = u16_at header 16;
-            characteristics = u16_at header 18;
-            sections = sections;
-            entries = entries;
-          })
-          (entries_at bytes strings symbols_place 0 records))
-        (each_at (section_at bytes) (20 + u16_at header 16) 40 (u16_at header 2)))
-      (strings_at bytes (symbols_place + 18 * records))
+    (λ strings. option_and_then
+    (λ sections. option_map
+    (λ entries. record {
+      machine = u16_at header 0;
+      time = u32_at header 4;
+      optional_header_size = u16_at header 16;
+      characteristics = u16_at header 18;
+      sections = sections;
+      entries = entries;
+    })
+    (entries_at bytes strings symbols_place 0 records))
+    (each_at (section_at bytes) (20 + u16_at header 16) 40 (u16_at header 2)))
+    (strings_at bytes (symbols_place + 18 * records))
 
 -- the object in a file's bytes
 unfoldable pub object_in : List ℕ → Option Object

@@ -33,9 +33,14 @@ pub record Picture : Type 0 where
 unfoldable pub contents_size : ObjectSection → ℕ
 contents_size s = length s.bytes + 10 * length s.relocations
 
+-- the auxiliary records of a symbol: none or one
+unfoldable pub auxiliary_count : Option (List ℕ) → ℕ
+auxiliary_count None = 0
+auxiliary_count (Some aux) = 1
+
 -- the symbol records of a symbol: its own, and the auxiliary one
 unfoldable pub record_count : PictureSymbol → ℕ
-record_count s = elim s.aux [ None ↦ 1 | Some aux ↦ 2 ]
+record_count s = 1 + auxiliary_count s.aux
 
 -- the bytes of a string, with its NUL
 unfoldable pub string_size : List ℕ → ℕ
@@ -129,7 +134,7 @@ symbol_bytes offsets s =
     ++ (u32_bytes s.value
     ++ (u16_bytes s.section
     ++ (u16_bytes 0
-    ++ (s.class ∷ (record_count s - 1) ∷ auxiliary_bytes s.aux))))
+    ++ (s.class ∷ auxiliary_count s.aux ∷ auxiliary_bytes s.aux))))
 
 -- a string, ended by NUL
 unfoldable pub string_bytes_of : List ℕ → List ℕ

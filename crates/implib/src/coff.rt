@@ -1,7 +1,10 @@
 //! COFF objects.
 
+mod constants;
 pub mod object;
 pub mod pass;
+pub(crate) mod picture;
 
+pub use constants::{characteristics, class, flags, machine, relocation, weak};
 pub use object::{Place, Relocation, Section, Symbol};
 pub use pass::Pass;
