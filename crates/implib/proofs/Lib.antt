@@ -1,1 +1,5 @@
+pub mod Division
+pub mod Gap
+pub mod Left
+pub mod Taken
 pub mod Token

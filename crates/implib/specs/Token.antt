@@ -134,6 +134,10 @@ abbrev pub kind_in : List (List ℕ × TokenKind) → List ℕ → TokenKind
 kind_in [] word = kind.Identifier
 kind_in (row ∷ rows) word = if bytes_eq word row.0 then row.1 else kind_in rows word
 
+-- the kind of a word
+unfoldable pub kind_of_word : List ℕ → TokenKind
+kind_of_word word = kind_in keywords word
+
 -- where in a quoted name its value begins: after the white space, or at the front where nothing else is there
 abbrev pub value_start : List ℕ → ℕ
 value_start inside = if length (trim inside) == 0 then 0 else length inside - length (trim_start inside)
@@ -148,7 +152,7 @@ token_of place EqualSigns = record { kind = kind.EqualEqual; value = 61 ∷ 61 �
 token_of place CommaSign = record { kind = kind.Comma; value = 44 ∷ []; at = place } ∷ []
 token_of place (Quoted inside) = record { kind = kind.Identifier; value = trim inside; at = place + 1 + value_start inside } ∷ []
 token_of place (Unclosed inside) = record { kind = kind.Identifier; value = []; at = place + 1 } ∷ []
-token_of place (Word run) = record { kind = kind_in keywords (trim_end run); value = trim_end run; at = place } ∷ []
+token_of place (Word run) = record { kind = kind_of_word (trim_end run); value = trim_end run; at = place } ∷ []
 
 -- the token at the end
 abbrev pub eof : ℕ → Seen
