@@ -37,9 +37,9 @@ EachStands-append [] second end stand more = more
 EachStands-append (piece ∷ first) second end stand more =
     (subst (Stands piece) (sym (text_of-append first second end)) stand.0, EachStands-append first second end stand.1 more)
 
-each_gap_append : (first second : List Piece) → AllByRecursion IsGap first → AllByRecursion IsGap second → AllByRecursion IsGap (first ++ second)
-each_gap_append [] second one two = two
-each_gap_append (piece ∷ first) second one two = (one.0, each_gap_append first second one.1 two)
+pub AllByRecursion-append : {X : Type 0} (P : X → Type 0) (xs ys : List X) → AllByRecursion P xs → AllByRecursion P ys → AllByRecursion P (xs ++ ys)
+AllByRecursion-append P [] ys first second = second
+AllByRecursion-append P (x ∷ xs) ys first second = (first.0, AllByRecursion-append P xs ys first.1 second)
 
 -- one gap and then another
 pub PassesGap-trans : (a b c : List ℕ) → PassesGap a b → PassesGap b c → PassesGap a c
@@ -47,7 +47,7 @@ PassesGap-trans a b c first second = record {
   gap = first.gap ++ second.gap;
   spelled = first.spelled ∙ ap (text_of first.gap) second.spelled ∙ sym (text_of-append first.gap second.gap c);
   each_stands = EachStands-append first.gap second.gap c (subst (EachStands first.gap) second.spelled first.each_stands) second.each_stands;
-  each_gap = each_gap_append first.gap second.gap first.each_gap second.each_gap;
+  each_gap = AllByRecursion-append IsGap first.gap second.gap first.each_gap second.each_gap;
 }
 
 -- white space, character by character

@@ -1,5 +1,7 @@
 pub mod Division
 pub mod Gap
 pub mod Left
+pub mod Slices
 pub mod Taken
 pub mod Token
+pub mod Trimmed

@@ -8,7 +8,7 @@ use Rattle.std.specs.Prelude.{not}
 use Rattle.std.specs.Char.{encode_utf8, is_whitespace, IsScalar}
 use Rattle.std.specs.Str.{IsCharBoundary, IsUtf8, NonePass, trim, trim_end}
 use Rattle.implib.specs.declared.def.lexer.TokenKind.TheVariants as kind
-use Rattle.implib.specs.Token.{begins, is_delimiter, is_equal_sign, is_quote, is_semicolon, kind_of_word, value_start, CommaSign, EqualSign, EqualSigns, IsWordEnd, Quoted, Seen, Unclosed, Word}
+use Rattle.implib.specs.Token.{begins, is_delimiter, is_equal_sign, is_quote, is_semicolon, kind_of_word, token_of, value_start, CommaSign, EqualSign, EqualSigns, IsWordEnd, Quoted, Seen, Unclosed, Word}
 use Rattle.implib.specs.Division.{StartsWord, TakesPiece}
 use Rattle.implib.proofs.Division.{delimiter_ascii, no_delimiter, none_from_places}
 
@@ -153,5 +153,5 @@ TakesPiece-word text run after value at end token starts is_end is_run is_after 
         none,
         subst (λ l. (l ≡ []) ⊎ (begins is_delimiter l ≡ true)) (sym is_after) (stops_at_end text end is_end),
       );
-      given = ap (λ t. t ∷ []) (ap (λ v. record { kind = kind_of_word v; value = v; at = at }) (sym is_value) ∙ sym is);
+      given = subst (λ t. token_of at (Word run) ≡ t ∷ []) (sym is) (ap (λ v. record { kind = kind_of_word v; value = v; at = at } ∷ []) (sym is_value));
     }

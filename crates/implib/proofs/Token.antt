@@ -1,9 +1,10 @@
 -- A text has one list of tokens.
 use Rattle.std.proofs.Common.{◌≡◌, ◌≢◌, ℕ, ◌+◌, ◌-◌, if◌then◌else◌, List, [], ◌∷◌, ◌++◌, true, false, length, refl, sym, ap, subst, ◌∙◌, arith}
+use Rattle.std.proofs.lemmas.List.{append_cancel_left}
 use Rattle.std.specs.Str.{IsUtf8, bytes_eq, trim, trim_end}
 use Rattle.implib.specs.declared.def.lexer.TokenKind.{TokenKind}
 use Rattle.implib.specs.declared.def.lexer.TokenKind.TheVariants as kind
-use Rattle.implib.specs.Token.{Seen, Lexed, EndsInEof, Piece, Blank, Comment, LastComment, EqualSign, EqualSigns, CommaSign, Quoted, Unclosed, Word, spelling, keywords, kind_in, kind_of_word, token_of, tokens_from, value_start}
+use Rattle.implib.specs.Token.{DividesOnce, LexedOnce, text_of, Seen, Lexed, EndsInEof, Piece, Blank, Comment, LastComment, EqualSign, EqualSigns, CommaSign, Quoted, Unclosed, Word, spelling, keywords, kind_in, kind_of_word, token_of, tokens_from, value_start}
 use Rattle.implib.specs.Division.{pieces_in, tokens_left}
 use Rattle.implib.proofs.Division.{division, Divides-pieces_in}
 
@@ -82,3 +83,29 @@ unfolding tokens_left
 Lexed-tokens_left text utf8 =
     let none : length text - length text ≡ 0 = omega arith in
     subst (λ n. Lexed text (tokens_from n (pieces_in text))) (sym none) (Lexed-exists text utf8)
+
+-- pieces determine the end after them
+same_end : (pieces : List Piece) (a b : List ℕ) → text_of pieces a ≡ text_of pieces b → a ≡ b
+same_end [] a b e = e
+same_end (piece ∷ pieces) a b e = same_end pieces a b (append_cancel_left (spelling piece) (text_of pieces a) (text_of pieces b) e)
+
+-- a text divides in one way
+pub DividesOnce-of_text : (text : List ℕ) → IsUtf8 text → DividesOnce text
+DividesOnce-of_text text utf8 =
+    let d = division text utf8 in
+    record {
+      pieces = d.pieces;
+      end = d.end;
+      divides = d.divides;
+      only = λ others rest other.
+          let same : others ≡ d.pieces = sym (Divides-pieces_in text others rest utf8 other) ∙ Divides-pieces_in text d.pieces d.end utf8 d.divides in
+          (same, same_end d.pieces rest d.end (ap (λ l. text_of l rest) (sym same) ∙ sym other.spelled ∙ d.divides.spelled));
+    }
+
+-- a text has one list of tokens
+pub LexedOnce-of_text : (text : List ℕ) → IsUtf8 text → LexedOnce text
+LexedOnce-of_text text utf8 = record {
+  tokens = tokens_from 0 (pieces_in text);
+  lexed = Lexed-exists text utf8;
+  only = λ others lexed. Lexed-tokens text others utf8 lexed;
+}

@@ -1,5 +1,5 @@
 -- The tokens of a text, as its bytes say them: the text is a list of pieces and then its end.
-use Rattle.std.specs.Prelude.{◌≡◌, ◌≢◌, ℕ, ◌+◌, ◌-◌, ◌<◌, ◌≤◌, Bool, true, false, ◌||◌, ◌==◌, ◌⊎◌, List, [], ◌∷◌, ◌++◌, length, codes, if◌then◌else◌, slice_index}
+use Rattle.std.specs.Prelude.{◌≡◌, ◌≢◌, ℕ, ◌+◌, ◌-◌, ◌<◌, ◌≤◌, Bool, true, false, ◌||◌, ◌==◌, ◌⊎◌, List, [], ◌∷◌, ◌++◌, drop, length, take, codes, if◌then◌else◌, slice_index}
 use Rattle.std.specs.Char.{encode_utf8, is_whitespace, IsScalar}
 use Rattle.std.specs.Str.{NonePass, bytes_eq, trim, trim_end, trim_start}
 use Rattle.implib.specs.declared.def.lexer.Token.{Token}
@@ -175,3 +175,20 @@ abbrev pub EndsInEof : List Seen → Type 0
 EndsInEof [] = ⊥
 EndsInEof (token ∷ []) = token.kind ≡ kind.Eof
 EndsInEof (token ∷ next ∷ rest) = (token.kind ≢ kind.Eof) × EndsInEof (next ∷ rest)
+
+-- a text divides in one way
+pub record DividesOnce (text : List ℕ) : Type 0 where
+  pub pieces : List Piece
+  pub end : List ℕ
+  pub divides : Divides text pieces end
+  pub only : (others : List Piece) (rest : List ℕ) → Divides text others rest → (others ≡ pieces) × (rest ≡ end)
+
+-- a text has one list of tokens
+pub record LexedOnce (text : List ℕ) : Type 0 where
+  pub tokens : List Seen
+  pub lexed : Lexed text tokens
+  pub only : (others : List Seen) → Lexed text others → others ≡ tokens
+
+-- the value of the token is the slice of the text at the token's place
+abbrev pub IsSliceOf : List ℕ → Seen → Type 0
+IsSliceOf text token = take (length token.value) (drop token.at text) ≡ token.value
