@@ -5,3 +5,4 @@ pub mod Slices
 pub mod Taken
 pub mod Token
 pub mod Trimmed
+pub mod WorkedTokens

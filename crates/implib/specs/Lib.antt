@@ -3,6 +3,7 @@ pub mod Definition
 pub mod Fault
 pub mod Token
 pub mod Division
+pub mod WorkedTokens
 pub mod Parses
 pub mod Made
 pub mod Library

@@ -1,6 +1,7 @@
 //! Laws of the tokens of a text.
 
 ghost use Rattle.implib.specs.Token.{DividesOnce, EndsInEof, IsSliceOf, Lexed, LexedOnce, Seen};
+ghost use Rattle.implib.specs.WorkedTokens.{WorkedTokens};
 ghost use Rattle.std.specs.List.{AllByRecursion};
 ghost use Rattle.std.specs.Prelude.{List};
 
@@ -22,4 +23,9 @@ pub fn eof_once(text: &str)
 /// Each token's value is the slice of the text that begins at the token's place.
 pub fn values_are_slices(text: &str)
     ensures { (tokens : List Seen) → Lexed text.now tokens → AllByRecursion (IsSliceOf text.now) tokens }
+{}
+
+/// Texts that were worked by hand have these tokens.
+pub fn worked_tokens()
+    ensures { WorkedTokens }
 {}
