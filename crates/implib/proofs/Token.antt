@@ -113,7 +113,7 @@ pub LexedOnce-of_text : (text : List ℕ) → IsUtf8 text → LexedOnce text
 LexedOnce-of_text text utf8 = record {
   tokens = tokens_from 0 (pieces_in text);
   lexed = Lexed-exists text utf8;
-  only = λ others lexed. Lexed-tokens text others utf8 lexed;
+  only = λ others lexed. Lexed-unique text others (tokens_from 0 (pieces_in text)) utf8 lexed (Lexed-exists text utf8);
 }
 
 piece_known : (place : ℕ) (piece : Piece) → AllByRecursion IsKnown (token_of place piece)

@@ -23,9 +23,12 @@ worked = record {
   ignored_after_nul = Lexed-by_computing _ _ refl refl;
   words = Lexed-by_computing _ _ refl refl;
   nul_in_comment = Lexed-by_computing _ _ refl refl;
+  nul_in_word = Lexed-by_computing _ _ refl refl;
+  nul_in_name = Lexed-by_computing _ _ refl refl;
   blank_name = Lexed-by_computing _ _ refl refl;
   trimmed_name = Lexed-by_computing _ _ refl refl;
   quotes_in_word = Lexed-by_computing _ _ refl refl;
   unclosed_quote = Lexed-by_computing _ _ refl refl;
+  form_feeds = Lexed-by_computing _ _ refl refl;
   other_spaces = Lexed-by_computing _ _ refl refl;
 }

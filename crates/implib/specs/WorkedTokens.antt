@@ -37,12 +37,16 @@ pub record WorkedTokens : Type 0 where
   pub words : Lexed (codes "a=b;c\n\"d e\" f")
       (identifier (codes "a") 0 ∷ token kind.Equal (codes "=") 1 ∷ identifier (codes "b") 2 ∷ identifier (codes "d e") 7
       ∷ identifier (codes "f") 12 ∷ eof 13 ∷ [])
-  -- a NUL in a comment ends nothing
+  -- a NUL in a comment, a word or a quoted name ends nothing
   pub nul_in_comment : Lexed (codes "; a\0b\nDATA") (token kind.KwData (codes "DATA") 6 ∷ eof 10 ∷ [])
+  pub nul_in_word : Lexed (codes "LIBRARY a\0b") (token kind.KwLibrary (codes "LIBRARY") 0 ∷ identifier (codes "a\0b") 8 ∷ eof 11 ∷ [])
+  pub nul_in_name : Lexed (codes "\"a\0b\"") (identifier (codes "a\0b") 1 ∷ eof 5 ∷ [])
+  -- a quoted name is trimmed, and stands after its quote where nothing is left; without an end it is empty
   pub blank_name : Lexed (codes "\" \"") (identifier [] 1 ∷ eof 3 ∷ [])
   pub trimmed_name : Lexed (codes "\" a b \"") (identifier (codes "a b") 2 ∷ eof 7 ∷ [])
   pub quotes_in_word : Lexed (codes "x\"y\"") (identifier (codes "x\"y\"") 0 ∷ eof 4 ∷ [])
   pub unclosed_quote : Lexed (codes "LIBRARY \"a.dll") (token kind.KwLibrary (codes "LIBRARY") 0 ∷ identifier [] 9 ∷ eof 14 ∷ [])
-  -- white space that is no delimiter parts no word, but is skipped before one and trimmed after it
+  -- white space that is no delimiter, as a form feed, parts no word, but is skipped before one and trimmed after it
+  pub form_feeds : Lexed (codes "a\u{c}b\nc\u{c}\n") (identifier (codes "a\u{c}b") 0 ∷ identifier (codes "c") 4 ∷ eof 7 ∷ [])
   pub other_spaces : Lexed (no_break_space ++ codes "NAME" ++ em_space ++ codes "x" ++ ideographic_space)
       (identifier (codes "NAME" ++ em_space ++ codes "x") 2 ∷ eof 13 ∷ [])
