@@ -19,3 +19,11 @@ pub mod Lengths
 pub mod Defaults
 pub mod Offsets
 pub mod PictureSizes
+pub mod Division
+pub mod Gap
+pub mod Left
+pub mod Slices
+pub mod Taken
+pub mod Token
+pub mod Trimmed
+pub mod WorkedTokens

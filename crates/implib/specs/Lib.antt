@@ -2,6 +2,8 @@ pub mod Machine
 pub mod Definition
 pub mod Fault
 pub mod Token
+pub mod Division
+pub mod WorkedTokens
 pub mod Parses
 pub mod Renaming
 pub mod Import
