@@ -1,0 +1,2 @@
+pub mod NumberParsed
+pub mod WordsCut

@@ -5,3 +5,4 @@ pub mod Token
 pub mod Parses
 pub mod Made
 pub mod Library
+pub mod ParserViews

@@ -3,9 +3,13 @@
 ghost use Rattle.implib.specs.Definition.{definition_view, empty_definition, empty_export, export_view};
 ghost use Rattle.std.specs.Prelude.{◌≡◌, IfOk};
 
-use std::alloc::{AllocError, Global};
+use crate::def::parser::Parser;
+use crate::error::Error;
+use crate::machine::MachineType;
+use std::alloc::Global;
 
 pub mod lexer;
+pub mod parser;
 
 /// One export of a module definition.
 #[derive(Debug, Drop)]
@@ -94,5 +98,14 @@ impl ModuleDef {
             major_os_version: 0,
             minor_os_version: 0,
         }
+    }
+
+    /// What a text means on a machine, in time linear in its length.
+    ///
+    /// # Errors
+    ///
+    /// As [`Parser::parse`].
+    pub fn parse(alloc: Global, def: &str, machine: MachineType) -> Result<ModuleDef, Error> {
+        Parser::new(def, machine).parse(alloc)
     }
 }

@@ -1,0 +1,68 @@
+-- Views of the parser's state and of what its functions answer. No promise cites them.
+use Rattle.std.specs.Prelude.{◌≡◌, ℕ, ◌++◌, Bool, true, false, List, [], ◌∷◌, map, Option, Some, None, MatchOption, option_map, Result, Ok, Err}
+use Rattle.std.specs.List.{fold}
+use Rattle.std.specs.Borrow.{Bor}
+use Rattle.implib.specs.declared.def.lexer.Token.{Token}
+use Rattle.implib.specs.declared.def.parser.numbers.AtWord.{AtWord}
+use Rattle.implib.specs.declared.def.parser.numbers.AtWord.TheVariants.{Lone, WithOrdinal, Plain}
+use Rattle.implib.specs.declared.error.Error.{Error}
+use Rattle.implib.specs.declared.error.Error.TheVariants.{Invalid, OutOfMemory}
+use Rattle.implib.specs.declared.machine.MachineType.{MachineType}
+use Rattle.implib.specs.Definition.{DefinitionView, ExportView}
+use Rattle.implib.specs.Fault.{Cause, cause_of}
+use Rattle.implib.specs.Grammar.{Attribute, Export, Statement, Nameless, Named}
+use Rattle.implib.specs.Reading as reading
+use Rattle.implib.specs.Reading.{made_export, with_attribute, with_statement}
+use Rattle.implib.specs.Token.{Seen, seen}
+
+-- the tokens to come: the one that was looked at, if any, and those of the lexer
+abbrev pub ahead : Option Token → List Seen → List Seen
+ahead None tokens = tokens
+ahead (Some token) tokens = seen token ∷ tokens
+
+-- the first token is the one that was given, and the others are left
+abbrev pub TakesFirst : List Seen → Option Token → List Seen → Type 0
+TakesFirst before given after = MatchOption given ((before ≡ []) × (after ≡ [])) (λ token. before ≡ seen token ∷ after)
+
+-- the first token is the one that was given
+abbrev pub ShowsFirst : List Seen → Option Token → Type 0
+ShowsFirst tokens given = MatchOption given (tokens ≡ []) (λ token. (rest : List Seen) × (tokens ≡ seen token ∷ rest))
+
+-- the tokens to come, and the machine that they are read for
+pub record ParserView : Type 0 where
+  pub tokens : List Seen
+  pub machine : MachineType
+
+-- an error is the cause that a reader gives, unless memory ran out
+abbrev pub Fails : {Y : Type 0} → Error → Result Y Cause → Type 0
+Fails (Invalid fault) read = read ≡ Err (cause_of fault)
+Fails (OutOfMemory refused) read = Unit {0}
+
+-- an answer, seen by view, is what a reader gives, unless memory ran out
+abbrev pub Gives : {X Y : Type 0} → (X → Y) → Result X Error → Result Y Cause → Type 0
+Gives view (Ok x) read = read ≡ Ok (view x)
+Gives view (Err e) read = Fails e read
+
+-- an item that was read is put to what is there, and told; or there was none
+abbrev pub put : {A S : Type 0} → (S → A → S) → S → Option A × List Seen → Result (Bool × S × List Seen) Cause
+put apply state (None, rest) = Ok (false, state, rest)
+put apply state (Some item, rest) = Ok (true, apply state item, rest)
+
+-- all items that were read are put to what is there
+abbrev pub put_all : {A S : Type 0} → (S → A → S) → S → List A × List Seen → Result (S × List Seen) Cause
+put_all apply state items = Ok (fold apply state items.0, items.1)
+
+-- one more export of the machine
+abbrev pub with_export : MachineType → List ExportView → Export → List ExportView
+with_export machine exports e = exports ++ made_export machine e ∷ []
+
+-- what a word is
+abbrev pub at_word_view : AtWord → reading.AtWord
+at_word_view Lone = reading.Lone
+at_word_view (WithOrdinal n) = reading.WithOrdinal n
+at_word_view Plain = reading.Plain
+
+-- the statement that a name and its base make
+abbrev pub named : Option (Bor (List ℕ) × Option ℕ) → Statement
+named None = Nameless
+named (Some name) = Named (name.0).now name.1
