@@ -1,2 +1,3 @@
 pub mod NumberParsed
 pub mod WordsCut
+pub mod Token

@@ -2,6 +2,7 @@ pub mod Machine
 pub mod Definition
 pub mod Fault
 pub mod Token
+pub mod Division
 pub mod Parses
 pub mod Made
 pub mod Library
