@@ -2,6 +2,11 @@ pub mod Machine
 pub mod Definition
 pub mod Fault
 pub mod Token
+pub mod Number
+pub mod Grammar
+pub mod Meaning
+pub mod Refusal
 pub mod Parses
+pub mod Reading
 pub mod Made
 pub mod Library
