@@ -127,15 +127,23 @@ goes_on_exports [] = []
 goes_on_exports (last ∷ []) = goes_on_export last
 goes_on_exports (first ∷ second ∷ rest) = goes_on_exports (second ∷ rest)
 
+-- a comma goes on a size alone
+abbrev pub goes_on_size : Option ℕ → List TokenKind
+goes_on_size None = Comma ∷ []
+goes_on_size (Some commit) = []
+
+-- `BASE` goes on a name alone
+abbrev pub goes_on_name : Option ℕ → List TokenKind
+goes_on_name None = KwBase ∷ []
+goes_on_name (Some base) = []
+
 -- the kinds of the tokens that go on a whole statement: any identifier goes on `EXPORTS`, as an
--- export or an ordinal; a comma a size alone; a name `NAME` or `LIBRARY`; `BASE` a name alone
+-- export or an ordinal, and a name goes on `NAME` or `LIBRARY` alone
 abbrev pub goes_on : Statement → List TokenKind
 goes_on (Exports exports) = Identifier ∷ goes_on_exports exports
-goes_on (Sizes region reserve None) = Comma ∷ []
-goes_on (Sizes region reserve (Some commit)) = []
+goes_on (Sizes region reserve commit) = goes_on_size commit
 goes_on Nameless = Identifier ∷ []
-goes_on (Named name None) = KwBase ∷ []
-goes_on (Named name (Some base)) = []
+goes_on (Named name base) = goes_on_name base
 goes_on (Version major minor) = []
 
 -- what goes on the last of the statements
