@@ -1,3 +1,4 @@
 pub mod NumberParsed
 pub mod WordsCut
 pub mod Token
+mod Reading

@@ -3,7 +3,12 @@ pub mod Definition
 pub mod Fault
 pub mod Token
 pub mod Division
+pub mod Number
+pub mod Grammar
+pub mod Meaning
+pub mod Refusal
 pub mod Parses
+pub mod Reading
 pub mod Made
 pub mod Library
 pub mod ParserViews
