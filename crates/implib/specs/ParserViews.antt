@@ -12,7 +12,7 @@ use Rattle.implib.specs.Definition.{DefinitionView, ExportView}
 use Rattle.implib.specs.Fault.{Cause, cause_of}
 use Rattle.implib.specs.Grammar.{Attribute, Export, Statement, Nameless, Named}
 use Rattle.implib.specs.Reading as reading
-use Rattle.implib.specs.Reading.{made_export, with_attribute, with_statement}
+use Rattle.implib.specs.Reading.{◌>>=◌, Reads, made_export, with_attribute, with_statement}
 use Rattle.implib.specs.Token.{Seen, seen}
 
 -- the tokens to come: the one that was looked at, if any, and those of the lexer
@@ -52,6 +52,12 @@ put apply state (Some item, rest) = Ok (true, apply state item, rest)
 abbrev pub put_all : {A S : Type 0} → (S → A → S) → S → List A × List Seen → Result (S × List Seen) Cause
 put_all apply state items = Ok (fold apply state items.0, items.1)
 
+abbrev pub one_put : {A S : Type 0} → (S → A → S) → S → Reads (Option A) → Result (Bool × S × List Seen) Cause
+one_put apply state read = read >>= put apply state
+
+abbrev pub all_put : {A S : Type 0} → (S → A → S) → S → Reads (List A) → Result (S × List Seen) Cause
+all_put apply state read = read >>= put_all apply state
+
 -- one more export of the machine
 abbrev pub with_export : MachineType → List ExportView → Export → List ExportView
 with_export machine exports e = exports ++ made_export machine e ∷ []
@@ -61,6 +67,11 @@ abbrev pub at_word_view : AtWord → reading.AtWord
 at_word_view Lone = reading.Lone
 at_word_view (WithOrdinal n) = reading.WithOrdinal n
 at_word_view Plain = reading.Plain
+
+-- the value of a word, if there is one
+abbrev pub value_of : Option (Bor (List ℕ)) → Option (List ℕ)
+value_of None = None
+value_of (Some word) = Some word.now
 
 -- the statement that a name and its base make
 abbrev pub named : Option (Bor (List ℕ) × Option ℕ) → Statement

@@ -1,13 +1,14 @@
 //! The statements of a module definition.
 
+mod attributes;
 mod exports;
 mod numbers;
 mod settings;
 mod tokens;
 
+use crate::def::ModuleDef;
 use crate::def::lexer::TokenKind;
 use crate::def::parser::tokens::Tokens;
-use crate::def::{ModuleDef, ShortExport};
 use crate::error::{Error, Fault};
 use crate::machine::MachineType;
 use std::alloc::Global;
@@ -65,7 +66,7 @@ impl<'a> Tokens<'a> {
         }
         self.next();
         match token.kind {
-            TokenKind::KwExports => self.exports(alloc, machine, def)?,
+            TokenKind::KwExports => self.exports(alloc, machine, &mut def.exports)?,
             TokenKind::KwHeapsize => {
                 let (reserve, commit) = self.sizes()?;
                 def.heap_reserve = reserve;
@@ -92,17 +93,6 @@ impl<'a> Tokens<'a> {
             }
         }
         Ok(true)
-    }
-
-    /// The exports of a statement, each pushed onto the definition.
-    fn exports(
-        &mut self,
-        alloc: Global,
-        machine: MachineType,
-        def: &mut ModuleDef,
-    ) -> Result<(), Error> {
-        while self.export(alloc, machine, &mut def.exports)? {}
-        Ok(())
     }
 }
 

@@ -1,21 +1,49 @@
-//! One export: its names and its attributes.
+//! The exports of a statement, and their names.
+
+ghost use Rattle.implib.specs.Definition.{export_view};
+ghost use Rattle.implib.specs.Meaning.{decorated, is_decorated};
+ghost use Rattle.implib.specs.ParserViews.{all_put, Gives, one_put, value_of, with_export};
+ghost use Rattle.implib.specs.Reading.{export_read, exports_read, named_export, target_read};
+ghost use Rattle.std.specs.Prelude.{◌≡◌, ◌<◌, ◌≤◌, length, map, IfOk, IsTrue, OnOk};
+ghost use Rattle.std.specs.String.{string_bytes};
 
 use crate::def::ShortExport;
 use crate::def::lexer::TokenKind;
-use crate::def::parser::numbers::{AtWord, at_word, u16_of};
+use crate::def::parser::numbers::{AtWord, at_word};
 use crate::def::parser::tokens::Tokens;
 use crate::error::{Error, Fault};
 use crate::machine::MachineType;
 use std::alloc::{AllocError, Global};
 
 impl<'a> Tokens<'a> {
-    /// Reads an export onto the list, and answers false where none stands.
-    pub fn export(
+    /// Reads all exports that stand here onto the list.
+    pub fn exports(
         &mut self,
         alloc: Global,
         machine: MachineType,
         exports: &mut Vec<ShortExport>,
-    ) -> Result<bool, Error> {
+    ) -> Result<(), Error>
+        ensures read { Gives (λ _. (map export_view exports.new.items, self.new)) result
+            (all_put (with_export machine) (map export_view exports.old.items) (exports_read self.old)) }
+        ensures no_longer { OnOk result (length self.new ≤ length self.old) }
+    {
+        while self.export(alloc, machine, exports)? {}
+        Ok(())
+    }
+
+    /// Reads an export onto the list, and answers false where none stands.
+    #[tactic(auto, unfolding(crate::specs::Reading::export_read))]
+    fn export(
+        &mut self,
+        alloc: Global,
+        machine: MachineType,
+        exports: &mut Vec<ShortExport>,
+    ) -> Result<bool, Error>
+        ensures read { Gives (λ more. (more, map export_view exports.new.items, self.new)) result
+            (one_put (with_export machine) (map export_view exports.old.items) (export_read self.old)) }
+        ensures no_longer { OnOk result (length self.new ≤ length self.old) }
+        ensures shorter { IfOk result (λ more. IsTrue more → length self.new < length self.old) }
+    {
         let Some(token) = self.peek() else {
             return Ok(false);
         };
@@ -33,7 +61,11 @@ impl<'a> Tokens<'a> {
     }
 
     /// The word after the `=` of an export, if they are there.
-    fn target(&mut self) -> Result<Option<&'a str>, Error> {
+    #[tactic(auto, unfolding(crate::specs::Reading::target_read))]
+    fn target(&mut self) -> Result<Option<&'a str>, Error>
+        ensures read { Gives (λ target. (value_of target, self.new)) result (target_read self.old) }
+        ensures no_longer { OnOk result (length self.new ≤ length self.old) }
+    {
         let Some(token) = self.peek() else {
             return Ok(None);
         };
@@ -41,103 +73,12 @@ impl<'a> Tokens<'a> {
             TokenKind::Equal => {
                 self.next();
                 let target = self.identifier()?;
-                if target == "@" {
-                    return Err(Error::Invalid(Fault::LoneAt));
+                match at_word(target) {
+                    AtWord::Lone => Err(Error::Invalid(Fault::LoneAt)),
+                    _ => Ok(Some(target)),
                 }
-                Ok(Some(target))
             }
             _ => Ok(None),
-        }
-    }
-
-    /// Reads all attributes that stand here into the export.
-    fn attributes(&mut self, alloc: Global, export: &mut ShortExport) -> Result<(), Error> {
-        while self.attribute(alloc, export)? {}
-        Ok(())
-    }
-
-    /// Reads an attribute into the export, and answers false where none stands.
-    fn attribute(&mut self, alloc: Global, export: &mut ShortExport) -> Result<bool, Error> {
-        let Some(token) = self.peek() else {
-            return Ok(false);
-        };
-        match token.kind {
-            TokenKind::Identifier => return self.ordinal(alloc, token.value, export),
-            TokenKind::EqualEqual => {
-                self.next();
-                let target = self.identifier()?;
-                export.alias_target = String::from_str(alloc, target)?;
-            }
-            TokenKind::KwData => {
-                self.next();
-                export.is_data = true;
-            }
-            TokenKind::KwConstant => {
-                self.next();
-                export.constant = true;
-            }
-            TokenKind::KwPrivate => {
-                self.next();
-                export.private = true;
-            }
-            _ => return Ok(false),
-        }
-        Ok(true)
-    }
-
-    /// Reads an ordinal into the export, and answers false where the word ahead is a name.
-    fn ordinal(
-        &mut self,
-        alloc: Global,
-        word: &str,
-        export: &mut ShortExport,
-    ) -> Result<bool, Error> {
-        let ordinal = match at_word(word) {
-            AtWord::Plain => return Ok(false),
-            AtWord::Lone => {
-                self.next();
-                self.ordinal_apart(alloc)?
-            }
-            AtWord::WithOrdinal(ordinal) => {
-                self.next();
-                ordinal
-            }
-        };
-        export.ordinal = ordinal;
-        if self.no_name() {
-            export.no_name = true;
-        }
-        Ok(true)
-    }
-
-    /// Takes `NONAME`, and says whether it was there.
-    fn no_name(&mut self) -> bool {
-        let Some(token) = self.peek() else {
-            return false;
-        };
-        match token.kind {
-            TokenKind::KwNoname => {
-                self.next();
-                true
-            }
-            _ => false,
-        }
-    }
-
-    /// The ordinal in the token after a lone `@`.
-    fn ordinal_apart(&mut self, alloc: Global) -> Result<u16, Error> {
-        let Some(token) = self.next() else {
-            return Err(Error::Invalid(Fault::ExpectedIdentifier(TokenKind::Eof)));
-        };
-        if token.kind == TokenKind::Eof {
-            return Err(Error::Invalid(Fault::ExpectedIdentifier(TokenKind::Eof)));
-        }
-        match u16_of(token.value) {
-            Some(ordinal) => Ok(ordinal),
-            None => {
-                let value = String::from_str(alloc, token.value)?;
-                Err(Error::Invalid(Fault::InvalidOrdinal(value)))
-            }
         }
     }
 }
@@ -148,7 +89,9 @@ fn named_export(
     machine: MachineType,
     word: &str,
     target: Option<&str>,
-) -> Result<ShortExport, AllocError> {
+) -> Result<ShortExport, AllocError>
+    ensures { IfOk result (λ e. export_view e ≡ named_export machine word.now (value_of target.entry)) }
+{
     let mut export = ShortExport::empty(alloc);
     match target {
         None => export.name = decorated(alloc, machine, word)?,
@@ -161,12 +104,22 @@ fn named_export(
 }
 
 /// The name to link by: on I386 with `_` in front, unless it begins with `?` or holds `@`.
-fn decorated(alloc: Global, machine: MachineType, word: &str) -> Result<String, AllocError> {
-    let bytes = word.as_bytes();
-    let mut name = String::new(alloc);
-    if machine == MachineType::I386 && !bytes.contains(&b'@') && !bytes.starts_with(b"?") {
-        name.push('_')?;
+fn decorated(alloc: Global, machine: MachineType, name: &str) -> Result<String, AllocError>
+    ensures { IfOk result (λ made. string_bytes made ≡ decorated machine name.now) }
+{
+    let mut made = String::new(alloc);
+    match machine {
+        MachineType::I386 if !is_decorated(name) => made.push('_')?,
+        _ => {}
     }
-    name.push_str(word)?;
-    Ok(name)
+    made.push_str(name)?;
+    Ok(made)
+}
+
+/// Whether the name begins with `?` or holds `@`.
+fn is_decorated(name: &str) -> bool
+    ensures { result ≡ is_decorated name.now }
+{
+    let bytes = name.as_bytes();
+    bytes.first() == Some(&b'?') || bytes.contains(&b'@')
 }
