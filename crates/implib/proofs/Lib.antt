@@ -2,5 +2,5 @@ pub mod NumberParsed
 pub mod WordsCut
 pub mod Token
 mod Reading
-pub mod Loops
-pub mod Statements
+pub mod ParserLoops
+pub mod ParserSteps

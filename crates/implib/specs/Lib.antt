@@ -11,4 +11,5 @@ pub mod Parses
 pub mod Reading
 pub mod Made
 pub mod Library
+pub mod Parser
 pub mod ParserViews

@@ -1,6 +1,8 @@
 //! Module definitions: what a definition file says.
 
 ghost use Rattle.implib.specs.Definition.{definition_view, empty_definition, empty_export, export_view};
+ghost use Rattle.implib.specs.Fault.{IfInvalid};
+ghost use Rattle.implib.specs.Parses.{Parses, Refuses};
 ghost use Rattle.std.specs.Prelude.{◌≡◌, IfOk};
 
 use crate::def::parser::Parser;
@@ -105,7 +107,10 @@ impl ModuleDef {
     /// # Errors
     ///
     /// As [`Parser::parse`].
-    pub fn parse(alloc: Global, def: &str, machine: MachineType) -> Result<ModuleDef, Error> {
+    pub fn parse(alloc: Global, def: &str, machine: MachineType) -> Result<ModuleDef, Error>
+        ensures parses { IfOk result (λ d. Parses def.now machine (definition_view d)) }
+        ensures refused { IfInvalid result (Refuses def.now) }
+    {
         Parser::new(def, machine).parse(alloc)
     }
 }

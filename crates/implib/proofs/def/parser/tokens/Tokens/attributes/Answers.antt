@@ -2,7 +2,7 @@ use Rattle.std.proofs.Common.{arith, refl}
 use Rattle.std.proofs.lemmas.Result.{err_from_is_err_and}
 use Rattle.implib.specs.Definition.{export_view}
 use Rattle.implib.specs.Reading.{attribute_read, attributes_read, with_attribute}
-use Rattle.implib.proofs.Loops.{remains_all, remains_err, remains_more, remains_none}
+use Rattle.implib.proofs.ParserLoops.{remains_all, remains_err, remains_more, remains_none}
 use Rattle.implib.proofs.def.parser.tokens.Tokens.attributes.Goals as goal
 
 pub loop-init : goal.loop-init
@@ -22,7 +22,7 @@ pub loop-preserved : goal.loop-preserved
 loop-preserved c = record {
   shorter = omega (arith, c.in_ok-attribute.ensures.no_longer);
   remains = remains_more attribute_read with_attribute c.loop.self c.attribute.new.self (export_view c.loop.export) _ _ c.loop.invariant.remains
-    (rw c.if-branch.true at c.in_ok-attribute.ensures.read) (c.in_ok-attribute.ensures.shorter c.if-branch.true);
+      (rw c.if-branch.true at c.in_ok-attribute.ensures.read) (c.in_ok-attribute.ensures.shorter c.if-branch.true);
 }
 
 pub returns-clause-read : goal.returns-clause-read

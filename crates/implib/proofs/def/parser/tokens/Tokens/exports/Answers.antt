@@ -4,7 +4,7 @@ use Rattle.std.proofs.Common.{map}
 use Rattle.implib.specs.Definition.{export_view}
 use Rattle.implib.specs.ParserViews.{with_export}
 use Rattle.implib.specs.Reading.{export_read, exports_read}
-use Rattle.implib.proofs.Loops.{remains_all, remains_err, remains_more, remains_none}
+use Rattle.implib.proofs.ParserLoops.{remains_all, remains_err, remains_more, remains_none}
 use Rattle.implib.proofs.def.parser.tokens.Tokens.exports.Goals as goal
 
 pub loop-init : goal.loop-init
@@ -24,7 +24,7 @@ pub loop-preserved : goal.loop-preserved
 loop-preserved c = record {
   shorter = omega (arith, c.in_ok-export.ensures.no_longer);
   remains = remains_more export_read (with_export c.args.machine) c.loop.self c.export.new.self (map export_view c.loop.exports.items) _ _ c.loop.invariant.remains
-    (rw c.if-branch.true at c.in_ok-export.ensures.read) (c.in_ok-export.ensures.shorter c.if-branch.true);
+      (rw c.if-branch.true at c.in_ok-export.ensures.read) (c.in_ok-export.ensures.shorter c.if-branch.true);
 }
 
 pub returns-clause-read : goal.returns-clause-read
