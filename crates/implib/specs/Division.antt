@@ -1,6 +1,6 @@
 -- A view of the lexer's state, and witnesses for proofs; no promise cites this file.
-use Rattle.std.specs.Prelude.{◌≡◌, ◌≢◌, ℕ, suc, zero, ◌+◌, ◌-◌, Bool, true, false, ◌==◌, ◌⊎◌, Option, Some, None, List, [], ◌∷◌, ◌++◌, length, drop, if◌then◌else◌, slice_index}
-use Rattle.std.specs.Char.{encode_utf8, is_whitespace, is_not_whitespace}
+use Rattle.std.specs.Prelude.{◌≡◌, ◌≢◌, ℕ, suc, zero, ◌-◌, ◌<◌, Bool, false, ◌==◌, ◌⊎◌, Option, Some, None, List, [], ◌∷◌, ◌++◌, length, drop, if◌then◌else◌, slice_index}
+use Rattle.std.specs.Char.{is_whitespace, is_not_whitespace}
 use Rattle.std.specs.List.{AllByRecursion}
 use Rattle.std.specs.Str.{chars, EmptyOrStartsWithPassing}
 use Rattle.implib.specs.Token.{Seen, eof, Piece, Blank, Comment, LastComment, EqualSign, EqualSigns, CommaSign, Quoted, Unclosed, Word, spelling, Stands, EachStands, IsEnd, text_of, token_of, tokens_from, is_line_feed, is_quote, is_delimiter, is_equal_sign, is_semicolon, begins}
@@ -61,13 +61,22 @@ tokens_left text rest is_done =
 
 -- a piece without a token
 abbrev pub IsGap : Piece → Type 0
-IsGap piece = token_of 0 piece ≡ []
+IsGap piece = (place : ℕ) → token_of place piece ≡ []
 
 -- the text begins with neither white space nor a comment
 pub record BeginsNoGap (text : List ℕ) : Type 0 where
   pub tail : List ℕ
   pub no_space : EmptyOrStartsWithPassing is_not_whitespace text tail
   pub no_comment : begins is_semicolon text ≡ false
+
+-- the text begins with a word, as nothing else begins so
+pub record StartsWord (text : List ℕ) : Type 0 where
+  pub nonempty : 0 < length text
+  pub no_gap : BeginsNoGap text
+  pub not_nul : slice_index text 0 ≢ 0
+  pub not_equal : slice_index text 0 ≢ 61
+  pub not_comma : slice_index text 0 ≢ 44
+  pub not_quote : slice_index text 0 ≢ 34
 
 -- the text is pieces without a token, and then `rest`
 pub record PassesGap (text rest : List ℕ) : Type 0 where
@@ -90,4 +99,4 @@ pub record TakesPiece (text : List ℕ) (place : ℕ) (token : Seen) (after : Li
 
 -- this, or the text is at its end
 abbrev pub TakesToken : List ℕ → ℕ → Seen → List ℕ → Type 0
-TakesToken text place token after = TakesPiece text place token after ⊎ (IsEnd text × (token ≡ eof place))
+TakesToken text place token after = TakesPiece text place token after ⊎ (IsEnd text × (token ≡ eof place) × (after ≡ text))

@@ -1,5 +1,5 @@
 -- The tokens of a text, as its bytes say them: the text is a list of pieces and then its end.
-use Rattle.std.specs.Prelude.{◌≡◌, ◌≢◌, ℕ, ◌+◌, ◌-◌, ◌<◌, ◌≤◌, Bool, true, false, ◌||◌, ◌==◌, ◌⊎◌, List, [], ◌∷◌, ◌++◌, length, codes, if◌then◌else◌, slice_index}
+use Rattle.std.specs.Prelude.{◌≡◌, ◌≢◌, ℕ, ◌+◌, ◌-◌, ◌<◌, ◌≤◌, Bool, true, false, ◌||◌, ◌==◌, ◌⊎◌, List, [], ◌∷◌, ◌++◌, drop, length, take, codes, if◌then◌else◌, slice_index}
 use Rattle.std.specs.Char.{encode_utf8, is_whitespace, IsScalar}
 use Rattle.std.specs.Str.{NonePass, bytes_eq, trim, trim_end, trim_start}
 use Rattle.implib.specs.declared.def.lexer.Token.{Token}
@@ -134,6 +134,10 @@ abbrev pub kind_in : List (List ℕ × TokenKind) → List ℕ → TokenKind
 kind_in [] word = kind.Identifier
 kind_in (row ∷ rows) word = if bytes_eq word row.0 then row.1 else kind_in rows word
 
+-- the kind of a word
+unfoldable pub kind_of_word : List ℕ → TokenKind
+kind_of_word word = kind_in keywords word
+
 -- where in a quoted name its value begins: after the white space, or at the front where nothing else is there
 abbrev pub value_start : List ℕ → ℕ
 value_start inside = if length (trim inside) == 0 then 0 else length inside - length (trim_start inside)
@@ -148,7 +152,7 @@ token_of place EqualSigns = record { kind = kind.EqualEqual; value = 61 ∷ 61 �
 token_of place CommaSign = record { kind = kind.Comma; value = 44 ∷ []; at = place } ∷ []
 token_of place (Quoted inside) = record { kind = kind.Identifier; value = trim inside; at = place + 1 + value_start inside } ∷ []
 token_of place (Unclosed inside) = record { kind = kind.Identifier; value = []; at = place + 1 } ∷ []
-token_of place (Word run) = record { kind = kind_in keywords (trim_end run); value = trim_end run; at = place } ∷ []
+token_of place (Word run) = record { kind = kind_of_word (trim_end run); value = trim_end run; at = place } ∷ []
 
 -- the token at the end
 abbrev pub eof : ℕ → Seen
@@ -171,3 +175,20 @@ abbrev pub EndsInEof : List Seen → Type 0
 EndsInEof [] = ⊥
 EndsInEof (token ∷ []) = token.kind ≡ kind.Eof
 EndsInEof (token ∷ next ∷ rest) = (token.kind ≢ kind.Eof) × EndsInEof (next ∷ rest)
+
+-- a text divides in one way
+pub record DividesOnce (text : List ℕ) : Type 0 where
+  pub pieces : List Piece
+  pub end : List ℕ
+  pub divides : Divides text pieces end
+  pub only : (others : List Piece) (rest : List ℕ) → Divides text others rest → (others ≡ pieces) × (rest ≡ end)
+
+-- a text has one list of tokens
+pub record LexedOnce (text : List ℕ) : Type 0 where
+  pub tokens : List Seen
+  pub lexed : Lexed text tokens
+  pub only : (others : List Seen) → Lexed text others → others ≡ tokens
+
+-- the value of the token is the slice of the text at the token's place
+abbrev pub IsSliceOf : List ℕ → Seen → Type 0
+IsSliceOf text token = take (length token.value) (drop token.at text) ≡ token.value

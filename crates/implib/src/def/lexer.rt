@@ -1,20 +1,10 @@
 //! The tokens of a module definition, as slices of its text.
 
-ghost use Rattle.implib.specs.Division.{BeginsNoGap, PassesGap, SkipsGap, TakesPiece, TakesToken, tokens_left};
-ghost use Rattle.implib.specs.Token.{
-  begins,
-  is_delimiter,
-  is_quote,
-  is_semicolon,
-  keywords,
-  kind_in,
-  seen,
-  IsWordEnd,
-  Lexed,
-  Seen,
-};
+ghost use Rattle.implib.specs.Division.{BeginsNoGap, PassesGap, SkipsGap, StartsWord, TakesPiece, TakesToken, tokens_left};
+ghost use Rattle.implib.specs.Token.{begins, is_delimiter, is_equal_sign, is_quote, kind_of_word, seen, value_start, IsWordEnd, Lexed, Seen};
 ghost use Rattle.std.specs.Iterator.{item_count, YieldsFirstBy};
-ghost use Rattle.std.specs.Prelude.{◌≡◌, ◌+◌, ◌<◌, ◌≤◌, ◌^◌, ◌∷◌, true, length, List};
+ghost use Rattle.std.specs.Prelude.{◌≡◌, ◌+◌, ◌<◌, ◌≤◌, ◌^◌, [], ◌∷◌, drop, length, take, true, List};
+ghost use Rattle.std.specs.Str.{trim, IsCharBoundary, IsUtf8};
 
 use std::fmt;
 use std::marker::Model;
@@ -152,7 +142,8 @@ fn is_delimiter(byte: u8) -> bool
 
 // What is left of the text once its white space and comments are passed.
 fn skip_gap(text: &str) -> &str
-    ensures { SkipsGap text.now result.now }
+    ensures skips { SkipsGap text.now result.now }
+    ensures utf8 { IsUtf8 text.now }
 {
     let mut rest = text.trim_start();
     while let Some(comment) = rest.strip_prefix(';') {
@@ -161,9 +152,10 @@ fn skip_gap(text: &str) -> &str
     rest
 }
 
-// What follows the line.
+// What follows the line of a comment.
 fn after_line(comment: &str) -> &str
-    ensures { PassesGap (59 ∷ comment.now) result.now }
+    ensures passes { PassesGap (59 ∷ comment.now) result.now }
+    ensures shorter { length result.now ≤ length comment.now }
 {
     match comment.split_once('\n') {
         Some((_, after)) => after,
@@ -177,74 +169,102 @@ fn first_token<'a>(text: &'a str, at: usize) -> (Token<'a>, &'a str)
     requires fits { at + length text.now < 2 ^ 64 }
     ensures { TakesToken text.now at (seen result.0) result.1.now }
 {
-    let Some(&first) = text.as_bytes().first() else {
-        return sign(TokenKind::Eof, text, 0, at);
-    };
-    match first {
-        0 => sign(TokenKind::Eof, text, 0, at),
-        b'=' if text.as_bytes().get(1) == Some(&b'=') => sign(TokenKind::EqualEqual, text, 2, at),
-        b'=' => sign(TokenKind::Equal, text, 1, at),
-        b',' => sign(TokenKind::Comma, text, 1, at),
+    let bytes = text.as_bytes();
+    if bytes.is_empty() || bytes[0] == 0 {
+        return cut_token(TokenKind::Eof, text, 0, at);
+    }
+    match bytes[0] {
+        b'=' => equal_sign(text, at),
+        b',' => cut_token(TokenKind::Comma, text, 1, at),
         b'"' => quoted_name(text, at),
         _ => word(text, at),
     }
 }
 
-// The token of the first `len` bytes.
-fn sign<'a>(kind: TokenKind, text: &'a str, len: usize, at: usize) -> (Token<'a>, &'a str) {
+// The token whose value is the first `len` bytes, and what follows them.
+fn cut_token<'a>(kind: TokenKind, text: &'a str, len: usize, at: usize) -> (Token<'a>, &'a str)
+    requires { IsCharBoundary text.now len }
+    ensures token { seen result.0 ≡ record { kind = kind; value = take len text.now; at = at } }
+    ensures after { result.1.now ≡ drop len text.now }
+{
     let (value, after) = text.split_at(len);
     (Token { kind, value, at }, after)
 }
 
-// The name in quotes at the front of the text.
+// The token of the `=` or `==` at the front of the text.
+fn equal_sign<'a>(text: &'a str, at: usize) -> (Token<'a>, &'a str)
+    requires { begins is_equal_sign text.now ≡ true }
+    ensures { TakesPiece text.now at (seen result.0) result.1.now }
+{
+    if text[1..].starts_with('=') {
+        cut_token(TokenKind::EqualEqual, text, 2, at)
+    } else {
+        cut_token(TokenKind::Equal, text, 1, at)
+    }
+}
+
+// The token of the quoted name at the front of the text. Without a closing quote the value is
+// empty, and so it is without anything but white space inside; it then stands right after the
+// opening quote.
 fn quoted_name<'a>(text: &'a str, at: usize) -> (Token<'a>, &'a str)
     requires quote { begins is_quote text.now ≡ true }
     requires fits { at + length text.now < 2 ^ 64 }
     ensures { TakesPiece text.now at (seen result.0) result.1.now }
 {
     let inside = &text[1..];
-    let Some((name, after)) = inside.split_once('"') else {
-        let (value, _) = inside.split_at(0);
-        return (identifier(value, at + 1), &inside[inside.len()..]);
-    };
+    match inside.split_once('"') {
+        Some((name, after)) => (name_token(name, at + 1), after),
+        None => (empty_name(inside, at + 1), &inside[inside.len()..]),
+    }
+}
+
+// The token of what stands between two quotes, from the byte `at` on.
+fn name_token(name: &str, at: usize) -> Token<'_>
+    requires { at + length name.now < 2 ^ 64 }
+    ensures { seen result ≡ record {
+      kind = TokenKind.Identifier;
+      value = trim name.now;
+      at = at + value_start name.now;
+    } }
+{
     let start = name.trim_start();
     let value = start.trim_end();
     if value.is_empty() {
-        return (identifier(&name[..0], at + 1), after);
+        return empty_name(name, at);
     }
-    (
-        identifier(value, at + 1 + (name.len() - start.len())),
-        after,
-    )
-}
-
-fn identifier(value: &str, at: usize) -> Token<'_> {
     Token {
         kind: TokenKind::Identifier,
         value,
+        at: at + (name.len() - start.len()),
+    }
+}
+
+// An empty name at the front of the text.
+fn empty_name(text: &str, at: usize) -> Token<'_>
+    ensures { seen result ≡ record { kind = TokenKind.Identifier; value = []; at = at } }
+{
+    Token {
+        kind: TokenKind::Identifier,
+        value: &text[..0],
         at,
     }
 }
 
-// The word at the front of the text.
+// The token of the word at the front of the text.
 fn word<'a>(text: &'a str, at: usize) -> (Token<'a>, &'a str)
+    requires { StartsWord text.now }
     ensures { TakesPiece text.now at (seen result.0) result.1.now }
 {
     let (run, after) = text.split_at(word_end(text.as_bytes(), 0));
     let value = run.trim_end();
-    (
-        Token {
-            kind: word_kind(value),
-            value,
-            at,
-        },
-        after,
-    )
+    let kind = word_kind(value);
+    (Token { kind, value, at }, after)
 }
 
 // A word is a keyword in this case alone.
+#[tactic(auto, unfolding(crate::specs::Token::kind_of_word))]
 fn word_kind(word: &str) -> TokenKind
-    ensures { result ≡ kind_in keywords word.now }
+    ensures { result ≡ kind_of_word word.now }
 {
     match word {
         "BASE" => TokenKind::KwBase,
