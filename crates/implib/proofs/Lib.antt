@@ -1,1 +1,11 @@
+mod TokenKinds
+mod Words
+mod Begins
+mod Many
+mod ReadSpelled
+mod ReadAttributes
+mod ReadExports
+mod Statements
+mod ReadStatements
+mod Meaning
 mod Reading
