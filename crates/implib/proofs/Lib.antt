@@ -9,3 +9,4 @@ mod Statements
 mod ReadStatements
 mod Meaning
 mod Reading
+mod SpelledRead
