@@ -10,3 +10,4 @@ mod ReadStatements
 mod Meaning
 mod Reading
 mod SpelledRead
+mod SpelledExports

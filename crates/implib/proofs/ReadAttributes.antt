@@ -101,7 +101,7 @@ unfolding attribute_read
 attribute_outcome [] = (refl, (tt, tt))
 attribute_outcome (t ∷ rest) = attribute_by_outcome t.kind t rest refl
 
-attribute_spelled : (a : Attribute) → 0 < length (attribute_spelling a)
+pub attribute_spelled : (a : Attribute) → 0 < length (attribute_spelling a)
 attribute_spelled (Joined n no_name) = omega arith
 attribute_spelled (Apart n no_name) = omega arith
 attribute_spelled Data = omega arith
