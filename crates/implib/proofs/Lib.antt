@@ -12,3 +12,16 @@ pub mod Taken
 pub mod Token
 pub mod Trimmed
 pub mod WorkedTokens
+mod TokenKinds
+mod Words
+mod Begins
+mod Many
+mod ReadSpelled
+mod ReadAttributes
+mod ReadExports
+mod Statements
+mod ReadStatements
+mod Meaning
+mod Reading
+mod SpelledRead
+mod SpelledExports

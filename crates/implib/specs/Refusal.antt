@@ -1,5 +1,5 @@
 -- Where tokens are refused that are no statements, and for which cause.
-use Rattle.std.specs.Prelude.{◌≡◌, ◌≢◌, ℕ, ◌⊎◌, false, List, [], ◌∷◌, ◌++◌, Option, Some, None}
+use Rattle.std.specs.Prelude.{◌≡◌, ◌≢◌, ℕ, ◌⊎◌, Bool, true, false, List, [], ◌∷◌, ◌++◌, Option, Some, None}
 use Rattle.implib.specs.declared.def.lexer.TokenKind.{TokenKind}
 use Rattle.implib.specs.declared.def.lexer.TokenKind.TheVariants.{Eof, Identifier, Comma, Equal, EqualEqual, KwBase, KwConstant, KwData, KwExports, KwHeapsize, KwLibrary, KwName, KwNoname, KwPrivate, KwStacksize, KwVersion}
 use Rattle.implib.specs.Fault.{Cause, UnknownDirective, ExpectedIdentifier, ExpectedEqual, ExpectedInteger, InvalidOrdinal, LoneAt}
@@ -99,9 +99,13 @@ abbrev pub directives : List TokenKind
 directives = KwExports ∷ KwHeapsize ∷ KwStacksize ∷ KwName ∷ KwLibrary ∷ KwVersion ∷ []
 
 -- `NONAME` goes on an ordinal that has none
+abbrev pub goes_on_ordinal : Bool → List TokenKind
+goes_on_ordinal false = KwNoname ∷ []
+goes_on_ordinal true = []
+
 abbrev pub goes_on_attribute : Attribute → List TokenKind
-goes_on_attribute (Joined n false) = KwNoname ∷ []
-goes_on_attribute (Apart n false) = KwNoname ∷ []
+goes_on_attribute (Joined n no_name) = goes_on_ordinal no_name
+goes_on_attribute (Apart n no_name) = goes_on_ordinal no_name
 goes_on_attribute _ = []
 
 -- what goes on the last of the attributes
@@ -115,11 +119,13 @@ abbrev pub goes_on_target : Option (List ℕ) → List Attribute → List TokenK
 goes_on_target None [] = Equal ∷ []
 goes_on_target _ _ = []
 
+-- the kinds that begin an attribute other than an ordinal
+abbrev pub attribute_kinds : List TokenKind
+attribute_kinds = EqualEqual ∷ KwData ∷ KwConstant ∷ KwPrivate ∷ []
+
 -- each export can have more attributes
 abbrev pub goes_on_export : Export → List TokenKind
-goes_on_export e =
-    EqualEqual ∷ KwData ∷ KwConstant ∷ KwPrivate
-    ∷ (goes_on_target e.target e.attributes ++ goes_on_attributes e.attributes)
+goes_on_export e = attribute_kinds ++ (goes_on_target e.target e.attributes ++ goes_on_attributes e.attributes)
 
 -- what goes on the last of the exports
 abbrev pub goes_on_exports : List Export → List TokenKind

@@ -1,0 +1,226 @@
+-- What is spelled is read so, and what the grammar refuses the readers refuse: attributes and exports.
+use Rattle.std.proofs.Common.{◌≡◌, ◌≢◌, ℕ, ◌<◌, ◌⊎◌, inl, inr, Bool, true, false, List, [], ◌∷◌, ◌++◌, length, Option, Some, None, Result, Ok, Err, refl, sym, ap, subst, ◌∙◌, arith}
+use Rattle.std.specs.List.{flat_map}
+use Rattle.implib.specs.declared.def.lexer.TokenKind.{TokenKind}
+use Rattle.implib.specs.declared.def.lexer.TokenKind.TheVariants.{Eof, Identifier, Equal, EqualEqual, KwConstant, KwData, KwNoname, KwPrivate}
+use Rattle.implib.specs.Fault.{Cause, ExpectedIdentifier, InvalidOrdinal, LoneAt}
+use Rattle.implib.specs.Grammar.{Attribute, Joined, Apart, Data, Constant, Private, Alias, Export, Wanted, Of, Word, Later, Begins, IsWord, IsLoneAt, IsAtNumber, at_sign, no_name_spelling, attribute_spelling, target_spelling, export_spelling, exports_spelling}
+use Rattle.implib.specs.Number.{IsNumber, u16_limit}
+use Rattle.implib.specs.Reading.{Reads, ◌>>=◌, number_of, AtWord, Lone, WithOrdinal, Plain, at_word, word_read, no_name_by, no_name_read, ordinal_or, ordinal_by, ordinal_read, joined_from, apart_of, apart_from, alias_from, at_attribute, attribute_by, attribute_read, attributes_read, target_of, target_from, target_by, target_read, export_of, export_from, export_by, export_read, exports_read}
+use Rattle.implib.specs.Refusal.{IsNoWord, IsEndForOrdinal, IsNoOrdinal, IsLoneTarget, IsNoneOf, attribute_kinds, goes_on_ordinal, goes_on_attribute, goes_on_attributes, goes_on_target, goes_on_export, goes_on_exports, bare}
+use Rattle.implib.specs.Token.{Seen}
+use Rattle.implib.proofs.Begins.{Parted, Begins-parted, Begins-shorter, IsAfter}
+use Rattle.implib.proofs.Many.{bind_ok, bind_err, Takes, AreRead, all_again, all_refused}
+use Rattle.implib.proofs.ReadAttributes.{OrdinalRefused, TargetRefused, NoAttribute, PlainFront, goes_on_no_target, attribute_spelled}
+use Rattle.implib.proofs.ReadExports.{ExportEnds}
+use Rattle.implib.proofs.SpelledRead.{word_again, word_refused}
+use Rattle.implib.proofs.TokenKinds.{none_at}
+use Rattle.implib.proofs.Words.{IsAtWord, at_word-is, at_word-gives, number_of-is, number_of-none}
+
+-- ---- `NONAME`
+
+no_name_by_other : (kind : TokenKind) (t : Seen) (rest : List Seen) → kind ≢ KwNoname → no_name_by kind t rest ≡ (false, t ∷ rest)
+no_name_by_other KwNoname t rest other = absurd (other refl)
+no_name_by_other kind t rest other = refl
+
+no_no_name : (tokens : List Seen) → IsAfter (KwNoname ∷ []) tokens → no_name_read tokens ≡ (false, tokens)
+unfolding no_name_read
+no_no_name [] h = refl
+no_no_name (t ∷ rest) h = no_name_by_other t.kind t rest h.0
+
+no_name_again : (no_name : Bool) (tokens rest : List Seen) → Begins tokens (no_name_spelling no_name) rest → IsAfter (goes_on_ordinal no_name) rest → no_name_read tokens ≡ (no_name, rest)
+unfolding no_name_read
+no_name_again false tokens rest h after = ap no_name_read h ∙ no_no_name rest after
+no_name_again true [] rest h after = absurd h
+no_name_again true (t ∷ tokens) rest h after =
+    ap (λ (k : TokenKind). no_name_by k t tokens) h.0 ∙ ap (λ (s : List Seen). (true, s)) h.1
+
+-- ---- the ordinal after a lone `@`
+
+ordinal_by_other : (kind : TokenKind) (t : Seen) (rest : List Seen) → kind ≢ Eof → ordinal_by kind t rest ≡ ordinal_or (number_of t.value u16_limit) t rest
+ordinal_by_other Eof t rest other = absurd (other refl)
+ordinal_by_other kind t rest other = refl
+
+ordinal_again : (t : Seen) (n : ℕ) (rest : List Seen) → t.kind ≢ Eof → IsNumber t.value u16_limit n → ordinal_read (t ∷ rest) ≡ Ok (n, rest)
+unfolding ordinal_read
+ordinal_again t n rest other is =
+    ordinal_by_other t.kind t rest other ∙ ap (λ (o : Option ℕ). ordinal_or o t rest) (number_of-is t.value u16_limit n is)
+
+ordinal_refused : (t : Seen) (rest : List Seen) (cause : Cause) → OrdinalRefused t cause → ordinal_read (t ∷ rest) ≡ Err cause
+unfolding ordinal_read
+ordinal_refused t rest cause (inl h) =
+    ap (λ (k : TokenKind). ordinal_by k t rest) h.end ∙ ap (λ (c : Cause). Err c) (sym h.told)
+ordinal_refused t rest cause (inr h) =
+    ordinal_by_other t.kind t rest h.not_end
+    ∙ ap (λ (o : Option ℕ). ordinal_or o t rest) (number_of-none t.value u16_limit h.none)
+    ∙ ap (λ (c : Cause). Err c) (sym h.told)
+
+-- ---- attributes
+
+attribute_by_none : (kind : TokenKind) (t : Seen) (rest : List Seen) → IsNoneOf kind attribute_kinds → (kind ≡ Identifier → IsAtWord Plain t.value) → attribute_by kind t rest ≡ Ok (None, t ∷ rest)
+attribute_by_none Identifier t rest h plain = ap (λ (w : AtWord). at_attribute w t rest) (at_word-is t.value Plain (plain refl))
+attribute_by_none EqualEqual t rest h plain = absurd (h.0 refl)
+attribute_by_none KwData t rest h plain = absurd (h.1.0 refl)
+attribute_by_none KwConstant t rest h plain = absurd (h.1.1.0 refl)
+attribute_by_none KwPrivate t rest h plain = absurd (h.1.1.1.0 refl)
+attribute_by_none kind t rest h plain = refl
+
+no_attribute : (tokens : List Seen) → NoAttribute tokens → attribute_read tokens ≡ Ok (None, tokens)
+unfolding attribute_read
+no_attribute [] h = refl
+no_attribute (t ∷ rest) h = attribute_by_none t.kind t rest h.0 h.1
+
+-- what a word decides, and what `==` decides
+at_kind : (t : Seen) (rest : List Seen) (kind : TokenKind) → t.kind ≡ kind → attribute_read (t ∷ rest) ≡ attribute_by kind t rest
+unfolding attribute_read
+at_kind t rest kind e = ap (λ (k : TokenKind). attribute_by k t rest) e
+
+at_word_kind : (t : Seen) (rest : List Seen) (word : AtWord) → t.kind ≡ Identifier → IsAtWord word t.value → attribute_read (t ∷ rest) ≡ at_attribute word t rest
+at_word_kind t rest word e is = at_kind t rest Identifier e ∙ ap (λ (w : AtWord). at_attribute w t rest) (at_word-is t.value word is)
+
+attribute_again : (a : Attribute) (tokens rest : List Seen) → Begins tokens (attribute_spelling a) rest → IsAfter (goes_on_attribute a) rest → attribute_read tokens ≡ Ok (Some a, rest)
+attribute_again (Joined n no_name) [] rest h after = absurd h
+attribute_again (Joined n no_name) (t ∷ tokens) rest h after =
+    at_word_kind t tokens (WithOrdinal n) h.0.0 h.0.1 ∙ ap (joined_from n) (no_name_again no_name tokens rest h.1 after)
+attribute_again (Apart n no_name) [] rest h after = absurd h
+attribute_again (Apart n no_name) (t ∷ []) rest h after = absurd h.1
+attribute_again (Apart n no_name) (t ∷ u ∷ tokens) rest h after =
+    at_word_kind t (u ∷ tokens) Lone h.0.kind h.0.value_is
+    ∙ bind_ok (ordinal_read (u ∷ tokens)) apart_from (n, tokens) (Ok (Some (Apart n no_name), rest)) (ordinal_again u n tokens h.1.0.0 h.1.0.1) (ap (apart_of n) (no_name_again no_name tokens rest h.1.1 after))
+attribute_again Data [] rest h after = absurd h
+attribute_again Data (t ∷ tokens) rest h after = at_kind t tokens KwData h.0 ∙ ap (λ (s : List Seen). Ok (Some Data, s)) h.1
+attribute_again Constant [] rest h after = absurd h
+attribute_again Constant (t ∷ tokens) rest h after = at_kind t tokens KwConstant h.0 ∙ ap (λ (s : List Seen). Ok (Some Constant, s)) h.1
+attribute_again Private [] rest h after = absurd h
+attribute_again Private (t ∷ tokens) rest h after = at_kind t tokens KwPrivate h.0 ∙ ap (λ (s : List Seen). Ok (Some Private, s)) h.1
+attribute_again (Alias value) [] rest h after = absurd h
+attribute_again (Alias value) (t ∷ []) rest h after = absurd h.1
+attribute_again (Alias value) (t ∷ u ∷ tokens) rest h after =
+    at_kind t (u ∷ tokens) EqualEqual h.0
+    ∙ bind_ok (word_read (u ∷ tokens)) alias_from (value, tokens) (Ok (Some (Alias value), rest)) (word_again u value tokens h.1.0) (ap (λ (s : List Seen). Ok (Some (Alias value), s)) h.1.1)
+
+alias_refused : (t u : Seen) (rest : List Seen) (cause : Cause) → t.kind ≡ EqualEqual → IsNoWord u cause → attribute_read (t ∷ u ∷ rest) ≡ Err cause
+alias_refused t u rest cause e h =
+    at_kind t (u ∷ rest) EqualEqual e ∙ bind_err (word_read (u ∷ rest)) alias_from cause (word_refused u rest cause h)
+
+lone_refused : (t u : Seen) (rest : List Seen) (cause : Cause) → IsWord t (at_sign ∷ []) → OrdinalRefused u cause → attribute_read (t ∷ u ∷ rest) ≡ Err cause
+lone_refused t u rest cause is h =
+    at_word_kind t (u ∷ rest) Lone is.kind is.value_is ∙ bind_err (ordinal_read (u ∷ rest)) apart_from cause (ordinal_refused u rest cause h)
+
+-- neither `NONAME` nor `=` begins an attribute
+abbrev no_attribute_kinds : List TokenKind
+no_attribute_kinds = KwNoname ∷ Equal ∷ []
+
+attribute_first : (a : Attribute) (more : List Wanted) (tokens rest : List Seen) → Begins tokens (attribute_spelling a ++ more) rest → IsAfter no_attribute_kinds tokens
+attribute_first a more [] rest h = tt
+attribute_first (Joined n no_name) more (t ∷ tokens) rest h = none_at t.kind Identifier no_attribute_kinds h.0.0 refl
+attribute_first (Apart n no_name) more (t ∷ tokens) rest h = none_at t.kind Identifier no_attribute_kinds h.0.kind refl
+attribute_first Data more (t ∷ tokens) rest h = none_at t.kind KwData no_attribute_kinds h.0 refl
+attribute_first Constant more (t ∷ tokens) rest h = none_at t.kind KwConstant no_attribute_kinds h.0 refl
+attribute_first Private more (t ∷ tokens) rest h = none_at t.kind KwPrivate no_attribute_kinds h.0 refl
+attribute_first (Alias value) more (t ∷ tokens) rest h = none_at t.kind EqualEqual no_attribute_kinds h.0 refl
+
+clear_ordinal : (no_name : Bool) (kind : TokenKind) → kind ≢ KwNoname → IsNoneOf kind (goes_on_ordinal no_name)
+clear_ordinal true kind other = tt
+clear_ordinal false kind other = (other, tt)
+
+clear_attribute : (a : Attribute) (kind : TokenKind) → kind ≢ KwNoname → IsNoneOf kind (goes_on_attribute a)
+clear_attribute (Joined n no_name) kind other = clear_ordinal no_name kind other
+clear_attribute (Apart n no_name) kind other = clear_ordinal no_name kind other
+clear_attribute Data kind other = tt
+clear_attribute Constant kind other = tt
+clear_attribute Private kind other = tt
+clear_attribute (Alias value) kind other = tt
+
+pub clear_attributes : (items : List Attribute) (kind : TokenKind) → kind ≢ KwNoname → IsNoneOf kind (goes_on_attributes items)
+clear_attributes [] kind other = tt
+clear_attributes (a ∷ []) kind other = clear_attribute a kind other
+clear_attributes (a ∷ b ∷ items) kind other = clear_attributes (b ∷ items) kind other
+
+clear_after : (a : Attribute) (tokens : List Seen) → IsAfter no_attribute_kinds tokens → IsAfter (goes_on_attribute a) tokens
+clear_after a [] h = tt
+clear_after a (t ∷ rest) h = clear_attribute a t.kind h.0
+
+attributes_again : (items : List Attribute) (tokens rest : List Seen) → Begins tokens (flat_map attribute_spelling items) rest → IsAfter (goes_on_attributes items) rest → AreRead attribute_read items tokens rest
+attributes_again [] tokens rest h after = h
+attributes_again (a ∷ []) tokens rest h after =
+    let p = Begins-parted tokens (attribute_spelling a) [] rest h in
+    let ends : IsAfter (goes_on_attribute a) p.mid = subst (IsAfter (goes_on_attribute a)) (sym p.back) after in
+    (p.mid, record { read = attribute_again a tokens p.mid p.front ends; shorter = Begins-shorter tokens (attribute_spelling a) p.mid (attribute_spelled a) p.front }, p.back)
+attributes_again (a ∷ b ∷ items) tokens rest h after =
+    let p = Begins-parted tokens (attribute_spelling a) (flat_map attribute_spelling (b ∷ items)) rest h in
+    let ends = clear_after a p.mid (attribute_first b (flat_map attribute_spelling items) p.mid rest p.back) in
+    (p.mid, record { read = attribute_again a tokens p.mid p.front ends; shorter = Begins-shorter tokens (attribute_spelling a) p.mid (attribute_spelled a) p.front }, attributes_again (b ∷ items) p.mid rest p.back after)
+
+-- ---- targets
+
+target_by_other : (kind : TokenKind) (t : Seen) (rest : List Seen) → kind ≢ Equal → target_by kind t rest ≡ Ok (None, t ∷ rest)
+target_by_other Equal t rest other = absurd (other refl)
+target_by_other kind t rest other = refl
+
+no_target : (tokens : List Seen) → IsAfter (Equal ∷ []) tokens → target_read tokens ≡ Ok (None, tokens)
+unfolding target_read
+no_target [] h = refl
+no_target (t ∷ rest) h = target_by_other t.kind t rest h.0
+
+after_sign : (t : Seen) (rest : List Seen) → t.kind ≡ Equal → target_read (t ∷ rest) ≡ (word_read rest >>= target_from)
+unfolding target_read
+after_sign t rest e = ap (λ (k : TokenKind). target_by k t rest) e
+
+not_lone_target : (word : List ℕ × List Seen) (found : AtWord) → IsAtWord found word.0 → ¬ (IsLoneAt word.0) → target_of found word ≡ Ok (Some word.0, word.1)
+not_lone_target word Lone is other = absurd (other is)
+not_lone_target word (WithOrdinal n) is other = refl
+not_lone_target word Plain is other = refl
+
+target_again : (target : Option (List ℕ)) (tokens rest : List Seen) → Begins tokens (target_spelling target) rest → IsAfter (goes_on_no_target target) rest → target_read tokens ≡ Ok (target, rest)
+target_again None tokens rest h after = ap target_read h ∙ no_target rest after
+target_again (Some value) [] rest h after = absurd h
+target_again (Some value) (t ∷ []) rest h after = absurd h.1
+target_again (Some value) (t ∷ u ∷ tokens) rest h after =
+    after_sign t (u ∷ tokens) h.0
+    ∙ bind_ok (word_read (u ∷ tokens)) target_from (value, tokens) (Ok (Some value, rest)) (word_again u value tokens h.1.0.0)
+        (not_lone_target (value, tokens) (at_word value) (at_word-gives value) h.1.0.1 ∙ ap (λ (s : List Seen). Ok (Some value, s)) h.1.1)
+
+target_refused : (t u : Seen) (rest : List Seen) (cause : Cause) → t.kind ≡ Equal → TargetRefused u cause → target_read (t ∷ u ∷ rest) ≡ Err cause
+target_refused t u rest cause e (inl h) =
+    after_sign t (u ∷ rest) e ∙ bind_err (word_read (u ∷ rest)) target_from cause (word_refused u rest cause h)
+target_refused t u rest cause e (inr h) =
+    after_sign t (u ∷ rest) e
+    ∙ bind_ok (word_read (u ∷ rest)) target_from (u.value, rest) (Err cause) (word_again u u.value rest (record { kind = h.kind; value_is = refl }))
+        (ap (λ (w : AtWord). target_of w (u.value, rest)) (at_word-is u.value Lone h.lone) ∙ ap (λ (c : Cause). Err c) (sym h.told))
+
+-- ---- one export
+
+before_attributes : (target : Option (List ℕ)) (items : List Attribute) (tokens rest : List Seen) → Begins tokens (flat_map attribute_spelling items) rest → IsAfter (goes_on_target target items) rest → IsAfter (goes_on_no_target target) tokens
+before_attributes None [] tokens rest h after = subst (IsAfter (Equal ∷ [])) (sym h) after
+before_attributes None (a ∷ items) [] rest h after = tt
+before_attributes None (a ∷ items) (t ∷ tokens) rest h after = (attribute_first a (flat_map attribute_spelling items) (t ∷ tokens) rest h).1
+before_attributes (Some value) items [] rest h after = tt
+before_attributes (Some value) items (t ∷ tokens) rest h after = tt
+
+IsNoneOf-parts : (kind : TokenKind) (a b : List TokenKind) → IsNoneOf kind (a ++ b) → IsNoneOf kind a × IsNoneOf kind b
+IsNoneOf-parts kind [] b h = (tt, h)
+IsNoneOf-parts kind (x ∷ a) b h = let p = IsNoneOf-parts kind a b h.1 in ((h.0, p.0), p.1)
+
+IsAfter-parts : (a b : List TokenKind) (tokens : List Seen) → IsAfter (a ++ b) tokens → IsAfter a tokens × IsAfter b tokens
+IsAfter-parts a b [] h = (tt, tt)
+IsAfter-parts a b (t ∷ rest) h = IsNoneOf-parts t.kind a b h
+
+-- what an export's first word leads to
+after_word : (e : Export) (t : Seen) (tokens : List Seen) → IsWord t e.word → export_read (t ∷ tokens) ≡ (target_read tokens >>= export_from e.word)
+unfolding export_read
+after_word e t tokens is =
+    ap (λ (k : TokenKind). export_by k t tokens) is.kind ∙ ap (λ (v : List ℕ). target_read tokens >>= export_from v) is.value_is
+
+export_again : (e : Export) (tokens rest : List Seen) → Begins tokens (export_spelling Word e) rest → ExportEnds e rest → export_read tokens ≡ Ok (Some e, rest)
+unfolding attributes_read
+export_again e [] rest h ends = absurd h
+export_again e (t ∷ tokens) rest h ends =
+    let p = Begins-parted tokens (target_spelling e.target) (flat_map attribute_spelling e.attributes) rest h.1 in
+    let kinds = IsAfter-parts attribute_kinds (goes_on_target e.target e.attributes ++ goes_on_attributes e.attributes) rest ends.kinds in
+    let last = IsAfter-parts (goes_on_target e.target e.attributes) (goes_on_attributes e.attributes) rest kinds.1 in
+    let target = target_again e.target tokens p.mid p.front (before_attributes e.target e.attributes p.mid rest p.back last.0) in
+    let read = all_again attribute_read e.attributes p.mid rest (attributes_again e.attributes p.mid rest p.back last.1) (no_attribute rest (kinds.0, ends.plain)) in
+    after_word e t tokens h.0
+    ∙ bind_ok (target_read tokens) (export_from e.word) (e.target, p.mid) (Ok (Some e, rest)) target
+        (bind_ok (attributes_read p.mid) (export_of e.word e.target) (e.attributes, rest) (Ok (Some e, rest)) read refl)
