@@ -9,7 +9,6 @@ pub mod Gap
 pub mod Left
 pub mod Slices
 pub mod Taken
-pub mod Token
 pub mod Trimmed
 pub mod WorkedTokens
 mod TokenKinds
@@ -22,6 +21,6 @@ mod ReadExports
 mod Statements
 mod ReadStatements
 mod Meaning
-mod Reading
 mod SpelledRead
 mod SpelledExports
+pub mod ParserAnswers
