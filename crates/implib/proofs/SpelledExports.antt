@@ -179,7 +179,7 @@ target_again (Some value) (t ∷ []) rest h after = absurd h.1
 target_again (Some value) (t ∷ u ∷ tokens) rest h after =
     after_sign t (u ∷ tokens) h.0
     ∙ bind_ok (word_read (u ∷ tokens)) target_from (value, tokens) (Ok (Some value, rest)) (word_again u value tokens h.1.0.0)
-        (not_lone_target (value, tokens) (at_word value) (at_word-gives value) h.1.0.1 ∙ ap (λ (s : List Seen). Ok (Some value, s)) h.1.1)
+    (not_lone_target (value, tokens) (at_word value) (at_word-gives value) h.1.0.1 ∙ ap (λ (s : List Seen). Ok (Some value, s)) h.1.1)
 
 target_refused : (t u : Seen) (rest : List Seen) (cause : Cause) → t.kind ≡ Equal → TargetRefused u cause → target_read (t ∷ u ∷ rest) ≡ Err cause
 target_refused t u rest cause e (inl h) =
@@ -187,7 +187,7 @@ target_refused t u rest cause e (inl h) =
 target_refused t u rest cause e (inr h) =
     after_sign t (u ∷ rest) e
     ∙ bind_ok (word_read (u ∷ rest)) target_from (u.value, rest) (Err cause) (word_again u u.value rest (record { kind = h.kind; value_is = refl }))
-        (ap (λ (w : AtWord). target_of w (u.value, rest)) (at_word-is u.value Lone h.lone) ∙ ap (λ (c : Cause). Err c) (sym h.told))
+    (ap (λ (w : AtWord). target_of w (u.value, rest)) (at_word-is u.value Lone h.lone) ∙ ap (λ (c : Cause). Err c) (sym h.told))
 
 -- ---- one export
 
@@ -223,4 +223,4 @@ export_again e (t ∷ tokens) rest h ends =
     let read = all_again attribute_read e.attributes p.mid rest (attributes_again e.attributes p.mid rest p.back last.1) (no_attribute rest (kinds.0, ends.plain)) in
     after_word e t tokens h.0
     ∙ bind_ok (target_read tokens) (export_from e.word) (e.target, p.mid) (Ok (Some e, rest)) target
-        (bind_ok (attributes_read p.mid) (export_of e.word e.target) (e.attributes, rest) (Ok (Some e, rest)) read refl)
+    (bind_ok (attributes_read p.mid) (export_of e.word e.target) (e.attributes, rest) (Ok (Some e, rest)) read refl)

@@ -2,11 +2,11 @@
 
 ghost use Rattle.implib.specs.Definition.{definition_view};
 ghost use Rattle.implib.specs.Fault.{IfInvalid};
-ghost use Rattle.implib.specs.Parses.{Parses, Refuses};
+ghost use Rattle.implib.specs.Parser.{ParsesFrom, RefusesFrom};
 ghost use Rattle.implib.specs.ParserViews.{all_put, Gives, one_put, settings_put};
 ghost use Rattle.implib.specs.Reading.{name_read, statement_read, statements_read, with_statement};
 ghost use Rattle.implib.specs.Token.{Lexed};
-ghost use Rattle.std.specs.Prelude.{◌≡◌, ◌<◌, ◌≤◌, length, ℕ, IfOk, IsTrue, List, OnOk};
+ghost use Rattle.std.specs.Prelude.{◌≡◌, ◌<◌, ◌≤◌, length, IfOk, IsTrue, OnOk};
 
 mod attributes;
 mod exports;
@@ -60,10 +60,8 @@ impl<'a> Parser<'a> {
     /// `InvalidOrdinal` and `LoneAt` that its tokens meet from the left; `OutOfMemory` where
     /// memory was asked for and not given.
     pub fn parse(self, alloc: Global) -> Result<ModuleDef, Error>
-        ensures parses { IfOk result (λ d. (text : List ℕ) → Lexed text self.entry.tokens
-            → Parses text self.entry.machine (definition_view d)) }
-        ensures refused { IfInvalid result (λ cause. (text : List ℕ) → Lexed text self.entry.tokens
-            → Refuses text cause) }
+        ensures parses { IfOk result (λ d. ParsesFrom self.entry (definition_view d)) }
+        ensures refused { IfInvalid result (RefusesFrom self.entry) }
     {
         let Parser {
             mut tokens,
@@ -109,7 +107,7 @@ impl<'a> Tokens<'a> {
         if token.kind == TokenKind::Eof {
             return Ok(false);
         }
-        self.next();
+        self.advance();
         match token.kind {
             TokenKind::KwExports => self.exports(alloc, machine, &mut def.exports)?,
             TokenKind::KwHeapsize => {

@@ -39,30 +39,30 @@ impl<'a> Tokens<'a> {
             TokenKind::Identifier => match at_word(token.value) {
                 AtWord::Plain => return Ok(false),
                 AtWord::Lone => {
-                    self.next();
+                    self.advance();
                     let ordinal = self.ordinal(alloc)?;
                     self.set_ordinal(ordinal, export);
                 }
                 AtWord::WithOrdinal(ordinal) => {
-                    self.next();
+                    self.advance();
                     self.set_ordinal(ordinal, export);
                 }
             },
             TokenKind::EqualEqual => {
-                self.next();
+                self.advance();
                 let target = self.identifier()?;
                 export.alias_target = String::from_str(alloc, target)?;
             }
             TokenKind::KwData => {
-                self.next();
+                self.advance();
                 export.is_data = true;
             }
             TokenKind::KwConstant => {
-                self.next();
+                self.advance();
                 export.constant = true;
             }
             TokenKind::KwPrivate => {
-                self.next();
+                self.advance();
                 export.private = true;
             }
             _ => return Ok(false),
@@ -76,7 +76,7 @@ impl<'a> Tokens<'a> {
         ensures read { Gives (λ n. (n, self.new)) result (ordinal_read self.old) }
         ensures no_longer { OnOk result (length self.new ≤ length self.old) }
     {
-        let Some(token) = self.next() else {
+        let Some(token) = self.advance() else {
             return Err(Error::Invalid(Fault::ExpectedIdentifier(TokenKind::Eof)));
         };
         if token.kind == TokenKind::Eof {
@@ -114,7 +114,7 @@ impl<'a> Tokens<'a> {
         };
         match token.kind {
             TokenKind::KwNoname => {
-                self.next();
+                self.advance();
                 true
             }
             _ => false,

@@ -49,7 +49,7 @@ impl<'a> Tokens<'a> {
         };
         match token.kind {
             TokenKind::Identifier => {
-                self.next();
+                self.advance();
                 let target = self.target()?;
                 let mut export = named_export(alloc, machine, token.value, target)?;
                 self.attributes(alloc, &mut export)?;
@@ -71,7 +71,7 @@ impl<'a> Tokens<'a> {
         };
         match token.kind {
             TokenKind::Equal => {
-                self.next();
+                self.advance();
                 let target = self.identifier()?;
                 match at_word(target) {
                     AtWord::Lone => Err(Error::Invalid(Fault::LoneAt)),

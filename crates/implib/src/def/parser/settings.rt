@@ -32,7 +32,7 @@ impl<'a> Tokens<'a> {
         };
         match token.kind {
             TokenKind::Comma => {
-                self.next();
+                self.advance();
                 Ok(Some(self.number()?))
             }
             _ => Ok(None),
@@ -50,7 +50,7 @@ impl<'a> Tokens<'a> {
         };
         match token.kind {
             TokenKind::Identifier => {
-                self.next();
+                self.advance();
                 let base = self.base()?;
                 Ok(Some((token.value, base)))
             }
@@ -69,7 +69,7 @@ impl<'a> Tokens<'a> {
         };
         match token.kind {
             TokenKind::KwBase => {
-                self.next();
+                self.advance();
                 self.equal()?;
                 Ok(Some(self.number()?))
             }

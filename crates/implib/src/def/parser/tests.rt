@@ -1,9 +1,10 @@
 use super::*;
+use crate::def::ShortExport;
 use std::alloc::AllocError;
 use std::fmt::Write;
 use std::test::Fail;
 
-/// Texts for AMD64, each with what it means or why it is refused.
+/// Texts for AMD64, each with what it means or why it is refused, in the words of `outcome`.
 const OUTCOMES: [(&str, &str); 51] = [
     ("", ""),
     ("EXPORTS\nfoo @10 NONAME", "; foo @10 noname"),

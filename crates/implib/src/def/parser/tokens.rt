@@ -40,7 +40,7 @@ impl<'a> Tokens<'a> {
     }
 
     /// Takes the next token, if there is one.
-    pub fn next(&mut self) -> Option<Token<'a>>
+    pub fn advance(&mut self) -> Option<Token<'a>>
         ensures { TakesFirst self.old result self.new }
     {
         match self.pushed {
@@ -69,7 +69,7 @@ impl<'a> Tokens<'a> {
         ensures read { Gives (λ value. (value.now, self.new)) result (word_read self.old) }
         ensures shorter { OnOk result (length self.new < length self.old) }
     {
-        let Some(token) = self.next() else {
+        let Some(token) = self.advance() else {
             return Err(Error::Invalid(Fault::ExpectedIdentifier(TokenKind::Eof)));
         };
         match token.kind {
@@ -84,7 +84,7 @@ impl<'a> Tokens<'a> {
         ensures read { Gives (λ _. self.new) result (sign_read self.old) }
         ensures shorter { OnOk result (length self.new < length self.old) }
     {
-        let Some(token) = self.next() else {
+        let Some(token) = self.advance() else {
             return Err(Error::Invalid(Fault::ExpectedEqual(TokenKind::Eof)));
         };
         match token.kind {

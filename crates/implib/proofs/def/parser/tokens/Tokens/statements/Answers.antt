@@ -18,7 +18,7 @@ returns-in_err-statement c =
 pub loop-preserved : goal.loop-preserved
 loop-preserved c =
     remains_more statement_read (with_statement c.args.machine) c.loop.self c.statement.new.self (definition_view c.loop.def) _ _ c.loop.invariant
-        (rw c.if-branch.true at c.in_ok-statement.ensures.read) (c.in_ok-statement.ensures.shorter c.if-branch.true)
+    (rw c.if-branch.true at c.in_ok-statement.ensures.read) (c.in_ok-statement.ensures.shorter c.if-branch.true)
 
 pub returns : goal.returns
 unfolding statement_read
