@@ -1,5 +1,5 @@
 -- What the parser answers is what the tokens mean, or why they are refused.
-use Rattle.std.proofs.Common.{◌≡◌, ℕ, List, Result, Ok, Err}
+use Rattle.std.proofs.Common.{◌≡◌, List, Ok}
 use Rattle.implib.specs.declared.error.Error.{Error}
 use Rattle.implib.specs.declared.error.Error.TheVariants.{Invalid, OutOfMemory}
 use Rattle.implib.specs.declared.machine.MachineType.{MachineType}
@@ -8,7 +8,7 @@ use Rattle.implib.specs.Fault.{OfCause, cause_of}
 use Rattle.implib.specs.Parser.{ParsesFrom, RefusesFrom}
 use Rattle.implib.specs.ParserViews.{Fails, all_put}
 use Rattle.implib.specs.Reading.{statements_read, with_statement}
-use Rattle.implib.specs.Token.{Lexed, Seen}
+use Rattle.implib.specs.Token.{Seen}
 use Rattle.implib.proofs.ParserSteps.{definition_read, definition_refused}
 use Rattle.implib.proofs.Reading.{Parses-from_read, Refuses-from_read}
 

@@ -1,12 +1,11 @@
 -- A loop that reads an item at each turn reads what `all` reads.
-use Rattle.std.proofs.Common.{◌≡◌, ℕ, zero, suc, ◌<◌, ◌≤◌, Bool, true, false, List, [], ◌∷◌, length, Option, Some, None, Result, Ok, Err, refl, sym, ap, ◌∙◌, arith}
+use Rattle.std.proofs.Common.{◌≡◌, ℕ, zero, suc, ◌<◌, ◌≤◌, Bool, true, false, List, [], length, Option, Some, None, Result, Ok, Err, refl, sym, ap, ◌∙◌, arith}
 use Rattle.std.proofs.lemmas.Bool.{false≢true}
 use Rattle.std.proofs.lemmas.List.{nil_from_length}
-use Rattle.std.specs.List.{fold}
 use Rattle.implib.specs.declared.error.Error.{Error}
 use Rattle.implib.specs.declared.error.Error.TheVariants.{Invalid, OutOfMemory}
 use Rattle.implib.specs.Fault.{Cause, cause_of}
-use Rattle.implib.specs.ParserViews.{Fails, all_put, one_put, put, put_all}
+use Rattle.implib.specs.ParserViews.{Fails, all_put, one_put}
 use Rattle.implib.specs.Reading.{◌>>=◌, Reads, all, cons_item, many, many_from}
 use Rattle.implib.specs.Token.{Seen}
 

@@ -1,8 +1,7 @@
 -- What is read one part after another is the whole that a reader gives.
-use Rattle.std.proofs.Common.{◌≡◌, ℕ, ◌++◌, Bool, true, List, [], ◌∷◌, map, Option, Some, None, Result, Ok, Err, refl, sym, ap, ◌∙◌, append_assoc, ◌⊎◌, inl, inr}
+use Rattle.std.proofs.Common.{◌≡◌, ℕ, ◌++◌, true, List, [], ◌∷◌, map, Option, Some, None, Result, Ok, Err, refl, sym, ap, ◌∙◌, append_assoc, ◌⊎◌, inl, inr}
 use Rattle.std.proofs.lemmas.List.{append-nil}
 use Rattle.std.specs.List.{fold}
-use Rattle.std.specs.Prelude.{MatchOption}
 use Rattle.implib.specs.declared.def.lexer.Token.{Token}
 use Rattle.implib.specs.declared.def.lexer.TokenKind.{TokenKind}
 use Rattle.implib.specs.declared.def.lexer.TokenKind.TheVariants.{Identifier, KwExports, KwLibrary, KwName, KwVersion}
@@ -11,8 +10,8 @@ use Rattle.implib.specs.Definition.{DefinitionView, ExportView, empty_definition
 use Rattle.implib.specs.Fault.{Cause}
 use Rattle.implib.specs.Grammar.{Attribute, Export, Heap, Named, Nameless, Region, Sizes, Stack, Statement, Version, region_kind}
 use Rattle.implib.specs.Meaning.{exports_in}
-use Rattle.implib.specs.ParserViews.{TakesFirst, all_put, one_put, put, put_all, settings_put, with_export, with_settings}
-use Rattle.implib.specs.Reading.{◌>>=◌, Reads, attributes_read, base_read, definition_from, name_by, name_read, named_from, read, some_statement, statements_read, with_statements, export_by, export_from, export_of, export_read, exports_from, exports_read, made_export, named_export, sizes_read, statement_read, target_read, version_read, with_attribute, with_statement}
+use Rattle.implib.specs.ParserViews.{TakesFirst, all_put, one_put, put, settings_put, with_export, with_settings}
+use Rattle.implib.specs.Reading.{◌>>=◌, Reads, attributes_read, base_read, definition_from, name_by, name_read, named_from, read, some_statement, statements_read, with_statements, export_of, export_read, exports_from, exports_read, made_export, named_export, sizes_read, statement_read, target_read, version_read, with_attribute, with_statement}
 use Rattle.implib.specs.Token.{Seen, seen}
 
 same_first : {x y : Seen} {xs ys : List Seen} → x ∷ xs ≡ y ∷ ys → x ≡ y

@@ -1,5 +1,5 @@
 -- Views of the parser's state and of what its functions answer. No promise cites them.
-use Rattle.std.specs.Prelude.{◌≡◌, ℕ, ◌++◌, Bool, true, false, List, [], ◌∷◌, map, Option, Some, None, MatchOption, unwrap_or, Result, Ok, Err}
+use Rattle.std.specs.Prelude.{◌≡◌, ℕ, ◌++◌, Bool, true, false, List, [], ◌∷◌, Option, Some, None, MatchOption, unwrap_or, Result, Ok, Err}
 use Rattle.std.specs.List.{fold}
 use Rattle.std.specs.Borrow.{Bor}
 use Rattle.implib.specs.declared.def.lexer.Token.{Token}
@@ -10,7 +10,7 @@ use Rattle.implib.specs.declared.error.Error.TheVariants.{Invalid, OutOfMemory}
 use Rattle.implib.specs.declared.machine.MachineType.{MachineType}
 use Rattle.implib.specs.Definition.{DefinitionView, ExportView}
 use Rattle.implib.specs.Fault.{Cause, cause_of}
-use Rattle.implib.specs.Grammar.{Attribute, Export, Statement, Nameless, Named}
+use Rattle.implib.specs.Grammar.{Export, Statement, Nameless, Named}
 use Rattle.implib.specs.Meaning.{heap_commit_in, heap_reserve_in, image_base_in, import_name_in, major_in, minor_in, stack_commit_in, stack_reserve_in}
 use Rattle.implib.specs.Reading as reading
 use Rattle.implib.specs.Reading.{◌>>=◌, Reads, made_export, with_attribute, with_statement}
