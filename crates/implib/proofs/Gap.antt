@@ -6,7 +6,7 @@ use Rattle.std.specs.Prelude.{not}
 use Rattle.std.specs.Char.{encode_utf8, is_whitespace, is_not_whitespace}
 use Rattle.std.specs.List.{AllByRecursion}
 use Rattle.std.specs.Str.{encode_utf8_all, EmptyOrStartsWithPassing, IsTrimStart, NonePass}
-use Rattle.implib.specs.Token.{is_line_feed, Piece, Blank, Comment, LastComment, spelling, Stands, text_of, EachStands}
+use Rattle.implib.specs.Token.{begins, is_line_feed, is_semicolon, Piece, Blank, Comment, LastComment, spelling, Stands, text_of, EachStands}
 use Rattle.implib.specs.Division.{IsGap, PassesGap, SkipsGap}
 use Rattle.implib.proofs.Division.{none_from_places}
 
@@ -99,16 +99,8 @@ PassesSpace-comment text before comment after rest passed is_comment line trimme
 }
 
 -- where no comment follows, all is passed
-pub SkipsGap-from_space : (text rest : List ℕ) → PassesSpace text rest → ((comment : List ℕ) → rest ≢ 59 ∷ comment) → SkipsGap text rest
-SkipsGap-from_space text [] passed no_comment = record {
+pub SkipsGap-from_space : (text rest : List ℕ) → PassesSpace text rest → begins is_semicolon rest ≡ false → SkipsGap text rest
+SkipsGap-from_space text rest passed no_comment = record {
   passes = passed.passes;
-  all = record { tail = passed.tail; no_space = passed.no_space; no_comment = refl };
-}
-SkipsGap-from_space text (b ∷ rest) passed no_comment = record {
-  passes = passed.passes;
-  all = record {
-    tail = passed.tail;
-    no_space = passed.no_space;
-    no_comment = ne_eqb b 59 (λ e. no_comment rest (ap (λ x. x ∷ rest) e));
-  };
+  all = record { tail = passed.tail; no_space = passed.no_space; no_comment = no_comment };
 }

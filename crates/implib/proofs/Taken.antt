@@ -23,14 +23,17 @@ boundary_after_first k text small utf8 e =
     let first : get_or text 0 0 ≡ k = ap (λ l. get_or l 0 0) e in
     IsCharBoundary-after_ascii text 0 utf8 (omega (arith, ap length e)) (omega (arith, first))
 
+-- the text may be cut after two ASCII bytes at its front
+pub boundary_after_second : (j k : ℕ) (text : List ℕ) → k < 128 → IsUtf8 text → text ≡ j ∷ drop 1 text → drop 1 text ≡ k ∷ drop 1 (drop 1 text) → IsCharBoundary text 2
+boundary_after_second j k text small utf8 e f =
+    let whole : text ≡ j ∷ k ∷ drop 1 (drop 1 text) = e ∙ ap (λ l. j ∷ l) f in
+    let second : get_or text 1 0 ≡ k = ap (λ l. get_or l 1 0) whole in
+    IsCharBoundary-after_ascii text 1 utf8 (omega (arith, ap length whole)) (omega (arith, second))
+
 -- the first byte, by its place
 pub first_is : (k : ℕ) (text : List ℕ) → 0 < k → get_or text 0 0 ≡ k → text ≡ k ∷ drop 1 text
 first_is k [] positive e = absurd (omega (arith, e))
 first_is k (b ∷ rest) positive e = ap (λ x. x ∷ rest) e
-
-first_is_not : (k : ℕ) (text : List ℕ) → get_or text 0 0 ≢ k → begins (λ b. eqb b k) text ≡ false
-first_is_not k [] differs = refl
-first_is_not k (b ∷ rest) differs = ne_eqb b k differs
 
 pub TakesPiece-comma : (text after : List ℕ) (at : ℕ) (token : Seen) → text ≡ 44 ∷ drop 1 text → token ≡ record { kind = kind.Comma; value = take 1 text; at = at } → after ≡ drop 1 text → TakesPiece text at token after
 TakesPiece-comma text after at token e is rest = record {
@@ -40,17 +43,17 @@ TakesPiece-comma text after at token e is rest = record {
   given = ap (λ t. t ∷ []) (ap (λ l. record { kind = kind.Comma; value = take 1 l; at = at }) (sym e) ∙ sym is);
 }
 
-pub TakesPiece-equal : (text after : List ℕ) (at : ℕ) (token : Seen) → text ≡ 61 ∷ drop 1 text → get_or (drop 1 text) 0 0 ≢ 61 → token ≡ record { kind = kind.Equal; value = take 1 text; at = at } → after ≡ drop 1 text → TakesPiece text at token after
+pub TakesPiece-equal : (text after : List ℕ) (at : ℕ) (token : Seen) → text ≡ 61 ∷ drop 1 text → begins is_equal_sign (drop 1 text) ≡ false → token ≡ record { kind = kind.Equal; value = take 1 text; at = at } → after ≡ drop 1 text → TakesPiece text at token after
 TakesPiece-equal text after at token e alone is rest = record {
   piece = EqualSign;
   spelled = e ∙ ap (λ l. 61 ∷ l) (sym rest);
-  stands = subst (λ l. begins is_equal_sign l ≡ false) (sym rest) (first_is_not 61 (drop 1 text) alone);
+  stands = subst (λ l. begins is_equal_sign l ≡ false) (sym rest) alone;
   given = ap (λ t. t ∷ []) (ap (λ l. record { kind = kind.Equal; value = take 1 l; at = at }) (sym e) ∙ sym is);
 }
 
-pub TakesPiece-equals : (text after : List ℕ) (at : ℕ) (token : Seen) → text ≡ 61 ∷ drop 1 text → get_or (drop 1 text) 0 0 ≡ 61 → token ≡ record { kind = kind.EqualEqual; value = take 2 text; at = at } → after ≡ drop 2 text → TakesPiece text at token after
+pub TakesPiece-equals : (text after : List ℕ) (at : ℕ) (token : Seen) → text ≡ 61 ∷ drop 1 text → begins is_equal_sign (drop 1 text) ≡ true → token ≡ record { kind = kind.EqualEqual; value = take 2 text; at = at } → after ≡ drop 2 text → TakesPiece text at token after
 TakesPiece-equals text after at token e again is rest =
-    let whole : text ≡ 61 ∷ 61 ∷ drop 1 (drop 1 text) = e ∙ ap (λ l. 61 ∷ l) (first_is 61 (drop 1 text) (omega arith) again) in
+    let whole : text ≡ 61 ∷ 61 ∷ drop 1 (drop 1 text) = e ∙ ap (λ l. 61 ∷ l) (begins_with 61 (drop 1 text) again) in
     let left : after ≡ drop 1 (drop 1 text) = rest ∙ ap (drop 2) whole in
     record {
       piece = EqualSigns;

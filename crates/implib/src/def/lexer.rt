@@ -3,7 +3,7 @@
 ghost use Rattle.implib.specs.Division.{BeginsNoGap, PassesGap, SkipsGap, StartsWord, TakesPiece, TakesToken, tokens_left};
 ghost use Rattle.implib.specs.Token.{begins, is_delimiter, is_equal_sign, is_quote, kind_of_word, seen, value_start, IsWordEnd, Lexed, Seen};
 ghost use Rattle.std.specs.Iterator.{item_count, YieldsFirstBy};
-ghost use Rattle.std.specs.Prelude.{◌≡◌, ◌+◌, ◌<◌, ◌≤◌, ◌^◌, [], ◌∷◌, drop, length, take, true, List};
+ghost use Rattle.std.specs.Prelude.{◌≡◌, ◌==◌, ◌+◌, ◌<◌, ◌≤◌, ◌^◌, [], ◌∷◌, drop, length, take, true, List};
 ghost use Rattle.std.specs.Str.{trim, IsCharBoundary, IsUtf8};
 
 use std::fmt;
@@ -146,10 +146,18 @@ fn skip_gap(text: &str) -> &str
     ensures utf8 { IsUtf8 text.now }
 {
     let mut rest = text.trim_start();
-    while let Some(comment) = rest.strip_prefix(';') {
-        rest = after_line(comment).trim_start();
+    while begins_with(rest, b';') {
+        rest = after_line(&rest[1..]).trim_start();
     }
     rest
+}
+
+// Whether this is the first byte of the text.
+fn begins_with(text: &str, byte: u8) -> bool
+    ensures { result ≡ begins (λ b. b == byte) text.now }
+{
+    let bytes = text.as_bytes();
+    !bytes.is_empty() && bytes[0] == byte
 }
 
 // What follows the line of a comment.
@@ -196,7 +204,7 @@ fn equal_sign<'a>(text: &'a str, at: usize) -> (Token<'a>, &'a str)
     requires { begins is_equal_sign text.now ≡ true }
     ensures { TakesPiece text.now at (seen result.0) result.1.now }
 {
-    if text[1..].starts_with('=') {
+    if begins_with(&text[1..], b'=') {
         cut_token(TokenKind::EqualEqual, text, 2, at)
     } else {
         cut_token(TokenKind::Equal, text, 1, at)
