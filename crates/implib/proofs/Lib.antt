@@ -11,3 +11,11 @@ mod Meaning
 mod Reading
 mod SpelledRead
 mod SpelledExports
+pub mod Division
+pub mod Gap
+pub mod Left
+pub mod Slices
+pub mod Taken
+pub mod Token
+pub mod Trimmed
+pub mod WorkedTokens

@@ -15,6 +15,7 @@ use Rattle.implib.proofs.Begins.{Begins-append, Begins-ends, EndsInEof-last, End
 use Rattle.implib.proofs.Many.{Chain}
 use Rattle.implib.proofs.Meaning.{with_statements-meaning}
 use Rattle.implib.proofs.ReadStatements.{StatementStands, NoStatement, BeginsNone, StartedCut, StatementCut, StatementsRead, StatementsCut, statements_outcome, statements_begin, statements_end}
+use Rattle.implib.proofs.Token.{EndsInEof-from_Lexed}
 use Rattle.implib.proofs.Statements.{statements_want_no_end, started_wants_no_end}
 
 -- the statements of a token list, and what they mean
@@ -93,10 +94,6 @@ refused_from machine tokens cause ends (Err other) h e =
 pub read-refused : (machine : MachineType) (tokens : List Seen) (cause : Cause) → EndsInEof tokens → read machine tokens ≡ Err cause → Broken tokens cause
 unfolding read
 read-refused machine tokens cause ends e = refused_from machine tokens cause ends (statements_read tokens) (statements_outcome tokens) e
-
--- stand-in, until the lexer's lemma is here
-EndsInEof-from_Lexed : (text : List ℕ) (tokens : List Seen) → Lexed text tokens → EndsInEof tokens
-EndsInEof-from_Lexed text tokens lexed = ?
 
 pub Parses-from_read : (text : List ℕ) (tokens : List Seen) (machine : MachineType) (d : DefinitionView) → Lexed text tokens → read machine tokens ≡ Ok d → Parses text machine d
 Parses-from_read text tokens machine d lexed e =

@@ -1,0 +1,3 @@
+//! Laws: functions that answer nothing, and whose contracts are facts about the definitions.
+
+pub mod tokens;
