@@ -11,6 +11,7 @@ mod Meaning
 mod Reading
 mod SpelledRead
 mod SpelledExports
+mod SpelledStatements
 pub mod Division
 pub mod Gap
 pub mod Left

@@ -346,7 +346,7 @@ before_last (e ∷ next ∷ items) last tokens whole h =
     record { mid = b.mid; chain = (p.mid, take_export e tokens p.mid p.front (ends_at_later e next (items ++ last ∷ []) p.mid whole p.back), b.chain); back = b.back }
 
 -- the exports before it are read, and an export that is refused refuses them all
-export_stops : (items : List Export) (last : Export) (tokens whole : List Seen) (cause : Cause) → Begins tokens (exports_spelling Word (items ++ last ∷ [])) whole
+pub export_stops : (items : List Export) (last : Export) (tokens whole : List Seen) (cause : Cause) → Begins tokens (exports_spelling Word (items ++ last ∷ [])) whole
     → ((mid : List Seen) → Begins mid (export_spelling Word last) whole → export_read mid ≡ Err cause) → exports_read tokens ≡ Err cause
 unfolding exports_read
 export_stops items last tokens whole cause h refused =
