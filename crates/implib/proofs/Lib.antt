@@ -12,6 +12,7 @@ mod Reading
 mod SpelledRead
 mod SpelledExports
 mod SpelledStatements
+mod OneReading
 pub mod Division
 pub mod Gap
 pub mod Left
