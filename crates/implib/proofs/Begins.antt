@@ -58,7 +58,6 @@ Is-not_eof (At n) t other h = not_at t.kind Identifier Eof h.0 refl
 Is-not_eof (Ordinal n) t other h = h.0
 
 after_one : (t : Seen) (tokens : List Seen) → t.kind ≢ Eof → EndsInEof (t ∷ tokens) → EndsInEof tokens
-unfolding EndsInEof
 after_one t [] other h = absurd (other h)
 after_one t (next ∷ rest) other h = h.1
 
@@ -69,12 +68,10 @@ Begins-ends (t ∷ tokens) (w ∷ a) rest all h ends =
     Begins-ends tokens a rest all.1 h.1 (after_one t tokens (Is-not_eof w t all.0 h.0) ends)
 
 pub EndsInEof-last : (t : Seen) (rest : List Seen) → t.kind ≡ Eof → EndsInEof (t ∷ rest) → rest ≡ []
-unfolding EndsInEof
 EndsInEof-last t [] e h = refl
 EndsInEof-last t (next ∷ rest) e h = absurd (h.0 e)
 
 pub EndsInEof-some : (tokens : List Seen) → EndsInEof tokens → (t : Seen) × (rest : List Seen) × (tokens ≡ t ∷ rest)
-unfolding EndsInEof
 EndsInEof-some [] h = absurd h
 EndsInEof-some (t ∷ rest) h = (t, rest, refl)
 

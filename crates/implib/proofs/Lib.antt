@@ -24,3 +24,13 @@ mod Meaning
 mod SpelledRead
 mod SpelledExports
 pub mod ParserAnswers
+mod SpelledStatements
+mod OneReading
+pub mod Division
+pub mod Gap
+pub mod Left
+pub mod Slices
+pub mod Taken
+pub mod Token
+pub mod Trimmed
+pub mod WorkedTokens

@@ -116,7 +116,7 @@ statement_outcome (t ∷ rest) = statement_by_outcome t.kind t rest refl
 
 -- ---- statements
 
-statement_spelled : (s : Statement) → 0 < length (statement_spelling s)
+pub statement_spelled : (s : Statement) → 0 < length (statement_spelling s)
 statement_spelled (Exports items) = omega arith
 statement_spelled (Sizes region reserve commit) = omega arith
 statement_spelled Nameless = omega arith

@@ -179,7 +179,7 @@ target_again (Some value) (t ∷ []) rest h after = absurd h.1
 target_again (Some value) (t ∷ u ∷ tokens) rest h after =
     after_sign t (u ∷ tokens) h.0
     ∙ bind_ok (word_read (u ∷ tokens)) target_from (value, tokens) (Ok (Some value, rest)) (word_again u value tokens h.1.0.0)
-    (not_lone_target (value, tokens) (at_word value) (at_word-gives value) h.1.0.1 ∙ ap (λ (s : List Seen). Ok (Some value, s)) h.1.1)
+        (not_lone_target (value, tokens) (at_word value) (at_word-gives value) h.1.0.1 ∙ ap (λ (s : List Seen). Ok (Some value, s)) h.1.1)
 
 target_refused : (t u : Seen) (rest : List Seen) (cause : Cause) → t.kind ≡ Equal → TargetRefused u cause → target_read (t ∷ u ∷ rest) ≡ Err cause
 target_refused t u rest cause e (inl h) =
@@ -187,7 +187,7 @@ target_refused t u rest cause e (inl h) =
 target_refused t u rest cause e (inr h) =
     after_sign t (u ∷ rest) e
     ∙ bind_ok (word_read (u ∷ rest)) target_from (u.value, rest) (Err cause) (word_again u u.value rest (record { kind = h.kind; value_is = refl }))
-    (ap (λ (w : AtWord). target_of w (u.value, rest)) (at_word-is u.value Lone h.lone) ∙ ap (λ (c : Cause). Err c) (sym h.told))
+        (ap (λ (w : AtWord). target_of w (u.value, rest)) (at_word-is u.value Lone h.lone) ∙ ap (λ (c : Cause). Err c) (sym h.told))
 
 -- ---- one export
 
@@ -223,4 +223,135 @@ export_again e (t ∷ tokens) rest h ends =
     let read = all_again attribute_read e.attributes p.mid rest (attributes_again e.attributes p.mid rest p.back last.1) (no_attribute rest (kinds.0, ends.plain)) in
     after_word e t tokens h.0
     ∙ bind_ok (target_read tokens) (export_from e.word) (e.target, p.mid) (Ok (Some e, rest)) target
-    (bind_ok (attributes_read p.mid) (export_of e.word e.target) (e.attributes, rest) (Ok (Some e, rest)) read refl)
+        (bind_ok (attributes_read p.mid) (export_of e.word e.target) (e.attributes, rest) (Ok (Some e, rest)) read refl)
+
+clear_target : (target : Option (List ℕ)) (items : List Attribute) (kind : TokenKind) → kind ≢ Equal → IsNoneOf kind (goes_on_target target items)
+clear_target None [] kind other = (other, tt)
+clear_target None (a ∷ items) kind other = tt
+clear_target (Some value) items kind other = tt
+
+pub target_stops : (word : List ℕ) (tokens : List Seen) (t : Seen) (rest : List Seen) (cause : Cause) → Begins tokens (export_spelling Word (bare word) ++ Of Equal ∷ []) (t ∷ rest) → TargetRefused t cause
+    → export_read tokens ≡ Err cause
+target_stops word [] t rest cause h refused = absurd h
+target_stops word (w ∷ []) t rest cause h refused = absurd h.1
+target_stops word (w ∷ sign ∷ tokens) t rest cause h refused =
+    after_word (bare word) w (sign ∷ tokens) h.0
+    ∙ bind_err (target_read (sign ∷ tokens)) (export_from word) cause
+        (ap (λ (s : List Seen). target_read (sign ∷ s)) h.1.1 ∙ target_refused sign t rest cause h.1.0 refused)
+
+-- the attributes so far are read, and one that is refused refuses the export
+attribute_stops : (e : Export) (tokens : List Seen) (first : Seen) (whole : List Seen) (cause : Cause) → Begins tokens (export_spelling Word e) (first ∷ whole) → IsNoneOf first.kind no_attribute_kinds → attribute_read (first ∷ whole) ≡ Err cause
+    → export_read tokens ≡ Err cause
+unfolding attributes_read
+attribute_stops e [] first whole cause h clear refused = absurd h
+attribute_stops e (t ∷ tokens) first whole cause h clear refused =
+    let p = Begins-parted tokens (target_spelling e.target) (flat_map attribute_spelling e.attributes) (first ∷ whole) h.1 in
+    let target = target_again e.target tokens p.mid p.front (before_attributes e.target e.attributes p.mid (first ∷ whole) p.back (clear_target e.target e.attributes first.kind clear.1.0)) in
+    let chain = attributes_again e.attributes p.mid (first ∷ whole) p.back (clear_attributes e.attributes first.kind clear.0) in
+    after_word e t tokens h.0
+    ∙ bind_ok (target_read tokens) (export_from e.word) (e.target, p.mid) (Err cause) target
+        (bind_err (attributes_read p.mid) (export_of e.word e.target) cause (all_refused attribute_read e.attributes p.mid first whole cause chain refused))
+
+pub alias_stops : (e : Export) (tokens whole : List Seen) (t : Seen) (rest : List Seen) (cause : Cause) → Begins tokens (export_spelling Word e) whole → Begins whole (Of EqualEqual ∷ []) (t ∷ rest) → IsNoWord t cause → export_read tokens ≡ Err cause
+alias_stops e tokens [] t rest cause h begun refused = absurd begun
+alias_stops e tokens (first ∷ whole) t rest cause h begun refused =
+    attribute_stops e tokens first whole cause h (none_at first.kind EqualEqual no_attribute_kinds begun.0 refl)
+        (ap (λ (s : List Seen). attribute_read (first ∷ s)) begun.1 ∙ alias_refused first t rest cause begun.0 refused)
+
+pub ordinal_stops : (e : Export) (tokens whole : List Seen) (t : Seen) (rest : List Seen) (cause : Cause) → Begins tokens (export_spelling Word e) whole → Begins whole (Word (at_sign ∷ []) ∷ []) (t ∷ rest) → OrdinalRefused t cause → export_read tokens ≡ Err cause
+ordinal_stops e tokens [] t rest cause h begun refused = absurd begun
+ordinal_stops e tokens (first ∷ whole) t rest cause h begun refused =
+    attribute_stops e tokens first whole cause h (none_at first.kind Identifier no_attribute_kinds begun.0.kind refl)
+        (ap (λ (s : List Seen). attribute_read (first ∷ s)) begun.1 ∙ lone_refused first t rest cause begun.0 refused)
+
+-- ---- exports
+
+IsNoneOf-joined : (kind : TokenKind) (a b : List TokenKind) → IsNoneOf kind a → IsNoneOf kind b → IsNoneOf kind (a ++ b)
+IsNoneOf-joined kind [] b h k = k
+IsNoneOf-joined kind (x ∷ a) b h k = (h.0, IsNoneOf-joined kind a b h.1 k)
+
+-- what can go on an export, whatever it holds
+abbrev pub export_kinds : List TokenKind
+export_kinds = attribute_kinds ++ no_attribute_kinds
+
+pub clear_export : (e : Export) (kind : TokenKind) → IsNoneOf kind export_kinds → IsNoneOf kind (goes_on_export e)
+clear_export e kind h =
+    let p = IsNoneOf-parts kind attribute_kinds no_attribute_kinds h in
+    IsNoneOf-joined kind attribute_kinds (goes_on_target e.target e.attributes ++ goes_on_attributes e.attributes) p.0
+        (IsNoneOf-joined kind (goes_on_target e.target e.attributes) (goes_on_attributes e.attributes) (clear_target e.target e.attributes kind p.1.1.0) (clear_attributes e.attributes kind p.1.0))
+
+-- a later name is a word
+later_is_word : (items : List Export) (tokens rest : List Seen) → Begins tokens (exports_spelling Later items) rest → Begins tokens (exports_spelling Word items) rest
+later_is_word [] tokens rest h = h
+later_is_word (e ∷ items) [] rest h = absurd h
+later_is_word (e ∷ items) (t ∷ tokens) rest h = (h.0.word, h.1)
+
+-- an export ends where a later one begins
+ends_at_later : (e next : Export) (items : List Export) (tokens rest : List Seen) → Begins tokens (exports_spelling Later (next ∷ items)) rest → ExportEnds e tokens
+ends_at_later e next items [] rest h = absurd h
+ends_at_later e next items (t ∷ tokens) rest h = record {
+  kinds = clear_export e t.kind (none_at t.kind Identifier export_kinds h.0.word.kind refl);
+  plain = λ i. subst (IsAtWord Plain) (sym h.0.word.value_is) (h.0.not_lone, h.0.not_ordinal);
+}
+
+take_export : (e : Export) (tokens rest : List Seen) → Begins tokens (export_spelling Word e) rest → ExportEnds e rest → Takes export_read tokens e rest
+take_export e tokens rest h ends =
+    record { read = export_again e tokens rest h ends; shorter = Begins-shorter tokens (export_spelling Word e) rest (omega arith) h }
+
+ends_at_rest : (e : Export) (rest : List Seen) → IsAfter (Identifier ∷ goes_on_export e) rest → ExportEnds e rest
+ends_at_rest e [] h = record { kinds = tt; plain = tt }
+ends_at_rest e (t ∷ rest) h = record { kinds = h.1; plain = λ i. absurd (h.0 i) }
+
+exports_chain : (items : List Export) (tokens rest : List Seen) → Begins tokens (exports_spelling Word items) rest → IsAfter (Identifier ∷ goes_on_exports items) rest → AreRead export_read items tokens rest
+exports_chain [] tokens rest h after = h
+exports_chain (e ∷ []) tokens rest h after =
+    let p = Begins-parted tokens (export_spelling Word e) [] rest h in
+    let ends = ends_at_rest e rest after in
+    (p.mid, take_export e tokens p.mid p.front (subst (ExportEnds e) (sym p.back) ends), p.back)
+exports_chain (e ∷ next ∷ items) tokens rest h after =
+    let p = Begins-parted tokens (export_spelling Word e) (exports_spelling Later (next ∷ items)) rest h in
+    (p.mid, take_export e tokens p.mid p.front (ends_at_later e next items p.mid rest p.back), exports_chain (next ∷ items) p.mid rest (later_is_word (next ∷ items) p.mid rest p.back) after)
+
+export_by_other : (kind : TokenKind) (t : Seen) (rest : List Seen) → kind ≢ Identifier → export_by kind t rest ≡ Ok (None, t ∷ rest)
+export_by_other Identifier t rest other = absurd (other refl)
+export_by_other kind t rest other = refl
+
+no_export : (tokens : List Seen) (kinds : List TokenKind) → IsAfter (Identifier ∷ kinds) tokens → export_read tokens ≡ Ok (None, tokens)
+unfolding export_read
+no_export [] kinds h = refl
+no_export (t ∷ rest) kinds h = export_by_other t.kind t rest h.0
+
+pub exports_again : (items : List Export) (tokens rest : List Seen) → Begins tokens (exports_spelling Word items) rest → IsAfter (Identifier ∷ goes_on_exports items) rest → exports_read tokens ≡ Ok (items, rest)
+unfolding exports_read
+exports_again items tokens rest h after =
+    all_again export_read items tokens rest (exports_chain items tokens rest h after) (no_export rest (goes_on_exports items) after)
+
+-- exports are read up to the last one
+record BeforeLast (items : List Export) (last : Export) (tokens whole : List Seen) : Type 0 where
+  mid : List Seen
+  chain : AreRead export_read items tokens mid
+  back : Begins mid (export_spelling Word last) whole
+
+before_last : (items : List Export) (last : Export) (tokens whole : List Seen) → Begins tokens (exports_spelling Word (items ++ last ∷ [])) whole → BeforeLast items last tokens whole
+before_last [] last tokens whole h =
+    let p = Begins-parted tokens (export_spelling Word last) [] whole h in
+    record { mid = tokens; chain = refl; back = subst (Begins tokens (export_spelling Word last)) p.back p.front }
+before_last (e ∷ []) last tokens whole h =
+    let p = Begins-parted tokens (export_spelling Word e) (exports_spelling Later (last ∷ [])) whole h in
+    let b = before_last [] last p.mid whole (later_is_word (last ∷ []) p.mid whole p.back) in
+    record { mid = b.mid; chain = (p.mid, take_export e tokens p.mid p.front (ends_at_later e last [] p.mid whole p.back), b.chain); back = b.back }
+before_last (e ∷ next ∷ items) last tokens whole h =
+    let p = Begins-parted tokens (export_spelling Word e) (exports_spelling Later (next ∷ items ++ last ∷ [])) whole h in
+    let b = before_last (next ∷ items) last p.mid whole (later_is_word (next ∷ items ++ last ∷ []) p.mid whole p.back) in
+    record { mid = b.mid; chain = (p.mid, take_export e tokens p.mid p.front (ends_at_later e next (items ++ last ∷ []) p.mid whole p.back), b.chain); back = b.back }
+
+-- the exports before it are read, and an export that is refused refuses them all
+pub export_stops : (items : List Export) (last : Export) (tokens whole : List Seen) (cause : Cause) → Begins tokens (exports_spelling Word (items ++ last ∷ [])) whole
+    → ((mid : List Seen) → Begins mid (export_spelling Word last) whole → export_read mid ≡ Err cause) → exports_read tokens ≡ Err cause
+unfolding exports_read
+export_stops items last tokens whole cause h refused =
+    let b = before_last items last tokens whole h in stops b.mid b.chain b.back
+  where
+    stops : (mid : List Seen) → AreRead export_read items tokens mid → Begins mid (export_spelling Word last) whole → exports_read tokens ≡ Err cause
+    stops [] chain back = absurd back
+    stops (t ∷ rest) chain back = all_refused export_read items tokens t rest cause chain (refused (t ∷ rest) back)

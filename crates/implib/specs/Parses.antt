@@ -21,3 +21,11 @@ pub record Refuses (text : List ℕ) (cause : Cause) : Type 0 where
   pub tokens : List Seen
   pub lexed : Lexed text tokens
   pub broken : Broken tokens cause
+
+-- on each machine the text means a definition
+abbrev pub InGrammar : List ℕ → Type 0
+InGrammar text = (machine : MachineType) → (definition : DefinitionView) × Parses text machine definition
+
+-- the text is refused, for some cause
+abbrev pub IsBroken : List ℕ → Type 0
+IsBroken text = (cause : Cause) × Refuses text cause
