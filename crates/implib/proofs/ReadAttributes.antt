@@ -76,9 +76,9 @@ AttributeRead tokens found = ItemRead AttributeStands NoAttribute tokens found
 apart_outcome : (t : Seen) (rest : List Seen) → IsWord t (at_sign ∷ []) → MatchResult (ordinal_read rest >>= apart_from) (AttributeRead (t ∷ rest)) (AttributeCut (t ∷ rest))
 apart_outcome t rest word =
     bind_outcome (OrdinalRead rest) (AtFront OrdinalRefused rest) (AttributeRead (t ∷ rest)) (AttributeCut (t ∷ rest)) (ordinal_read rest) apart_from (ordinal_outcome rest)
-    (λ n h. let after = no_name_outcome n.1 in
-    ((word, Begins-append rest (Ordinal n.0 ∷ []) (no_name_spelling (no_name_read n.1).0) n.1 (no_name_read n.1).1 h after.0), after.1))
-    (λ cause h. inr (record { mid = rest; begins = (word, refl); refused = h }))
+        (λ n h. let after = no_name_outcome n.1 in
+            ((word, Begins-append rest (Ordinal n.0 ∷ []) (no_name_spelling (no_name_read n.1).0) n.1 (no_name_read n.1).1 h after.0), after.1))
+        (λ cause h. inr (record { mid = rest; begins = (word, refl); refused = h }))
 
 at_attribute_outcome : (word : AtWord) (t : Seen) (rest : List Seen) → t.kind ≡ Identifier → IsAtWord word t.value → MatchResult (at_attribute word t rest) (AttributeRead (t ∷ rest)) (AttributeCut (t ∷ rest))
 at_attribute_outcome Lone t rest e is = apart_outcome t rest (record { kind = e; value_is = is })
@@ -89,8 +89,8 @@ attribute_by_outcome : (kind : TokenKind) (t : Seen) (rest : List Seen) → t.ki
 attribute_by_outcome Identifier t rest e = at_attribute_outcome (at_word t.value) t rest e (at_word-gives t.value)
 attribute_by_outcome EqualEqual t rest e =
     bind_outcome (WordRead rest) (AtFront IsNoWord rest) (AttributeRead (t ∷ rest)) (AttributeCut (t ∷ rest)) (word_read rest) alias_from (word_outcome rest)
-    (λ word h. ((e, h), IsAfter-none word.1))
-    (λ cause h. inl (record { mid = rest; begins = (e, refl); refused = h }))
+        (λ word h. ((e, h), IsAfter-none word.1))
+        (λ cause h. inl (record { mid = rest; begins = (e, refl); refused = h }))
 attribute_by_outcome KwData t rest e = ((e, refl), IsAfter-none rest)
 attribute_by_outcome KwConstant t rest e = ((e, refl), IsAfter-none rest)
 attribute_by_outcome KwPrivate t rest e = ((e, refl), IsAfter-none rest)
@@ -168,8 +168,8 @@ target_from_outcome first (t ∷ tokens) word sign h = target_of_outcome first t
 target_by_outcome : (kind : TokenKind) (t : Seen) (rest : List Seen) → t.kind ≡ kind → MatchResult (target_by kind t rest) (TargetRead (t ∷ rest)) (TargetCut (t ∷ rest))
 target_by_outcome Equal t rest e =
     bind_outcome (WordRead rest) (AtFront IsNoWord rest) (TargetRead (t ∷ rest)) (TargetCut (t ∷ rest)) (word_read rest) target_from (word_outcome rest)
-    (λ word h. target_from_outcome t rest word e h)
-    (λ cause h. record { mid = rest; begins = (e, refl); refused = AtFront-weaker IsNoWord TargetRefused (λ u c k. inl k) rest cause h })
+        (λ word h. target_from_outcome t rest word e h)
+        (λ cause h. record { mid = rest; begins = (e, refl); refused = AtFront-weaker IsNoWord TargetRefused (λ u c k. inl k) rest cause h })
 target_by_outcome kind t rest e = (refl, none_at t.kind kind (Equal ∷ []) e refl)
 
 pub target_outcome : (tokens : List Seen) → MatchResult (target_read tokens) (TargetRead tokens) (TargetCut tokens)

@@ -82,14 +82,13 @@ after_target (Some value) items mid rest h chain = IsAfter-none rest
 
 whole_export : (t : Seen) (tokens : List Seen) (target : Option (List ℕ) × List Seen) (found : List Attribute × List Seen) → t.kind ≡ Identifier → TargetRead tokens target → AttributesRead target.1 found
     → ExportStands (t ∷ tokens) (record { word = t.value; target = target.0; attributes = found.0 }) found.1
-whole_export t tokens target found e h k = (
-  (record { kind = e; value_is = refl }, Begins-append tokens (target_spelling target.0) (flat_map attribute_spelling found.0) target.1 found.1 h.0 (attributes_begin found.0 target.1 found.1 k.0)),
-  record {
-    kinds = IsAfter-append attribute_kinds (goes_on_target target.0 found.0 ++ goes_on_attributes found.0) found.1 k.1.0
-        (IsAfter-append (goes_on_target target.0 found.0) (goes_on_attributes found.0) found.1 (after_target target.0 found.0 target.1 found.1 h.1 k.0) (attributes_end found.0 target.1 found.1 k.0));
-    plain = k.1.1;
-  },
-)
+whole_export t tokens target found e h k =
+    ((record { kind = e; value_is = refl }, Begins-append tokens (target_spelling target.0) (flat_map attribute_spelling found.0) target.1 found.1 h.0 (attributes_begin found.0 target.1 found.1 k.0)),
+     record {
+       kinds = IsAfter-append attribute_kinds (goes_on_target target.0 found.0 ++ goes_on_attributes found.0) found.1 k.1.0
+           (IsAfter-append (goes_on_target target.0 found.0) (goes_on_attributes found.0) found.1 (after_target target.0 found.0 target.1 found.1 h.1 k.0) (attributes_end found.0 target.1 found.1 k.0));
+       plain = k.1.1;
+     })
 
 cut_attribute : (t : Seen) (tokens : List Seen) (target : Option (List ℕ) × List Seen) (cause : Cause) → t.kind ≡ Identifier → TargetRead tokens target → (items : List Attribute) (mid : List Seen) → Chain AttributeStands NoAttribute items target.1 mid → AttributeCut mid cause
     → PartCut (t ∷ tokens) cause
@@ -123,14 +122,14 @@ cut_target t tokens cause e c = record {
 export_from_outcome : (t : Seen) (tokens : List Seen) (target : Option (List ℕ) × List Seen) → t.kind ≡ Identifier → TargetRead tokens target → MatchResult (export_from t.value target) (ExportRead (t ∷ tokens)) (PartCut (t ∷ tokens))
 export_from_outcome t tokens target e h =
     bind_outcome (AttributesRead target.1) (AttributesCut target.1) (ExportRead (t ∷ tokens)) (PartCut (t ∷ tokens)) (attributes_read target.1) (export_of t.value target.0) (attributes_outcome target.1)
-    (λ found k. whole_export t tokens target found e h k)
-    (λ cause k. cut_attribute t tokens target cause e h k.items k.mid k.chain k.refused)
+        (λ found k. whole_export t tokens target found e h k)
+        (λ cause k. cut_attribute t tokens target cause e h k.items k.mid k.chain k.refused)
 
 export_by_outcome : (kind : TokenKind) (t : Seen) (rest : List Seen) → t.kind ≡ kind → MatchResult (export_by kind t rest) (ExportRead (t ∷ rest)) (PartCut (t ∷ rest))
 export_by_outcome Identifier t rest e =
     bind_outcome (TargetRead rest) (TargetCut rest) (ExportRead (t ∷ rest)) (PartCut (t ∷ rest)) (target_read rest) (export_from t.value) (target_outcome rest)
-    (λ target h. export_from_outcome t rest target e h)
-    (λ cause h. cut_target t rest cause e h)
+        (λ target h. export_from_outcome t rest target e h)
+        (λ cause h. cut_target t rest cause e h)
 export_by_outcome kind t rest e = (refl, none_at t.kind kind (Identifier ∷ []) e refl)
 
 export_outcome : (tokens : List Seen) → MatchResult (export_read tokens) (ExportRead tokens) (PartCut tokens)

@@ -70,8 +70,8 @@ cut_part t rest items next cause e chain (OrdinalPart last) whole mid begins beg
 exports_statement : (t : Seen) (rest : List Seen) → t.kind ≡ KwExports → MatchResult (exports_read rest >>= exports_from) (StatementRead (t ∷ rest)) (StatementCut (t ∷ rest))
 exports_statement t rest e =
     bind_outcome (ExportsRead rest) (ExportsCut rest) (StatementRead (t ∷ rest)) (StatementCut (t ∷ rest)) (exports_read rest) exports_from (exports_outcome rest)
-    (λ found k. ((e, exports_begin found.0 rest found.1 k.0), IsAfter-append (Identifier ∷ []) (goes_on_exports found.0) found.1 k.1 (exports_end found.0 rest found.1 k.0)))
-    (λ cause k. cut_part t rest k.items k.mid cause e k.chain k.refused.part k.refused.whole k.refused.mid k.refused.begins k.refused.begun k.refused.refused)
+        (λ found k. ((e, exports_begin found.0 rest found.1 k.0), IsAfter-append (Identifier ∷ []) (goes_on_exports found.0) found.1 k.1 (exports_end found.0 rest found.1 k.0)))
+        (λ cause k. cut_part t rest k.items k.mid cause e k.chain k.refused.part k.refused.whole k.refused.mid k.refused.begins k.refused.begun k.refused.refused)
 
 cut_sizes : (t : Seen) (rest : List Seen) (region : Region) (cause : Cause) → t.kind ≡ region_kind region → SizesCut rest cause → StatementCut (t ∷ rest) cause
 cut_sizes t rest region cause e (inl h) = inr (record { started = ToSize region; mid = rest; begins = (e, refl); refused = h })
@@ -80,8 +80,8 @@ cut_sizes t rest region cause e (inr c) = inr (record { started = ToSecondSize r
 sizes_statement : (t : Seen) (rest : List Seen) (region : Region) → t.kind ≡ region_kind region → MatchResult (sizes_read rest >>= region_from region) (StatementRead (t ∷ rest)) (StatementCut (t ∷ rest))
 sizes_statement t rest region e =
     bind_outcome (SizesRead rest) (SizesCut rest) (StatementRead (t ∷ rest)) (StatementCut (t ∷ rest)) (sizes_read rest) (region_from region) (sizes_outcome rest)
-    (λ sizes k. ((e, k.0), k.1))
-    (λ cause k. cut_sizes t rest region cause e k)
+        (λ sizes k. ((e, k.0), k.1))
+        (λ cause k. cut_sizes t rest region cause e k)
 
 cut_base : (t : Seen) (rest : List Seen) (name : List ℕ) (cause : Cause) → BaseCut (NameOrLibrary ∷ Word name ∷ []) (t ∷ rest) cause → StatementCut (t ∷ rest) cause
 cut_base t rest name cause (inl c) = inr (record { started = ToBaseSign name; mid = c.mid; begins = c.begins; refused = c.refused })
@@ -90,14 +90,14 @@ cut_base t rest name cause (inr c) = inr (record { started = ToBase name; mid = 
 name_statement : (t : Seen) (rest : List Seen) → Is NameOrLibrary t → MatchResult (name_read rest >>= some_statement) (StatementRead (t ∷ rest)) (StatementCut (t ∷ rest))
 name_statement t rest is =
     bind_outcome (NameRead (t ∷ rest)) (NameCut (t ∷ rest)) (StatementRead (t ∷ rest)) (StatementCut (t ∷ rest)) (name_read rest) some_statement (name_outcome t is rest)
-    (λ statement k. k)
-    (λ cause k. cut_base t rest k.0 cause k.1)
+        (λ statement k. k)
+        (λ cause k. cut_base t rest k.0 cause k.1)
 
 version_statement : (t : Seen) (rest : List Seen) → t.kind ≡ KwVersion → MatchResult (version_read rest >>= versions_from) (StatementRead (t ∷ rest)) (StatementCut (t ∷ rest))
 version_statement t rest e =
     bind_outcome (VersionRead rest) (AtFront VersionRefused rest) (StatementRead (t ∷ rest)) (StatementCut (t ∷ rest)) (version_read rest) versions_from (version_outcome rest)
-    (λ version k. ((e, k), IsAfter-none version.1))
-    (λ cause k. inr (record { started = ToVersion; mid = rest; begins = (e, refl); refused = k }))
+        (λ version k. ((e, k), IsAfter-none version.1))
+        (λ cause k. inr (record { started = ToVersion; mid = rest; begins = (e, refl); refused = k }))
 
 statement_by_outcome : (kind : TokenKind) (t : Seen) (rest : List Seen) → t.kind ≡ kind → MatchResult (statement_by kind t rest) (StatementRead (t ∷ rest)) (StatementCut (t ∷ rest))
 statement_by_outcome Eof t rest e = (refl, e)

@@ -35,6 +35,7 @@ target_ends None = tt
 target_ends (Some value) = (differs Equal Eof refl, (tt, tt))
 
 module _ (name : List ℕ → Wanted) (ends : (word : List ℕ) → WantsNoEof (name word)) where
+
   export_ends : (e : Export) → NoneWantsEof (export_spelling name e)
   export_ends e = (ends e.word, NoneWantsEof-append (target_spelling e.target) (flat_map attribute_spelling e.attributes) (target_ends e.target) (attributes_ends e.attributes))
 

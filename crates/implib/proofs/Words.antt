@@ -103,7 +103,6 @@ first_gives byte rest false e =
   where
     heads : byte ∷ rest ≡ at_sign ∷ [] → byte ≡ at_sign
     heads h = cc
-
     heads_of : (number : List ℕ) → byte ∷ rest ≡ at_sign ∷ number → byte ≡ at_sign
     heads_of number h = cc
 
@@ -164,7 +163,6 @@ NoStop-number value limit n is = by_spelling is.spelled
   where
     digits : NoStop is.digits
     digits = NoStop-digits is.digits is.all_digits
-
     by_spelling : (value ≡ is.digits) ⊎ (value ≡ plus_sign ∷ is.digits) → NoStop value
     by_spelling (inl e) = rw e digits
     by_spelling (inr e) = rw e (refl, digits)

@@ -7,7 +7,6 @@ pub mod Number
 pub mod Grammar
 pub mod Meaning
 pub mod Refusal
-pub mod Division
 pub mod WorkedTokens
 pub mod Parses
 pub mod Reading
