@@ -16,13 +16,14 @@ pub record Remains {A S : Type 0} (item : List Seen → Reads (Option A)) (apply
   pub same : all_put apply state (many item fuel tokens) ≡ total
 
 module _ {X : Type 0} where
-  ok_is : {x y : X} → ◌≡◌ {A = Result X Cause} (Ok x) (Ok y) → x ≡ y
+  -- equal answers hold the same
+  pub ok_is : {x y : X} → ◌≡◌ {A = Result X Cause} (Ok x) (Ok y) → x ≡ y
   ok_is e = cc
 
   ok_is_not_err : {x : X} {y : Cause} → ◌≡◌ {A = Result X Cause} (Ok x) (Err y) → ⊥
   ok_is_not_err e = absurd cc
 
-  err_is : {x y : Cause} → ◌≡◌ {A = Result X Cause} (Err x) (Err y) → x ≡ y
+  pub err_is : {x y : Cause} → ◌≡◌ {A = Result X Cause} (Err x) (Err y) → x ≡ y
   err_is e = cc
 
 module _ {A S : Type 0} (item : List Seen → Reads (Option A)) (apply : S → A → S) where

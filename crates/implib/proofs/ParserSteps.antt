@@ -13,15 +13,11 @@ use Rattle.implib.specs.Meaning.{exports_in}
 use Rattle.implib.specs.ParserViews.{TakesFirst, all_put, one_put, put, settings_put, with_export, with_settings}
 use Rattle.implib.specs.Reading.{◌>>=◌, Reads, attributes_read, base_read, definition_from, name_by, name_read, named_from, read, some_statement, statements_read, with_statements, export_of, export_read, exports_from, exports_read, made_export, named_export, sizes_read, statement_read, target_read, version_read, with_attribute, with_statement}
 use Rattle.implib.specs.Token.{Seen, seen}
+use Rattle.implib.proofs.ParserLoops.{err_is, ok_is}
 
+-- two lists that are equal begin alike
 same_first : {x y : Seen} {xs ys : List Seen} → x ∷ xs ≡ y ∷ ys → x ≡ y
 same_first e = cc
-
-ok_is : {X : Type 0} {x y : X} → ◌≡◌ {A = Result X Cause} (Ok x) (Ok y) → x ≡ y
-ok_is e = cc
-
-err_is : {X : Type 0} {x y : Cause} → ◌≡◌ {A = Result X Cause} (Err x) (Err y) → x ≡ y
-err_is e = cc
 
 -- what was looked at is what is taken
 pub taken : (before : List Seen) (token : Token) (given : Option Token) (after : List Seen) → (rest : List Seen) × (before ≡ seen token ∷ rest) → TakesFirst before given after → before ≡ seen token ∷ after

@@ -82,7 +82,8 @@ impl<'a> Tokens<'a> {
         def: &mut ModuleDef,
     ) -> Result<(), Error>
         ensures { Gives (λ _. (definition_view def.new, self.new)) result
-            (all_put (with_statement machine) (definition_view def.old) (statements_read self.old)) }
+            (all_put (with_statement machine) (definition_view def.old)
+                (statements_read self.old)) }
     {
         while self.statement(alloc, machine, def)? {}
         Ok(())
@@ -97,7 +98,8 @@ impl<'a> Tokens<'a> {
         def: &mut ModuleDef,
     ) -> Result<bool, Error>
         ensures read { Gives (λ more. (more, definition_view def.new, self.new)) result
-            (one_put (with_statement machine) (definition_view def.old) (statement_read self.old)) }
+            (one_put (with_statement machine) (definition_view def.old)
+                (statement_read self.old)) }
         ensures no_longer { OnOk result (length self.new ≤ length self.old) }
         ensures shorter { IfOk result (λ more. IsTrue more → length self.new < length self.old) }
     {

@@ -3,7 +3,13 @@
 ghost use Rattle.implib.specs.Definition.{export_view};
 ghost use Rattle.implib.specs.Grammar.{Joined};
 ghost use Rattle.implib.specs.ParserViews.{all_put, Gives, one_put};
-ghost use Rattle.implib.specs.Reading.{attribute_read, attributes_read, no_name_read, ordinal_read, with_attribute};
+ghost use Rattle.implib.specs.Reading.{
+  attribute_read,
+  attributes_read,
+  no_name_read,
+  ordinal_read,
+  with_attribute,
+};
 ghost use Rattle.std.specs.Prelude.{◌≡◌, ◌<◌, ◌≤◌, length, IfOk, IsTrue, OnOk};
 
 use crate::def::ShortExport;
@@ -93,7 +99,8 @@ impl<'a> Tokens<'a> {
 
     /// Sets the ordinal of the export, and takes `NONAME` after it.
     fn set_ordinal(&mut self, ordinal: u16, export: &mut ShortExport)
-        ensures attribute { export_view export.new ≡ with_attribute (export_view export.old) (Joined ordinal (no_name_read self.old).0) }
+        ensures set { export_view export.new
+            ≡ with_attribute (export_view export.old) (Joined ordinal (no_name_read self.old).0) }
         ensures rest { self.new ≡ (no_name_read self.old).1 }
         ensures no_longer { length self.new ≤ length self.old }
     {

@@ -24,7 +24,8 @@ impl<'a> Tokens<'a> {
         exports: &mut Vec<ShortExport>,
     ) -> Result<(), Error>
         ensures read { Gives (λ _. (map export_view exports.new.items, self.new)) result
-            (all_put (with_export machine) (map export_view exports.old.items) (exports_read self.old)) }
+            (all_put (with_export machine) (map export_view exports.old.items)
+                (exports_read self.old)) }
         ensures no_longer { OnOk result (length self.new ≤ length self.old) }
     {
         while self.export(alloc, machine, exports)? {}
@@ -40,7 +41,8 @@ impl<'a> Tokens<'a> {
         exports: &mut Vec<ShortExport>,
     ) -> Result<bool, Error>
         ensures read { Gives (λ more. (more, map export_view exports.new.items, self.new)) result
-            (one_put (with_export machine) (map export_view exports.old.items) (export_read self.old)) }
+            (one_put (with_export machine) (map export_view exports.old.items)
+                (export_read self.old)) }
         ensures no_longer { OnOk result (length self.new ≤ length self.old) }
         ensures shorter { IfOk result (λ more. IsTrue more → length self.new < length self.old) }
     {
@@ -63,7 +65,8 @@ impl<'a> Tokens<'a> {
     /// The word after the `=` of an export, if they are there.
     #[tactic(auto, unfolding(crate::specs::Reading::target_read))]
     fn target(&mut self) -> Result<Option<&'a str>, Error>
-        ensures read { Gives (λ target. (value_of target, self.new)) result (target_read self.old) }
+        ensures read { Gives (λ target. (value_of target, self.new)) result
+            (target_read self.old) }
         ensures no_longer { OnOk result (length self.new ≤ length self.old) }
     {
         let Some(token) = self.peek() else {
@@ -90,7 +93,8 @@ fn named_export(
     word: &str,
     target: Option<&str>,
 ) -> Result<ShortExport, AllocError>
-    ensures { IfOk result (λ e. export_view e ≡ named_export machine word.now (value_of target.entry)) }
+    ensures { IfOk result
+        (λ e. export_view e ≡ named_export machine word.now (value_of target.entry)) }
 {
     let mut export = ShortExport::empty(alloc);
     match target {
