@@ -6,8 +6,8 @@ use Rattle.std.specs.Prelude.{not}
 use Rattle.std.specs.Char.{encode_utf8, is_whitespace, is_not_whitespace}
 use Rattle.std.specs.List.{AllByRecursion}
 use Rattle.std.specs.Str.{encode_utf8_all, EmptyOrStartsWithPassing, IsTrimStart, NonePass}
-use Rattle.implib.specs.Token.{begins, is_line_feed, is_semicolon, Piece, Blank, Comment, LastComment, spelling, Stands, text_of, EachStands}
-use Rattle.implib.specs.Division.{IsGap, PassesGap, SkipsGap}
+use Rattle.implib.specs.Token.{begins, is_line_feed, Piece, Blank, Comment, LastComment, spelling, Stands, text_of, EachStands}
+use Rattle.implib.specs.Division.{is_semicolon, IsGap, PassesGap, SkipsGap}
 use Rattle.implib.proofs.Division.{none_from_places}
 
 -- a line that a line feed ends

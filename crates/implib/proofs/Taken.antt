@@ -8,8 +8,8 @@ use Rattle.std.specs.Prelude.{not}
 use Rattle.std.specs.Char.{encode_utf8, is_whitespace, IsScalar}
 use Rattle.std.specs.Str.{IsCharBoundary, IsUtf8, NonePass, trim, trim_end}
 use Rattle.implib.specs.declared.def.lexer.TokenKind.TheVariants as kind
-use Rattle.implib.specs.Token.{begins, is_delimiter, is_equal_sign, is_quote, is_semicolon, kind_of_word, token_of, value_start, CommaSign, EqualSign, EqualSigns, IsWordEnd, Quoted, Seen, Unclosed, Word}
-use Rattle.implib.specs.Division.{StartsWord, TakesPiece}
+use Rattle.implib.specs.Token.{begins, is_delimiter, is_equal_sign, is_quote, kind_of_word, token_of, value_start, CommaSign, EqualSign, EqualSigns, IsWordEnd, Quoted, Seen, Unclosed, Word}
+use Rattle.implib.specs.Division.{is_semicolon, StartsWord, TakesPiece}
 use Rattle.implib.proofs.Division.{delimiter_ascii, no_delimiter, none_from_places}
 
 -- a text that begins with a byte is that byte and the others

@@ -1,36 +1,42 @@
 -- A text has one list of tokens.
 use Rattle.std.proofs.Common.{◌≡◌, ◌≢◌, ℕ, ◌+◌, ◌-◌, if◌then◌else◌, List, [], ◌∷◌, ◌++◌, true, false, length, refl, sym, ap, subst, ◌∙◌, arith}
 use Rattle.std.proofs.lemmas.List.{append_cancel_left}
+use Rattle.std.specs.List.{AllByRecursion}
 use Rattle.std.specs.Str.{IsUtf8, bytes_eq, trim, trim_end}
 use Rattle.implib.specs.declared.def.lexer.TokenKind.{TokenKind}
 use Rattle.implib.specs.declared.def.lexer.TokenKind.TheVariants as kind
-use Rattle.implib.specs.Token.{DividesOnce, LexedOnce, text_of, Seen, Lexed, EndsInEof, Piece, Blank, Comment, LastComment, EqualSign, EqualSigns, CommaSign, Quoted, Unclosed, Word, spelling, keywords, kind_in, kind_of_word, token_of, tokens_from, value_start}
+use Rattle.implib.specs.Token.{IsKnown, DividesOnce, LexedOnce, text_of, Seen, Lexed, EndsInEof, Piece, Blank, Comment, LastComment, EqualSign, EqualSigns, CommaSign, Quoted, Unclosed, Word, spelling, keywords, kind_in, kind_of_word, token_of, tokens_from, value_start}
 use Rattle.implib.specs.Division.{pieces_in, tokens_left}
+use Rattle.implib.proofs.Gap.{AllByRecursion-append}
 use Rattle.implib.proofs.Division.{division, Divides-pieces_in}
 
--- no row of the table is Eof
-NamesNoEof : List (List ℕ × TokenKind) → Type 0
-NamesNoEof [] = Unit {0}
-NamesNoEof (row ∷ rows) = (row.1 ≢ kind.Eof) × NamesNoEof rows
+-- no row of the table has this kind
+LacksKind : TokenKind → List (List ℕ × TokenKind) → Type 0
+LacksKind k [] = Unit {0}
+LacksKind k (row ∷ rows) = (row.1 ≢ k) × LacksKind k rows
 
--- no word is Eof
-kind_in_not_eof : (rows : List (List ℕ × TokenKind)) (word : List ℕ) → NamesNoEof rows → kind_in rows word ≢ kind.Eof
-unfolding NamesNoEof
-kind_in_not_eof [] word none = λ same. cc
-kind_in_not_eof (row ∷ rows) word none =
-    elim (bytes_eq word row.0) as (λ t. (if t then row.1 else kind_in rows word) ≢ kind.Eof) [
-      | true ↦ none.0
-      | false ↦ kind_in_not_eof rows word none.1
+kind_in_differs : (k : TokenKind) (rows : List (List ℕ × TokenKind)) (word : List ℕ) → kind.Identifier ≢ k → LacksKind k rows → kind_in rows word ≢ k
+unfolding LacksKind
+kind_in_differs k [] word none lacks = none
+kind_in_differs k (row ∷ rows) word none lacks =
+    elim (bytes_eq word row.0) as (λ t. (if t then row.1 else kind_in rows word) ≢ k) [
+      | true ↦ lacks.0
+      | false ↦ kind_in_differs k rows word none lacks.1
     ]
 
-keywords_not_eof : NamesNoEof keywords
-unfolding NamesNoEof
-keywords_not_eof =
+-- no word is Eof
+pub kind_of_word_not_eof : (word : List ℕ) → kind_of_word word ≢ kind.Eof
+unfolding kind_of_word LacksKind
+kind_of_word_not_eof word =
+    kind_in_differs kind.Eof keywords word (λ e. cc)
     (λ e. cc, (λ e. cc, (λ e. cc, (λ e. cc, (λ e. cc, (λ e. cc, (λ e. cc, (λ e. cc, (λ e. cc, (λ e. cc, (λ e. cc, tt)))))))))))
 
-pub kind_of_word_not_eof : (word : List ℕ) → kind_of_word word ≢ kind.Eof
-unfolding kind_of_word
-kind_of_word_not_eof word = kind_in_not_eof keywords word keywords_not_eof
+-- nor Unknown
+kind_of_word_known : (word : List ℕ) → kind_of_word word ≢ kind.Unknown
+unfolding kind_of_word LacksKind
+kind_of_word_known word =
+    kind_in_differs kind.Unknown keywords word (λ e. cc)
+    (λ e. cc, (λ e. cc, (λ e. cc, (λ e. cc, (λ e. cc, (λ e. cc, (λ e. cc, (λ e. cc, (λ e. cc, (λ e. cc, (λ e. cc, tt)))))))))))
 
 -- one more token in front
 EndsInEof-cons : (k : TokenKind) (value : List ℕ) (at : ℕ) (rest : List Seen) → k ≢ kind.Eof → EndsInEof rest → EndsInEof (record { kind = k; value = value; at = at } ∷ rest)
@@ -109,3 +115,24 @@ LexedOnce-of_text text utf8 = record {
   lexed = Lexed-exists text utf8;
   only = λ others lexed. Lexed-tokens text others utf8 lexed;
 }
+
+piece_known : (place : ℕ) (piece : Piece) → AllByRecursion IsKnown (token_of place piece)
+piece_known place (Blank c) = tt
+piece_known place (Comment line) = tt
+piece_known place (LastComment line) = tt
+piece_known place EqualSign = (λ e. cc, tt)
+piece_known place EqualSigns = (λ e. cc, tt)
+piece_known place CommaSign = (λ e. cc, tt)
+piece_known place (Quoted inside) = (λ e. cc, tt)
+piece_known place (Unclosed inside) = (λ e. cc, tt)
+piece_known place (Word run) = (kind_of_word_known (trim_end run), tt)
+
+pieces_known : (place : ℕ) (pieces : List Piece) → AllByRecursion IsKnown (tokens_from place pieces)
+pieces_known place [] = (λ e. cc, tt)
+pieces_known place (piece ∷ pieces) =
+    let next = place + length (spelling piece) in
+    AllByRecursion-append IsKnown (token_of place piece) (tokens_from next pieces) (piece_known place piece) (pieces_known next pieces)
+
+-- no token is Unknown
+pub Lexed-known : (text : List ℕ) (tokens : List Seen) → Lexed text tokens → AllByRecursion IsKnown tokens
+Lexed-known text tokens lexed = subst (AllByRecursion IsKnown) (sym lexed.given) (pieces_known 0 lexed.pieces)

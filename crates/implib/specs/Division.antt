@@ -3,7 +3,11 @@ use Rattle.std.specs.Prelude.{◌≡◌, ◌≢◌, ℕ, suc, zero, ◌-◌, ◌
 use Rattle.std.specs.Char.{is_whitespace, is_not_whitespace}
 use Rattle.std.specs.List.{AllByRecursion}
 use Rattle.std.specs.Str.{chars, EmptyOrStartsWithPassing}
-use Rattle.implib.specs.Token.{Seen, eof, Piece, Blank, Comment, LastComment, EqualSign, EqualSigns, CommaSign, Quoted, Unclosed, Word, spelling, Stands, EachStands, IsEnd, text_of, token_of, tokens_from, is_line_feed, is_quote, is_delimiter, is_equal_sign, is_semicolon, begins}
+use Rattle.implib.specs.Token.{Seen, eof, Piece, Blank, Comment, LastComment, EqualSign, EqualSigns, CommaSign, Quoted, Unclosed, Word, spelling, Stands, EachStands, IsEnd, text_of, token_of, tokens_from, is_line_feed, is_quote, is_delimiter, is_equal_sign, begins}
+
+-- the byte is `;`
+abbrev pub is_semicolon : ℕ → Bool
+is_semicolon b = b == 59
 
 -- the longest front without a byte that passes the test, and what follows it
 abbrev pub cut_before : (ℕ → Bool) → List ℕ → List ℕ × List ℕ

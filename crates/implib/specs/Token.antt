@@ -16,20 +16,19 @@ pub record Seen : Type 0 where
 abbrev pub seen : Token → Seen
 seen t = record { kind = t.kind; value = t.value.now; at = t.at }
 
--- a byte that is `;`, a line feed, `"` or `=`
-abbrev pub is_semicolon : ℕ → Bool
-is_semicolon b = b == 59
-
+-- the byte ends a line
 abbrev pub is_line_feed : ℕ → Bool
 is_line_feed b = b == 10
 
+-- the byte is `"`
 abbrev pub is_quote : ℕ → Bool
 is_quote b = b == 34
 
+-- the byte is `=`
 abbrev pub is_equal_sign : ℕ → Bool
 is_equal_sign b = b == 61
 
--- a byte that ends a word: `=`, `,`, `;`, carriage return, line feed, space, tab or vertical tab
+-- the byte ends a word: it is `=`, `,`, `;`, carriage return, line feed, space, tab or vertical tab
 abbrev pub is_delimiter : ℕ → Bool
 is_delimiter b = b == 61 || b == 44 || b == 59 || b == 13 || b == 10 || b == 32 || b == 9 || b == 11
 
@@ -188,6 +187,10 @@ pub record LexedOnce (text : List ℕ) : Type 0 where
   pub tokens : List Seen
   pub lexed : Lexed text tokens
   pub only : (others : List Seen) → Lexed text others → others ≡ tokens
+
+-- the kind says something
+abbrev pub IsKnown : Seen → Type 0
+IsKnown token = token.kind ≢ kind.Unknown
 
 -- the value of the token is the slice of the text at the token's place
 abbrev pub IsSliceOf : List ℕ → Seen → Type 0

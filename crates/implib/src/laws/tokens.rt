@@ -1,6 +1,6 @@
 //! Laws of the tokens of a text.
 
-ghost use Rattle.implib.specs.Token.{DividesOnce, EndsInEof, IsSliceOf, Lexed, LexedOnce, Seen};
+ghost use Rattle.implib.specs.Token.{DividesOnce, EndsInEof, IsKnown, IsSliceOf, Lexed, LexedOnce, Seen};
 ghost use Rattle.implib.specs.WorkedTokens.{WorkedTokens};
 ghost use Rattle.std.specs.List.{AllByRecursion};
 ghost use Rattle.std.specs.Prelude.{List};
@@ -18,6 +18,11 @@ pub fn one_token_list(text: &str)
 /// `Eof` comes once, as the last token.
 pub fn eof_once(text: &str)
     ensures { (tokens : List Seen) → Lexed text.now tokens → EndsInEof tokens }
+{}
+
+/// No token is of the kind `Unknown`.
+pub fn kinds_are_known(text: &str)
+    ensures { (tokens : List Seen) → Lexed text.now tokens → AllByRecursion IsKnown tokens }
 {}
 
 /// Each token's value is the slice of the text that begins at the token's place.

@@ -2,6 +2,7 @@
 
 use super::{Lexer, Token, TokenKind, word_end};
 use std::process::Abort;
+use std::test::Fail;
 
 type Row<'a> = (TokenKind, &'a str, usize);
 
@@ -130,4 +131,15 @@ fn word_ends(rt: HostRuntime) {
     let bytes = [0x61, 0xFF, 0x3B, 0x62];
     assert_eq!(&rt; word_end(&bytes, 0), 2);
     assert_eq!(&rt; word_end(&bytes, 3), 4);
+}
+
+#[test]
+fn displays(rt: HostRuntime) -> Result<(), Fail> {
+    let alloc = rt.alloc();
+    let first = format!(in alloc; "{} {}", TokenKind::Unknown, TokenKind::Eof)?;
+    assert_eq!(&rt; first.as_str(), "Unknown Eof");
+    let second = format!(in alloc; "{} {}", TokenKind::EqualEqual, TokenKind::KwStacksize)?;
+    assert_eq!(&rt; second.as_str(), "EqualEqual KwStacksize");
+    assert_eq!(&rt; TokenKind::default(), TokenKind::Unknown);
+    Ok(())
 }
