@@ -13,6 +13,7 @@ mod SpelledRead
 mod SpelledExports
 mod SpelledStatements
 mod OneReading
+mod WorkedStatements
 pub mod Division
 pub mod Gap
 pub mod Left

@@ -10,7 +10,7 @@ use Rattle.implib.specs.Meaning.{meaning}
 use Rattle.implib.specs.Parses.{Parses, Refuses, InGrammar, IsBroken}
 use Rattle.implib.specs.Reading.{◌>>=◌, statements_read, with_statements, definition_from, read}
 use Rattle.implib.specs.Refusal.{Broken}
-use Rattle.implib.specs.Token.{Lexed, LexedOnce, Seen}
+use Rattle.implib.specs.Token.{Lexed, Seen}
 use Rattle.implib.proofs.Reading.{Parses-from_read, Refuses-from_read}
 use Rattle.implib.proofs.SpelledStatements.{sentence-read, broken-refused}
 use Rattle.implib.proofs.Token.{LexedOnce-of_text, Lexed-unique}
@@ -48,8 +48,11 @@ never_both_of tokens others statements cause same sentence broken =
 either_by : (text : List ℕ) (tokens : List Seen) (r : Result (List Statement × List Seen) Cause) → Lexed text tokens → statements_read tokens ≡ r → InGrammar text ⊎ IsBroken text
 unfolding read
 either_by text tokens (Ok found) lexed e =
-    inl (λ machine. (with_statements machine empty_definition found.0, Parses-from_read text tokens machine (with_statements machine empty_definition found.0) lexed
-        (ap (λ (r : Result (List Statement × List Seen) Cause). r >>= definition_from machine) e)))
+    inl (λ machine. (
+      with_statements machine empty_definition found.0,
+      Parses-from_read text tokens machine (with_statements machine empty_definition found.0) lexed
+          (ap (λ (r : Result (List Statement × List Seen) Cause). r >>= definition_from machine) e),
+    ))
 either_by text tokens (Err cause) lexed e =
     inr (cause, Refuses-from_read text tokens AMD64 cause lexed (ap (λ (r : Result (List Statement × List Seen) Cause). r >>= definition_from AMD64) e))
 
@@ -72,4 +75,4 @@ pub one_cause : (text : List ℕ) → IsUtf8 text → (cause other : Cause) → 
 one_cause text utf8 cause other first second =
     let same = Lexed-unique text second.tokens first.tokens utf8 second.lexed first.lexed in
     same_cause (statements_read first.tokens) cause other (broken-refused first.tokens cause first.broken)
-        (ap statements_read (sym same) ∙ broken-refused second.tokens other second.broken)
+    (ap statements_read (sym same) ∙ broken-refused second.tokens other second.broken)

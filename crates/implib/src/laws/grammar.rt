@@ -5,6 +5,7 @@ ghost use Rattle.implib.specs.Fault.{Cause};
 ghost use Rattle.implib.specs.Grammar.{Sentence, Statement};
 ghost use Rattle.implib.specs.Parses.{InGrammar, IsBroken, Parses, Refuses};
 ghost use Rattle.implib.specs.Token.{Lexed, Seen};
+ghost use Rattle.implib.specs.WorkedStatements.{WorkedExports, WorkedFronts, WorkedRefusals, WorkedSettings};
 ghost use Rattle.implib.specs.declared.machine.MachineType.{MachineType};
 ghost use Rattle.std.specs.Prelude.{◌≡◌, ◌⊎◌, List};
 
@@ -20,4 +21,12 @@ pub fn grammar_or_broken(text: &str)
         Parses text.now machine definition → Parses text.now machine other → definition ≡ other }
     ensures one_cause { (cause other : Cause) →
         Refuses text.now cause → Refuses text.now other → cause ≡ other }
+{}
+
+/// Texts that were worked by hand mean these definitions, and are refused for these causes.
+pub fn worked_statements()
+    ensures settings { WorkedSettings }
+    ensures exports { WorkedExports }
+    ensures refusals { WorkedRefusals }
+    ensures fronts { WorkedFronts }
 {}
