@@ -1,5 +1,5 @@
 -- Token lists that begin with what is wanted.
-use Rattle.std.proofs.Common.{◌≡◌, ◌≢◌, ℕ, ◌<◌, ◌≤◌, ◌⊎◌, inl, inr, List, [], ◌∷◌, ◌++◌, length, refl, sym, ap, subst, ◌∙◌, arith}
+use Rattle.std.proofs.Common.{◌≡◌, ◌≢◌, ◌<◌, ◌≤◌, inl, inr, List, [], ◌∷◌, ◌++◌, length, refl, sym, subst, ◌∙◌, arith}
 use Rattle.std.specs.List.{AllByRecursion}
 use Rattle.implib.specs.declared.def.lexer.TokenKind.{TokenKind}
 use Rattle.implib.specs.declared.def.lexer.TokenKind.TheVariants.{Eof, Identifier, KwName, KwLibrary}
@@ -81,6 +81,23 @@ EndsInEof-some (t ∷ rest) h = (t, rest, refl)
 abbrev pub IsAfter : List TokenKind → List Seen → Type 0
 IsAfter kinds [] = Unit {0}
 IsAfter kinds (t ∷ rest) = IsNoneOf t.kind kinds
+
+-- of the kinds of two lists
+pub IsNoneOf-append : (kind : TokenKind) (a b : List TokenKind) → IsNoneOf kind a → IsNoneOf kind b → IsNoneOf kind (a ++ b)
+IsNoneOf-append kind [] b h k = k
+IsNoneOf-append kind (x ∷ a) b h k = (h.0, IsNoneOf-append kind a b h.1 k)
+
+pub IsAfter-append : (a b : List TokenKind) (tokens : List Seen) → IsAfter a tokens → IsAfter b tokens → IsAfter (a ++ b) tokens
+IsAfter-append a b [] h k = tt
+IsAfter-append a b (t ∷ rest) h k = IsNoneOf-append t.kind a b h k
+
+pub IsNoneOf-parts : (kind : TokenKind) (a b : List TokenKind) → IsNoneOf kind (a ++ b) → IsNoneOf kind a × IsNoneOf kind b
+IsNoneOf-parts kind [] b h = (tt, h)
+IsNoneOf-parts kind (x ∷ a) b h = let p = IsNoneOf-parts kind a b h.1 in ((h.0, p.0), p.1)
+
+pub IsAfter-parts : (a b : List TokenKind) (tokens : List Seen) → IsAfter (a ++ b) tokens → IsAfter a tokens × IsAfter b tokens
+IsAfter-parts a b [] h = (tt, tt)
+IsAfter-parts a b (t ∷ rest) h = IsNoneOf-parts t.kind a b h
 
 -- the first token, if there is one, is refused for the cause
 abbrev pub AtFront : (Seen → Cause → Type 0) → List Seen → Cause → Type 0

@@ -26,3 +26,12 @@ mod SpelledExports
 pub mod ParserAnswers
 mod SpelledStatements
 mod OneReading
+mod WorkedStatements
+pub mod Division
+pub mod Gap
+pub mod Left
+pub mod Slices
+pub mod Taken
+pub mod Token
+pub mod Trimmed
+pub mod WorkedTokens

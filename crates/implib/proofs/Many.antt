@@ -12,7 +12,6 @@ bind_outcome P Q P' Q' (Ok x) f h k m = k x h
 bind_outcome P Q P' Q' (Err cause) f h k m = m cause h
 
 module _ {A : Type 0} (P : List Seen → A → List Seen → Type 0) (N : List Seen → Type 0) where
-
   -- items one after another, each standing before what follows it
   abbrev pub Chain : List A → List Seen → List Seen → Type 0
   Chain [] tokens rest = tokens ≡ rest
@@ -28,7 +27,6 @@ module _ {A : Type 0} (P : List Seen → A → List Seen → Type 0) (N : List S
   AllRead tokens items = Chain items.0 tokens items.1 × N items.1
 
   module _ (Q : List Seen → Cause → Type 0) where
-
     -- items, and then one that is refused
     pub record Stopped (tokens : List Seen) (cause : Cause) : Type 0 where
       pub items : List A
@@ -42,9 +40,9 @@ module _ {A : Type 0} (P : List Seen → A → List Seen → Type 0) (N : List S
     more_outcome tokens others read shorter (None, rest) h = (sym h.0, subst N (sym h.0) h.1)
     more_outcome tokens others read shorter (Some x, rest) h =
         bind_outcome (AllRead rest) (Stopped rest) (AllRead tokens) (Stopped tokens) (others rest) (cons_item x)
-            (read rest (shorter tokens x rest h))
-            (λ found k. ((rest, h, k.0), k.1))
-            (λ cause k. record { items = x ∷ k.items; mid = k.mid; chain = (rest, h, k.chain); refused = k.refused })
+        (read rest (shorter tokens x rest h))
+        (λ found k. ((rest, h, k.0), k.1))
+        (λ cause k. record { items = x ∷ k.items; mid = k.mid; chain = (rest, h, k.chain); refused = k.refused })
 
     many_outcome : (item : List Seen → Reads (Option A)) → ((tokens : List Seen) → MatchResult (item tokens) (ItemRead tokens) (Q tokens))
         → ((tokens : List Seen) (x : A) (rest : List Seen) → P tokens x rest → length rest < length tokens) → N []
@@ -54,8 +52,8 @@ module _ {A : Type 0} (P : List Seen → A → List Seen → Type 0) (N : List S
     many_outcome item outcome shorter none zero (t ∷ tokens) le = absurd (omega arith)
     many_outcome item outcome shorter none (suc n) tokens le =
         bind_outcome (ItemRead tokens) (Q tokens) (AllRead tokens) (Stopped tokens) (item tokens) (many_from (many item n)) (outcome tokens)
-            (λ found h. more_outcome tokens (many item n) (λ rest lt. many_outcome item outcome shorter none n rest (omega arith)) shorter found h)
-            (λ cause h. record { items = []; mid = tokens; chain = refl; refused = h })
+        (λ found h. more_outcome tokens (many item n) (λ rest lt. many_outcome item outcome shorter none n rest (omega arith)) shorter found h)
+        (λ cause h. record { items = []; mid = tokens; chain = refl; refused = h })
 
     -- what holds of each item holds of all
     pub all_outcome : (item : List Seen → Reads (Option A)) → ((tokens : List Seen) → MatchResult (item tokens) (ItemRead tokens) (Q tokens))
@@ -72,7 +70,6 @@ pub bind_err : {A B : Type 0} (r : Result A Cause) (f : A → Result B Cause) (c
 bind_err {A} r f cause e = ap (λ (s : Result A Cause). s >>= f) e
 
 module _ {A : Type 0} (item : List Seen → Reads (Option A)) where
-
   -- the item is read, and takes a token
   pub record Takes (tokens : List Seen) (x : A) (rest : List Seen) : Type 0 where
     pub read : item tokens ≡ Ok (Some x, rest)
@@ -91,7 +88,7 @@ module _ {A : Type 0} (item : List Seen → Reads (Option A)) where
   many_again (x ∷ items) (suc n) tokens rest le chain none =
       let lt = chain.1.shorter in
       bind_ok (item tokens) (many_from (many item n)) (Some x, chain.0) (Ok (x ∷ items, rest)) chain.1.read
-          (bind_ok (many item n chain.0) (cons_item x) (items, rest) (Ok (x ∷ items, rest)) (many_again items n chain.0 rest (omega arith) chain.2 none) refl)
+      (bind_ok (many item n chain.0) (cons_item x) (items, rest) (Ok (x ∷ items, rest)) (many_again items n chain.0 rest (omega arith) chain.2 none) refl)
 
   many_refused : (items : List A) (n : ℕ) (tokens : List Seen) (t : Seen) (rest : List Seen) (cause : Cause) → length tokens ≤ n → AreRead items tokens (t ∷ rest) → item (t ∷ rest) ≡ Err cause → many item n tokens ≡ Err cause
   unfolding many
@@ -102,7 +99,7 @@ module _ {A : Type 0} (item : List Seen → Reads (Option A)) where
   many_refused (x ∷ items) (suc n) tokens t rest cause le chain refused =
       let lt = chain.1.shorter in
       bind_ok (item tokens) (many_from (many item n)) (Some x, chain.0) (Err cause) chain.1.read
-          (bind_err (many item n chain.0) (cons_item x) cause (many_refused items n chain.0 t rest cause (omega arith) chain.2 refused))
+      (bind_err (many item n chain.0) (cons_item x) cause (many_refused items n chain.0 t rest cause (omega arith) chain.2 refused))
 
   -- the items that are read, up to where there is none
   pub all_again : (items : List A) (tokens rest : List Seen) → AreRead items tokens rest → item rest ≡ Ok (None, rest) → all item tokens ≡ Ok (items, rest)

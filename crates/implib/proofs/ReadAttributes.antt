@@ -1,14 +1,14 @@
 -- What the readers give is spelled so, and what they refuse is refused by the grammar: attributes and exports.
-use Rattle.std.proofs.Common.{◌≡◌, ◌≢◌, ℕ, ◌<◌, ◌≤◌, ◌⊎◌, inl, inr, Bool, true, false, List, [], ◌∷◌, ◌++◌, length, Option, Some, None, Result, Ok, Err, refl, sym, ap, subst, ◌∙◌, arith}
+use Rattle.std.proofs.Common.{◌≡◌, ◌≢◌, ℕ, ◌<◌, ◌⊎◌, inl, inr, Bool, List, [], ◌∷◌, length, Option, Some, None, refl, sym, subst, ◌∙◌, arith}
 use Rattle.std.specs.Result.{MatchResult}
 use Rattle.std.specs.List.{flat_map}
 use Rattle.implib.specs.declared.def.lexer.TokenKind.{TokenKind}
 use Rattle.implib.specs.declared.def.lexer.TokenKind.TheVariants.{Eof, Identifier, Equal, EqualEqual, KwConstant, KwData, KwNoname, KwPrivate}
-use Rattle.implib.specs.Fault.{Cause, LoneAt}
-use Rattle.implib.specs.Grammar.{Attribute, Joined, Apart, Data, Constant, Private, Alias, Wanted, Of, Word, Target, Later, At, Ordinal, Begins, IsWord, IsLoneAt, IsAtNumber, at_sign, no_name_spelling, attribute_spelling, target_spelling}
-use Rattle.implib.specs.Number.{IsNumber, u16_limit}
-use Rattle.implib.specs.Reading.{Reads, ◌>>=◌, number_of, AtWord, Lone, WithOrdinal, Plain, at_word, word_read, no_name_by, no_name_read, ordinal_or, ordinal_by, ordinal_read, joined_from, apart_of, apart_from, alias_from, at_attribute, attribute_by, attribute_read, attributes_read, target_of, target_from, target_by, target_read}
-use Rattle.implib.specs.Refusal.{IsNoWord, IsEndForOrdinal, IsNoOrdinal, IsLoneTarget, IsNoneOf, attribute_kinds, goes_on_ordinal, goes_on_attribute, goes_on_attributes}
+use Rattle.implib.specs.Fault.{Cause}
+use Rattle.implib.specs.Grammar.{Attribute, Joined, Apart, Data, Constant, Private, Alias, Of, Word, Ordinal, Begins, IsWord, IsLoneAt, at_sign, no_name_spelling, attribute_spelling, target_spelling}
+use Rattle.implib.specs.Number.{u16_limit}
+use Rattle.implib.specs.Reading.{◌>>=◌, number_of, AtWord, Lone, WithOrdinal, Plain, at_word, word_read, no_name_by, no_name_read, ordinal_or, ordinal_by, ordinal_read, apart_from, alias_from, at_attribute, attribute_by, attribute_read, attributes_read, target_of, target_from, target_by, target_read}
+use Rattle.implib.specs.Refusal.{IsNoWord, IsEndForOrdinal, IsNoOrdinal, IsLoneTarget, attribute_kinds, goes_on_ordinal, goes_on_attribute, goes_on_attributes}
 use Rattle.implib.specs.Token.{Seen}
 use Rattle.implib.proofs.Begins.{Begins-append, Begins-shorter, IsAfter, AtFront, AtFront-weaker, CutAfter}
 use Rattle.implib.proofs.Many.{bind_outcome, Chain, ItemRead, AllRead, Stopped, all_outcome}
@@ -76,9 +76,9 @@ AttributeRead tokens found = ItemRead AttributeStands NoAttribute tokens found
 apart_outcome : (t : Seen) (rest : List Seen) → IsWord t (at_sign ∷ []) → MatchResult (ordinal_read rest >>= apart_from) (AttributeRead (t ∷ rest)) (AttributeCut (t ∷ rest))
 apart_outcome t rest word =
     bind_outcome (OrdinalRead rest) (AtFront OrdinalRefused rest) (AttributeRead (t ∷ rest)) (AttributeCut (t ∷ rest)) (ordinal_read rest) apart_from (ordinal_outcome rest)
-        (λ n h. let after = no_name_outcome n.1 in
-            ((word, Begins-append rest (Ordinal n.0 ∷ []) (no_name_spelling (no_name_read n.1).0) n.1 (no_name_read n.1).1 h after.0), after.1))
-        (λ cause h. inr (record { mid = rest; begins = (word, refl); refused = h }))
+    (λ n h. let after = no_name_outcome n.1 in
+    ((word, Begins-append rest (Ordinal n.0 ∷ []) (no_name_spelling (no_name_read n.1).0) n.1 (no_name_read n.1).1 h after.0), after.1))
+    (λ cause h. inr (record { mid = rest; begins = (word, refl); refused = h }))
 
 at_attribute_outcome : (word : AtWord) (t : Seen) (rest : List Seen) → t.kind ≡ Identifier → IsAtWord word t.value → MatchResult (at_attribute word t rest) (AttributeRead (t ∷ rest)) (AttributeCut (t ∷ rest))
 at_attribute_outcome Lone t rest e is = apart_outcome t rest (record { kind = e; value_is = is })
@@ -89,8 +89,8 @@ attribute_by_outcome : (kind : TokenKind) (t : Seen) (rest : List Seen) → t.ki
 attribute_by_outcome Identifier t rest e = at_attribute_outcome (at_word t.value) t rest e (at_word-gives t.value)
 attribute_by_outcome EqualEqual t rest e =
     bind_outcome (WordRead rest) (AtFront IsNoWord rest) (AttributeRead (t ∷ rest)) (AttributeCut (t ∷ rest)) (word_read rest) alias_from (word_outcome rest)
-        (λ word h. ((e, h), IsAfter-none word.1))
-        (λ cause h. inl (record { mid = rest; begins = (e, refl); refused = h }))
+    (λ word h. ((e, h), IsAfter-none word.1))
+    (λ cause h. inl (record { mid = rest; begins = (e, refl); refused = h }))
 attribute_by_outcome KwData t rest e = ((e, refl), IsAfter-none rest)
 attribute_by_outcome KwConstant t rest e = ((e, refl), IsAfter-none rest)
 attribute_by_outcome KwPrivate t rest e = ((e, refl), IsAfter-none rest)
@@ -168,8 +168,8 @@ target_from_outcome first (t ∷ tokens) word sign h = target_of_outcome first t
 target_by_outcome : (kind : TokenKind) (t : Seen) (rest : List Seen) → t.kind ≡ kind → MatchResult (target_by kind t rest) (TargetRead (t ∷ rest)) (TargetCut (t ∷ rest))
 target_by_outcome Equal t rest e =
     bind_outcome (WordRead rest) (AtFront IsNoWord rest) (TargetRead (t ∷ rest)) (TargetCut (t ∷ rest)) (word_read rest) target_from (word_outcome rest)
-        (λ word h. target_from_outcome t rest word e h)
-        (λ cause h. record { mid = rest; begins = (e, refl); refused = AtFront-weaker IsNoWord TargetRefused (λ u c k. inl k) rest cause h })
+    (λ word h. target_from_outcome t rest word e h)
+    (λ cause h. record { mid = rest; begins = (e, refl); refused = AtFront-weaker IsNoWord TargetRefused (λ u c k. inl k) rest cause h })
 target_by_outcome kind t rest e = (refl, none_at t.kind kind (Equal ∷ []) e refl)
 
 pub target_outcome : (tokens : List Seen) → MatchResult (target_read tokens) (TargetRead tokens) (TargetCut tokens)

@@ -1,19 +1,19 @@
 -- What the readers give is spelled so, and what they refuse is refused by the grammar: exports.
-use Rattle.std.proofs.Common.{◌≡◌, ◌≢◌, ℕ, ◌<◌, ◌≤◌, ◌⊎◌, inl, inr, Bool, true, false, List, [], ◌∷◌, ◌++◌, length, Option, Some, None, Result, Ok, Err, refl, sym, ap, subst, ◌∙◌, arith}
+use Rattle.std.proofs.Common.{◌≡◌, ℕ, ◌<◌, inl, inr, List, [], ◌∷◌, ◌++◌, length, Option, Some, None, refl, sym, subst, arith}
 use Rattle.std.specs.Result.{MatchResult}
 use Rattle.std.specs.List.{flat_map}
 use Rattle.implib.specs.declared.def.lexer.TokenKind.{TokenKind}
 use Rattle.implib.specs.declared.def.lexer.TokenKind.TheVariants.{Identifier, Equal, EqualEqual}
 use Rattle.implib.specs.Fault.{Cause}
-use Rattle.implib.specs.Grammar.{Attribute, Export, Wanted, Of, Word, Later, Begins, IsWord, at_sign, attribute_spelling, target_spelling, export_spelling, exports_spelling}
-use Rattle.implib.specs.Reading.{Reads, ◌>>=◌, Plain, target_read, attributes_read, export_of, export_from, export_by, export_read, exports_read}
-use Rattle.implib.specs.Refusal.{IsNoWord, IsNoneOf, attribute_kinds, goes_on_target, goes_on_attributes, goes_on_export, goes_on_exports, bare, Started, ToTarget, ToAlias, ToOrdinal, RefusedAfter, started_spelling}
+use Rattle.implib.specs.Grammar.{Attribute, Export, Wanted, Of, Word, Later, Begins, at_sign, attribute_spelling, target_spelling, export_spelling, exports_spelling}
+use Rattle.implib.specs.Reading.{Plain, target_read, attributes_read, export_of, export_from, export_by, export_read, exports_read}
+use Rattle.implib.specs.Refusal.{IsNoWord, attribute_kinds, goes_on_target, goes_on_attributes, goes_on_export, goes_on_exports, bare}
 use Rattle.implib.specs.Token.{Seen}
-use Rattle.implib.proofs.Begins.{Begins-append, Begins-shorter, IsAfter, AtFront, CutAfter}
+use Rattle.implib.proofs.Begins.{IsAfter-append, Begins-append, Begins-shorter, IsAfter, AtFront}
 use Rattle.implib.proofs.Many.{bind_outcome, Chain, ItemRead, AllRead, Stopped, all_outcome}
 use Rattle.implib.proofs.ReadSpelled.{IsAfter-none}
 use Rattle.implib.proofs.ReadAttributes.{OrdinalRefused, TargetRefused, AttributeStands, NoAttribute, AttributeCut, AttributesRead, AttributesCut, PlainFront, attributes_outcome, attributes_begin, attributes_end, goes_on_no_target, TargetRead, TargetCut, target_outcome}
-use Rattle.implib.proofs.TokenKinds.{none_at, not_at}
+use Rattle.implib.proofs.TokenKinds.{none_at}
 use Rattle.implib.proofs.Words.{IsAtWord}
 
 -- ---- an export that has begun
@@ -67,14 +67,6 @@ NoExport tokens = IsAfter (Identifier ∷ []) tokens
 abbrev pub ExportRead : List Seen → Option Export × List Seen → Type 0
 ExportRead tokens found = ItemRead ExportStands NoExport tokens found
 
-IsNoneOf-append : (kind : TokenKind) (a b : List TokenKind) → IsNoneOf kind a → IsNoneOf kind b → IsNoneOf kind (a ++ b)
-IsNoneOf-append kind [] b h k = k
-IsNoneOf-append kind (x ∷ a) b h k = (h.0, IsNoneOf-append kind a b h.1 k)
-
-pub IsAfter-append : (a b : List TokenKind) (tokens : List Seen) → IsAfter a tokens → IsAfter b tokens → IsAfter (a ++ b) tokens
-IsAfter-append a b [] h k = tt
-IsAfter-append a b (t ∷ rest) h k = IsNoneOf-append t.kind a b h k
-
 after_target : (target : Option (List ℕ)) (items : List Attribute) (mid rest : List Seen) → IsAfter (goes_on_no_target target) mid → Chain AttributeStands NoAttribute items mid rest → IsAfter (goes_on_target target items) rest
 after_target None [] mid rest h chain = subst (IsAfter (Equal ∷ [])) chain h
 after_target None (a ∷ items) mid rest h chain = IsAfter-none rest
@@ -82,13 +74,14 @@ after_target (Some value) items mid rest h chain = IsAfter-none rest
 
 whole_export : (t : Seen) (tokens : List Seen) (target : Option (List ℕ) × List Seen) (found : List Attribute × List Seen) → t.kind ≡ Identifier → TargetRead tokens target → AttributesRead target.1 found
     → ExportStands (t ∷ tokens) (record { word = t.value; target = target.0; attributes = found.0 }) found.1
-whole_export t tokens target found e h k =
-    ((record { kind = e; value_is = refl }, Begins-append tokens (target_spelling target.0) (flat_map attribute_spelling found.0) target.1 found.1 h.0 (attributes_begin found.0 target.1 found.1 k.0)),
-     record {
-       kinds = IsAfter-append attribute_kinds (goes_on_target target.0 found.0 ++ goes_on_attributes found.0) found.1 k.1.0
-           (IsAfter-append (goes_on_target target.0 found.0) (goes_on_attributes found.0) found.1 (after_target target.0 found.0 target.1 found.1 h.1 k.0) (attributes_end found.0 target.1 found.1 k.0));
-       plain = k.1.1;
-     })
+whole_export t tokens target found e h k = (
+  (record { kind = e; value_is = refl }, Begins-append tokens (target_spelling target.0) (flat_map attribute_spelling found.0) target.1 found.1 h.0 (attributes_begin found.0 target.1 found.1 k.0)),
+  record {
+    kinds = IsAfter-append attribute_kinds (goes_on_target target.0 found.0 ++ goes_on_attributes found.0) found.1 k.1.0
+        (IsAfter-append (goes_on_target target.0 found.0) (goes_on_attributes found.0) found.1 (after_target target.0 found.0 target.1 found.1 h.1 k.0) (attributes_end found.0 target.1 found.1 k.0));
+    plain = k.1.1;
+  },
+)
 
 cut_attribute : (t : Seen) (tokens : List Seen) (target : Option (List ℕ) × List Seen) (cause : Cause) → t.kind ≡ Identifier → TargetRead tokens target → (items : List Attribute) (mid : List Seen) → Chain AttributeStands NoAttribute items target.1 mid → AttributeCut mid cause
     → PartCut (t ∷ tokens) cause
@@ -122,14 +115,14 @@ cut_target t tokens cause e c = record {
 export_from_outcome : (t : Seen) (tokens : List Seen) (target : Option (List ℕ) × List Seen) → t.kind ≡ Identifier → TargetRead tokens target → MatchResult (export_from t.value target) (ExportRead (t ∷ tokens)) (PartCut (t ∷ tokens))
 export_from_outcome t tokens target e h =
     bind_outcome (AttributesRead target.1) (AttributesCut target.1) (ExportRead (t ∷ tokens)) (PartCut (t ∷ tokens)) (attributes_read target.1) (export_of t.value target.0) (attributes_outcome target.1)
-        (λ found k. whole_export t tokens target found e h k)
-        (λ cause k. cut_attribute t tokens target cause e h k.items k.mid k.chain k.refused)
+    (λ found k. whole_export t tokens target found e h k)
+    (λ cause k. cut_attribute t tokens target cause e h k.items k.mid k.chain k.refused)
 
 export_by_outcome : (kind : TokenKind) (t : Seen) (rest : List Seen) → t.kind ≡ kind → MatchResult (export_by kind t rest) (ExportRead (t ∷ rest)) (PartCut (t ∷ rest))
 export_by_outcome Identifier t rest e =
     bind_outcome (TargetRead rest) (TargetCut rest) (ExportRead (t ∷ rest)) (PartCut (t ∷ rest)) (target_read rest) (export_from t.value) (target_outcome rest)
-        (λ target h. export_from_outcome t rest target e h)
-        (λ cause h. cut_target t rest cause e h)
+    (λ target h. export_from_outcome t rest target e h)
+    (λ cause h. cut_target t rest cause e h)
 export_by_outcome kind t rest e = (refl, none_at t.kind kind (Identifier ∷ []) e refl)
 
 export_outcome : (tokens : List Seen) → MatchResult (export_read tokens) (ExportRead tokens) (PartCut tokens)

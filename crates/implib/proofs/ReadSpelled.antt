@@ -1,10 +1,10 @@
 -- What the readers give is spelled so, and what they refuse is refused by the grammar: words, sizes, names and versions.
-use Rattle.std.proofs.Common.{◌≡◌, ◌≢◌, ℕ, ◌<◌, ◌≤◌, ◌⊎◌, inl, inr, Bool, true, false, List, [], ◌∷◌, ◌++◌, length, Option, Some, None, Result, Ok, Err, refl, sym, ap, subst, ◌∙◌, arith}
+use Rattle.std.proofs.Common.{◌≡◌, ℕ, ◌⊎◌, inl, inr, List, [], ◌∷◌, ◌++◌, Option, Some, None, Ok, Err, refl, sym, ap, subst}
 use Rattle.std.specs.Result.{MatchResult}
 use Rattle.implib.specs.declared.def.lexer.TokenKind.{TokenKind}
-use Rattle.implib.specs.declared.def.lexer.TokenKind.TheVariants.{Eof, Identifier, Comma, Equal, KwBase}
+use Rattle.implib.specs.declared.def.lexer.TokenKind.TheVariants.{Identifier, Comma, Equal, KwBase}
 use Rattle.implib.specs.Fault.{Cause, ExpectedIdentifier, ExpectedEqual}
-use Rattle.implib.specs.Grammar.{Wanted, Of, Word, Number, Numbers, Begins, IsWord, IsVersion, Nameless, Named, Statement, base_spelling, commit_spelling, NameOrLibrary, Is, statement_spelling}
+use Rattle.implib.specs.Grammar.{Wanted, Of, Word, Number, Numbers, Begins, IsWord, IsVersion, Statement, base_spelling, commit_spelling, NameOrLibrary, Is, statement_spelling}
 use Rattle.implib.specs.Number.{IsNumber, u64_limit}
 use Rattle.implib.specs.Reading.{Reads, ◌>>=◌, number_of, version_of, word_by, word_read, integer_or, number_from, number_read, version_from, version_read, some_number, commit_by, commit_read, sizes_of, sizes_from, sizes_read, sign_by, sign_read, base_by, base_read, named_from, name_by, name_read}
 use Rattle.implib.specs.Refusal.{IsNoWord, IsNoNumber, IsNoVersion, IsNoSign, goes_on_size, goes_on_name, goes_on}
@@ -54,8 +54,8 @@ pub number_outcome : (tokens : List Seen) → MatchResult (number_read tokens) (
 unfolding number_read
 number_outcome tokens =
     bind_outcome (WordRead tokens) (AtFront IsNoWord tokens) (NumberRead tokens) (AtFront NumberRefused tokens) (word_read tokens) number_from (word_outcome tokens)
-        (λ word h. number_from_outcome tokens word h)
-        (λ cause h. AtFront-weaker IsNoWord NumberRefused (λ t c k. inl k) tokens cause h)
+    (λ word h. number_from_outcome tokens word h)
+    (λ cause h. AtFront-weaker IsNoWord NumberRefused (λ t c k. inl k) tokens cause h)
 
 -- ---- versions
 
@@ -83,8 +83,8 @@ pub version_outcome : (tokens : List Seen) → MatchResult (version_read tokens)
 unfolding version_read
 version_outcome tokens =
     bind_outcome (WordRead tokens) (AtFront IsNoWord tokens) (VersionRead tokens) (AtFront VersionRefused tokens) (word_read tokens) version_from (word_outcome tokens)
-        (λ word h. version_from_outcome tokens word h)
-        (λ cause h. AtFront-weaker IsNoWord VersionRefused (λ t c k. inl k) tokens cause h)
+    (λ word h. version_from_outcome tokens word h)
+    (λ cause h. AtFront-weaker IsNoWord VersionRefused (λ t c k. inl k) tokens cause h)
 
 -- ---- sizes
 
@@ -102,8 +102,8 @@ IsAfter-none (t ∷ rest) = tt
 commit_by_outcome : (kind : TokenKind) (t : Seen) (rest : List Seen) → t.kind ≡ kind → MatchResult (commit_by kind t rest) (CommitRead (t ∷ rest)) (CommitCut (t ∷ rest))
 commit_by_outcome Comma t rest e =
     bind_outcome (NumberRead rest) (AtFront NumberRefused rest) (CommitRead (t ∷ rest)) (CommitCut (t ∷ rest)) (number_read rest) some_number (number_outcome rest)
-        (λ n h. ((e, h), IsAfter-none n.1))
-        (λ cause h. record { mid = rest; begins = (e, refl); refused = h })
+    (λ n h. ((e, h), IsAfter-none n.1))
+    (λ cause h. record { mid = rest; begins = (e, refl); refused = h })
 commit_by_outcome kind t rest e = (refl, none_at t.kind kind (Comma ∷ []) e refl)
 
 commit_outcome : (tokens : List Seen) → MatchResult (commit_read tokens) (CommitRead tokens) (CommitCut tokens)
@@ -121,26 +121,28 @@ SizesCut tokens cause = AtFront NumberRefused tokens cause ⊎ ((n : ℕ) × Cut
 sizes_from_outcome : (tokens : List Seen) (n : ℕ × List Seen) → NumberRead tokens n → MatchResult (sizes_from n) (SizesRead tokens) (SizesCut tokens)
 sizes_from_outcome tokens n h =
     bind_outcome (CommitRead n.1) (CommitCut n.1) (SizesRead tokens) (SizesCut tokens) (commit_read n.1) (sizes_of n.0) (commit_outcome n.1)
-        (λ commit k. (Begins-append tokens (Number n.0 ∷ []) (commit_spelling commit.0) n.1 commit.1 h k.0, k.1))
-        (λ cause k. inr (n.0, record {
-          mid = k.mid;
-          begins = Begins-append tokens (Number n.0 ∷ []) (Of Comma ∷ []) n.1 k.mid h k.begins;
-          refused = k.refused;
-        }))
+    (λ commit k. (Begins-append tokens (Number n.0 ∷ []) (commit_spelling commit.0) n.1 commit.1 h k.0, k.1))
+    (λ cause k. inr (
+      n.0,
+      record {
+        mid = k.mid;
+        begins = Begins-append tokens (Number n.0 ∷ []) (Of Comma ∷ []) n.1 k.mid h k.begins;
+        refused = k.refused;
+      },
+    ))
 
 pub sizes_outcome : (tokens : List Seen) → MatchResult (sizes_read tokens) (SizesRead tokens) (SizesCut tokens)
 unfolding sizes_read
 sizes_outcome tokens =
     bind_outcome (NumberRead tokens) (AtFront NumberRefused tokens) (SizesRead tokens) (SizesCut tokens) (number_read tokens) sizes_from (number_outcome tokens)
-        (λ n h. sizes_from_outcome tokens n h) (λ cause h. inl h)
+    (λ n h. sizes_from_outcome tokens n h) (λ cause h. inl h)
 
 -- ---- names
 
-SignRead : List Seen → List Seen → Type 0
+abbrev SignRead : List Seen → List Seen → Type 0
 SignRead tokens rest = Begins tokens (Of Equal ∷ []) rest
 
 sign_by_outcome : (kind : TokenKind) (t : Seen) (rest : List Seen) → t.kind ≡ kind → MatchResult (sign_by kind rest) (SignRead (t ∷ rest)) (AtFront IsNoSign (t ∷ rest))
-unfolding SignRead
 sign_by_outcome Equal t rest e = (e, refl)
 sign_by_outcome kind t rest e = record { other = not_at t.kind kind Equal e refl; told = ap ExpectedEqual (sym e) }
 
@@ -158,22 +160,21 @@ BaseCut front tokens cause = CutAfter tokens (front ++ Of KwBase ∷ []) IsNoSig
 
 signed_outcome : (t : Seen) (rest after : List Seen) → t.kind ≡ KwBase → SignRead rest after
     → MatchResult (number_read after) (λ n. Begins (t ∷ rest) (base_spelling (Some n.0)) n.1) (BaseCut [] (t ∷ rest))
-unfolding SignRead
 signed_outcome t rest after e h =
-    bind_outcome2 (number_read after) (number_outcome after)
+    by_number (number_read after) (number_outcome after)
   where
-    bind_outcome2 : (r : Reads ℕ) → MatchResult r (NumberRead after) (AtFront NumberRefused after) → MatchResult r (λ n. Begins (t ∷ rest) (base_spelling (Some n.0)) n.1) (BaseCut [] (t ∷ rest))
-    bind_outcome2 (Ok n) k = (e, Begins-append rest (Of Equal ∷ []) (Number n.0 ∷ []) after n.1 h k)
-    bind_outcome2 (Err cause) k = inr (record { mid = after; begins = (e, h); refused = k })
+    by_number : (r : Reads ℕ) → MatchResult r (NumberRead after) (AtFront NumberRefused after) → MatchResult r (λ n. Begins (t ∷ rest) (base_spelling (Some n.0)) n.1) (BaseCut [] (t ∷ rest))
+    by_number (Ok n) k = (e, Begins-append rest (Of Equal ∷ []) (Number n.0 ∷ []) after n.1 h k)
+    by_number (Err cause) k = inr (record { mid = after; begins = (e, h); refused = k })
 
 base_by_outcome : (kind : TokenKind) (t : Seen) (rest : List Seen) → t.kind ≡ kind → MatchResult (base_by kind t rest) (BaseRead (t ∷ rest)) (BaseCut [] (t ∷ rest))
 base_by_outcome KwBase t rest e =
     bind_outcome (λ (n : ℕ × List Seen). Begins (t ∷ rest) (base_spelling (Some n.0)) n.1) (BaseCut [] (t ∷ rest)) (BaseRead (t ∷ rest)) (BaseCut [] (t ∷ rest)) (sign_read rest >>= number_read) some_number
-        (bind_outcome (SignRead rest) (AtFront IsNoSign rest) (λ (n : ℕ × List Seen). Begins (t ∷ rest) (base_spelling (Some n.0)) n.1) (BaseCut [] (t ∷ rest)) (sign_read rest) number_read (sign_outcome rest)
-            (λ after h. signed_outcome t rest after e h)
-            (λ cause h. inl (record { mid = rest; begins = (e, refl); refused = h })))
-        (λ n h. (h, IsAfter-none n.1))
-        (λ cause h. h)
+    (bind_outcome (SignRead rest) (AtFront IsNoSign rest) (λ (n : ℕ × List Seen). Begins (t ∷ rest) (base_spelling (Some n.0)) n.1) (BaseCut [] (t ∷ rest)) (sign_read rest) number_read (sign_outcome rest)
+    (λ after h. signed_outcome t rest after e h)
+    (λ cause h. inl (record { mid = rest; begins = (e, refl); refused = h })))
+    (λ n h. (h, IsAfter-none n.1))
+    (λ cause h. h)
 base_by_outcome kind t rest e = (refl, none_at t.kind kind (KwBase ∷ []) e refl)
 
 base_outcome : (tokens : List Seen) → MatchResult (base_read tokens) (BaseRead tokens) (BaseCut [] tokens)
@@ -195,8 +196,8 @@ name_by_outcome : (first : Seen) → Is NameOrLibrary first → (kind : TokenKin
 name_by_outcome first is Identifier t rest e =
     let word : IsWord t t.value = record { kind = e; value_is = refl } in
     bind_outcome (BaseRead rest) (BaseCut [] rest) (NameRead (first ∷ t ∷ rest)) (NameCut (first ∷ t ∷ rest)) (base_read rest) (named_from t.value) (base_outcome rest)
-        (λ base k. ((is, (word, k.0)), k.1))
-        (λ cause k. named_cut first t rest cause is word k)
+    (λ base k. ((is, (word, k.0)), k.1))
+    (λ cause k. named_cut first t rest cause is word k)
 name_by_outcome first is kind t rest e = ((is, refl), none_at t.kind kind (Identifier ∷ []) e refl)
 
 pub name_outcome : (first : Seen) → Is NameOrLibrary first → (tokens : List Seen) → MatchResult (name_read tokens) (NameRead (first ∷ tokens)) (NameCut (first ∷ tokens))

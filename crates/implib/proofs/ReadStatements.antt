@@ -1,18 +1,17 @@
 -- What the readers give is spelled so, and what they refuse is refused by the grammar: statements.
-use Rattle.std.proofs.Common.{◌≡◌, ◌≢◌, ℕ, ◌<◌, ◌≤◌, ◌⊎◌, inl, inr, List, [], ◌∷◌, ◌++◌, length, Option, Some, None, Result, Ok, Err, refl, sym, ap, subst, ◌∙◌, arith}
+use Rattle.std.proofs.Common.{◌≡◌, ◌≢◌, ℕ, ◌<◌, ◌⊎◌, inl, inr, List, [], ◌∷◌, ◌++◌, length, Option, refl, subst, arith}
 use Rattle.std.specs.Result.{MatchResult}
-use Rattle.std.specs.List.{flat_map}
 use Rattle.implib.specs.declared.def.lexer.TokenKind.{TokenKind}
-use Rattle.implib.specs.declared.def.lexer.TokenKind.TheVariants.{Eof, Identifier, Comma, Equal, EqualEqual, KwBase, KwExports, KwHeapsize, KwLibrary, KwName, KwStacksize, KwVersion}
+use Rattle.implib.specs.declared.def.lexer.TokenKind.TheVariants.{Eof, Identifier, Equal, EqualEqual, KwExports, KwHeapsize, KwLibrary, KwName, KwStacksize, KwVersion}
 use Rattle.implib.specs.Fault.{Cause, UnknownDirective}
-use Rattle.implib.specs.Grammar.{Export, Region, Heap, Stack, Statement, Exports, Sizes, Nameless, Named, Version, Wanted, Of, NameOrLibrary, Word, Number, Is, Begins, region_kind, export_spelling, exports_spelling, statement_spelling, spelling}
-use Rattle.implib.specs.Reading.{Reads, ◌>>=◌, sizes_read, version_read, name_read, exports_read, exports_from, region_from, some_statement, versions_from, statement_by, statement_read, statements_read}
+use Rattle.implib.specs.Grammar.{Export, Region, Heap, Stack, Statement, Exports, Sizes, Nameless, Named, Version, Of, NameOrLibrary, Word, Is, Begins, region_kind, export_spelling, exports_spelling, statement_spelling, spelling}
+use Rattle.implib.specs.Reading.{◌>>=◌, sizes_read, version_read, name_read, exports_read, exports_from, region_from, some_statement, versions_from, statement_by, statement_read, statements_read}
 use Rattle.implib.specs.Refusal.{IsNoneOf, directives, goes_on, goes_on_exports, goes_on_last, Started, ToSize, ToSecondSize, ToBaseSign, ToBase, ToVersion, ToTarget, ToAlias, ToOrdinal, started_spelling, RefusedAfter, bare}
 use Rattle.implib.specs.Token.{Seen}
-use Rattle.implib.proofs.Begins.{Begins-append, Begins-shorter, IsAfter, AtFront, CutAfter}
+use Rattle.implib.proofs.Begins.{IsAfter-append, Begins-append, Begins-shorter, IsAfter, AtFront}
 use Rattle.implib.proofs.Many.{bind_outcome, Chain, ItemRead, AllRead, Stopped, all_outcome}
 use Rattle.implib.proofs.ReadSpelled.{IsAfter-none, SizesRead, SizesCut, sizes_outcome, VersionRead, VersionRefused, version_outcome, NameRead, NameCut, BaseCut, name_outcome}
-use Rattle.implib.proofs.ReadExports.{Part, TargetPart, AliasPart, OrdinalPart, part_export, part_wanted, part_refused, PartCut, ExportStands, NoExport, ExportsRead, ExportsCut, exports_outcome, exports_then, exports_begin, exports_end, IsAfter-append}
+use Rattle.implib.proofs.ReadExports.{Part, TargetPart, AliasPart, OrdinalPart, part_export, part_wanted, part_refused, ExportStands, NoExport, ExportsRead, ExportsCut, exports_outcome, exports_then, exports_begin, exports_end}
 use Rattle.implib.proofs.TokenKinds.{none_at, not_at}
 
 -- a statement that stands before what follows it
@@ -70,8 +69,8 @@ cut_part t rest items next cause e chain (OrdinalPart last) whole mid begins beg
 exports_statement : (t : Seen) (rest : List Seen) → t.kind ≡ KwExports → MatchResult (exports_read rest >>= exports_from) (StatementRead (t ∷ rest)) (StatementCut (t ∷ rest))
 exports_statement t rest e =
     bind_outcome (ExportsRead rest) (ExportsCut rest) (StatementRead (t ∷ rest)) (StatementCut (t ∷ rest)) (exports_read rest) exports_from (exports_outcome rest)
-        (λ found k. ((e, exports_begin found.0 rest found.1 k.0), IsAfter-append (Identifier ∷ []) (goes_on_exports found.0) found.1 k.1 (exports_end found.0 rest found.1 k.0)))
-        (λ cause k. cut_part t rest k.items k.mid cause e k.chain k.refused.part k.refused.whole k.refused.mid k.refused.begins k.refused.begun k.refused.refused)
+    (λ found k. ((e, exports_begin found.0 rest found.1 k.0), IsAfter-append (Identifier ∷ []) (goes_on_exports found.0) found.1 k.1 (exports_end found.0 rest found.1 k.0)))
+    (λ cause k. cut_part t rest k.items k.mid cause e k.chain k.refused.part k.refused.whole k.refused.mid k.refused.begins k.refused.begun k.refused.refused)
 
 cut_sizes : (t : Seen) (rest : List Seen) (region : Region) (cause : Cause) → t.kind ≡ region_kind region → SizesCut rest cause → StatementCut (t ∷ rest) cause
 cut_sizes t rest region cause e (inl h) = inr (record { started = ToSize region; mid = rest; begins = (e, refl); refused = h })
@@ -80,8 +79,8 @@ cut_sizes t rest region cause e (inr c) = inr (record { started = ToSecondSize r
 sizes_statement : (t : Seen) (rest : List Seen) (region : Region) → t.kind ≡ region_kind region → MatchResult (sizes_read rest >>= region_from region) (StatementRead (t ∷ rest)) (StatementCut (t ∷ rest))
 sizes_statement t rest region e =
     bind_outcome (SizesRead rest) (SizesCut rest) (StatementRead (t ∷ rest)) (StatementCut (t ∷ rest)) (sizes_read rest) (region_from region) (sizes_outcome rest)
-        (λ sizes k. ((e, k.0), k.1))
-        (λ cause k. cut_sizes t rest region cause e k)
+    (λ sizes k. ((e, k.0), k.1))
+    (λ cause k. cut_sizes t rest region cause e k)
 
 cut_base : (t : Seen) (rest : List Seen) (name : List ℕ) (cause : Cause) → BaseCut (NameOrLibrary ∷ Word name ∷ []) (t ∷ rest) cause → StatementCut (t ∷ rest) cause
 cut_base t rest name cause (inl c) = inr (record { started = ToBaseSign name; mid = c.mid; begins = c.begins; refused = c.refused })
@@ -90,14 +89,14 @@ cut_base t rest name cause (inr c) = inr (record { started = ToBase name; mid = 
 name_statement : (t : Seen) (rest : List Seen) → Is NameOrLibrary t → MatchResult (name_read rest >>= some_statement) (StatementRead (t ∷ rest)) (StatementCut (t ∷ rest))
 name_statement t rest is =
     bind_outcome (NameRead (t ∷ rest)) (NameCut (t ∷ rest)) (StatementRead (t ∷ rest)) (StatementCut (t ∷ rest)) (name_read rest) some_statement (name_outcome t is rest)
-        (λ statement k. k)
-        (λ cause k. cut_base t rest k.0 cause k.1)
+    (λ statement k. k)
+    (λ cause k. cut_base t rest k.0 cause k.1)
 
 version_statement : (t : Seen) (rest : List Seen) → t.kind ≡ KwVersion → MatchResult (version_read rest >>= versions_from) (StatementRead (t ∷ rest)) (StatementCut (t ∷ rest))
 version_statement t rest e =
     bind_outcome (VersionRead rest) (AtFront VersionRefused rest) (StatementRead (t ∷ rest)) (StatementCut (t ∷ rest)) (version_read rest) versions_from (version_outcome rest)
-        (λ version k. ((e, k), IsAfter-none version.1))
-        (λ cause k. inr (record { started = ToVersion; mid = rest; begins = (e, refl); refused = k }))
+    (λ version k. ((e, k), IsAfter-none version.1))
+    (λ cause k. inr (record { started = ToVersion; mid = rest; begins = (e, refl); refused = k }))
 
 statement_by_outcome : (kind : TokenKind) (t : Seen) (rest : List Seen) → t.kind ≡ kind → MatchResult (statement_by kind t rest) (StatementRead (t ∷ rest)) (StatementCut (t ∷ rest))
 statement_by_outcome Eof t rest e = (refl, e)

@@ -1,17 +1,17 @@
 -- What the readers give is what the grammar says.
-use Rattle.std.proofs.Common.{◌≡◌, ◌⊎◌, inl, inr, List, [], ◌∷◌, ◌++◌, ℕ, Result, Ok, Err, refl, sym, ap, subst, ◌∙◌}
+use Rattle.std.proofs.Common.{◌≡◌, inl, inr, List, [], ◌∷◌, ℕ, Result, Ok, Err, subst}
 use Rattle.std.specs.Result.{MatchResult}
 use Rattle.implib.specs.declared.def.lexer.TokenKind.TheVariants.{Eof}
 use Rattle.implib.specs.declared.machine.MachineType.{MachineType}
-use Rattle.implib.specs.Definition.{DefinitionView, empty_definition}
+use Rattle.implib.specs.Definition.{DefinitionView}
 use Rattle.implib.specs.Fault.{Cause}
 use Rattle.implib.specs.Grammar.{Statement, Of, Sentence, Begins, spelling}
 use Rattle.implib.specs.Meaning.{meaning}
 use Rattle.implib.specs.Parses.{Parses, Refuses}
-use Rattle.implib.specs.Reading.{◌>>=◌, statements_read, with_statements, definition_from, read}
+use Rattle.implib.specs.Reading.{◌>>=◌, statements_read, definition_from, read}
 use Rattle.implib.specs.Refusal.{Broken, started_spelling, RefusedAfter}
 use Rattle.implib.specs.Token.{Lexed, Seen, EndsInEof}
-use Rattle.implib.proofs.Begins.{Begins-append, Begins-ends, EndsInEof-last, EndsInEof-some, AtFront, IsAfter}
+use Rattle.implib.proofs.Begins.{Begins-append, Begins-ends, EndsInEof-last, EndsInEof-some, AtFront}
 use Rattle.implib.proofs.Many.{Chain}
 use Rattle.implib.proofs.Meaning.{with_statements-meaning}
 use Rattle.implib.proofs.ReadStatements.{StatementStands, NoStatement, BeginsNone, StartedCut, StatementCut, StatementsRead, StatementsCut, statements_outcome, statements_begin, statements_end}

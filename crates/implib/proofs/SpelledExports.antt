@@ -1,17 +1,17 @@
 -- What is spelled is read so, and what the grammar refuses the readers refuse: attributes and exports.
-use Rattle.std.proofs.Common.{◌≡◌, ◌≢◌, ℕ, ◌<◌, ◌⊎◌, inl, inr, Bool, true, false, List, [], ◌∷◌, ◌++◌, length, Option, Some, None, Result, Ok, Err, refl, sym, ap, subst, ◌∙◌, arith}
+use Rattle.std.proofs.Common.{◌≡◌, ◌≢◌, ℕ, inl, inr, Bool, true, false, List, [], ◌∷◌, ◌++◌, Option, Some, None, Ok, Err, refl, sym, ap, subst, ◌∙◌, arith}
 use Rattle.std.specs.List.{flat_map}
 use Rattle.implib.specs.declared.def.lexer.TokenKind.{TokenKind}
 use Rattle.implib.specs.declared.def.lexer.TokenKind.TheVariants.{Eof, Identifier, Equal, EqualEqual, KwConstant, KwData, KwNoname, KwPrivate}
-use Rattle.implib.specs.Fault.{Cause, ExpectedIdentifier, InvalidOrdinal, LoneAt}
-use Rattle.implib.specs.Grammar.{Attribute, Joined, Apart, Data, Constant, Private, Alias, Export, Wanted, Of, Word, Later, Begins, IsWord, IsLoneAt, IsAtNumber, at_sign, no_name_spelling, attribute_spelling, target_spelling, export_spelling, exports_spelling}
+use Rattle.implib.specs.Fault.{Cause}
+use Rattle.implib.specs.Grammar.{Attribute, Joined, Apart, Data, Constant, Private, Alias, Export, Wanted, Of, Word, Later, Begins, IsWord, IsLoneAt, at_sign, no_name_spelling, attribute_spelling, target_spelling, export_spelling, exports_spelling}
 use Rattle.implib.specs.Number.{IsNumber, u16_limit}
-use Rattle.implib.specs.Reading.{Reads, ◌>>=◌, number_of, AtWord, Lone, WithOrdinal, Plain, at_word, word_read, no_name_by, no_name_read, ordinal_or, ordinal_by, ordinal_read, joined_from, apart_of, apart_from, alias_from, at_attribute, attribute_by, attribute_read, attributes_read, target_of, target_from, target_by, target_read, export_of, export_from, export_by, export_read, exports_read}
-use Rattle.implib.specs.Refusal.{IsNoWord, IsEndForOrdinal, IsNoOrdinal, IsLoneTarget, IsNoneOf, attribute_kinds, goes_on_ordinal, goes_on_attribute, goes_on_attributes, goes_on_target, goes_on_export, goes_on_exports, bare}
+use Rattle.implib.specs.Reading.{◌>>=◌, number_of, AtWord, Lone, WithOrdinal, Plain, at_word, word_read, no_name_by, no_name_read, ordinal_or, ordinal_by, ordinal_read, joined_from, apart_of, apart_from, alias_from, at_attribute, attribute_by, attribute_read, attributes_read, target_of, target_from, target_by, target_read, export_of, export_from, export_by, export_read, exports_read}
+use Rattle.implib.specs.Refusal.{IsNoWord, IsNoneOf, attribute_kinds, goes_on_ordinal, goes_on_attribute, goes_on_attributes, goes_on_target, goes_on_export, goes_on_exports, bare}
 use Rattle.implib.specs.Token.{Seen}
-use Rattle.implib.proofs.Begins.{Parted, Begins-parted, Begins-shorter, IsAfter}
+use Rattle.implib.proofs.Begins.{IsNoneOf-append, IsNoneOf-parts, IsAfter-parts, Begins-parted, Begins-shorter, IsAfter}
 use Rattle.implib.proofs.Many.{bind_ok, bind_err, Takes, AreRead, all_again, all_refused}
-use Rattle.implib.proofs.ReadAttributes.{OrdinalRefused, TargetRefused, NoAttribute, PlainFront, goes_on_no_target, attribute_spelled}
+use Rattle.implib.proofs.ReadAttributes.{OrdinalRefused, TargetRefused, NoAttribute, goes_on_no_target, attribute_spelled}
 use Rattle.implib.proofs.ReadExports.{ExportEnds}
 use Rattle.implib.proofs.SpelledRead.{word_again, word_refused}
 use Rattle.implib.proofs.TokenKinds.{none_at}
@@ -179,7 +179,7 @@ target_again (Some value) (t ∷ []) rest h after = absurd h.1
 target_again (Some value) (t ∷ u ∷ tokens) rest h after =
     after_sign t (u ∷ tokens) h.0
     ∙ bind_ok (word_read (u ∷ tokens)) target_from (value, tokens) (Ok (Some value, rest)) (word_again u value tokens h.1.0.0)
-        (not_lone_target (value, tokens) (at_word value) (at_word-gives value) h.1.0.1 ∙ ap (λ (s : List Seen). Ok (Some value, s)) h.1.1)
+    (not_lone_target (value, tokens) (at_word value) (at_word-gives value) h.1.0.1 ∙ ap (λ (s : List Seen). Ok (Some value, s)) h.1.1)
 
 target_refused : (t u : Seen) (rest : List Seen) (cause : Cause) → t.kind ≡ Equal → TargetRefused u cause → target_read (t ∷ u ∷ rest) ≡ Err cause
 target_refused t u rest cause e (inl h) =
@@ -187,7 +187,7 @@ target_refused t u rest cause e (inl h) =
 target_refused t u rest cause e (inr h) =
     after_sign t (u ∷ rest) e
     ∙ bind_ok (word_read (u ∷ rest)) target_from (u.value, rest) (Err cause) (word_again u u.value rest (record { kind = h.kind; value_is = refl }))
-        (ap (λ (w : AtWord). target_of w (u.value, rest)) (at_word-is u.value Lone h.lone) ∙ ap (λ (c : Cause). Err c) (sym h.told))
+    (ap (λ (w : AtWord). target_of w (u.value, rest)) (at_word-is u.value Lone h.lone) ∙ ap (λ (c : Cause). Err c) (sym h.told))
 
 -- ---- one export
 
@@ -197,14 +197,6 @@ before_attributes None (a ∷ items) [] rest h after = tt
 before_attributes None (a ∷ items) (t ∷ tokens) rest h after = (attribute_first a (flat_map attribute_spelling items) (t ∷ tokens) rest h).1
 before_attributes (Some value) items [] rest h after = tt
 before_attributes (Some value) items (t ∷ tokens) rest h after = tt
-
-IsNoneOf-parts : (kind : TokenKind) (a b : List TokenKind) → IsNoneOf kind (a ++ b) → IsNoneOf kind a × IsNoneOf kind b
-IsNoneOf-parts kind [] b h = (tt, h)
-IsNoneOf-parts kind (x ∷ a) b h = let p = IsNoneOf-parts kind a b h.1 in ((h.0, p.0), p.1)
-
-IsAfter-parts : (a b : List TokenKind) (tokens : List Seen) → IsAfter (a ++ b) tokens → IsAfter a tokens × IsAfter b tokens
-IsAfter-parts a b [] h = (tt, tt)
-IsAfter-parts a b (t ∷ rest) h = IsNoneOf-parts t.kind a b h
 
 -- what an export's first word leads to
 after_word : (e : Export) (t : Seen) (tokens : List Seen) → IsWord t e.word → export_read (t ∷ tokens) ≡ (target_read tokens >>= export_from e.word)
@@ -223,7 +215,7 @@ export_again e (t ∷ tokens) rest h ends =
     let read = all_again attribute_read e.attributes p.mid rest (attributes_again e.attributes p.mid rest p.back last.1) (no_attribute rest (kinds.0, ends.plain)) in
     after_word e t tokens h.0
     ∙ bind_ok (target_read tokens) (export_from e.word) (e.target, p.mid) (Ok (Some e, rest)) target
-        (bind_ok (attributes_read p.mid) (export_of e.word e.target) (e.attributes, rest) (Ok (Some e, rest)) read refl)
+    (bind_ok (attributes_read p.mid) (export_of e.word e.target) (e.attributes, rest) (Ok (Some e, rest)) read refl)
 
 clear_target : (target : Option (List ℕ)) (items : List Attribute) (kind : TokenKind) → kind ≢ Equal → IsNoneOf kind (goes_on_target target items)
 clear_target None [] kind other = (other, tt)
@@ -237,7 +229,7 @@ target_stops word (w ∷ []) t rest cause h refused = absurd h.1
 target_stops word (w ∷ sign ∷ tokens) t rest cause h refused =
     after_word (bare word) w (sign ∷ tokens) h.0
     ∙ bind_err (target_read (sign ∷ tokens)) (export_from word) cause
-        (ap (λ (s : List Seen). target_read (sign ∷ s)) h.1.1 ∙ target_refused sign t rest cause h.1.0 refused)
+    (ap (λ (s : List Seen). target_read (sign ∷ s)) h.1.1 ∙ target_refused sign t rest cause h.1.0 refused)
 
 -- the attributes so far are read, and one that is refused refuses the export
 attribute_stops : (e : Export) (tokens : List Seen) (first : Seen) (whole : List Seen) (cause : Cause) → Begins tokens (export_spelling Word e) (first ∷ whole) → IsNoneOf first.kind no_attribute_kinds → attribute_read (first ∷ whole) ≡ Err cause
@@ -250,25 +242,21 @@ attribute_stops e (t ∷ tokens) first whole cause h clear refused =
     let chain = attributes_again e.attributes p.mid (first ∷ whole) p.back (clear_attributes e.attributes first.kind clear.0) in
     after_word e t tokens h.0
     ∙ bind_ok (target_read tokens) (export_from e.word) (e.target, p.mid) (Err cause) target
-        (bind_err (attributes_read p.mid) (export_of e.word e.target) cause (all_refused attribute_read e.attributes p.mid first whole cause chain refused))
+    (bind_err (attributes_read p.mid) (export_of e.word e.target) cause (all_refused attribute_read e.attributes p.mid first whole cause chain refused))
 
 pub alias_stops : (e : Export) (tokens whole : List Seen) (t : Seen) (rest : List Seen) (cause : Cause) → Begins tokens (export_spelling Word e) whole → Begins whole (Of EqualEqual ∷ []) (t ∷ rest) → IsNoWord t cause → export_read tokens ≡ Err cause
 alias_stops e tokens [] t rest cause h begun refused = absurd begun
 alias_stops e tokens (first ∷ whole) t rest cause h begun refused =
     attribute_stops e tokens first whole cause h (none_at first.kind EqualEqual no_attribute_kinds begun.0 refl)
-        (ap (λ (s : List Seen). attribute_read (first ∷ s)) begun.1 ∙ alias_refused first t rest cause begun.0 refused)
+    (ap (λ (s : List Seen). attribute_read (first ∷ s)) begun.1 ∙ alias_refused first t rest cause begun.0 refused)
 
 pub ordinal_stops : (e : Export) (tokens whole : List Seen) (t : Seen) (rest : List Seen) (cause : Cause) → Begins tokens (export_spelling Word e) whole → Begins whole (Word (at_sign ∷ []) ∷ []) (t ∷ rest) → OrdinalRefused t cause → export_read tokens ≡ Err cause
 ordinal_stops e tokens [] t rest cause h begun refused = absurd begun
 ordinal_stops e tokens (first ∷ whole) t rest cause h begun refused =
     attribute_stops e tokens first whole cause h (none_at first.kind Identifier no_attribute_kinds begun.0.kind refl)
-        (ap (λ (s : List Seen). attribute_read (first ∷ s)) begun.1 ∙ lone_refused first t rest cause begun.0 refused)
+    (ap (λ (s : List Seen). attribute_read (first ∷ s)) begun.1 ∙ lone_refused first t rest cause begun.0 refused)
 
 -- ---- exports
-
-IsNoneOf-joined : (kind : TokenKind) (a b : List TokenKind) → IsNoneOf kind a → IsNoneOf kind b → IsNoneOf kind (a ++ b)
-IsNoneOf-joined kind [] b h k = k
-IsNoneOf-joined kind (x ∷ a) b h k = (h.0, IsNoneOf-joined kind a b h.1 k)
 
 -- what can go on an export, whatever it holds
 abbrev pub export_kinds : List TokenKind
@@ -277,8 +265,8 @@ export_kinds = attribute_kinds ++ no_attribute_kinds
 pub clear_export : (e : Export) (kind : TokenKind) → IsNoneOf kind export_kinds → IsNoneOf kind (goes_on_export e)
 clear_export e kind h =
     let p = IsNoneOf-parts kind attribute_kinds no_attribute_kinds h in
-    IsNoneOf-joined kind attribute_kinds (goes_on_target e.target e.attributes ++ goes_on_attributes e.attributes) p.0
-        (IsNoneOf-joined kind (goes_on_target e.target e.attributes) (goes_on_attributes e.attributes) (clear_target e.target e.attributes kind p.1.1.0) (clear_attributes e.attributes kind p.1.0))
+    IsNoneOf-append kind attribute_kinds (goes_on_target e.target e.attributes ++ goes_on_attributes e.attributes) p.0
+    (IsNoneOf-append kind (goes_on_target e.target e.attributes) (goes_on_attributes e.attributes) (clear_target e.target e.attributes kind p.1.1.0) (clear_attributes e.attributes kind p.1.0))
 
 -- a later name is a word
 later_is_word : (items : List Export) (tokens rest : List Seen) → Begins tokens (exports_spelling Later items) rest → Begins tokens (exports_spelling Word items) rest

@@ -1,14 +1,14 @@
 -- What is spelled is read so, and what the grammar refuses the readers refuse: words, sizes, names and versions.
-use Rattle.std.proofs.Common.{◌≡◌, ◌≢◌, ℕ, ◌<◌, ◌⊎◌, inl, inr, Bool, true, false, List, [], ◌∷◌, ◌++◌, length, Option, Some, None, Result, Ok, Err, refl, sym, ap, subst, ◌∙◌, arith}
+use Rattle.std.proofs.Common.{◌≡◌, ◌≢◌, ℕ, inl, inr, List, [], ◌∷◌, Option, Some, None, Ok, Err, refl, sym, ap, ◌∙◌}
 use Rattle.implib.specs.declared.def.lexer.TokenKind.{TokenKind}
-use Rattle.implib.specs.declared.def.lexer.TokenKind.TheVariants.{Eof, Identifier, Comma, Equal, KwBase}
-use Rattle.implib.specs.Fault.{Cause, ExpectedIdentifier, ExpectedEqual, ExpectedInteger}
-use Rattle.implib.specs.Grammar.{Wanted, Of, Word, Number, Numbers, Begins, IsWord, IsVersion, Statement, Nameless, Named, base_spelling, commit_spelling}
+use Rattle.implib.specs.declared.def.lexer.TokenKind.TheVariants.{Identifier, Comma, Equal, KwBase}
+use Rattle.implib.specs.Fault.{Cause, ExpectedIdentifier, ExpectedEqual}
+use Rattle.implib.specs.Grammar.{Of, Number, Begins, IsWord, IsVersion, Nameless, Named, base_spelling, commit_spelling}
 use Rattle.implib.specs.Number.{IsNumber, u64_limit}
-use Rattle.implib.specs.Reading.{Reads, ◌>>=◌, number_of, version_of, word_by, word_read, integer_or, number_from, number_read, version_from, version_read, some_number, commit_by, commit_read, sizes_of, sizes_from, sizes_read, sign_by, sign_read, base_by, base_read, named_from, name_by, name_read}
-use Rattle.implib.specs.Refusal.{IsNoWord, IsNoNumber, IsNoVersion, IsNoSign, goes_on_size, goes_on_name}
+use Rattle.implib.specs.Reading.{◌>>=◌, word_by, word_read, integer_or, number_from, number_read, version_from, version_read, some_number, commit_by, commit_read, sizes_of, sizes_from, sizes_read, sign_by, sign_read, base_by, base_read, named_from, name_by, name_read}
+use Rattle.implib.specs.Refusal.{IsNoWord, IsNoSign, goes_on_size, goes_on_name}
 use Rattle.implib.specs.Token.{Seen}
-use Rattle.implib.proofs.Begins.{IsAfter, Begins-parted}
+use Rattle.implib.proofs.Begins.{IsAfter}
 use Rattle.implib.proofs.Many.{bind_ok, bind_err}
 use Rattle.implib.proofs.ReadSpelled.{NumberRefused, VersionRefused}
 use Rattle.implib.proofs.Words.{number_of-is, number_of-none, version_of-is, version_of-none}
@@ -38,14 +38,14 @@ pub number_again : (t : Seen) (n : ℕ) (rest : List Seen) → t.kind ≡ Identi
 unfolding number_read
 number_again t n rest e is =
     bind_ok (word_read (t ∷ rest)) number_from (t.value, rest) (Ok (n, rest)) (word_again t t.value rest (own_word t e))
-        (ap (λ (o : Option ℕ). integer_or o rest) (number_of-is t.value u64_limit n is))
+    (ap (λ (o : Option ℕ). integer_or o rest) (number_of-is t.value u64_limit n is))
 
 pub number_refused : (t : Seen) (rest : List Seen) (cause : Cause) → NumberRefused t cause → number_read (t ∷ rest) ≡ Err cause
 unfolding number_read
 number_refused t rest cause (inl h) = bind_err (word_read (t ∷ rest)) number_from cause (word_refused t rest cause h)
 number_refused t rest cause (inr h) =
     bind_ok (word_read (t ∷ rest)) number_from (t.value, rest) (Err cause) (word_again t t.value rest (own_word t h.kind))
-        (ap (λ (o : Option ℕ). integer_or o rest) (number_of-none t.value u64_limit h.none) ∙ ap (λ (c : Cause). Err c) (sym h.told))
+    (ap (λ (o : Option ℕ). integer_or o rest) (number_of-none t.value u64_limit h.none) ∙ ap (λ (c : Cause). Err c) (sym h.told))
 
 -- ---- versions
 
@@ -53,14 +53,14 @@ pub version_again : (t : Seen) (major minor : ℕ) (rest : List Seen) → t.kind
 unfolding version_read
 version_again t major minor rest e is =
     bind_ok (word_read (t ∷ rest)) version_from (t.value, rest) (Ok ((major, minor), rest)) (word_again t t.value rest (own_word t e))
-        (ap (λ (o : Option (ℕ × ℕ)). integer_or o rest) (version_of-is t.value major minor is))
+    (ap (λ (o : Option (ℕ × ℕ)). integer_or o rest) (version_of-is t.value major minor is))
 
 pub version_refused : (t : Seen) (rest : List Seen) (cause : Cause) → VersionRefused t cause → version_read (t ∷ rest) ≡ Err cause
 unfolding version_read
 version_refused t rest cause (inl h) = bind_err (word_read (t ∷ rest)) version_from cause (word_refused t rest cause h)
 version_refused t rest cause (inr h) =
     bind_ok (word_read (t ∷ rest)) version_from (t.value, rest) (Err cause) (word_again t t.value rest (own_word t h.kind))
-        (ap (λ (o : Option (ℕ × ℕ)). integer_or o rest) (version_of-none t.value h.none) ∙ ap (λ (c : Cause). Err c) (sym h.told))
+    (ap (λ (o : Option (ℕ × ℕ)). integer_or o rest) (version_of-none t.value h.none) ∙ ap (λ (c : Cause). Err c) (sym h.told))
 
 -- ---- sizes
 
@@ -91,7 +91,7 @@ unfolding sizes_read
 sizes_again n commit [] rest h after = absurd h
 sizes_again n commit (t ∷ tokens) rest h after =
     bind_ok (number_read (t ∷ tokens)) sizes_from (n, tokens) (Ok ((n, commit), rest)) (number_again t n tokens h.0.0 h.0.1)
-        (bind_ok (commit_read tokens) (sizes_of n) (commit, rest) (Ok ((n, commit), rest)) (commit_again commit tokens rest h.1 after) refl)
+    (bind_ok (commit_read tokens) (sizes_of n) (commit, rest) (Ok ((n, commit), rest)) (commit_again commit tokens rest h.1 after) refl)
 
 pub size_refused : (t : Seen) (rest : List Seen) (cause : Cause) → NumberRefused t cause → sizes_read (t ∷ rest) ≡ Err cause
 unfolding sizes_read
@@ -104,7 +104,7 @@ second_size_refused n (u ∷ []) t rest cause h refused = absurd h.1
 second_size_refused n (u ∷ comma ∷ tokens) t rest cause h refused =
     let owed = ap (λ (s : List Seen). number_read s >>= some_number) h.1.1 ∙ bind_err (number_read (t ∷ rest)) some_number cause (number_refused t rest cause refused) in
     bind_ok (number_read (u ∷ comma ∷ tokens)) sizes_from (n, comma ∷ tokens) (Err cause) (number_again u n (comma ∷ tokens) h.0.0 h.0.1)
-        (bind_err (commit_read (comma ∷ tokens)) (sizes_of n) cause (after_comma comma tokens h.1.0 ∙ owed))
+    (bind_err (commit_read (comma ∷ tokens)) (sizes_of n) cause (after_comma comma tokens h.1.0 ∙ owed))
 
 -- ---- names
 
@@ -152,7 +152,7 @@ base_number_refused : (base sign t : Seen) (rest : List Seen) (cause : Cause) �
 base_number_refused base sign t rest cause e s h =
     after_base base (sign ∷ t ∷ rest) e
     ∙ bind_err (sign_read (sign ∷ t ∷ rest) >>= number_read) some_number cause
-        (bind_ok (sign_read (sign ∷ t ∷ rest)) number_read (t ∷ rest) (Err cause) (sign_again sign (t ∷ rest) s) (number_refused t rest cause h))
+    (bind_ok (sign_read (sign ∷ t ∷ rest)) number_read (t ∷ rest) (Err cause) (sign_again sign (t ∷ rest) s) (number_refused t rest cause h))
 
 name_by_other : (kind : TokenKind) (t : Seen) (rest : List Seen) → kind ≢ Identifier → name_by kind t rest ≡ Ok (Nameless, t ∷ rest)
 name_by_other Identifier t rest other = absurd (other refl)

@@ -1,18 +1,14 @@
 -- What is spelled is read so, and what the grammar refuses the readers refuse: statements.
-use Rattle.std.proofs.Common.{◌≡◌, ◌≢◌, ℕ, ◌⊎◌, inl, inr, List, [], ◌∷◌, ◌++◌, Option, Some, None, Result, Ok, Err, refl, sym, ap, subst, ◌∙◌}
+use Rattle.std.proofs.Common.{◌≡◌, ◌≢◌, ℕ, inl, inr, List, [], ◌∷◌, ◌++◌, Option, Some, None, Ok, Err, refl, sym, ap, subst, ◌∙◌}
 use Rattle.implib.specs.declared.def.lexer.TokenKind.{TokenKind}
 use Rattle.implib.specs.declared.def.lexer.TokenKind.TheVariants.{Eof, Identifier, Comma, Equal, EqualEqual, KwBase, KwExports, KwHeapsize, KwLibrary, KwName, KwStacksize, KwVersion}
-use Rattle.implib.specs.declared.machine.MachineType.{MachineType}
-use Rattle.implib.specs.Definition.{DefinitionView, empty_definition}
 use Rattle.implib.specs.Fault.{Cause, UnknownDirective}
 use Rattle.implib.specs.Grammar.{Export, Region, Heap, Stack, Statement, Exports, Sizes, Nameless, Named, Version, Wanted, Of, NameOrLibrary, Word, Is, Begins, Sentence, at_sign, region_kind, export_spelling, exports_spelling, statement_spelling, spelling}
-use Rattle.implib.specs.Meaning.{meaning}
-use Rattle.implib.specs.Reading.{◌>>=◌, sizes_read, version_read, name_read, export_read, exports_read, exports_from, region_from, some_statement, versions_from, statement_by, statement_read, statements_read, with_statements, definition_from, read}
-use Rattle.implib.specs.Refusal.{IsNoneOf, IsUnknown, IsCut, Broken, directives, goes_on, goes_on_size, goes_on_name, goes_on_exports, goes_on_last, Started, ToSize, ToSecondSize, ToBaseSign, ToBase, ToVersion, ToTarget, ToAlias, ToOrdinal, started_spelling, RefusedAfter, bare}
+use Rattle.implib.specs.Reading.{◌>>=◌, sizes_read, version_read, name_read, export_read, exports_read, exports_from, region_from, some_statement, versions_from, statement_by, statement_read, statements_read}
+use Rattle.implib.specs.Refusal.{IsNoneOf, Broken, directives, goes_on, goes_on_size, goes_on_name, goes_on_exports, goes_on_last, Started, ToSize, ToSecondSize, ToBaseSign, ToBase, ToVersion, ToTarget, ToAlias, ToOrdinal, started_spelling, RefusedAfter, bare}
 use Rattle.implib.specs.Token.{Seen}
 use Rattle.implib.proofs.Begins.{Begins-parted, Begins-append, Begins-shorter, IsAfter}
 use Rattle.implib.proofs.Many.{bind_ok, bind_err, Takes, AreRead, all_again, all_refused}
-use Rattle.implib.proofs.Meaning.{with_statements-meaning}
 use Rattle.implib.proofs.ReadStatements.{statement_spelled}
 use Rattle.implib.proofs.SpelledRead.{sizes_again, size_refused, second_size_refused, version_again, version_refused, no_name_again, name_again, name_sign_refused, name_number_refused}
 use Rattle.implib.proofs.SpelledExports.{export_kinds, clear_export, exports_again, export_stops, target_stops, alias_stops, ordinal_stops}
@@ -175,7 +171,7 @@ started_refused (ToBaseSign name) (u ∷ word ∷ []) t rest cause h refused = a
 started_refused (ToBaseSign name) (u ∷ word ∷ base ∷ tokens) t rest cause h refused =
     at_name u (word ∷ base ∷ tokens) h.0
     ∙ bind_err (name_read (word ∷ base ∷ tokens)) some_statement cause
-        (ap (λ (s : List Seen). name_read (word ∷ base ∷ s)) h.1.1.1 ∙ name_sign_refused name word base t rest cause h.1.0 h.1.1.0 refused)
+    (ap (λ (s : List Seen). name_read (word ∷ base ∷ s)) h.1.1.1 ∙ name_sign_refused name word base t rest cause h.1.0 h.1.1.0 refused)
 started_refused (ToBase name) [] t rest cause h refused = absurd h
 started_refused (ToBase name) (u ∷ []) t rest cause h refused = absurd h.1
 started_refused (ToBase name) (u ∷ word ∷ []) t rest cause h refused = absurd h.1.1
@@ -183,7 +179,7 @@ started_refused (ToBase name) (u ∷ word ∷ base ∷ []) t rest cause h refuse
 started_refused (ToBase name) (u ∷ word ∷ base ∷ sign ∷ tokens) t rest cause h refused =
     at_name u (word ∷ base ∷ sign ∷ tokens) h.0
     ∙ bind_err (name_read (word ∷ base ∷ sign ∷ tokens)) some_statement cause
-        (ap (λ (s : List Seen). name_read (word ∷ base ∷ sign ∷ s)) h.1.1.1.1 ∙ name_number_refused name word base sign t rest cause h.1.0 h.1.1.0 h.1.1.1.0 refused)
+    (ap (λ (s : List Seen). name_read (word ∷ base ∷ sign ∷ s)) h.1.1.1.1 ∙ name_number_refused name word base sign t rest cause h.1.0 h.1.1.0 h.1.1.1.0 refused)
 started_refused ToVersion [] t rest cause h refused = absurd h
 started_refused ToVersion (u ∷ tokens) t rest cause h refused =
     at_kind u tokens KwVersion h.0 ∙ bind_err (version_read tokens) versions_from cause (ap version_read h.1 ∙ version_refused t rest cause refused)
@@ -239,5 +235,5 @@ broken-refused tokens cause (inr b) =
     stopped [] front back = absurd (started_some b.started b.token b.rest back)
     stopped (t ∷ rest) front back =
         all_refused statement_read b.statements tokens t rest cause
-            (statements_chain b.statements tokens (t ∷ rest) front (clear_last b.statements (t ∷ rest) (started_first b.started (t ∷ rest) (b.token ∷ b.rest) back)))
-            (started_refused b.started (t ∷ rest) b.token b.rest cause back b.refused)
+        (statements_chain b.statements tokens (t ∷ rest) front (clear_last b.statements (t ∷ rest) (started_first b.started (t ∷ rest) (b.token ∷ b.rest) back)))
+        (started_refused b.started (t ∷ rest) b.token b.rest cause back b.refused)

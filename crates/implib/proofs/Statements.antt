@@ -1,5 +1,5 @@
 -- No statement, whole or begun, wants the end of the text.
-use Rattle.std.proofs.Common.{◌≡◌, ◌≢◌, ℕ, Bool, true, false, List, [], ◌∷◌, ◌++◌, Option, Some, None, refl}
+use Rattle.std.proofs.Common.{◌≢◌, ℕ, Bool, true, false, List, [], ◌∷◌, ◌++◌, Option, Some, None, refl}
 use Rattle.std.specs.List.{flat_map, AllByRecursion}
 use Rattle.implib.specs.declared.def.lexer.TokenKind.TheVariants.{Eof, Comma, Equal, EqualEqual, KwBase, KwConstant, KwData, KwExports, KwHeapsize, KwNoname, KwPrivate, KwStacksize, KwVersion}
 use Rattle.implib.specs.Grammar.{Attribute, Joined, Apart, Data, Constant, Private, Alias, Export, Region, Heap, Stack, Statement, Exports, Sizes, Nameless, Named, Version, Wanted, Of, Word, Later, no_name_spelling, attribute_spelling, target_spelling, export_spelling, exports_spelling, region_kind, commit_spelling, base_spelling, statement_spelling, spelling, at_sign}
@@ -35,7 +35,6 @@ target_ends None = tt
 target_ends (Some value) = (differs Equal Eof refl, (tt, tt))
 
 module _ (name : List ℕ → Wanted) (ends : (word : List ℕ) → WantsNoEof (name word)) where
-
   export_ends : (e : Export) → NoneWantsEof (export_spelling name e)
   export_ends e = (ends e.word, NoneWantsEof-append (target_spelling e.target) (flat_map attribute_spelling e.attributes) (target_ends e.target) (attributes_ends e.attributes))
 

@@ -1,5 +1,5 @@
 -- Kinds of tokens are told apart by numbers.
-use Rattle.std.proofs.Common.{◌≡◌, ◌≢◌, ℕ, Bool, true, false, ◌&&◌, not, eqb, List, [], ◌∷◌, refl, sym, ap, subst, ◌∙◌, eq-eqb, ◌⊎◌, inl, inr, cond}
+use Rattle.std.proofs.Common.{◌≡◌, ◌≢◌, ℕ, Bool, true, ◌&&◌, not, eqb, List, [], ◌∷◌, sym, ap, subst, ◌∙◌, eq-eqb}
 use Rattle.std.proofs.lemmas.Bool.{and_parts, false≢true}
 use Rattle.implib.specs.declared.def.lexer.TokenKind.{TokenKind}
 use Rattle.implib.specs.declared.def.lexer.TokenKind.TheVariants.{Unknown, Eof, Identifier, Comma, Equal, EqualEqual, KwBase, KwConstant, KwData, KwExports, KwHeapsize, KwLibrary, KwName, KwNoname, KwPrivate, KwStacksize, KwVersion}
@@ -31,24 +31,22 @@ abbrev pub is_none : TokenKind → List TokenKind → Bool
 is_none kind [] = true
 is_none kind (first ∷ kinds) = not (is_same kind first) && is_none kind kinds
 
-not_same : (a b : TokenKind) → not (is_same a b) ≡ true → a ≢ b
-not_same a b h e =
+-- kinds with other numbers are other kinds
+pub differs : (a b : TokenKind) → not (is_same a b) ≡ true → a ≢ b
+differs a b h e =
     let same : is_same a b ≡ true = eq-eqb (kind_number a) (kind_number b) (ap kind_number e) in
     false≢true (ap not (sym same) ∙ h)
-
-pub differs : (a b : TokenKind) → not (is_same a b) ≡ true → a ≢ b
-differs a b h = not_same a b h
 
 -- what a computed test says of a kind
 pub IsNoneOf-by_test : (kind : TokenKind) (kinds : List TokenKind) → is_none kind kinds ≡ true → IsNoneOf kind kinds
 IsNoneOf-by_test kind [] h = tt
 IsNoneOf-by_test kind (first ∷ kinds) h =
     let parts = and_parts (not (is_same kind first)) (is_none kind kinds) h in
-    (not_same kind first parts.0, IsNoneOf-by_test kind kinds parts.1)
+    (differs kind first parts.0, IsNoneOf-by_test kind kinds parts.1)
 
 -- of a token whose kind is known
 pub none_at : (kind known : TokenKind) (kinds : List TokenKind) → kind ≡ known → is_none known kinds ≡ true → IsNoneOf kind kinds
 none_at kind known kinds e h = subst (λ (k : TokenKind). IsNoneOf k kinds) (sym e) (IsNoneOf-by_test known kinds h)
 
 pub not_at : (kind known other : TokenKind) → kind ≡ known → not (is_same known other) ≡ true → kind ≢ other
-not_at kind known other e h f = not_same known other h (sym e ∙ f)
+not_at kind known other e h f = differs known other h (sym e ∙ f)

@@ -1,11 +1,11 @@
 -- What the readers say of a word is what the grammar says of it.
-use Rattle.std.proofs.Common.{◌≡◌, ◌≢◌, ℕ, suc, ◌+◌, ◌^◌, ◌<◌, ◌≤◌, ◌⊎◌, inl, inr, Bool, true, false, cond, ◌&&◌, eqb, ltb, leb, List, [], ◌∷◌, ◌++◌, length, drop, Option, Some, None, refl, sym, ap, subst, ◌∙◌, arith, eqb-true, ltb-true, leb-true, lt-ltb, le-leb}
+use Rattle.std.proofs.Common.{◌≡◌, ◌≢◌, ℕ, ◌<◌, ◌≤◌, ◌⊎◌, inl, inr, Bool, true, false, cond, ◌&&◌, eqb, ltb, leb, List, [], ◌∷◌, ◌++◌, length, drop, Option, Some, None, refl, sym, ap, subst, ◌∙◌, arith, eqb-true, ltb-true, leb-true, lt-ltb, le-leb}
 use Rattle.std.specs.Prelude.{slice_index, option_map}
 use Rattle.std.specs.Str.{all_ascii_digits}
 use Rattle.std.specs.Str.Parse.{digits_value, without_leading_plus}
 use Rattle.std.proofs.lemmas.Bool.{and_parts, eqb-false, ne_eqb}
 use Rattle.std.proofs.lemmas.Str.Parse.{IsNumeralModel, numerals_by_value, tells_all_ascii_digits, not_in_digits, without_leading_plus_none}
-use Rattle.implib.specs.Grammar.{at_sign, full_stop, IsLoneAt, IsAtNumber, IsVersion, IsMajorAlone, IsMajorMinor}
+use Rattle.implib.specs.Grammar.{at_sign, full_stop, IsLoneAt, IsAtNumber, IsVersion}
 use Rattle.implib.specs.Number.{IsNumber, plus_sign, u16_limit, u32_limit}
 use Rattle.implib.specs.Reading.{number_by, number_of, cons_first, at_stop, both, version_by, version_of, AtWord, Lone, WithOrdinal, Plain, at_number, after_at, at_word}
 
@@ -70,10 +70,6 @@ by_none value limit (Some n) e h = absurd (h n (number_of-gives value limit n e)
 pub number_of-none : (value : List ℕ) (limit : ℕ) → ((n : ℕ) → ¬ (IsNumber value limit n)) → number_of value limit ≡ None
 number_of-none value limit h = by_none value limit (number_of value limit) refl h
 
--- the limit of one number says nothing of another: a value is one number
-pub IsNumber-unique : (value : List ℕ) (limit n m : ℕ) → IsNumber value limit n → IsNumber value limit m → n ≡ m
-IsNumber-unique value limit n m a b = let e = number_of-is value limit n a in let f = number_of-is value limit m b in cc
-
 -- ---- words that begin with `@`
 
 -- what a word is among attributes, in the grammar's words
@@ -103,6 +99,7 @@ first_gives byte rest false e =
   where
     heads : byte ∷ rest ≡ at_sign ∷ [] → byte ≡ at_sign
     heads h = cc
+
     heads_of : (number : List ℕ) → byte ∷ rest ≡ at_sign ∷ number → byte ≡ at_sign
     heads_of number h = cc
 
@@ -163,6 +160,7 @@ NoStop-number value limit n is = by_spelling is.spelled
   where
     digits : NoStop is.digits
     digits = NoStop-digits is.digits is.all_digits
+
     by_spelling : (value ≡ is.digits) ⊎ (value ≡ plus_sign ∷ is.digits) → NoStop value
     by_spelling (inl e) = rw e digits
     by_spelling (inr e) = rw e (refl, digits)

@@ -23,12 +23,12 @@ pub record IsAtNumber (value : List ℕ) (n : ℕ) : Type 0 where
   pub spelled : value ≡ at_sign ∷ number
   pub is_number : IsNumber number u16_limit n
 
--- the value is `major` or `major.minor`, numbers of 32 bits; a missing minor is 0.
--- A number has no `.`, so the value is cut at its first.
+-- the value is the major number alone, of 32 bits, and the minor is 0
 pub record IsMajorAlone (value : List ℕ) (major minor : ℕ) : Type 0 where
   pub is_number : IsNumber value u32_limit major
   pub minor_is : minor ≡ 0
 
+-- the value is two numbers of 32 bits with a `.` between; a number has no `.`, so this is its first
 pub record IsMajorMinor (value : List ℕ) (major minor : ℕ) : Type 0 where
   pub front : List ℕ
   pub back : List ℕ
@@ -36,19 +36,29 @@ pub record IsMajorMinor (value : List ℕ) (major minor : ℕ) : Type 0 where
   pub front_number : IsNumber front u32_limit major
   pub back_number : IsNumber back u32_limit minor
 
+-- the value is one of these
 abbrev pub IsVersion : List ℕ → ℕ → ℕ → Type 0
 IsVersion value major minor = IsMajorAlone value major minor ⊎ IsMajorMinor value major minor
 
 -- what one token of a statement has to be
 pub data Wanted : Type 0 where
+  -- of this kind
   Of : TokenKind → Wanted
+  -- `NAME` or `LIBRARY`
   NameOrLibrary : Wanted
+  -- this word
   Word : List ℕ → Wanted
+  -- a word that is this number of 64 bits
   Number : ℕ → Wanted
+  -- a word that is a version with this major and this minor number
   Numbers : ℕ → ℕ → Wanted
+  -- this word after the `=` of an export: any but `@`
   Target : List ℕ → Wanted
+  -- this word as the name of an export that follows another: any that begins no attribute
   Later : List ℕ → Wanted
+  -- `@` and this number of 16 bits in one word
   At : ℕ → Wanted
+  -- this number of 16 bits after the word `@`: a token of any kind but the end
   Ordinal : ℕ → Wanted
 
 -- the token is an identifier with this value
@@ -62,10 +72,7 @@ pub record IsLaterName (token : Seen) (value : List ℕ) : Type 0 where
   pub not_lone : ¬ (IsLoneAt value)
   pub not_ordinal : (n : ℕ) → ¬ (IsAtNumber value n)
 
--- the token is what is wanted: a token of a kind; `NAME` or `LIBRARY`; a word; a word that is a
--- number of 64 bits; a word that is a version; what stands after `=` in an export, a word but not
--- `@`; the name of an export that follows another; `@` and an ordinal in one word; and an ordinal
--- after the word `@`, a token of any kind but the end
+-- the token is what is wanted
 abbrev pub Is : Wanted → Seen → Type 0
 Is (Of kind) token = token.kind ≡ kind
 Is NameOrLibrary token = (token.kind ≡ KwName) ⊎ (token.kind ≡ KwLibrary)
@@ -83,14 +90,19 @@ Begins tokens [] rest = tokens ≡ rest
 Begins [] (first ∷ wanted) rest = ⊥
 Begins (token ∷ tokens) (first ∷ wanted) rest = Is first token × Begins tokens wanted rest
 
--- what follows the name of an export and its target: an ordinal, in one word with its `@` or apart
--- from it, with `NONAME` or without; `DATA`; `CONSTANT`; `PRIVATE`; `==` and a word
+-- what follows the name of an export and its target
 pub data Attribute : Type 0 where
+  -- an ordinal in one word with its `@`, with `NONAME` or without
   Joined : ℕ → Bool → Attribute
+  -- an ordinal apart from its `@`, with `NONAME` or without
   Apart : ℕ → Bool → Attribute
+  -- `DATA`
   Data : Attribute
+  -- `CONSTANT`
   Constant : Attribute
+  -- `PRIVATE`
   Private : Attribute
+  -- `==` and a word
   Alias : List ℕ → Attribute
 
 -- one export: its first word, the word after `=` where there is one, and its attributes
@@ -104,13 +116,17 @@ pub data Region : Type 0 where
   Heap : Region
   Stack : Region
 
--- `EXPORTS` and the exports; `HEAPSIZE` or `STACKSIZE` and one size or two; `NAME` or `LIBRARY`
--- alone; one of them with a name and, where it is given, a base; `VERSION` and the two numbers
+-- one statement
 pub data Statement : Type 0 where
+  -- `EXPORTS` and the exports
   Exports : List Export → Statement
+  -- `HEAPSIZE` or `STACKSIZE`, the size to reserve and, where it stands, the size to commit
   Sizes : Region → ℕ → Option ℕ → Statement
+  -- `NAME` or `LIBRARY` alone
   Nameless : Statement
+  -- `NAME` or `LIBRARY`, a name and, where it stands, the base
   Named : List ℕ → Option ℕ → Statement
+  -- `VERSION`, the major and the minor number
   Version : ℕ → ℕ → Statement
 
 -- `NONAME`, where it stands
@@ -118,6 +134,7 @@ abbrev pub no_name_spelling : Bool → List Wanted
 no_name_spelling true = Of KwNoname ∷ []
 no_name_spelling false = []
 
+-- the tokens of an attribute
 abbrev pub attribute_spelling : Attribute → List Wanted
 attribute_spelling (Joined n no_name) = At n ∷ no_name_spelling no_name
 attribute_spelling (Apart n no_name) = Word (at_sign ∷ []) ∷ Ordinal n ∷ no_name_spelling no_name
@@ -155,6 +172,7 @@ abbrev pub base_spelling : Option ℕ → List Wanted
 base_spelling None = []
 base_spelling (Some n) = Of KwBase ∷ Of Equal ∷ Number n ∷ []
 
+-- the tokens of a statement
 abbrev pub statement_spelling : Statement → List Wanted
 statement_spelling (Exports exports) = Of KwExports ∷ exports_spelling Word exports
 statement_spelling (Sizes region reserve commit) = Of (region_kind region) ∷ Number reserve ∷ commit_spelling commit
@@ -162,9 +180,14 @@ statement_spelling Nameless = NameOrLibrary ∷ []
 statement_spelling (Named name base) = NameOrLibrary ∷ Word name ∷ base_spelling base
 statement_spelling (Version major minor) = Of KwVersion ∷ Numbers major minor ∷ []
 
+-- the tokens of statements
 abbrev pub spelling : List Statement → List Wanted
 spelling statements = flat_map statement_spelling statements
 
 -- the tokens are those of the statements one after another, and then Eof
 abbrev pub Sentence : List Seen → List Statement → Type 0
 Sentence tokens statements = Begins tokens (spelling statements ++ Of Eof ∷ []) []
+
+-- the tokens are statements
+abbrev pub IsSentence : List Seen → Type 0
+IsSentence tokens = (statements : List Statement) × Sentence tokens statements

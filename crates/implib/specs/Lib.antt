@@ -9,6 +9,7 @@ pub mod Meaning
 pub mod Refusal
 pub mod WorkedTokens
 pub mod Parses
+pub mod WorkedStatements
 pub mod Reading
 pub mod Made
 pub mod Library

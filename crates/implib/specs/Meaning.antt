@@ -30,22 +30,24 @@ decorated ARMNT name = name
 decorated AMD64 name = name
 decorated ARM64 name = name
 
--- what each attribute sets
+-- the ordinal that an attribute sets
 abbrev pub ordinal_in : Attribute → Option ℕ
 ordinal_in (Joined n no_name) = Some n
 ordinal_in (Apart n no_name) = Some n
 ordinal_in _ = None
 
--- a flag that is set stays set
+-- a flag is set, and never set back
 abbrev pub flag : Bool → Option Bool
 flag true = Some true
 flag false = None
 
+-- an ordinal's `NONAME`
 abbrev pub no_name_in : Attribute → Option Bool
 no_name_in (Joined n no_name) = flag no_name
 no_name_in (Apart n no_name) = flag no_name
 no_name_in _ = None
 
+-- the flags of `DATA`, `CONSTANT` and `PRIVATE`
 abbrev pub is_data_in : Attribute → Option Bool
 is_data_in Data = Some true
 is_data_in _ = None
@@ -58,6 +60,7 @@ abbrev pub private_in : Attribute → Option Bool
 private_in Private = Some true
 private_in _ = None
 
+-- what the name is an alias for
 abbrev pub alias_in : Attribute → Option (List ℕ)
 alias_in (Alias value) = Some value
 alias_in _ = None
@@ -85,17 +88,19 @@ abbrev pub exports_in : Statement → List Export
 exports_in (Exports exports) = exports
 exports_in _ = []
 
--- what each statement sets; a missing size, name or base is 0 or empty
+-- what a statement sets, `NAME` or `LIBRARY` alone an empty name and the base 0
 abbrev pub import_name_in : Statement → Option (List ℕ)
 import_name_in Nameless = Some []
 import_name_in (Named name base) = Some name
 import_name_in _ = None
 
+-- a name without a base sets the base 0
 abbrev pub image_base_in : Statement → Option ℕ
 image_base_in Nameless = Some 0
 image_base_in (Named name base) = Some (unwrap_or base 0)
 image_base_in _ = None
 
+-- a missing size to commit is 0
 abbrev pub stack_reserve_in : Statement → Option ℕ
 stack_reserve_in (Sizes Stack reserve commit) = Some reserve
 stack_reserve_in _ = None
@@ -112,6 +117,7 @@ abbrev pub heap_commit_in : Statement → Option ℕ
 heap_commit_in (Sizes Heap reserve commit) = Some (unwrap_or commit 0)
 heap_commit_in _ = None
 
+-- the image version
 abbrev pub major_in : Statement → Option ℕ
 major_in (Version major minor) = Some major
 major_in _ = None

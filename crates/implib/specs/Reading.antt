@@ -330,10 +330,6 @@ named_export machine word target = record {
 unfoldable pub made_export : MachineType → Export → ExportView
 made_export machine e = fold with_attribute (named_export machine e.word e.target) e.attributes
 
--- a definition with more exports
-abbrev pub with_exports : MachineType → DefinitionView → List Export → DefinitionView
-with_exports machine d exports = record d { exports = d.exports ++ map (made_export machine) exports }
-
 -- a definition after one more statement
 abbrev pub with_statement : MachineType → DefinitionView → Statement → DefinitionView
 with_statement machine d s = record {

@@ -7,18 +7,23 @@ use Rattle.implib.specs.Grammar.{Attribute, Joined, Apart, Export, Region, State
 use Rattle.implib.specs.Number.{IsNumber, u16_limit, u64_limit}
 use Rattle.implib.specs.Token.{Seen}
 
--- a statement that has begun, up to a place where one token is owed: after `HEAPSIZE` or
--- `STACKSIZE`; after the comma of its sizes; after the name and `BASE`; after the `=` of the base;
--- after `VERSION`; after `=` in an export; after `==` in an export; after the lone `@` of an
--- export. In the last three whole exports stand before the one that has begun.
+-- a statement that has begun, up to a place where one more token is owed
 pub data Started : Type 0 where
+  -- `HEAPSIZE` or `STACKSIZE`
   ToSize : Region → Started
+  -- the same with a size and a comma
   ToSecondSize : Region → ℕ → Started
+  -- `NAME` or `LIBRARY`, a name and `BASE`
   ToBaseSign : List ℕ → Started
+  -- the same with `=`
   ToBase : List ℕ → Started
+  -- `VERSION`
   ToVersion : Started
+  -- `EXPORTS`, whole exports, the first word of one more, and `=`
   ToTarget : List Export → List ℕ → Started
+  -- `EXPORTS`, whole exports, one more of them, and `==`
   ToAlias : List Export → Export → Started
+  -- `EXPORTS`, whole exports, one more of them, and the word `@`
   ToOrdinal : List Export → Export → Started
 
 -- an export of which only the first word stands
@@ -29,6 +34,7 @@ bare word = record { word = word; target = None; attributes = [] }
 abbrev pub begun_exports : List Export → Export → Wanted → List Wanted
 begun_exports exports last begun = Of KwExports ∷ (exports_spelling Word (exports ++ last ∷ []) ++ begun ∷ [])
 
+-- the tokens of what has begun
 abbrev pub started_spelling : Started → List Wanted
 started_spelling (ToSize region) = Of (region_kind region) ∷ []
 started_spelling (ToSecondSize region n) = Of (region_kind region) ∷ Number n ∷ Of Comma ∷ []
@@ -103,6 +109,7 @@ abbrev pub goes_on_ordinal : Bool → List TokenKind
 goes_on_ordinal false = KwNoname ∷ []
 goes_on_ordinal true = []
 
+-- what goes on an attribute: on an ordinal alone there can be more
 abbrev pub goes_on_attribute : Attribute → List TokenKind
 goes_on_attribute (Joined n no_name) = goes_on_ordinal no_name
 goes_on_attribute (Apart n no_name) = goes_on_ordinal no_name
@@ -182,3 +189,7 @@ pub record IsCut (tokens : List Seen) (cause : Cause) : Type 0 where
 -- the tokens are no statements, for this cause
 abbrev pub Broken : List Seen → Cause → Type 0
 Broken tokens cause = IsUnknown tokens cause ⊎ IsCut tokens cause
+
+-- the tokens are broken, for some cause
+abbrev pub IsBrokenOff : List Seen → Type 0
+IsBrokenOff tokens = (cause : Cause) × Broken tokens cause
