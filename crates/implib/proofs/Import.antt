@@ -85,9 +85,9 @@ import_of_record-record_of machine dll e =
     (le-leb (name_type_of machine e) 3 (omega (arith, name_type_of_fits machine e)))
     (kind_is_data e.is_data e.constant)
     (type_is_ordinal e.no_name _
-      (chosen_nonzero (begins_with underscore e.name && holds at_sign e.name) 1 _ refl
-      (chosen_nonzero (not (bytes_eq (record_symbol e) e.name)) 3 _ refl
-      (chosen_nonzero (is_i386 machine && begins_with underscore (record_symbol e)) 2 1 refl refl))))
+    (chosen_nonzero (begins_with underscore e.name && holds at_sign e.name) 1 _ refl
+    (chosen_nonzero (not (bytes_eq (record_symbol e) e.name)) 3 _ refl
+    (chosen_nonzero (is_i386 machine && begins_with underscore (record_symbol e)) 2 1 refl refl))))
 
 without_prefix-underscore : (name : List ℕ) → begins_with underscore name ≡ true → without_prefix name ≡ without_first name
 without_prefix-underscore [] begins = cc
@@ -123,9 +123,9 @@ pub ask_written-meant : (machine : MachineType) (e : ExportView) → e.symbol_na
 ask_written-meant machine e plain =
     ap (λ (s : List ℕ). ask_written machine (record e { symbol_name = s })) plain
     ∙ same_ask e.no_name e.ordinal _ e.name (asked_name machine e.name)
-      (ap (λ n. asked_by_name_type n e.name)
-        (plain_name_type (begins_with underscore e.name && holds at_sign e.name) (is_i386 machine && begins_with underscore e.name) (bytes_eq e.name e.name) ((bytes_eq-Decides e.name e.name).1 refl))
-      ∙ same_name_asked (is_i386 machine) (begins_with underscore e.name) (holds at_sign e.name) e.name refl)
+    (ap (λ n. asked_by_name_type n e.name)
+    (plain_name_type (begins_with underscore e.name && holds at_sign e.name) (is_i386 machine && begins_with underscore e.name) (bytes_eq e.name e.name) ((bytes_eq-Decides e.name e.name).1 refl))
+    ∙ same_name_asked (is_i386 machine) (begins_with underscore e.name) (holds at_sign e.name) e.name refl)
 
 -- and its record stands for the import that it means
 pub import_written-meant : (machine : MachineType) (dll : List ℕ) (e : ExportView) → e.symbol_name ≡ [] → import_written machine dll e ≡ import_meant machine dll e

@@ -10,7 +10,9 @@ use Rattle.implib.specs.Definition.{DefinitionView}
 use Rattle.implib.specs.Fault.{Cause, MemberTooLong, IfInvalid, error_cause, cause_of}
 use Rattle.implib.specs.Import.{public_exports}
 use Rattle.implib.specs.Made.{Made, MemberView, member_of, plans_of, is_too_long, has_u16_ordinal, length_refusal, first_of_both, definition_names_refusal, renamed_refusal, refusal, RefusesAlways}
+use Rattle.implib.specs.Reads.{Reads}
 use Rattle.implib.specs.Renaming.{renamed}
+use Rattle.implib.proofs.MemberMeanings.{Reads-from_Made}
 
 -- the refusal by names comes first
 pub refused_by_names : (d : DefinitionView) (machine : MachineType) (flavor : Flavor) (cause : Cause) → renamed d ≡ d →
@@ -64,3 +66,9 @@ pub no_refusal_by_names : {T : Type 0} (d : DefinitionView) (machine : MachineTy
 no_refusal_by_names d machine flavor result same names = λ cause refused.
     let none : definition_names_refusal (renamed d) machine flavor ≡ None = ap (λ (x : DefinitionView). definition_names_refusal x machine flavor) same ∙ sym names in
     cc
+
+-- and they are read as the definition means
+pub read_of : {T : Type 0} (shown : T → List MemberView) (d : DefinitionView) (machine : MachineType) (flavor : Flavor) (result : Result T Error) →
+    IfOk result (λ members. Made d machine flavor (shown members)) → IfOk result (λ members. Reads d machine flavor (shown members))
+read_of shown d machine flavor (Err error) made = tt
+read_of shown d machine flavor (Ok members) made = Reads-from_Made d machine flavor (shown members) made

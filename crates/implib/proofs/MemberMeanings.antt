@@ -54,8 +54,8 @@ unfolding weak_plans
 exports_declare machine dll [] = tt
 exports_declare machine dll (e ∷ exports) =
     all_append DeclaresListed (export_plans machine dll e) (flat_map (export_plans machine dll) exports)
-      (all_append DeclaresListed (weak_plans machine dll e) (record_plan machine dll e ∷ []) (chosen_declare machine dll e (is_alias e.alias_target (record_symbol e))) (record_declares machine dll e, tt))
-      (exports_declare machine dll exports)
+    (all_append DeclaresListed (weak_plans machine dll e) (record_plan machine dll e ∷ []) (chosen_declare machine dll e (is_alias e.alias_target (record_symbol e))) (record_declares machine dll e, tt))
+    (exports_declare machine dll exports)
 
 read_declares : (plans : List Plan) → AllByRecursion (λ p. ReadsBack p.contents) plans → AllByRecursion DeclaresListed plans →
     AllByRecursion (λ p. option_map declared_by (file_in (contents_bytes p.contents)) ≡ Some p.listed) plans
@@ -89,7 +89,7 @@ export_means machine dll e =
     ∙ (ap (λ x. x ++ meaning_of (file_of (ARecord (record_of machine dll e))) ∷ []) (chosen_mean machine dll e (is_alias e.alias_target (record_symbol e)))
     ∙ (ap (λ x. map (λ a. Some (AnAlias a)) (aliases_for (record_symbol e) e.alias_target) ++ x ∷ []) (record_means machine dll e)
     ∙ sym (map-append (λ m. Some m) (map AnAlias (aliases_for (record_symbol e) e.alias_target)) (AnImport (import_written machine dll e) ∷ [])
-      ∙ ap (λ x. x ++ Some (AnImport (import_written machine dll e)) ∷ []) (map_after (λ m. Some m) AnAlias (aliases_for (record_symbol e) e.alias_target)))))
+    ∙ ap (λ x. x ++ Some (AnImport (import_written machine dll e)) ∷ []) (map_after (λ m. Some m) AnAlias (aliases_for (record_symbol e) e.alias_target)))))
 
 exports_mean : (machine : MachineType) (dll : List ℕ) (exports : List ExportView) →
     map (λ (p : Plan). meaning_of (file_of p.contents)) (flat_map (export_plans machine dll) exports) ≡ map (λ m. Some m) (flat_map (meanings_written machine dll) exports)
@@ -204,9 +204,9 @@ module _ (d : DefinitionView) (machine : MachineType) (members : List MemberView
     declared =
         of_members d machine members made (λ m. option_map declared_by (file_in m.bytes))
         ∙ (map_same (λ (p : Plan). option_map declared_by (file_in (contents_bytes p.contents))) (λ (p : Plan). Some p.listed) (plans_of (renamed d) machine Msvc)
-          (read_declares (plans_of (renamed d) machine Msvc) (plans_read_back d machine members made)
-            (all_append DeclaresListed (heading_plans machine d.import_name) (flat_map (export_plans machine d.import_name) (public_exports (renamed d)))
-              (heading_declares machine d.import_name) (exports_declare machine d.import_name (public_exports (renamed d)))))
+        (read_declares (plans_of (renamed d) machine Msvc) (plans_read_back d machine members made)
+        (all_append DeclaresListed (heading_plans machine d.import_name) (flat_map (export_plans machine d.import_name) (public_exports (renamed d)))
+        (heading_declares machine d.import_name) (exports_declare machine d.import_name (public_exports (renamed d)))))
         ∙ sym (of_members d machine members made (λ m. Some m.symbols)));
     dll =
         ap (λ (x : List MemberView). option_and_then (λ (m : MemberView). dll_in m.bytes) (slice_get x 0)) made.made

@@ -26,7 +26,7 @@ use Rattle.implib.specs.Renaming.{renamed, renamed_export}
 use Rattle.implib.specs.Fault.{Cause, EmptyImportName, NulInImportName, EmptyName, NulInExport, EmptyAskedName, MemberTooLong}
 use Rattle.implib.proofs.Import.{FitsRecord-record_of, import_of_record-record_of, import_written-meant, symbol_without_nul}
 use Rattle.implib.proofs.MsvcObjects.{Fits-descriptor, Fits-null_descriptor, Fits-null_thunk, Fits-weak_object}
-use Rattle.implib.proofs.Reading.{object_in-layout}
+use Rattle.implib.proofs.ObjectReading.{object_in-layout}
 use Rattle.implib.proofs.Record.{short_record_in-record_bytes}
 
 -- the file of a plan reads as what was planned
@@ -56,7 +56,7 @@ unfolding layout header_bytes u16_bytes
 object_is_no_record p fits nonzero =
     let first : (record_u16_at 0 (layout p) == 0) ≡ false = ap (λ n. n == 0) (from_le_bytes-to_le_bytes_2 p.machine fits) ∙ nonzero in
     not_record (nat_le record_header_size (length (layout p))) (record_u16_at 0 (layout p) == 0) (record_u16_at 2 (layout p) == 0xFFFF)
-      (record_u32_at 12 (layout p) == length (layout p) - record_header_size) first
+    (record_u32_at 12 (layout p) == length (layout p) - record_header_size) first
 
 object_reads : (p : Picture) → Fits p → (p.machine == 0) ≡ false → layout_size p ≤ 0xFFFF_FFFF → file_in (layout p) ≡ Some (ObjectFile (object_of p))
 object_reads p fits nonzero short =
@@ -93,38 +93,42 @@ module _ (machine : MachineType) (dll : List ℕ) (dll_free : holds 0 dll ≡ fa
   weak_plans_read e sound true short =
       let first = or_parts (is_too_long (weak_plan machine dll (record_symbol e) e.alias_target)) _ short in
       let second = or_parts (is_too_long (weak_plan machine dll (address_symbol (record_symbol e)) (address_symbol e.alias_target))) false first.1 in
-      let symbol_free : holds 0 (record_symbol e) ≡ false = symbol_without_nul e.symbol_name e.name sound.symbol_name sound.name in
-      (weak_reads (record_symbol e) e.alias_target symbol_free sound.alias_target (short_enough (weak_plan machine dll (record_symbol e) e.alias_target) first.0),
-      (weak_reads (address_symbol (record_symbol e)) (address_symbol e.alias_target) symbol_free sound.alias_target (short_enough (weak_plan machine dll (address_symbol (record_symbol e)) (address_symbol e.alias_target)) second.0), tt))
+      let symbol_free : holds 0 (record_symbol e) ≡ false = symbol_without_nul e.symbol_name e.name sound.symbol_name sound.name in (
+        weak_reads (record_symbol e) e.alias_target symbol_free sound.alias_target (short_enough (weak_plan machine dll (record_symbol e) e.alias_target) first.0),
+        (weak_reads (address_symbol (record_symbol e)) (address_symbol e.alias_target) symbol_free sound.alias_target (short_enough (weak_plan machine dll (address_symbol (record_symbol e)) (address_symbol e.alias_target)) second.0), tt),
+      )
 
   export_plans_read : (e : ExportView) → Sound e → list_any is_too_long (export_plans machine dll e) ≡ false → AllByRecursion (λ p. ReadsBack p.contents) (export_plans machine dll e)
   unfolding weak_plans
   export_plans_read e sound short =
       let parts = or_parts (list_any is_too_long (weak_plans machine dll e)) (is_too_long (record_plan machine dll e) || false)
-          (sym (list_any-append is_too_long (weak_plans machine dll e) (record_plan machine dll e ∷ [])) ∙ short) in
+      (sym (list_any-append is_too_long (weak_plans machine dll e) (record_plan machine dll e ∷ [])) ∙ short) in
       let last = or_parts (is_too_long (record_plan machine dll e)) false parts.1 in
       all_append (λ p. ReadsBack p.contents) (weak_plans machine dll e) (record_plan machine dll e ∷ [])
-        (weak_plans_read e sound (is_alias e.alias_target (record_symbol e)) parts.0)
-        (record_reads (record_of machine dll e) (FitsRecord-record_of machine dll e sound.name sound.symbol_name dll_free sound.ordinal) (short_enough (record_plan machine dll e) last.0), tt)
+      (weak_plans_read e sound (is_alias e.alias_target (record_symbol e)) parts.0)
+      (record_reads (record_of machine dll e) (FitsRecord-record_of machine dll e sound.name sound.symbol_name dll_free sound.ordinal) (short_enough (record_plan machine dll e) last.0), tt)
 
   exports_plans_read : (exports : List ExportView) → AllByRecursion Sound exports → list_any is_too_long (flat_map (export_plans machine dll) exports) ≡ false →
       AllByRecursion (λ p. ReadsBack p.contents) (flat_map (export_plans machine dll) exports)
   exports_plans_read [] sound short = tt
   exports_plans_read (e ∷ exports) sound short =
       let parts = or_parts (list_any is_too_long (export_plans machine dll e)) (list_any is_too_long (flat_map (export_plans machine dll) exports))
-          (sym (list_any-append is_too_long (export_plans machine dll e) (flat_map (export_plans machine dll) exports)) ∙ short) in
+      (sym (list_any-append is_too_long (export_plans machine dll e) (flat_map (export_plans machine dll) exports)) ∙ short) in
       all_append (λ p. ReadsBack p.contents) (export_plans machine dll e) (flat_map (export_plans machine dll) exports)
-        (export_plans_read e sound.0 parts.0) (exports_plans_read exports sound.1 parts.1)
+      (export_plans_read e sound.0 parts.0) (exports_plans_read exports sound.1 parts.1)
 
   heading_plans_read : list_any is_too_long (heading_plans machine dll) ≡ false → AllByRecursion (λ p. ReadsBack p.contents) (heading_plans machine dll)
   unfolding heading_plans descriptor_plan null_descriptor_plan null_thunk_plan descriptor null_descriptor null_thunk
   heading_plans_read short =
       let first = or_parts (nat_lt 0xFFFF_FFFF (layout_size (descriptor machine dll))) _ short in
       let second = or_parts (nat_lt 0xFFFF_FFFF (layout_size (null_descriptor machine))) _ first.1 in
-      let third = or_parts (nat_lt 0xFFFF_FFFF (layout_size (null_thunk machine dll))) false second.1 in
-      (object_reads (descriptor machine dll) (Fits-descriptor machine dll dll_free) (machine_number_nonzero machine) (ltb-false _ _ first.0),
-      (object_reads (null_descriptor machine) (Fits-null_descriptor machine) (machine_number_nonzero machine) (ltb-false _ _ second.0),
-      (object_reads (null_thunk machine dll) (Fits-null_thunk machine dll dll_free) (machine_number_nonzero machine) (ltb-false _ _ third.0), tt)))
+      let third = or_parts (nat_lt 0xFFFF_FFFF (layout_size (null_thunk machine dll))) false second.1 in (
+        object_reads (descriptor machine dll) (Fits-descriptor machine dll dll_free) (machine_number_nonzero machine) (ltb-false _ _ first.0),
+        (
+          object_reads (null_descriptor machine) (Fits-null_descriptor machine) (machine_number_nonzero machine) (ltb-false _ _ second.0),
+          (object_reads (null_thunk machine dll) (Fits-null_thunk machine dll dll_free) (machine_number_nonzero machine) (ltb-false _ _ third.0), tt),
+        ),
+      )
 
   -- all plans read back, where none is too long and no text has a NUL
   plans_read : (exports : List ExportView) → AllByRecursion Sound exports →
@@ -132,9 +136,9 @@ module _ (machine : MachineType) (dll : List ℕ) (dll_free : holds 0 dll ≡ fa
       AllByRecursion (λ p. ReadsBack p.contents) (heading_plans machine dll ++ flat_map (export_plans machine dll) exports)
   plans_read exports sound short =
       let parts = or_parts (list_any is_too_long (heading_plans machine dll)) (list_any is_too_long (flat_map (export_plans machine dll) exports))
-          (sym (list_any-append is_too_long (heading_plans machine dll) (flat_map (export_plans machine dll) exports)) ∙ short) in
+      (sym (list_any-append is_too_long (heading_plans machine dll) (flat_map (export_plans machine dll) exports)) ∙ short) in
       all_append (λ p. ReadsBack p.contents) (heading_plans machine dll) (flat_map (export_plans machine dll) exports)
-        (heading_plans_read parts.0) (exports_plans_read exports sound parts.1)
+      (heading_plans_read parts.0) (exports_plans_read exports sound parts.1)
 
 -- What no refusal says.
 
@@ -210,8 +214,8 @@ module _ (d : DefinitionView) (machine : MachineType) (members : List MemberView
   pub plans_read_back : AllByRecursion (λ p. ReadsBack p.contents) (plans_of (renamed d) machine Msvc)
   plans_read_back =
       plans_read machine d.import_name import_name_is_free (public_exports (renamed d))
-        (all_sound (public_exports (renamed d)) (all_names_in_order Msvc machine 0 (map renamed_export d.exports) name_refusals.1) made.ordinals)
-        (none_too_long (plans_of (renamed d) machine Msvc) refusals.1)
+      (all_sound (public_exports (renamed d)) (all_names_in_order Msvc machine 0 (map renamed_export d.exports) name_refusals.1) made.ordinals)
+      (none_too_long (plans_of (renamed d) machine Msvc) refusals.1)
 
   -- a fact of each member's file is a fact of what was planned
   pub of_members : {Y : Type 0} (f : MemberView → Y) → map f members ≡ map (λ p. f (member_of p)) (plans_of (renamed d) machine Msvc)

@@ -97,28 +97,47 @@ Fits-descriptor machine dll free =
       machine = machine_fits machine;
       characteristics = descriptor_characteristics_fits machine;
       count = omega arith;
-      sections =
-        (record {
+      sections = (
+        record {
           name = refl;
           flags = omega arith;
           count = omega arith;
           relocations = (
             relocation_fits machine 12 2 (omega arith) (omega arith),
-            (relocation_fits machine 0 3 (omega arith) (omega arith),
-            (relocation_fits machine 16 4 (omega arith) (omega arith), tt)));
-        }, (plain_section_fits (codes ".idata$6") (dll ++ 0 ∷ []) _ refl (omega arith), tt));
+            (
+              relocation_fits machine 0 3 (omega arith) (omega arith),
+              (relocation_fits machine 16 4 (omega arith) (omega arith), tt),
+            ),
+          );
+        },
+        (plain_section_fits (codes ".idata$6") (dll ++ 0 ∷ []) _ refl (omega arith), tt),
+      );
       symbols = (
         listed_fits strings 0 1 external (omega arith) (omega arith),
-        (in_record_fits strings (codes ".idata$2") 1 section_class (omega arith) (omega arith) refl (omega arith),
-        (in_record_fits strings (codes ".idata$6") 2 static (omega arith) (omega arith) refl (omega arith),
-        (in_record_fits strings (codes ".idata$4") undefined section_class (omega arith) (omega arith) refl (omega arith),
-        (in_record_fits strings (codes ".idata$5") undefined section_class (omega arith) (omega arith) refl (omega arith),
-        (listed_fits strings 1 undefined external (omega arith) (omega arith),
-        (listed_fits strings 2 undefined external (omega arith) (omega arith), tt)))))));
+        (
+          in_record_fits strings (codes ".idata$2") 1 section_class (omega arith) (omega arith) refl (omega arith),
+          (
+            in_record_fits strings (codes ".idata$6") 2 static (omega arith) (omega arith) refl (omega arith),
+            (
+              in_record_fits strings (codes ".idata$4") undefined section_class (omega arith) (omega arith) refl (omega arith),
+              (
+                in_record_fits strings (codes ".idata$5") undefined section_class (omega arith) (omega arith) refl (omega arith),
+                (
+                  listed_fits strings 1 undefined external (omega arith) (omega arith),
+                  (listed_fits strings 2 undefined external (omega arith) (omega arith), tt),
+                ),
+              ),
+            ),
+          ),
+        ),
+      );
       strings = (
         HasNoNul-from_holds (descriptor_symbol dll) (holds-descriptor_symbol dll free),
-        (HasNoNul-from_holds null_descriptor_symbol holds-null_descriptor_symbol,
-        (HasNoNul-from_holds (null_thunk_symbol dll) (holds-null_thunk_symbol dll free), tt)));
+        (
+          HasNoNul-from_holds null_descriptor_symbol holds-null_descriptor_symbol,
+          (HasNoNul-from_holds (null_thunk_symbol dll) (holds-null_thunk_symbol dll free), tt),
+        ),
+      );
     }
 
 -- the null descriptor fits
@@ -146,7 +165,8 @@ Fits-null_thunk machine dll free = record {
   count = omega arith;
   sections = (
     plain_section_fits (codes ".idata$5") _ _ refl (null_thunk_flags_fit (is_32bit machine)),
-    (plain_section_fits (codes ".idata$4") _ _ refl (null_thunk_flags_fit (is_32bit machine)), tt));
+    (plain_section_fits (codes ".idata$4") _ _ refl (null_thunk_flags_fit (is_32bit machine)), tt),
+  );
   symbols = (listed_fits (null_thunk_symbol dll ∷ []) 0 1 external (omega arith) (omega arith), tt);
   strings = (HasNoNul-from_holds (null_thunk_symbol dll) (holds-null_thunk_symbol dll free), tt);
 }
@@ -167,9 +187,14 @@ Fits-weak_object machine weak target weak_free target_free =
       sections = (plain_section_fits (codes ".drectve") [] _ refl (omega arith), tt);
       symbols = (
         in_record_fits strings (codes "@comp.id") absolute static (omega arith) (omega arith) refl (omega arith),
-        (in_record_fits strings (codes "@feat.00") absolute static (omega arith) (omega arith) refl (omega arith),
-        (listed_fits strings 0 undefined external (omega arith) (omega arith),
-        (record { name = omega arith; value = omega arith; section = omega arith; aux = length-weak_auxiliary }, tt))));
+        (
+          in_record_fits strings (codes "@feat.00") absolute static (omega arith) (omega arith) refl (omega arith),
+          (
+            listed_fits strings 0 undefined external (omega arith) (omega arith),
+            (record { name = omega arith; value = omega arith; section = omega arith; aux = length-weak_auxiliary }, tt),
+          ),
+        ),
+      );
       strings = (HasNoNul-from_holds target target_free, (HasNoNul-from_holds weak weak_free, tt));
     }
 

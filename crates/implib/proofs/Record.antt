@@ -43,7 +43,7 @@ unfolding u16_bytes u32_bytes
 is_record-record_bytes r fits =
     let long : nat_le 20 (length (record_bytes r)) ≡ true = le-leb 20 (length (record_bytes r)) (omega (arith, length-record_bytes r)) in
     let size : (u32_at 12 (record_bytes r) == length (record_bytes r) - record_header_size) ≡ true =
-        eq-eqb (u32_at 12 (record_bytes r)) (length (record_bytes r) - record_header_size) (omega (arith, data_size_fits r fits, length-record_bytes r)) in
+    eq-eqb (u32_at 12 (record_bytes r)) (length (record_bytes r) - record_header_size) (omega (arith, data_size_fits r fits, length-record_bytes r)) in
     rw (long, size) refl
 
 same_record : (r : ShortRecord) (version machine time ordinal kind name_type : ℕ) →
@@ -60,10 +60,10 @@ fields_read r fits =
     let kind : (r.kind + 4 * r.name_type) % 4 ≡ r.kind = omega (arith, fits.kind) in
     let name_type : (r.kind + 4 * r.name_type) / 4 % 8 ≡ r.name_type = omega (arith, fits.kind, fits.name_type) in
     same_record r (u16_at 4 (record_bytes r)) (u16_at 6 (record_bytes r)) (u32_at 8 (record_bytes r)) (u16_at 16 (record_bytes r))
-        (u16_at 18 (record_bytes r) % 4) (u16_at 18 (record_bytes r) / 4 % 8)
-        (from_le_bytes-to_le_bytes_2 r.version fits.version) (from_le_bytes-to_le_bytes_2 r.machine fits.machine)
-        (from_le_bytes-to_le_bytes_4 r.time fits.time) (from_le_bytes-to_le_bytes_2 r.ordinal fits.ordinal)
-        (ap (λ n. n % 4) types ∙ kind) (ap (λ n. n / 4 % 8) types ∙ name_type)
+    (u16_at 18 (record_bytes r) % 4) (u16_at 18 (record_bytes r) / 4 % 8)
+    (from_le_bytes-to_le_bytes_2 r.version fits.version) (from_le_bytes-to_le_bytes_2 r.machine fits.machine)
+    (from_le_bytes-to_le_bytes_4 r.time fits.time) (from_le_bytes-to_le_bytes_2 r.ordinal fits.ordinal)
+    (ap (λ n. n % 4) types ∙ kind) (ap (λ n. n / 4 % 8) types ∙ name_type)
 
 -- a record reads back as its fields
 pub short_record_in-record_bytes : (r : ShortRecord) → FitsRecord r → record_size r ≤ 0xFFFF_FFFF → short_record_in (record_bytes r) ≡ Some r

@@ -96,9 +96,9 @@ is_alias target symbol = not (is_empty_text target) && not (same_name target sym
 abbrev pub aliases_for : List ℕ → List ℕ → List Alias
 aliases_for symbol target =
     if is_alias target symbol then
-      record { weak = symbol; target = target }
-      ∷ record { weak = address_symbol symbol; target = address_symbol target }
-      ∷ []
+    record { weak = symbol; target = target }
+    ∷ record { weak = address_symbol symbol; target = address_symbol target }
+    ∷ []
     else []
 
 -- the exports that are not private

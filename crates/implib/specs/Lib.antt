@@ -3,6 +3,10 @@ pub mod Definition
 pub mod Fault
 pub mod Token
 pub mod Division
+pub mod Number
+pub mod Grammar
+pub mod Meaning
+pub mod Refusal
 pub mod WorkedTokens
 pub mod Parses
 pub mod Renaming
@@ -20,3 +24,7 @@ pub mod Constants
 pub mod MsvcObjects
 pub mod File
 pub mod PictureView
+pub mod WorkedStatements
+pub mod Reading
+pub mod Parser
+pub mod ParserViews

@@ -71,9 +71,9 @@ weak_plan machine dll weak target = record { name = dll; contents = AnObject (we
 unfoldable pub weak_plans : MachineType → List ℕ → ExportView → List Plan
 weak_plans machine dll e =
     if is_alias e.alias_target (record_symbol e) then
-      weak_plan machine dll (record_symbol e) e.alias_target
-      ∷ weak_plan machine dll (address_symbol (record_symbol e)) (address_symbol e.alias_target)
-      ∷ []
+    weak_plan machine dll (record_symbol e) e.alias_target
+    ∷ weak_plan machine dll (address_symbol (record_symbol e)) (address_symbol e.alias_target)
+    ∷ []
     else []
 
 -- the plan of an export's short record

@@ -68,19 +68,19 @@ descriptor machine dll = record {
   machine = machine_number machine;
   characteristics = descriptor_characteristics machine;
   sections =
-    record {
-      name = codes ".idata$2";
-      flags = initialized_data + align_4 + read_write;
-      bytes = zeros descriptor_size;
-      relocations = relocation machine 12 2 ∷ relocation machine 0 3 ∷ relocation machine 16 4 ∷ [];
-    }
-    ∷ record {
-      name = codes ".idata$6";
-      flags = initialized_data + align_2 + read_write;
-      bytes = dll ++ 0 ∷ [];
-      relocations = [];
-    }
-    ∷ [];
+      record {
+        name = codes ".idata$2";
+        flags = initialized_data + align_4 + read_write;
+        bytes = zeros descriptor_size;
+        relocations = relocation machine 12 2 ∷ relocation machine 0 3 ∷ relocation machine 16 4 ∷ [];
+      }
+      ∷ record {
+        name = codes ".idata$6";
+        flags = initialized_data + align_2 + read_write;
+        bytes = dll ++ 0 ∷ [];
+        relocations = [];
+      }
+      ∷ [];
   symbols = descriptor_symbols;
   strings = descriptor_symbol dll ∷ null_descriptor_symbol ∷ null_thunk_symbol dll ∷ [];
 }

@@ -4,13 +4,15 @@ ghost use Rattle.implib.specs.Definition.{definition_view, empty_definition, emp
 ghost use Rattle.implib.specs.Fault.{IfInvalid, error_cause};
 ghost use Rattle.implib.specs.Parses.{Parses, Refuses};
 ghost use Rattle.implib.specs.Renaming.{renamed, renamed_export};
-ghost use Rattle.std.specs.Prelude.{◌≡◌, IfErr, IfOk, None, map, true};
+ghost use Rattle.std.specs.Prelude.{◌≡◌, IfErr, IfOk, None, map};
 
+use crate::def::parser::Parser;
 use crate::error::Error;
 use crate::machine::MachineType;
-use std::alloc::{AllocError, Global};
+use std::alloc::Global;
 
 pub mod lexer;
+pub mod parser;
 
 /// One export of a module definition.
 #[derive(Debug, Drop)]
@@ -123,15 +125,16 @@ impl ModuleDef {
         }
     }
 
-    /// Reads a module definition for a machine.
+    /// What a text means on a machine, in time linear in its length.
+    ///
+    /// # Errors
+    ///
+    /// As [`Parser::parse`].
     pub fn parse(alloc: Global, def: &str, machine: MachineType) -> Result<ModuleDef, Error>
         ensures parses { IfOk result (λ d. Parses def.now machine (definition_view d)) }
         ensures refused { IfInvalid result (Refuses def.now) }
     {
-        let _ = machine;
-        let _length = def.len();
-        let _definition = ModuleDef::empty(alloc);
-        Err(Error::OutOfMemory(AllocError))
+        Parser::new(def, machine).parse(alloc)
     }
 
     /// An equal definition. Refuses for memory alone.

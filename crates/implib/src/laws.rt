@@ -1,3 +1,8 @@
 //! Laws: functions that answer nothing, and whose contracts are facts about the definitions.
 
+pub mod grammar;
+pub mod renaming;
 pub mod tokens;
+
+pub use grammar::grammar_or_broken;
+pub use renaming::rename_twice;

@@ -7,7 +7,7 @@ mod error;
 pub mod laws;
 mod library;
 mod machine;
-mod msvc;
+pub mod msvc;
 mod refusal;
 
 pub use error::{Error, Fault};

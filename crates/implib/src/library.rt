@@ -5,6 +5,7 @@ ghost use Rattle.implib.specs.Fault.{IfInvalid, error_cause};
 ghost use Rattle.implib.specs.Library.{LibraryOf, library_view, member_view};
 ghost use Rattle.implib.specs.Made.{Made, RefusesAlways, refusal};
 ghost use Rattle.implib.specs.Parses.{Refuses};
+ghost use Rattle.implib.specs.Reads.{Reads};
 ghost use Rattle.implib.specs.Renaming.{is_renamed, renamed};
 ghost use Rattle.std.specs.Prelude.{◌≡◌, IfErr, IfOk, None, Some, map, true};
 
@@ -45,6 +46,7 @@ pub struct ImportLibrary {
 impl Model for ImportLibrary {
     ghost use Rattle.implib.specs.Definition.{export_view};
     ghost use Rattle.implib.specs.Library.{LibraryView, library_view};
+    ghost use Rattle.implib.specs.Reads.{Reads};
     ghost use Rattle.implib.specs.Renaming.{is_renamed};
     ghost use Rattle.std.specs.Prelude.{◌≡◌, map, true};
 
@@ -98,6 +100,8 @@ impl ImportLibrary {
     pub fn members(&self) -> Result<Vec<Member>, Error>
         ensures ok { IfOk result (λ members.
             Made self.now.definition self.now.machine self.now.flavor (map member_view members.items)) }
+        ensures reads { IfOk result (λ members.
+            Reads self.now.definition self.now.machine self.now.flavor (map member_view members.items)) }
         ensures refused { IfInvalid result (λ cause.
             refusal self.now.definition self.now.machine self.now.flavor ≡ Some cause) }
         ensures names_refused_always { RefusesAlways self.now.definition self.now.machine self.now.flavor result }
@@ -126,6 +130,7 @@ pub(crate) fn members_of(
 ) -> Result<Vec<Member>, Error>
     requires { is_renamed (map export_view def.now.exports.items) ≡ true }
     ensures ok { IfOk result (λ members. Made (definition_view def.now) machine flavor (map member_view members.items)) }
+    ensures reads { IfOk result (λ members. Reads (definition_view def.now) machine flavor (map member_view members.items)) }
     ensures refused { IfInvalid result (λ cause. refusal (definition_view def.now) machine flavor ≡ Some cause) }
     ensures names_refused_always { RefusesAlways (definition_view def.now) machine flavor result }
 {

@@ -4,37 +4,80 @@ ghost use Rattle.implib.specs.Definition.{definition_view, export_view};
 ghost use Rattle.implib.specs.Fault.{IfInvalid, MemberTooLong};
 ghost use Rattle.implib.specs.Import.{holds, is_alias, public_exports};
 ghost use Rattle.implib.specs.Library.{member_view};
-ghost use Rattle.implib.specs.Made.{definition_names_refusal, export_plans, has_u16_ordinal, heading_plans, holds_nul, is_too_long, member_of, plans_of, weak_plans};
+ghost use Rattle.implib.specs.Made.{Made, RefusesAlways, definition_names_refusal, export_plans, has_u16_ordinal, heading_plans, holds_nul, is_too_long, member_of, plans_of, refusal, weak_plans};
+ghost use Rattle.implib.specs.Reads.{Reads};
+ghost use Rattle.implib.specs.Renaming.{renamed};
 ghost use Rattle.implib.specs.Msvc.{record_symbol};
 ghost use Rattle.implib.specs.declared.library.Flavor.TheVariants.{Msvc};
 ghost use Rattle.std.specs.List.{list_all, list_any};
-ghost use Rattle.std.specs.Prelude.{None, false, map, true, ◌++◌, ◌≡◌, IfOk, OnOk};
+ghost use Rattle.std.specs.Prelude.{None, Some, false, map, true, ◌++◌, ◌≡◌, IfOk, OnOk};
 
-use crate::def::{ModuleDef, ShortExport};
+use crate::def::{self, ModuleDef, ShortExport};
 use crate::error::Error;
-use crate::library::Member;
+use crate::library::{Flavor, Member, members_of};
 use crate::machine::MachineType;
+use std::marker::Model;
 
 mod objects;
 mod record;
 
-pub(crate) use record::asked;
-
 use objects::{descriptor_member, null_descriptor_member, null_thunk_member, weak_member};
+pub(crate) use record::asked;
 use record::{address_symbol, record_member, record_symbol};
+
+/// The import library of a module definition for Microsoft's linker.
+#[derive(Drop)]
+pub struct MsvcImportLibrary {
+    def: ModuleDef,
+    machine: MachineType,
+}
+
+impl Model for MsvcImportLibrary {
+    ghost use Rattle.implib.specs.Definition.{export_view};
+    ghost use Rattle.implib.specs.Library.{LibraryView, library_view};
+    ghost use Rattle.implib.specs.Renaming.{is_renamed};
+    ghost use Rattle.implib.specs.declared.library.Flavor.TheVariants.{Msvc};
+    ghost use Rattle.std.specs.Prelude.{map, true, ◌≡◌};
+
+    ghost Value = { LibraryView };
+
+    ghost view = { λ l. library_view l.def l.machine Msvc };
+
+    ghost invariant = { λ l. is_renamed (map export_view l.def.exports.items) ≡ true };
+}
+
+impl MsvcImportLibrary {
+    /// Holds a definition: each `ext_name` that is given is moved into `name`.
+    pub fn new(def: ModuleDef, machine: MachineType) -> Self
+        ensures held { result ≡ record { definition = renamed (definition_view def); machine = machine; flavor = Msvc } }
+    {
+        MsvcImportLibrary {
+            def: def::rename(def),
+            machine,
+        }
+    }
+
+    /// The members, in order; refuses as [`ImportLibrary::members`](crate::ImportLibrary::members).
+    pub fn members(&self) -> Result<Vec<Member>, Error>
+        ensures ok { IfOk result (λ members.
+            Made self.now.definition self.now.machine Msvc (map member_view members.items)) }
+        ensures reads { IfOk result (λ members.
+            Reads self.now.definition self.now.machine Msvc (map member_view members.items)) }
+        ensures refused { IfInvalid result (λ cause. refusal self.now.definition self.now.machine Msvc ≡ Some cause) }
+        ensures names_refused_always { RefusesAlways self.now.definition self.now.machine Msvc result }
+    {
+        members_of(&self.def, self.machine, Flavor::Msvc)
+    }
+}
 
 /// The members of a definition that breaks no rule on names, in order.
 pub(crate) fn members(def: &ModuleDef, machine: MachineType) -> Result<Vec<Member>, Error>
     requires { definition_names_refusal (definition_view def.now) machine Msvc ≡ None }
-    ensures ok {
-        IfOk result (λ members. map member_view members.items ≡ map member_of (plans_of (definition_view def.now) machine Msvc))
-    }
+    ensures ok { IfOk result (λ members. map member_view members.items ≡ map member_of (plans_of (definition_view def.now) machine Msvc)) }
     ensures fit { OnOk result (list_any is_too_long (plans_of (definition_view def.now) machine Msvc) ≡ false) }
     ensures ordinals { OnOk result (list_all has_u16_ordinal (public_exports (definition_view def.now)) ≡ true) }
-    ensures too_long {
-        IfInvalid result (λ cause. (cause ≡ MemberTooLong)
-            × (list_any is_too_long (plans_of (definition_view def.now) machine Msvc) ≡ true))
-    }
+    ensures too_long { IfInvalid result (λ cause. (cause ≡ MemberTooLong)
+        × (list_any is_too_long (plans_of (definition_view def.now) machine Msvc) ≡ true)) }
 {
     let alloc = *def.exports.allocator();
     let dll = def.import_name.as_str();
@@ -71,14 +114,10 @@ fn has_aliases(export: &ShortExport) -> bool
 #[tactic(auto, unfolding(crate::specs::Made::heading_plans))]
 fn push_heading(members: &mut Vec<Member>, machine: MachineType, dll: &str) -> Result<(), Error>
     requires { holds 0 dll.now ≡ false }
-    ensures ok {
-        OnOk result (map member_view members.new.items
-            ≡ map member_view members.old.items ++ map member_of (heading_plans machine dll.now))
-    }
+    ensures ok { OnOk result (map member_view members.new.items
+        ≡ map member_view members.old.items ++ map member_of (heading_plans machine dll.now)) }
     ensures fit { OnOk result (list_any is_too_long (heading_plans machine dll.now) ≡ false) }
-    ensures too_long {
-        IfInvalid result (λ cause. (cause ≡ MemberTooLong) × (list_any is_too_long (heading_plans machine dll.now) ≡ true))
-    }
+    ensures too_long { IfInvalid result (λ cause. (cause ≡ MemberTooLong) × (list_any is_too_long (heading_plans machine dll.now) ≡ true)) }
 {
     members.push(descriptor_member(*members.allocator(), machine, dll)?)?;
     members.push(null_descriptor_member(*members.allocator(), machine, dll)?)?;
@@ -95,16 +134,12 @@ fn push_export(
     dll: &str,
 ) -> Result<(), Error>
     requires { holds_nul (export_view export.now) ≡ false }
-    ensures ok {
-        OnOk result (map member_view members.new.items
-            ≡ map member_view members.old.items ++ map member_of (export_plans machine dll.now (export_view export.now)))
-    }
+    ensures ok { OnOk result (map member_view members.new.items
+        ≡ map member_view members.old.items ++ map member_of (export_plans machine dll.now (export_view export.now))) }
     ensures fit { OnOk result (list_any is_too_long (export_plans machine dll.now (export_view export.now)) ≡ false) }
     ensures ordinal { OnOk result (has_u16_ordinal (export_view export.now) ≡ true) }
-    ensures too_long {
-        IfInvalid result (λ cause. (cause ≡ MemberTooLong)
-            × (list_any is_too_long (export_plans machine dll.now (export_view export.now)) ≡ true))
-    }
+    ensures too_long { IfInvalid result (λ cause. (cause ≡ MemberTooLong)
+        × (list_any is_too_long (export_plans machine dll.now (export_view export.now)) ≡ true)) }
 {
     if has_aliases(export) {
         push_weak_externals(members, export, machine, dll)?;
@@ -123,15 +158,11 @@ fn push_weak_externals(
 ) -> Result<(), Error>
     requires nul { holds_nul (export_view export.now) ≡ false }
     requires aliases { is_alias (export_view export.now).alias_target (record_symbol (export_view export.now)) ≡ true }
-    ensures ok {
-        OnOk result (map member_view members.new.items
-            ≡ map member_view members.old.items ++ map member_of (weak_plans machine dll.now (export_view export.now)))
-    }
+    ensures ok { OnOk result (map member_view members.new.items
+        ≡ map member_view members.old.items ++ map member_of (weak_plans machine dll.now (export_view export.now))) }
     ensures fit { OnOk result (list_any is_too_long (weak_plans machine dll.now (export_view export.now)) ≡ false) }
-    ensures too_long {
-        IfInvalid result (λ cause. (cause ≡ MemberTooLong)
-            × (list_any is_too_long (weak_plans machine dll.now (export_view export.now)) ≡ true))
-    }
+    ensures too_long { IfInvalid result (λ cause. (cause ≡ MemberTooLong)
+        × (list_any is_too_long (weak_plans machine dll.now (export_view export.now)) ≡ true)) }
 {
     let alloc = *members.allocator();
     let symbol = record_symbol(export);

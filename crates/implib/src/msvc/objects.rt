@@ -27,6 +27,7 @@ const DESCRIPTOR_SIZE: usize = 20;
 // The number of the section that a symbol's record names where it is of another object, and where
 // its value is no address.
 const UNDEFINED: u16 = 0;
+
 const ABSOLUTE: u16 = 0xFFFF;
 
 // The auxiliary record of a weak external: the index of the symbol that it stands for, 2, and how it
@@ -117,13 +118,11 @@ fn object_member(
     bytes: Vec<u8>,
     symbol: String,
 ) -> Result<Member, AllocError>
-    ensures {
-        IfOk result (λ m. member_view m ≡ record {
-            name = dll.now;
-            bytes = bytes.items;
-            symbols = string_bytes symbol ∷ [];
-        })
-    }
+    ensures { IfOk result (λ m. member_view m ≡ record {
+      name = dll.now;
+      bytes = bytes.items;
+      symbols = string_bytes symbol ∷ [];
+    }) }
 {
     let symbols = vec![in alloc; symbol]?;
     let name = String::from_str(alloc, dll)?;
@@ -173,25 +172,36 @@ fn relocation(machine: MachineType, offset: u32, symbol: u32) -> Relocation
 
 // The sections of the import descriptor: the descriptor, and the DLL's name.
 #[tactic(auto, unfolding(crate::specs::MsvcObjects::descriptor))]
-fn descriptor_sections(alloc: Global, machine: MachineType, dll: &str) -> Result<[Section; 2], AllocError>
+fn descriptor_sections(
+    alloc: Global,
+    machine: MachineType,
+    dll: &str,
+) -> Result<[Section; 2], AllocError>
     ensures { IfOk result (λ sections. map section_view sections ≡ (descriptor machine dll.now).sections) }
 {
     let relocations = vec![in alloc;
         relocation(machine, 12, 2),
         relocation(machine, 0, 3),
-        relocation(machine, 16, 4)]?;
+        relocation(machine, 16, 4),
+    ]?;
     let mut name = Vec::from_slice(alloc, dll.as_bytes())?;
     name.push(0)?;
     Ok([
         Section {
             name: *b".idata$2",
-            flags: flags::CNT_INITIALIZED_DATA | flags::ALIGN_4BYTES | flags::MEM_READ | flags::MEM_WRITE,
+            flags: flags::CNT_INITIALIZED_DATA
+                | flags::ALIGN_4BYTES
+                | flags::MEM_READ
+                | flags::MEM_WRITE,
             bytes: zeros(alloc, DESCRIPTOR_SIZE)?,
             relocations,
         },
         Section {
             name: *b".idata$6",
-            flags: flags::CNT_INITIALIZED_DATA | flags::ALIGN_2BYTES | flags::MEM_READ | flags::MEM_WRITE,
+            flags: flags::CNT_INITIALIZED_DATA
+                | flags::ALIGN_2BYTES
+                | flags::MEM_READ
+                | flags::MEM_WRITE,
             bytes: name,
             relocations: Vec::new(alloc),
         },
@@ -230,34 +240,44 @@ fn descriptor_object<'a>(
     requires null_thunk { null_thunk.now ≡ null_thunk_symbol dll.now }
     ensures bytes { IfOk result (λ bytes. bytes.items ≡ layout (descriptor machine dll.now)) }
     ensures short { OnOk result (layout_size (descriptor machine dll.now) < 2 ^ 32) }
-    ensures too_long {
-        IfInvalid result (λ cause. (cause ≡ MemberTooLong) × (2 ^ 32 ≤ layout_size (descriptor machine dll.now)))
-    }
+    ensures too_long { IfInvalid result (λ cause. (cause ≡ MemberTooLong) × (2 ^ 32 ≤ layout_size (descriptor machine dll.now))) }
 {
     let sections = descriptor_sections(alloc, machine, dll)?;
     let symbols = descriptor_symbols();
-    lay_out(alloc, &Picture {
-        machine: machine.number(),
-        characteristics: descriptor_characteristics(machine),
-        sections: &sections,
-        symbols: &symbols,
-        strings: &[symbol, null_descriptor, null_thunk],
-    })
+    lay_out(
+        alloc,
+        &Picture {
+            machine: machine.number(),
+            characteristics: descriptor_characteristics(machine),
+            sections: &sections,
+            symbols: &symbols,
+            strings: &[symbol, null_descriptor, null_thunk],
+        },
+    )
 }
 
 /// The import descriptor.
 #[tactic(auto, unfolding(crate::specs::Made::descriptor_plan, crate::specs::MsvcObjects::null_descriptor_symbol))]
-pub(crate) fn descriptor_member(alloc: Global, machine: MachineType, dll: &str) -> Result<Member, Error>
+pub(crate) fn descriptor_member(
+    alloc: Global,
+    machine: MachineType,
+    dll: &str,
+) -> Result<Member, Error>
     requires { holds 0 dll.now ≡ false }
     ensures ok { IfOk result (λ m. member_view m ≡ member_of (descriptor_plan machine dll.now)) }
     ensures fit { OnOk result (is_too_long (descriptor_plan machine dll.now) ≡ false) }
-    ensures too_long {
-        IfInvalid result (λ cause. (cause ≡ MemberTooLong) × (is_too_long (descriptor_plan machine dll.now) ≡ true))
-    }
+    ensures too_long { IfInvalid result (λ cause. (cause ≡ MemberTooLong) × (is_too_long (descriptor_plan machine dll.now) ≡ true)) }
 {
     let symbol = descriptor_symbol(alloc, dll)?;
     let thunk = null_thunk_symbol(alloc, dll)?;
-    let bytes = descriptor_object(alloc, machine, dll, symbol.as_str(), NULL_DESCRIPTOR_SYMBOL, thunk.as_str())?;
+    let bytes = descriptor_object(
+        alloc,
+        machine,
+        dll,
+        symbol.as_str(),
+        NULL_DESCRIPTOR_SYMBOL,
+        thunk.as_str(),
+    )?;
     Ok(object_member(alloc, dll, bytes, symbol)?)
 }
 
@@ -267,7 +287,10 @@ fn null_descriptor_section(alloc: Global) -> Result<Section, AllocError>
 {
     Ok(Section {
         name: *b".idata$3",
-        flags: flags::CNT_INITIALIZED_DATA | flags::ALIGN_4BYTES | flags::MEM_READ | flags::MEM_WRITE,
+        flags: flags::CNT_INITIALIZED_DATA
+            | flags::ALIGN_4BYTES
+            | flags::MEM_READ
+            | flags::MEM_WRITE,
         bytes: zeros(alloc, DESCRIPTOR_SIZE)?,
         relocations: Vec::new(alloc),
     })
@@ -277,28 +300,31 @@ fn null_descriptor_section(alloc: Global) -> Result<Section, AllocError>
 fn null_descriptor_object(alloc: Global, machine: MachineType) -> Result<Vec<u8>, Error>
     ensures bytes { IfOk result (λ bytes. bytes.items ≡ layout (null_descriptor machine)) }
     ensures short { OnOk result (layout_size (null_descriptor machine) < 2 ^ 32) }
-    ensures too_long {
-        IfInvalid result (λ cause. (cause ≡ MemberTooLong) × (2 ^ 32 ≤ layout_size (null_descriptor machine)))
-    }
+    ensures too_long { IfInvalid result (λ cause. (cause ≡ MemberTooLong) × (2 ^ 32 ≤ layout_size (null_descriptor machine))) }
 {
     let sections = [null_descriptor_section(alloc)?];
-    lay_out(alloc, &Picture {
-        machine: machine.number(),
-        characteristics: descriptor_characteristics(machine),
-        sections: &sections,
-        symbols: &[listed(0, 1, class::EXTERNAL)],
-        strings: &[NULL_DESCRIPTOR_SYMBOL],
-    })
+    lay_out(
+        alloc,
+        &Picture {
+            machine: machine.number(),
+            characteristics: descriptor_characteristics(machine),
+            sections: &sections,
+            symbols: &[listed(0, 1, class::EXTERNAL)],
+            strings: &[NULL_DESCRIPTOR_SYMBOL],
+        },
+    )
 }
 
 /// The descriptor of zeros that ends the import directory.
 #[tactic(auto, unfolding(crate::specs::Made::null_descriptor_plan, crate::specs::MsvcObjects::null_descriptor_symbol))]
-pub(crate) fn null_descriptor_member(alloc: Global, machine: MachineType, dll: &str) -> Result<Member, Error>
+pub(crate) fn null_descriptor_member(
+    alloc: Global,
+    machine: MachineType,
+    dll: &str,
+) -> Result<Member, Error>
     ensures ok { IfOk result (λ m. member_view m ≡ member_of (null_descriptor_plan machine dll.now)) }
     ensures fit { OnOk result (is_too_long (null_descriptor_plan machine dll.now) ≡ false) }
-    ensures too_long {
-        IfInvalid result (λ cause. (cause ≡ MemberTooLong) × (is_too_long (null_descriptor_plan machine dll.now) ≡ true))
-    }
+    ensures too_long { IfInvalid result (λ cause. (cause ≡ MemberTooLong) × (is_too_long (null_descriptor_plan machine dll.now) ≡ true)) }
 {
     let bytes = null_descriptor_object(alloc, machine)?;
     let symbol = String::from_str(alloc, NULL_DESCRIPTOR_SYMBOL)?;
@@ -306,10 +332,18 @@ pub(crate) fn null_descriptor_member(alloc: Global, machine: MachineType, dll: &
 }
 
 // A table's last thunk.
-fn null_thunk_section(alloc: Global, machine: MachineType, name: [u8; 8]) -> Result<Section, AllocError>
+fn null_thunk_section(
+    alloc: Global,
+    machine: MachineType,
+    name: [u8; 8],
+) -> Result<Section, AllocError>
     ensures { IfOk result (λ section. section_view section ≡ null_thunk_section machine name) }
 {
-    let alignment = if machine.is_32bit() { flags::ALIGN_4BYTES } else { flags::ALIGN_8BYTES };
+    let alignment = if machine.is_32bit() {
+        flags::ALIGN_4BYTES
+    } else {
+        flags::ALIGN_8BYTES
+    };
     Ok(Section {
         name,
         flags: flags::CNT_INITIALIZED_DATA | alignment | flags::MEM_READ | flags::MEM_WRITE,
@@ -319,35 +353,43 @@ fn null_thunk_section(alloc: Global, machine: MachineType, name: [u8; 8]) -> Res
 }
 
 // The object of the null thunk, whose symbol is given.
-fn null_thunk_object(alloc: Global, machine: MachineType, dll: &str, symbol: &str) -> Result<Vec<u8>, Error>
+fn null_thunk_object(
+    alloc: Global,
+    machine: MachineType,
+    dll: &str,
+    symbol: &str,
+) -> Result<Vec<u8>, Error>
     requires dll_text { holds 0 dll.now ≡ false }
     requires symbol { symbol.now ≡ null_thunk_symbol dll.now }
     ensures bytes { IfOk result (λ bytes. bytes.items ≡ layout (null_thunk machine dll.now)) }
     ensures short { OnOk result (layout_size (null_thunk machine dll.now) < 2 ^ 32) }
-    ensures too_long {
-        IfInvalid result (λ cause. (cause ≡ MemberTooLong) × (2 ^ 32 ≤ layout_size (null_thunk machine dll.now)))
-    }
+    ensures too_long { IfInvalid result (λ cause. (cause ≡ MemberTooLong) × (2 ^ 32 ≤ layout_size (null_thunk machine dll.now))) }
 {
     let address_table = null_thunk_section(alloc, machine, *b".idata$5")?;
     let lookup_table = null_thunk_section(alloc, machine, *b".idata$4")?;
-    lay_out(alloc, &Picture {
-        machine: machine.number(),
-        characteristics: descriptor_characteristics(machine),
-        sections: &[address_table, lookup_table],
-        symbols: &[listed(0, 1, class::EXTERNAL)],
-        strings: &[symbol],
-    })
+    lay_out(
+        alloc,
+        &Picture {
+            machine: machine.number(),
+            characteristics: descriptor_characteristics(machine),
+            sections: &[address_table, lookup_table],
+            symbols: &[listed(0, 1, class::EXTERNAL)],
+            strings: &[symbol],
+        },
+    )
 }
 
 /// The thunks of zeros that end the DLL's address table and lookup table.
 #[tactic(auto, unfolding(crate::specs::Made::null_thunk_plan))]
-pub(crate) fn null_thunk_member(alloc: Global, machine: MachineType, dll: &str) -> Result<Member, Error>
+pub(crate) fn null_thunk_member(
+    alloc: Global,
+    machine: MachineType,
+    dll: &str,
+) -> Result<Member, Error>
     requires { holds 0 dll.now ≡ false }
     ensures ok { IfOk result (λ m. member_view m ≡ member_of (null_thunk_plan machine dll.now)) }
     ensures fit { OnOk result (is_too_long (null_thunk_plan machine dll.now) ≡ false) }
-    ensures too_long {
-        IfInvalid result (λ cause. (cause ≡ MemberTooLong) × (is_too_long (null_thunk_plan machine dll.now) ≡ true))
-    }
+    ensures too_long { IfInvalid result (λ cause. (cause ≡ MemberTooLong) × (is_too_long (null_thunk_plan machine dll.now) ≡ true)) }
 {
     let symbol = null_thunk_symbol(alloc, dll)?;
     let bytes = null_thunk_object(alloc, machine, dll, symbol.as_str())?;
@@ -396,20 +438,21 @@ pub(crate) fn weak_external(
     requires target_text { holds 0 target.now ≡ false }
     ensures bytes { IfOk result (λ bytes. bytes.items ≡ layout (weak_object machine weak.now target.now)) }
     ensures short { OnOk result (layout_size (weak_object machine weak.now target.now) < 2 ^ 32) }
-    ensures too_long {
-        IfInvalid result (λ cause. (cause ≡ MemberTooLong)
-            × (2 ^ 32 ≤ layout_size (weak_object machine weak.now target.now)))
-    }
+    ensures too_long { IfInvalid result (λ cause. (cause ≡ MemberTooLong)
+        × (2 ^ 32 ≤ layout_size (weak_object machine weak.now target.now))) }
 {
     let sections = [weak_section(alloc)];
     let symbols = weak_symbols();
-    lay_out(alloc, &Picture {
-        machine: machine.number(),
-        characteristics: 0,
-        sections: &sections,
-        symbols: &symbols,
-        strings: &[target, weak],
-    })
+    lay_out(
+        alloc,
+        &Picture {
+            machine: machine.number(),
+            characteristics: 0,
+            sections: &sections,
+            symbols: &symbols,
+            strings: &[target, weak],
+        },
+    )
 }
 
 /// The member of a weak external, which is listed for the weak symbol.
@@ -424,10 +467,8 @@ pub(crate) fn weak_member(
     requires target_text { holds 0 target.now ≡ false }
     ensures ok { IfOk result (λ m. member_view m ≡ member_of (weak_plan machine dll.now weak.now target.now)) }
     ensures fit { OnOk result (is_too_long (weak_plan machine dll.now weak.now target.now) ≡ false) }
-    ensures too_long {
-        IfInvalid result (λ cause. (cause ≡ MemberTooLong)
-            × (is_too_long (weak_plan machine dll.now weak.now target.now) ≡ true))
-    }
+    ensures too_long { IfInvalid result (λ cause. (cause ≡ MemberTooLong)
+        × (is_too_long (weak_plan machine dll.now weak.now target.now) ≡ true)) }
 {
     let bytes = weak_external(alloc, machine, weak, target)?;
     let symbol = String::from_str(alloc, weak)?;

@@ -242,4 +242,3 @@ pub(crate) fn record_member(
         symbols,
     })
 }
-

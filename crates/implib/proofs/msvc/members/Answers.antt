@@ -24,23 +24,23 @@ loop-export-preserved c =
     let e = export_view c.export-item.result in
     let members = map member_view c.loop-export.members.items in
     let here = exports_from items index c.export-item.result
-        (rw c.deref-export-items.ensures.value at c.loop-export-test.true) (rw c.deref-export-items.ensures.value at c.export-item.is) in
+    (rw c.deref-export-items.ensures.value at c.loop-export-test.true) (rw c.deref-export-items.ensures.value at c.export-item.is) in
     let before = subst (λ (exports : List ExportView). Left machine dll all long sound index members exports) here
-        (record { named = c.loop-export.invariant.named; made = c.loop-export.invariant.made; fit = c.loop-export.invariant.fit; ordinals = c.loop-export.invariant.ordinals }) in
+    (record { named = c.loop-export.invariant.named; made = c.loop-export.invariant.made; fit = c.loop-export.invariant.fit; ordinals = c.loop-export.invariant.ordinals }) in
     elim c.if-not-export.branch [
-      then-not-export+in_ok-push_export w ↦
-        let grown : map member_view w.push_export.new.members.items ≡ members ++ map member_of (export_plans machine dll e) =
-            rw c.as_str-dll.ensures.value at (w.in_ok-push_export.ensures {u = tt}).ok in
-        let short : list_any is_too_long (export_plans machine dll e) ≡ false =
-            rw c.as_str-dll.ensures.value at (w.in_ok-push_export.ensures {u = tt}).fit in
-        let after : Left machine dll all long sound (index + 1) (map member_view c.if-not-export.members.items) others =
-            subst (λ x. Left machine dll all long sound (index + 1) (map member_view x.items) others) (sym w.members-is)
-              (left_public machine dll all long sound index members e others (map member_view w.push_export.new.members.items)
-                w.if-not-export.true before grown short (w.in_ok-push_export.ensures {u = tt}).ordinal) in
-        record { named = after.named; made = after.made; fit = after.fit; ordinals = after.ordinals }
-    | else-not-export w ↦
-        let after : Left machine dll all long sound (index + 1) (map member_view c.if-not-export.members.items) others =
-            subst (λ x. Left machine dll all long sound (index + 1) (map member_view x.items) others) (sym w.members-is)
-              (left_private machine dll all long sound index members e others w.if-not-export.false before) in
-        record { named = after.named; made = after.made; fit = after.fit; ordinals = after.ordinals }
+      | then-not-export+in_ok-push_export w ↦
+          let grown : map member_view w.push_export.new.members.items ≡ members ++ map member_of (export_plans machine dll e) =
+          rw c.as_str-dll.ensures.value at (w.in_ok-push_export.ensures {u = tt}).ok in
+          let short : list_any is_too_long (export_plans machine dll e) ≡ false =
+          rw c.as_str-dll.ensures.value at (w.in_ok-push_export.ensures {u = tt}).fit in
+          let after : Left machine dll all long sound (index + 1) (map member_view c.if-not-export.members.items) others =
+          subst (λ x. Left machine dll all long sound (index + 1) (map member_view x.items) others) (sym w.members-is)
+          (left_public machine dll all long sound index members e others (map member_view w.push_export.new.members.items)
+          w.if-not-export.true before grown short (w.in_ok-push_export.ensures {u = tt}).ordinal) in
+          record { named = after.named; made = after.made; fit = after.fit; ordinals = after.ordinals }
+      | else-not-export w ↦
+          let after : Left machine dll all long sound (index + 1) (map member_view c.if-not-export.members.items) others =
+          subst (λ x. Left machine dll all long sound (index + 1) (map member_view x.items) others) (sym w.members-is)
+          (left_private machine dll all long sound index members e others w.if-not-export.false before) in
+          record { named = after.named; made = after.made; fit = after.fit; ordinals = after.ordinals }
     ]
