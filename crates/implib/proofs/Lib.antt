@@ -27,11 +27,3 @@ pub mod ParserAnswers
 mod SpelledStatements
 mod OneReading
 mod WorkedStatements
-pub mod Division
-pub mod Gap
-pub mod Left
-pub mod Slices
-pub mod Taken
-pub mod Token
-pub mod Trimmed
-pub mod WorkedTokens
