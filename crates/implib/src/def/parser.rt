@@ -83,7 +83,7 @@ impl<'a> Tokens<'a> {
     ) -> Result<(), Error>
         ensures { Gives (λ _. (definition_view def.new, self.new)) result
             (all_put (with_statement machine) (definition_view def.old)
-                (statements_read self.old)) }
+            (statements_read self.old)) }
     {
         while self.statement(alloc, machine, def)? {}
         Ok(())
@@ -99,7 +99,7 @@ impl<'a> Tokens<'a> {
     ) -> Result<bool, Error>
         ensures read { Gives (λ more. (more, definition_view def.new, self.new)) result
             (one_put (with_statement machine) (definition_view def.old)
-                (statement_read self.old)) }
+            (statement_read self.old)) }
         ensures no_longer { OnOk result (length self.new ≤ length self.old) }
         ensures shorter { IfOk result (λ more. IsTrue more → length self.new < length self.old) }
     {

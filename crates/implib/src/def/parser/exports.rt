@@ -25,7 +25,7 @@ impl<'a> Tokens<'a> {
     ) -> Result<(), Error>
         ensures read { Gives (λ _. (map export_view exports.new.items, self.new)) result
             (all_put (with_export machine) (map export_view exports.old.items)
-                (exports_read self.old)) }
+            (exports_read self.old)) }
         ensures no_longer { OnOk result (length self.new ≤ length self.old) }
     {
         while self.export(alloc, machine, exports)? {}
@@ -42,7 +42,7 @@ impl<'a> Tokens<'a> {
     ) -> Result<bool, Error>
         ensures read { Gives (λ more. (more, map export_view exports.new.items, self.new)) result
             (one_put (with_export machine) (map export_view exports.old.items)
-                (export_read self.old)) }
+            (export_read self.old)) }
         ensures no_longer { OnOk result (length self.new ≤ length self.old) }
         ensures shorter { IfOk result (λ more. IsTrue more → length self.new < length self.old) }
     {
