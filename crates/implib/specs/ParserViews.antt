@@ -48,9 +48,11 @@ put apply state (Some item, rest) = Ok (true, apply state item, rest)
 abbrev pub put_all : {A S : Type 0} → (S → A → S) → S → List A × List Seen → Result (S × List Seen) Cause
 put_all apply state items = Ok (fold apply state items.0, items.1)
 
+-- the same, of what a reader of one item gives
 abbrev pub one_put : {A S : Type 0} → (S → A → S) → S → Reads (Option A) → Result (Bool × S × List Seen) Cause
 one_put apply state read = read >>= put apply state
 
+-- the same, of what a reader of all items gives
 abbrev pub all_put : {A S : Type 0} → (S → A → S) → S → Reads (List A) → Result (S × List Seen) Cause
 all_put apply state read = read >>= put_all apply state
 
@@ -70,9 +72,11 @@ with_settings d s = record {
   minor_os_version = d.minor_os_version;
 }
 
+-- a statement that was read sets what it sets
 abbrev pub put_settings : DefinitionView → Statement × List Seen → Result (DefinitionView × List Seen) Cause
 put_settings d s = Ok (with_settings d s.0, s.1)
 
+-- the same, of what a reader of a statement gives
 abbrev pub settings_put : DefinitionView → Reads Statement → Result (DefinitionView × List Seen) Cause
 settings_put d read = read >>= put_settings d
 
