@@ -1,4 +1,8 @@
 //! Prints the members of a module definition's import library.
 #![tactic(auto)]
 
+mod device;
+mod host;
+mod listing;
+
 fn main() {}
