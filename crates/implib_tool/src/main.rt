@@ -4,5 +4,6 @@
 mod device;
 mod host;
 mod listing;
+mod parts;
 
 fn main() {}
