@@ -1,16 +1,17 @@
 -- Lemmas on the parts of a text.
-use Rattle.std.proofs.Common.{◌≡◌, ◌≢◌, ◌⊎◌, inl, inr, ℕ, zero, suc, ◌+◌, ◌-◌, ◌<◌, ◌≤◌, List, [], ◌∷◌, ◌++◌, length, take, drop, get_or, refl, sym, ap, subst, ◌∙◌, append_assoc, append-nil, arith, length-append, length-take, length-drop, get_or-drop, get_or-take, take-append-drop, add-zero, lt_of_not-le}
+use Rattle.std.proofs.Common.{Bool, true, false, ◌||◌, ◌≡◌, ◌≢◌, ◌⊎◌, inl, inr, ℕ, zero, suc, ◌+◌, ◌-◌, ◌<◌, ◌≤◌, List, [], ◌∷◌, ◌++◌, length, take, drop, get_or, refl, sym, ap, subst, ◌∙◌, append_assoc, append-nil, arith, length-append, length-take, length-drop, get_or-drop, get_or-take, take-append-drop, add-zero, lt_of_not-le}
 use Rattle.std.proofs.lemmas.List.{take_more, take-append-le, get_or-append-add, get_or_append_left, drop_more, drop_all, take_at, drop_at, append_cancel_left, drop-drop}
-use Rattle.std.proofs.lemmas.Str.{IsCharBoundary-start, IsCharBoundary-end, IsCharBoundary-after_ascii}
+use Rattle.std.proofs.lemmas.Bool.Decides.{Decides-or, eqb_tells, leb_tells, not_from_Decides}
+use Rattle.std.proofs.lemmas.Slice.Eq.{bytes_eq-Decides}
+use Rattle.std.proofs.lemmas.Str.{IsCharBoundary-end, IsCharBoundary-after_ascii}
 use Rattle.std.proofs.Math.Arith.{lt_of_le-ne}
-use Rattle.std.specs.Str.{IsCharBoundary, IsUtf8}
-use Rattle.implib_tool.specs.Parts.{IsSeparator, LineBeginsAfter, LineEndsBefore, Separates, IsUndivided, Follows, Divides, Parts}
+use Rattle.std.specs.Str.{IsCharBoundary, IsUtf8, bytes_eq}
+use Rattle.implib_tool.specs.Parts.{IsSeparator, LineBeginsAfter, LineEndsBefore, Separates, IsUndivided, Follows, Divides, HasOneParting, Parts}
 use Rattle.implib_tool.specs.Views.{IsLineAt}
 
 -- a line begins at the place, and no separating line begins before it
 pub record LineStart (text : List ℕ) (start : ℕ) : Type 0 where
   pub within : start ≤ length text
-  pub boundary : IsCharBoundary text start
   pub begins : start < length text → LineBeginsAfter (take start text)
   pub passed : (before line after : List ℕ) → Separates text before line after → start ≤ length before
 
@@ -168,6 +169,11 @@ same_divided text part rest part' rest' d d' =
     let after_is : d.after ≡ d'.after = same_after d.line d'.line d.after d'.after d.separates.separator d'.separates.separator d.separates.ends d'.separates.ends lines in
     same_rest d.after rest rest' d.follows (subst (λ a. Follows a rest') (sym after_is) d'.follows)
 
+-- a part before the parts of the rest
+pub parts_more : (text part rest : List ℕ) (parts : List (List ℕ)) → Divides text part rest → Parts rest parts → Parts text (part ∷ parts)
+parts_more text part rest [] d p = absurd p
+parts_more text part rest (next ∷ parts) d p = (rest, d, p)
+
 -- two partings of a text are one
 pub same_parts : (text : List ℕ) (parts parts' : List (List ℕ)) → Parts text parts → Parts text parts' → parts ≡ parts'
 same_parts text [] parts' p p' = absurd p
@@ -185,12 +191,11 @@ same_parts text (part ∷ next ∷ parts) (part' ∷ next' ∷ parts') p p' =
     let rest : Parts p.0 (next' ∷ parts') = subst (λ r. Parts r (next' ∷ parts')) (sym rest_is) p'.2 in
     ap (λ x. x ∷ next ∷ parts) (same_part text part p.0 part' p'.0 p.1 p'.1) ∙ ap (λ x. part' ∷ x) (same_parts p.0 (next ∷ parts) (next' ∷ parts') p.2 rest)
 
--- ---- the loop of `divide`
+-- ---- a text, line by line
 
-pub start_first : (text : List ℕ) → IsUtf8 text → LineStart text 0
-start_first text utf8 = record {
+pub start_first : (text : List ℕ) → LineStart text 0
+start_first text = record {
   within = omega arith;
-  boundary = IsCharBoundary-start text utf8;
   begins = λ _. inl refl;
   passed = λ before line after s. omega arith;
 }
@@ -239,10 +244,9 @@ next_boundary text start end next utf8 at = elim at.ends [
   | inr more ↦ subst (IsCharBoundary text) (sym more.2) (IsCharBoundary-after_ascii text end utf8 more.0 (omega (arith, more.1)))
 ]
 
-pub start_next : (text : List ℕ) (start end next : ℕ) → IsUtf8 text → LineStart text start → IsLineAt text start end next → ¬ (IsSeparator (take (end - start) (drop start text))) → LineStart text next
-start_next text start end next utf8 l at plain = record {
+pub start_next : (text : List ℕ) (start end next : ℕ) → LineStart text start → IsLineAt text start end next → ¬ (IsSeparator (take (end - start) (drop start text))) → LineStart text next
+start_next text start end next l at plain = record {
   within = elim at.ends [ inl last ↦ omega arith | inr more ↦ omega arith ];
-  boundary = next_boundary text start end next utf8 at;
   begins = begins at.ends;
   passed = passed_next text start end next l at plain;
 }
@@ -289,3 +293,98 @@ divides_here text start end next l room at separator = record {
 pub undivided_past : (text : List ℕ) (start : ℕ) → LineStart text start → length text ≤ start → IsUndivided text
 undivided_past text start l done before line after s =
     omega (arith, l.passed before line after s, length_text text before line after s, separator_length line s.separator)
+
+-- ---- a text has a parting
+
+-- one byte before a line is one more of its bytes, or ends a line of its own
+line_before : (text : List ℕ) (start end next : ℕ) → start < length text → IsLineAt text (start + 1) end next → (get_or text start 0 ≡ 10) ⊎ (get_or text start 0 ≢ 10)
+    → (end' : ℕ) × (next' : ℕ) × IsLineAt text start end' next'
+line_before text start end next h at (inl is) = (start, start + 1, record {
+  after = omega arith;
+  within = omega arith;
+  line = λ k low high e. omega arith;
+  ends = inr (h, is, refl);
+})
+line_before text start end next h at (inr other) = (end, next, record {
+  after = omega (arith, at.after);
+  within = at.within;
+  line = λ k low high e. elim (eqb_tells k start) [
+    inl same ↦ other (subst (λ n. get_or text n 0 ≡ 10) same.1 e)
+    | inr more ↦ at.line k (omega (arith, lt_of_le-ne low (λ same. more.1 (sym same)))) high e
+  ];
+  ends = at.ends;
+})
+
+-- a line that begins at a place ends somewhere
+line_from : (text : List ℕ) (fuel start : ℕ) → start + fuel ≡ length text → (end : ℕ) × (next : ℕ) × IsLineAt text start end next
+line_from text zero start h = (start, start, record {
+  after = omega arith;
+  within = omega arith;
+  line = λ k low high e. omega arith;
+  ends = inl (omega arith, refl);
+})
+line_from text (suc fuel) start h =
+    let more = line_from text fuel (start + 1) (omega arith) in
+    let is : (get_or text start 0 ≡ 10) ⊎ (get_or text start 0 ≢ 10) = elim (eqb_tells (get_or text start 0) 10) [ inl here ↦ inl here.1 | inr there ↦ inr there.1 ] in
+    line_before text start more.0 more.1 (omega arith) more.2 is
+
+-- whether a line separates
+separator_or_not : (line : List ℕ) → IsSeparator line ⊎ ¬ (IsSeparator line)
+separator_or_not line = by (bytes_eq line a || bytes_eq line b) refl
+  where
+    a : List ℕ
+    a = 45 ∷ 45 ∷ 45 ∷ []
+    b : List ℕ
+    b = 45 ∷ 45 ∷ 45 ∷ 13 ∷ []
+    by : (r : Bool) → (bytes_eq line a || bytes_eq line b) ≡ r → IsSeparator line ⊎ ¬ (IsSeparator line)
+    by true is = inl ((Decides-or (bytes_eq line a) (bytes_eq line b) (bytes_eq-Decides line a) (bytes_eq-Decides line b)).0 is)
+    by false is = inr (not_from_Decides (bytes_eq line a || bytes_eq line b) (Decides-or (bytes_eq line a) (bytes_eq line b) (bytes_eq-Decides line a) (bytes_eq-Decides line b)) is)
+
+next_beyond : (text : List ℕ) (start end next : ℕ) → start < length text → IsLineAt text start end next → start < next
+next_beyond text start end next h at = elim at.ends [ inl last ↦ omega arith | inr more ↦ omega (arith, at.after) ]
+
+start_or_end : (size start : ℕ) → (size ≤ start) ⊎ (start < size)
+start_or_end size start = elim (leb_tells size start) [ inl here ↦ inl here.1 | inr there ↦ inr there.1 ]
+
+-- from a place on, a text divides or does not
+divided_from : (text : List ℕ) (fuel start : ℕ) → length text ≤ start + fuel → LineStart text start → IsUndivided text ⊎ ((part : List ℕ) × (rest : List ℕ) × Divides text part rest)
+divided_from text zero start h l = inl (undivided_past text start l (omega arith))
+divided_from text (suc fuel) start h l = elim (start_or_end (length text) start) [
+  inl past ↦ inl (undivided_past text start l past)
+  | inr room ↦
+    let at = line_from text (length text - start) start (omega arith) in
+    elim (separator_or_not (take (at.0 - start) (drop start text))) [
+      inl separator ↦ inr (take start text, drop at.1 text, divides_here text start at.0 at.1 l room at.2 separator)
+      | inr plain ↦ divided_from text fuel at.1 (omega (arith, next_beyond text start at.0 at.1 room at.2)) (start_next text start at.0 at.1 l at.2 plain)
+    ]
+]
+
+-- what is divided off is shorter
+shorter : (text part rest : List ℕ) → Divides text part rest → length rest < length text
+shorter text part rest d =
+    let size : length text ≡ length part + (length d.line + length d.after) = length_text text part d.line d.after d.separates in
+    let some : 0 < length d.line = separator_length d.line d.separates.separator in
+    elim d.follows [
+      inl end ↦ omega (arith, ap length end.1)
+      | inr more ↦ omega (arith, ap length more)
+    ]
+
+parting_from : (fuel : ℕ) (text : List ℕ) → length text < fuel → (parts : List (List ℕ)) × Parts text parts
+parting_from zero text h = absurd (omega arith)
+parting_from (suc fuel) text h = elim (divided_from text (length text) 0 (omega arith) (start_first text)) [
+  inl whole ↦ (text ∷ [], (refl, whole))
+  | inr (part, rest, d) ↦
+    let more = parting_from fuel rest (omega (arith, shorter text part rest d)) in
+    (part ∷ more.0, parts_more text part rest more.0 d more.1)
+]
+
+-- each text has one parting
+pub parting : (text : List ℕ) → (parts : List (List ℕ)) × Parts text parts
+parting text = parting_from (length text + 1) text (omega arith)
+
+pub one_parting : (text : List ℕ) → HasOneParting text
+one_parting text = record {
+  parts = (parting text).0;
+  parted = (parting text).1;
+  only = λ others p. same_parts text others (parting text).0 p (parting text).1;
+}

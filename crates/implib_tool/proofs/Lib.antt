@@ -1,1 +1,2 @@
 pub mod Dividing
+pub mod Running

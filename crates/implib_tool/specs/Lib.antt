@@ -1,3 +1,4 @@
 pub mod Listing
 pub mod Parts
+pub mod Run
 pub mod Views

@@ -41,3 +41,9 @@ abbrev pub Parts : List ℕ → List (List ℕ) → Type 0
 Parts text [] = ⊥
 Parts text (part ∷ []) = (text ≡ part) × IsUndivided part
 Parts text (part ∷ next ∷ parts) = (rest : List ℕ) × Divides text part rest × Parts rest (next ∷ parts)
+
+-- the text has one list of parts
+pub record HasOneParting (text : List ℕ) : Type 0 where
+  pub parts : List (List ℕ)
+  pub parted : Parts text parts
+  pub only : (others : List (List ℕ)) → Parts text others → others ≡ parts

@@ -3,7 +3,9 @@
 
 mod device;
 mod host;
+pub mod laws;
 mod listing;
 mod parts;
+mod run;
 
 fn main() {}
