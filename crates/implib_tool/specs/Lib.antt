@@ -2,3 +2,4 @@ pub mod Listing
 pub mod Parts
 pub mod Run
 pub mod Views
+pub mod Words

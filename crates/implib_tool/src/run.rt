@@ -85,8 +85,10 @@ fn list_part(
     ensures ok { OnOk result (ListsOnto part.now machine flavor listing.old.items listing.new.items) }
     ensures fault { IfErr result (OnPartFault part.now machine flavor) }
 {
-    let library = ImportLibrary::new(alloc, part, machine, flavor)?;
-    let members = library.members()?;
+    let members = {
+        let library = ImportLibrary::new(alloc, part, machine, flavor)?;
+        library.members()?
+    };
     list_members(listing, members.as_slice())?;
     Ok(())
 }
@@ -112,7 +114,7 @@ fn list_parts(
 }
 
 /// Writes all bytes.
-fn write_all<W: Sink>(writer: &mut W, bytes: &[u8]) -> Result<(), RunError>
+pub fn write_all<W: Sink>(writer: &mut W, bytes: &[u8]) -> Result<(), RunError>
     ensures ok { OnOk result (Appends (W.contents writer.old) (W.contents writer.new) bytes.now) }
     ensures sound { OnOk result (W.failed writer.new ≡ W.failed writer.old) }
     ensures fault { IfErr result (OnWriteFault (W.failed writer.new)) }
