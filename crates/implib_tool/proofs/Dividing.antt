@@ -67,10 +67,10 @@ byte_before text before rest whole (inr (front, is)) h =
     let place : length before - 1 ≡ length front + 0 = omega arith in
     let at : get_or (front ++ 10 ∷ []) (length front + 0) 0 ≡ 10 = get_or-append-add front (10 ∷ []) 0 0 in
     ap (λ t. get_or t (length before - 1) 0) whole
-        ∙ get_or_append_left before rest 0 (length before - 1) (omega arith)
-        ∙ ap (λ n. get_or before n 0) place
-        ∙ ap (λ t. get_or t (length front + 0) 0) is
-        ∙ at
+    ∙ get_or_append_left before rest 0 (length before - 1) (omega arith)
+    ∙ ap (λ n. get_or before n 0) place
+    ∙ ap (λ t. get_or t (length front + 0) 0) is
+    ∙ at
 
 -- ---- a separating line of the front of a text, and of the text
 
@@ -85,23 +85,24 @@ separates_more part more before line after begins s = record {
   where
     size : length part ≡ length before + (length line + length after)
     size = length_text part before line after s
+
     ends : LineEndsBefore after → LineEndsBefore (after ++ more)
     ends (inr (rest, is)) = inr (rest ++ more, ap (λ t. t ++ more) is)
     ends (inl none) =
-      let some : 0 < length line = separator_length line s.separator in
-      let bare : length after ≡ 0 = ap length none in
-      let there : get_or part (length part - 1) 0 ≡ 10 = byte_before part part [] (sym (append-nil part)) begins (omega (arith, size)) in
-      let place : length part - 1 ≡ length before + (length line - 1) = omega (arith, size) in
-      absurd (byte_in_line part before line after s (length line - 1) (omega arith) (subst (λ n. get_or part n 0 ≡ 10) place there))
+        let some : 0 < length line = separator_length line s.separator in
+        let bare : length after ≡ 0 = ap length none in
+        let there : get_or part (length part - 1) 0 ≡ 10 = byte_before part part [] (sym (append-nil part)) begins (omega (arith, size)) in
+        let place : length part - 1 ≡ length before + (length line - 1) = omega (arith, size) in
+        absurd (byte_in_line part before line after s (length line - 1) (omega arith) (subst (λ n. get_or part n 0 ≡ 10) place there))
 
 -- such a line ends in the front, too
 line_within_front : (part more before line after : List ℕ) → LineBeginsAfter part → Separates (part ++ more) before line after → length before < length part → length before + length line < length part
 line_within_front part more before line after begins s inside =
     lt_of_not-le (λ high.
-        let last : get_or (part ++ more) (length part - 1) 0 ≡ 10 = byte_before (part ++ more) part more refl begins (omega arith) in
-        let k : ℕ = length part - 1 - length before in
-        let place : length part - 1 ≡ length before + k = omega arith in
-        byte_in_line (part ++ more) before line after s k (omega arith) (subst (λ n. get_or (part ++ more) n 0 ≡ 10) place last))
+    let last : get_or (part ++ more) (length part - 1) 0 ≡ 10 = byte_before (part ++ more) part more refl begins (omega arith) in
+    let k : ℕ = length part - 1 - length before in
+    let place : length part - 1 ≡ length before + k = omega arith in
+    byte_in_line (part ++ more) before line after s k (omega arith) (subst (λ n. get_or (part ++ more) n 0 ≡ 10) place last))
 
 -- a separating line that begins in the front stands in it, where the front ends as a line does
 separates_front : (part more before line after : List ℕ) → LineBeginsAfter part → Separates (part ++ more) before line after → length before < length part
@@ -111,9 +112,9 @@ separates_front part more before line after begins s inside =
     let room : n < length part = line_within_front part more before line after begins s inside in
     let whole : part ++ more ≡ (before ++ line) ++ after = s.whole ∙ sym (append_assoc before line after) in
     let front : take n part ≡ before ++ line =
-        sym (take-append-le n part more (omega arith)) ∙ ap (take n) whole ∙ take_at (before ++ line) after n (length-append before line) in
+    sym (take-append-le n part more (omega arith)) ∙ ap (take n) whole ∙ take_at (before ++ line) after n (length-append before line) in
     let first : get_or part n 0 ≡ 10 =
-        sym (get_or_append_left part more 0 n room) ∙ byte_after_line (part ++ more) before line after s (omega (arith, length-append part more)) in
+    sym (get_or_append_left part more 0 n room) ∙ byte_after_line (part ++ more) before line after s (omega (arith, length-append part more)) in
     record {
       whole = sym (take-append-drop n part) ∙ ap (λ t. t ++ drop n part) front ∙ append_assoc before line (drop n part);
       separator = s.separator;
@@ -125,9 +126,9 @@ separates_front part more before line after begins s inside =
 divides_first : (text part rest before line after : List ℕ) → Divides text part rest → Separates text before line after → length part ≤ length before
 divides_first text part rest before line after d s =
     let no : length before < length part → ⊥ = λ inside.
-        let more : List ℕ = d.line ++ d.after in
-        let s' : Separates (part ++ more) before line after = subst (λ t. Separates t before line after) d.separates.whole s in
-        d.undivided before line (drop (length before + length line) part) (separates_front part more before line after d.separates.begins s' inside)
+    let more : List ℕ = d.line ++ d.after in
+    let s' : Separates (part ++ more) before line after = subst (λ t. Separates t before line after) d.separates.whole s in
+    d.undivided before line (drop (length before + length line) part) (separates_front part more before line after d.separates.begins s' inside)
     in omega arith
 
 -- ---- a text has one parting
@@ -159,13 +160,13 @@ same_part : (text part rest part' rest' : List ℕ) → Divides text part rest �
 same_part text part rest part' rest' d d' =
     let size : length part ≡ length part' = omega (arith, divides_first text part rest part' d'.line d'.after d d'.separates, divides_first text part' rest' part d.line d.after d' d.separates) in
     sym (take_at part (d.line ++ d.after) (length part) refl) ∙ sym (ap (take (length part)) d.separates.whole)
-        ∙ ap (λ n. take n text) size ∙ ap (take (length part')) d'.separates.whole ∙ take_at part' (d'.line ++ d'.after) (length part') refl
+    ∙ ap (λ n. take n text) size ∙ ap (take (length part')) d'.separates.whole ∙ take_at part' (d'.line ++ d'.after) (length part') refl
 
 same_divided : (text part rest part' rest' : List ℕ) → Divides text part rest → Divides text part' rest' → rest ≡ rest'
 same_divided text part rest part' rest' d d' =
     let part_is : part ≡ part' = same_part text part rest part' rest' d d' in
     let lines : d.line ++ d.after ≡ d'.line ++ d'.after =
-        append_cancel_left part (d.line ++ d.after) (d'.line ++ d'.after) (sym d.separates.whole ∙ d'.separates.whole ∙ ap (λ p. p ++ (d'.line ++ d'.after)) (sym part_is)) in
+    append_cancel_left part (d.line ++ d.after) (d'.line ++ d'.after) (sym d.separates.whole ∙ d'.separates.whole ∙ ap (λ p. p ++ (d'.line ++ d'.after)) (sym part_is)) in
     let after_is : d.after ≡ d'.after = same_after d.line d'.line d.after d'.after d.separates.separator d'.separates.separator d.separates.ends d'.separates.ends lines in
     same_rest d.after rest rest' d.follows (subst (λ a. Follows a rest') (sym after_is) d'.follows)
 
@@ -205,14 +206,14 @@ line_size : (text before line after : List ℕ) (start end next : ℕ) → Separ
 line_size text before line after start end next s at here =
     let size = length_text text before line after s in
     let short : end < start + length line → ⊥ = λ h.
-        let place : end ≡ length before + (end - start) = omega arith in
-        elim at.ends [
-          inl last ↦ omega arith
-          | inr more ↦ byte_in_line text before line after s (end - start) (omega arith) (subst (λ n. get_or text n 0 ≡ 10) place more.1)
-        ]
+    let place : end ≡ length before + (end - start) = omega arith in
+    elim at.ends [
+      | inl last ↦ omega arith
+      | inr more ↦ byte_in_line text before line after s (end - start) (omega arith) (subst (λ n. get_or text n 0 ≡ 10) place more.1)
+    ]
     in
     let long : start + length line < end → ⊥ = λ h.
-        at.line (length before + length line) (omega arith) (omega arith) (byte_after_line text before line after s (omega (arith, at.within)))
+    at.line (length before + length line) (omega arith) (omega arith) (byte_after_line text before line after s (omega (arith, at.within)))
     in omega (arith, at.after)
 
 line_here : (text before line after : List ℕ) (start end next : ℕ) → Separates text before line after → IsLineAt text start end next → length before ≡ start → take (end - start) (drop start text) ≡ line
@@ -227,20 +228,20 @@ passed_next text start end next l at plain before line after s =
     let size : length text ≡ length before + (length line + length after) = length_text text before line after s in
     let some : 0 < length line = separator_length line s.separator in
     let not_here : length before ≡ start → ⊥ = λ here.
-        plain (subst IsSeparator (sym (line_here text before line after start end next s at here)) s.separator)
+    plain (subst IsSeparator (sym (line_here text before line after start end next s at here)) s.separator)
     in
     let beyond : start < length before → end < length before = λ low. lt_of_not-le (λ high.
-        at.line (length before - 1) (omega arith) (omega arith) (byte_before text before (line ++ after) s.whole s.begins (omega arith)))
+    at.line (length before - 1) (omega arith) (omega arith) (byte_before text before (line ++ after) s.whole s.begins (omega arith)))
     in
     let far : end < length before = beyond (lt_of_le-ne least (λ here. not_here (sym here))) in
     elim at.ends [
-      inl last ↦ omega arith
+      | inl last ↦ omega arith
       | inr more ↦ omega arith
     ]
 
 pub next_boundary : (text : List ℕ) (start end next : ℕ) → IsUtf8 text → IsLineAt text start end next → IsCharBoundary text next
 next_boundary text start end next utf8 at = elim at.ends [
-  inl last ↦ subst (IsCharBoundary text) (sym (last.1 ∙ last.0)) (IsCharBoundary-end text)
+  | inl last ↦ subst (IsCharBoundary text) (sym (last.1 ∙ last.0)) (IsCharBoundary-end text)
   | inr more ↦ subst (IsCharBoundary text) (sym more.2) (IsCharBoundary-after_ascii text end utf8 more.0 (omega (arith, more.1)))
 ]
 
@@ -272,22 +273,26 @@ divides_here text start end next l room at separator = record {
   where
     lines : drop start text ≡ take (end - start) (drop start text) ++ drop end text
     lines =
-      let place : start + (end - start) ≡ end = omega (arith, at.after) in
-      sym (take-append-drop (end - start) (drop start text)) ∙ ap (λ t. take (end - start) (drop start text) ++ t) (drop-drop (end - start) start text ∙ ap (λ n. drop n text) place)
+        let place : start + (end - start) ≡ end = omega (arith, at.after) in
+        sym (take-append-drop (end - start) (drop start text)) ∙ ap (λ t. take (end - start) (drop start text) ++ t) (drop-drop (end - start) start text ∙ ap (λ n. drop n text) place)
+
     rest : (end < length text) × (get_or text end 0 ≡ 10) × (next ≡ end + 1) → drop end text ≡ 10 ∷ drop next text
     rest more = drop_more text end 0 more.0 ∙ ap (λ b. b ∷ drop (end + 1) text) more.1 ∙ ap (λ n. 10 ∷ drop n text) (sym more.2)
+
     ends : ((end ≡ length text) × (next ≡ end)) ⊎ ((end < length text) × (get_or text end 0 ≡ 10) × (next ≡ end + 1)) → LineEndsBefore (drop end text)
     ends (inl last) = inl (drop_all end text (omega arith))
     ends (inr more) = inr (drop next text, rest more)
+
     follows : ((end ≡ length text) × (next ≡ end)) ⊎ ((end < length text) × (get_or text end 0 ≡ 10) × (next ≡ end + 1)) → Follows (drop end text) (drop next text)
     follows (inl last) = inl (drop_all end text (omega arith), drop_all next text (omega arith))
     follows (inr more) = inr (rest more)
+
     undivided : IsUndivided (take start text)
     undivided before line after s =
-      let size : length (take start text) ≡ length before + (length line + length after) = length_text (take start text) before line after s in
-      let whole : Separates (take start text ++ drop start text) before line (after ++ drop start text) = separates_more (take start text) (drop start text) before line after (l.begins room) s in
-      let least : start ≤ length before = l.passed before line (after ++ drop start text) (subst (λ t. Separates t before line (after ++ drop start text)) (take-append-drop start text) whole) in
-      omega (arith, size, length-take start text, separator_length line s.separator)
+        let size : length (take start text) ≡ length before + (length line + length after) = length_text (take start text) before line after s in
+        let whole : Separates (take start text ++ drop start text) before line (after ++ drop start text) = separates_more (take start text) (drop start text) before line after (l.begins room) s in
+        let least : start ≤ length before = l.passed before line (after ++ drop start text) (subst (λ t. Separates t before line (after ++ drop start text)) (take-append-drop start text) whole) in
+        omega (arith, size, length-take start text, separator_length line s.separator)
 
 -- no line separates where each place was passed
 pub undivided_past : (text : List ℕ) (start : ℕ) → LineStart text start → length text ≤ start → IsUndivided text
@@ -299,30 +304,42 @@ undivided_past text start l done before line after s =
 -- one byte before a line is one more of its bytes, or ends a line of its own
 line_before : (text : List ℕ) (start end next : ℕ) → start < length text → IsLineAt text (start + 1) end next → (get_or text start 0 ≡ 10) ⊎ (get_or text start 0 ≢ 10)
     → (end' : ℕ) × (next' : ℕ) × IsLineAt text start end' next'
-line_before text start end next h at (inl is) = (start, start + 1, record {
-  after = omega arith;
-  within = omega arith;
-  line = λ k low high e. omega arith;
-  ends = inr (h, is, refl);
-})
-line_before text start end next h at (inr other) = (end, next, record {
-  after = omega (arith, at.after);
-  within = at.within;
-  line = λ k low high e. elim (eqb_tells k start) [
-    inl same ↦ other (subst (λ n. get_or text n 0 ≡ 10) same.1 e)
-    | inr more ↦ at.line k (omega (arith, lt_of_le-ne low (λ same. more.1 (sym same)))) high e
-  ];
-  ends = at.ends;
-})
+line_before text start end next h at (inl is) = (
+  start,
+  start + 1,
+  record {
+    after = omega arith;
+    within = omega arith;
+    line = λ k low high e. omega arith;
+    ends = inr (h, is, refl);
+  },
+)
+line_before text start end next h at (inr other) = (
+  end,
+  next,
+  record {
+    after = omega (arith, at.after);
+    within = at.within;
+    line = λ k low high e. elim (eqb_tells k start) [
+      | inl same ↦ other (subst (λ n. get_or text n 0 ≡ 10) same.1 e)
+      | inr more ↦ at.line k (omega (arith, lt_of_le-ne low (λ same. more.1 (sym same)))) high e
+    ];
+    ends = at.ends;
+  },
+)
 
 -- a line that begins at a place ends somewhere
 line_from : (text : List ℕ) (fuel start : ℕ) → start + fuel ≡ length text → (end : ℕ) × (next : ℕ) × IsLineAt text start end next
-line_from text zero start h = (start, start, record {
-  after = omega arith;
-  within = omega arith;
-  line = λ k low high e. omega arith;
-  ends = inl (omega arith, refl);
-})
+line_from text zero start h = (
+  start,
+  start,
+  record {
+    after = omega arith;
+    within = omega arith;
+    line = λ k low high e. omega arith;
+    ends = inl (omega arith, refl);
+  },
+)
 line_from text (suc fuel) start h =
     let more = line_from text fuel (start + 1) (omega arith) in
     let is : (get_or text start 0 ≡ 10) ⊎ (get_or text start 0 ≢ 10) = elim (eqb_tells (get_or text start 0) 10) [ inl here ↦ inl here.1 | inr there ↦ inr there.1 ] in
@@ -334,8 +351,10 @@ separator_or_not line = by (bytes_eq line a || bytes_eq line b) refl
   where
     a : List ℕ
     a = 45 ∷ 45 ∷ 45 ∷ []
+
     b : List ℕ
     b = 45 ∷ 45 ∷ 45 ∷ 13 ∷ []
+
     by : (r : Bool) → (bytes_eq line a || bytes_eq line b) ≡ r → IsSeparator line ⊎ ¬ (IsSeparator line)
     by true is = inl ((Decides-or (bytes_eq line a) (bytes_eq line b) (bytes_eq-Decides line a) (bytes_eq-Decides line b)).0 is)
     by false is = inr (not_from_Decides (bytes_eq line a || bytes_eq line b) (Decides-or (bytes_eq line a) (bytes_eq line b) (bytes_eq-Decides line a) (bytes_eq-Decides line b)) is)
@@ -350,13 +369,13 @@ start_or_end size start = elim (leb_tells size start) [ inl here ↦ inl here.1 
 divided_from : (text : List ℕ) (fuel start : ℕ) → length text ≤ start + fuel → LineStart text start → IsUndivided text ⊎ ((part : List ℕ) × (rest : List ℕ) × Divides text part rest)
 divided_from text zero start h l = inl (undivided_past text start l (omega arith))
 divided_from text (suc fuel) start h l = elim (start_or_end (length text) start) [
-  inl past ↦ inl (undivided_past text start l past)
+  | inl past ↦ inl (undivided_past text start l past)
   | inr room ↦
-    let at = line_from text (length text - start) start (omega arith) in
-    elim (separator_or_not (take (at.0 - start) (drop start text))) [
-      inl separator ↦ inr (take start text, drop at.1 text, divides_here text start at.0 at.1 l room at.2 separator)
-      | inr plain ↦ divided_from text fuel at.1 (omega (arith, next_beyond text start at.0 at.1 room at.2)) (start_next text start at.0 at.1 l at.2 plain)
-    ]
+      let at = line_from text (length text - start) start (omega arith) in
+      elim (separator_or_not (take (at.0 - start) (drop start text))) [
+        | inl separator ↦ inr (take start text, drop at.1 text, divides_here text start at.0 at.1 l room at.2 separator)
+        | inr plain ↦ divided_from text fuel at.1 (omega (arith, next_beyond text start at.0 at.1 room at.2)) (start_next text start at.0 at.1 l at.2 plain)
+      ]
 ]
 
 -- what is divided off is shorter
@@ -365,17 +384,17 @@ shorter text part rest d =
     let size : length text ≡ length part + (length d.line + length d.after) = length_text text part d.line d.after d.separates in
     let some : 0 < length d.line = separator_length d.line d.separates.separator in
     elim d.follows [
-      inl end ↦ omega (arith, ap length end.1)
+      | inl end ↦ omega (arith, ap length end.1)
       | inr more ↦ omega (arith, ap length more)
     ]
 
 parting_from : (fuel : ℕ) (text : List ℕ) → length text < fuel → (parts : List (List ℕ)) × Parts text parts
 parting_from zero text h = absurd (omega arith)
 parting_from (suc fuel) text h = elim (divided_from text (length text) 0 (omega arith) (start_first text)) [
-  inl whole ↦ (text ∷ [], (refl, whole))
+  | inl whole ↦ (text ∷ [], (refl, whole))
   | inr (part, rest, d) ↦
-    let more = parting_from fuel rest (omega (arith, shorter text part rest d)) in
-    (part ∷ more.0, parts_more text part rest more.0 d more.1)
+      let more = parting_from fuel rest (omega (arith, shorter text part rest d)) in
+      (part ∷ more.0, parts_more text part rest more.0 d more.1)
 ]
 
 -- each text has one parting

@@ -88,14 +88,14 @@ module _ (machine : MachineType) (flavor : Flavor) where
       → ListsOnto part machine flavor listed new → PartsLeft text machine flavor new after
   part_listed text listed new left part None l d onto = record {
     lists = λ more none.
-      let made : MembersOf left.now machine flavor onto.members = subst (λ t. MembersOf t machine flavor onto.members) d.0 onto.made in
-      subst (Lists text machine flavor) (sym onto.listed ∙ sym (append-nil new) ∙ ap (λ t. new ++ t) (sym none))
+        let made : MembersOf left.now machine flavor onto.members = subst (λ t. MembersOf t machine flavor onto.members) d.0 onto.made in
+        subst (Lists text machine flavor) (sym onto.listed ∙ sym (append-nil new) ∙ ap (λ t. new ++ t) (sym none))
         (l.lists (listing_of onto.members) (lists_last left.now onto.members d.1 made));
     refused = λ cause no. absurd no;
   }
   part_listed text listed new left part (Some rest) l d onto = record {
     lists = λ more given.
-      subst (Lists text machine flavor) (sym (append_assoc listed (listing_of onto.members) more) ∙ ap (λ t. t ++ more) (sym onto.listed))
+        subst (Lists text machine flavor) (sym (append_assoc listed (listing_of onto.members) more) ∙ ap (λ t. t ++ more) (sym onto.listed))
         (l.lists (listing_of onto.members ++ more) (lists_more left.now part rest.now onto.members more d onto.made given));
     refused = λ cause given. l.refused cause (refused_more left.now part rest.now onto.members cause d onto.made given);
   }

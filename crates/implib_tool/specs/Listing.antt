@@ -43,7 +43,7 @@ symbol_listing symbol = codes "symbol " ++ (escaped symbol ++ 10 ∷ [])
 abbrev pub member_listing : MemberView → List ℕ
 member_listing member =
     codes "member " ++ (escaped member.name ++ (32 ∷ (decimal (length member.bytes) ++ (10 ∷
-        (flat_map symbol_listing member.symbols ++ bytes_listing member.bytes)))))
+    (flat_map symbol_listing member.symbols ++ bytes_listing member.bytes)))))
 
 -- members, in order
 abbrev pub listing_of : List MemberView → List ℕ

@@ -68,7 +68,7 @@ pub record IsDone (machine : MachineType) (flavor : Flavor) (before after : Devi
   pub read : IsAtEnd after.remaining
   pub utf8 : IfSome before.remaining IsUtf8
   pub written : IfSome before.remaining (λ text.
-    (listing : List ℕ) × Lists text machine flavor listing × Appends before.contents after.contents listing)
+      (listing : List ℕ) × Lists text machine flavor listing × Appends before.contents after.contents listing)
 
 -- no device has failed, and nothing is written
 pub record NothingWritten (before after : Devices) : Type 0 where
@@ -80,7 +80,7 @@ pub record NothingWritten (before after : Devices) : Type 0 where
 abbrev pub HasCause : MachineType → Flavor → Devices → Devices → RunError → Type 0
 HasCause machine flavor before after (Refused fault) =
     NothingWritten before after × IfSome before.remaining IsUtf8
-        × IfSome before.remaining (λ text. FirstRefused text machine flavor (cause_of fault))
+    × IfSome before.remaining (λ text. FirstRefused text machine flavor (cause_of fault))
 HasCause machine flavor before after NotUtf8 = NothingWritten before after × IfSome before.remaining (λ text. ¬ (IsUtf8 text))
 HasCause machine flavor before after Read =
     (after.reader_failed ≡ true) × (after.writer_failed ≡ false) × Keeps before.contents after.contents

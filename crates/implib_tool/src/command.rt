@@ -114,3 +114,6 @@ pub fn command<R: Source, W: Sink, E: Sink>(
     let _ = writeln!(lines, "implib: {error}");
     status
 }
+
+#[cfg(test)]
+mod tests;

@@ -6,5 +6,4 @@ ghost use Rattle.std.specs.Prelude.{List, ℕ};
 /// A text has one list of parts.
 pub fn one_parting()
     ensures { (text : List ℕ) → HasOneParting text }
-{
-}
+{}

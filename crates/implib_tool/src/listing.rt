@@ -103,3 +103,6 @@ pub fn list_members(listing: &mut Vec<u8>, members: &[Member]) -> Result<(), All
     }
     Ok(())
 }
+
+#[cfg(test)]
+mod tests;

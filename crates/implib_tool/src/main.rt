@@ -3,6 +3,8 @@
 
 mod command;
 mod device;
+#[cfg(test)]
+mod doubles;
 mod host;
 pub mod laws;
 mod listing;
@@ -24,6 +26,12 @@ fn main(rt: HostRuntime) -> ExitCode {
     };
     let mut reader = Host::new(rt.stdin());
     let mut writer = Host::new(rt.stdout());
-    let status = command(rt.alloc(), words.as_slice(), &mut reader, &mut writer, &mut faults);
+    let status = command(
+        rt.alloc(),
+        words.as_slice(),
+        &mut reader,
+        &mut writer,
+        &mut faults,
+    );
     ExitCode::from(status)
 }

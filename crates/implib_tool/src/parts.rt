@@ -40,3 +40,6 @@ pub fn divide(text: &str) -> (&str, Option<&str>)
     }
     (text, None)
 }
+
+#[cfg(test)]
+mod tests;

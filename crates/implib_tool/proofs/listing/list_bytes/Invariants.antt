@@ -8,4 +8,4 @@ abbrev pub invariant-loop-index : goal.invariant-loop-index
 invariant-loop-index l =
     let listed = flat_map (byte_listing (length l.bytes)) in
     l.listing.items ++ listed (enumerate_from l.index (drop l.index l.bytes))
-        ≡ l.fn.listing.items ++ listed (enumerate_from 0 l.bytes)
+    ≡ l.fn.listing.items ++ listed (enumerate_from 0 l.bytes)

@@ -22,9 +22,9 @@ returns-then-is_separator c =
     let separates = rw c.as_bytes-bytes.ensures.value at c.is_separator.ensures in
     let part_is = c.range.ensures.value ∙ between_from_start c.args.text.now c.loop-start.start in
     let here = divides_here c.args.text.now c.loop-start.start c.line_at-end.result.0 c.line_at-end.result.1
-        c.loop-start.invariant.place (search rules) at (separates.0 (search rules)) in
+    c.loop-start.invariant.place (search rules) at (separates.0 (search rules)) in
     subst (λ part. Divides c.args.text.now part c.range_from.result.now) (sym part_is)
-        (subst (λ rest. Divides c.args.text.now (take c.loop-start.start c.args.text.now) rest) (sym c.range_from.ensures.value) here)
+    (subst (λ rest. Divides c.args.text.now (take c.loop-start.start c.args.text.now) rest) (sym c.range_from.ensures.value) here)
 
 pub loop-start-preserved : goal.loop-start-preserved
 loop-start-preserved c =
