@@ -1,8 +1,9 @@
 //! The text that shows members.
 
 ghost use Rattle.implib.specs.Library.{member_view};
-ghost use Rattle.implib_tool.specs.Listing.{bytes_listing, byte_listing, escaped, escaped_byte, hex_digit, listing_of, member_listing, symbol_listing};
-ghost use Rattle.std.specs.Prelude.{◌≡◌, ◌+◌, ◌<◌, [], ◌∷◌, ◌++◌, OnOk, OnErr, length, decimal, flat_map, map};
+ghost use Rattle.implib_tool.specs.Listing.{after_byte, bytes_listing, byte_listing, escaped, escaped_byte, hex_digit, is_plain, listing_of, member_listing, symbol_listing};
+ghost use Rattle.std.specs.List.{enumerate_from, list_all};
+ghost use Rattle.std.specs.Prelude.{◌≡◌, ◌+◌, ◌<◌, ◌≤◌, [], ◌∷◌, ◌++◌, OnOk, decimal, flat_map, length, map, slice_range};
 ghost use Rattle.std.specs.String.{string_bytes};
 
 use implib::Member;
@@ -21,11 +22,25 @@ fn hex_digit_of(value: u8) -> u8
     }
 }
 
+/// Whether a byte of a name stands as it is.
+fn stands_plain(byte: u8) -> bool
+    ensures { result ≡ is_plain byte }
+{
+    byte >= 0x21 && byte <= 0x7E && byte != b'\\'
+}
+
+/// Whether each byte of a name stands as it is.
+fn stand_plain(name: &[u8]) -> bool
+    ensures { result ≡ list_all is_plain name.now }
+{
+    name.iter().all(|byte| stands_plain(*byte))
+}
+
 /// Appends a byte of a name.
 fn list_name_byte(listing: &mut Vec<u8>, byte: u8) -> Result<(), AllocError>
     ensures { OnOk result (listing.new.items ≡ listing.old.items ++ escaped_byte byte) }
 {
-    if byte >= 0x21 && byte <= 0x7E && byte != b'\\' {
+    if stands_plain(byte) {
         listing.push(byte)?;
         return Ok(());
     }
@@ -42,6 +57,9 @@ fn list_name_byte(listing: &mut Vec<u8>, byte: u8) -> Result<(), AllocError>
 fn list_name(listing: &mut Vec<u8>, name: &str) -> Result<(), AllocError>
     ensures { OnOk result (listing.new.items ≡ listing.old.items ++ escaped name.now) }
 {
+    if stand_plain(name.as_bytes()) {
+        return listing.extend_from_slice(name.as_bytes());
+    }
     for byte in name.as_bytes() {
         list_name_byte(listing, *byte)?;
     }
@@ -68,14 +86,50 @@ fn list_symbols(listing: &mut Vec<u8>, symbols: &[String]) -> Result<(), AllocEr
     Ok(())
 }
 
+/// What stands after the byte with an index, of this many.
+fn end_of_byte(count: usize, index: usize) -> u8
+    requires { index < count }
+    ensures { result ≡ after_byte count index }
+{
+    if index % 16 == 15 || index + 1 == count {
+        b'\n'
+    } else {
+        b' '
+    }
+}
+
+/// Appends the bytes from `start` to `end`, which have room on one line.
+fn list_line(
+    listing: &mut Vec<u8>,
+    bytes: &[u8],
+    start: usize,
+    end: usize,
+) -> Result<(), AllocError>
+    requires order { start ≤ end }
+    requires within { end ≤ length bytes.now }
+    requires short { end ≤ start + 16 }
+    ensures { OnOk result (listing.new.items ≡ listing.old.items
+        ++ flat_map (byte_listing (length bytes.now)) (enumerate_from start (slice_range bytes.now start end))) }
+{
+    let mut line = [0u8; 48];
+    for index in start..end {
+        let at = 3 * (index - start);
+        line[at] = hex_digit_of(bytes[index] / 16);
+        line[at + 1] = hex_digit_of(bytes[index] % 16);
+        line[at + 2] = end_of_byte(bytes.len(), index);
+    }
+    listing.extend_from_slice(&line[..3 * (end - start)])
+}
+
 /// Appends bytes, in lines of at most 16.
 fn list_bytes(listing: &mut Vec<u8>, bytes: &[u8]) -> Result<(), AllocError>
     ensures { OnOk result (listing.new.items ≡ listing.old.items ++ bytes_listing bytes.now) }
 {
-    for (index, byte) in bytes.iter().enumerate() {
-        let is_last = index % 16 == 15 || index + 1 == bytes.len();
-        let end = if is_last { b'\n' } else { b' ' };
-        listing.extend_from_slice(&[hex_digit_of(*byte / 16), hex_digit_of(*byte % 16), end])?;
+    let mut start = 0;
+    while start < bytes.len() {
+        let end = start + (bytes.len() - start).min(16);
+        list_line(listing, bytes, start, end)?;
+        start = end;
     }
     Ok(())
 }
