@@ -1,5 +1,5 @@
 -- Lemmas on the parts of a text.
-use Rattle.std.proofs.Common.{Bool, true, false, ◌||◌, ◌≡◌, ◌≢◌, ◌⊎◌, inl, inr, ℕ, zero, suc, ◌+◌, ◌-◌, ◌<◌, ◌≤◌, List, [], ◌∷◌, ◌++◌, length, take, drop, get_or, refl, sym, ap, subst, ◌∙◌, append_assoc, append-nil, arith, length-append, length-take, length-drop, get_or-drop, get_or-take, take-append-drop, add-zero, lt_of_not-le}
+use Rattle.std.proofs.Common.{Bool, true, false, ◌||◌, ◌≡◌, ◌≢◌, ◌⊎◌, inl, inr, ℕ, zero, suc, ◌+◌, ◌-◌, ◌<◌, ◌≤◌, List, [], ◌∷◌, ◌++◌, length, take, drop, get_or, refl, sym, ap, subst, ◌∙◌, append_assoc, append-nil, arith, length-append, length-take, take-append-drop, add-zero, lt_of_not-le}
 use Rattle.std.proofs.lemmas.List.{take_more, take-append-le, get_or-append-add, get_or_append_left, drop_more, drop_all, take_at, drop_at, append_cancel_left, drop-drop}
 use Rattle.std.proofs.lemmas.Bool.Decides.{Decides-or, eqb_tells, leb_tells, not_from_Decides}
 use Rattle.std.proofs.lemmas.Slice.Eq.{bytes_eq-Decides}

@@ -1,5 +1,5 @@
 -- Lemmas on the runs of the program.
-use Rattle.std.proofs.Common.{◌≡◌, ◌⊎◌, inl, inr, ℕ, ◌+◌, ◌-◌, ◌≤◌, List, [], ◌∷◌, ◌++◌, Option, None, Some, MatchOption, length, take, drop, flat_map, refl, sym, ap, subst, ◌∙◌, append_assoc, append-nil, take-append-drop, arith}
+use Rattle.std.proofs.Common.{◌≡◌, ℕ, ◌-◌, List, [], ◌∷◌, ◌++◌, Option, None, Some, MatchOption, length, take, drop, refl, sym, ap, subst, ◌∙◌, append_assoc, append-nil, take-append-drop}
 use Rattle.std.proofs.KnownBytes.{Appends-trans}
 use Rattle.std.proofs.lemmas.List.{take_rest}
 use Rattle.std.specs.Borrow.{Bor}
@@ -11,9 +11,9 @@ use Rattle.implib.specs.Made.{MemberView}
 use Rattle.implib_tool.specs.declared.run.RunError.{RunError}
 use Rattle.implib_tool.specs.declared.run.RunError.TheVariants.{Refused, NotUtf8, Read, Write, OutOfMemory}
 use Rattle.implib_tool.specs.Listing.{listing_of}
-use Rattle.implib_tool.specs.Parts.{Divides, IsUndivided, Parts}
-use Rattle.implib_tool.specs.Run.{EachMade, FirstRefused, IsRefused, Lists, MembersOf}
-use Rattle.implib_tool.specs.Views.{ListsLeft, ListsOnto, OnPartFault, OnTextFault, PartsLeft, RefusedLeft, WrittenSoFar}
+use Rattle.implib_tool.specs.Parts.{Divides, IsUndivided}
+use Rattle.implib_tool.specs.Run.{FirstRefused, IsRefused, Lists, MembersOf}
+use Rattle.implib_tool.specs.Views.{ListsOnto, OnPartFault, OnTextFault, PartsLeft, WrittenSoFar}
 use Rattle.implib_tool.proofs.Dividing.{parting, parts_more}
 
 -- one more write

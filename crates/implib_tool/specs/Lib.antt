@@ -1,3 +1,4 @@
+pub mod Device
 pub mod Listing
 pub mod Parts
 pub mod Run

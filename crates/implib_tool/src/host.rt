@@ -1,11 +1,11 @@
 //! The devices of the system.
 
-ghost use Rattle.std.specs.Prelude.{◌≡◌, None, false};
-
 use crate::device::{DeviceFault, Sink, Source};
 use std::io;
 
-/// A reader or a writer of std's, with a flag that says whether it has failed.
+/// A reader or a writer of std's, with a flag that says whether a call has failed.
+///
+/// It tells no bytes, and tries nothing a second time.
 #[derive(Drop)]
 pub struct Host<T> {
     inner: T,
@@ -13,9 +13,12 @@ pub struct Host<T> {
 }
 
 impl<T> Host<T> {
+    ghost use Rattle.implib_tool.specs.Device.{host_failed};
+    ghost use Rattle.std.specs.Prelude.{◌≡◌, false};
+
     /// A device that has not failed.
     pub fn new(inner: T) -> Self
-        ensures { result.has_failed ≡ false }
+        ensures { host_failed result ≡ false }
     {
         Host {
             inner,
@@ -24,11 +27,13 @@ impl<T> Host<T> {
     }
 }
 
-/// It tells no bytes.
 impl<T: io::Read> Source for Host<T> {
+    ghost use Rattle.implib_tool.specs.Device.{host_failed};
+    ghost use Rattle.std.specs.Prelude.{None};
+
     ghost remaining = { λ _. None };
 
-    ghost failed = { λ host. host.has_failed };
+    ghost failed = { host_failed };
 
     fn has_failed(&self) -> bool {
         self.has_failed
@@ -36,7 +41,7 @@ impl<T: io::Read> Source for Host<T> {
 
     fn read(&mut self, buf: &mut [u8]) -> Result<usize, DeviceFault> {
         match self.inner.read(buf) {
-            Ok(n) => Ok(n),
+            Ok(count) => Ok(count),
             Err(_) => {
                 self.has_failed = true;
                 Err(DeviceFault)
@@ -45,27 +50,25 @@ impl<T: io::Read> Source for Host<T> {
     }
 }
 
-/// It tells no bytes.
 impl<T: io::Write> Sink for Host<T> {
+    ghost use Rattle.implib_tool.specs.Device.{host_failed};
+    ghost use Rattle.std.specs.Prelude.{None};
+
     ghost contents = { λ _. None };
 
-    ghost failed = { λ host. host.has_failed };
+    ghost failed = { host_failed };
 
     fn has_failed(&self) -> bool {
         self.has_failed
     }
 
     fn write(&mut self, buf: &[u8]) -> Result<usize, DeviceFault> {
-        match self.inner.write(buf) {
-            Ok(n) if n > 0 || buf.is_empty() => Ok(n),
-            Ok(n) => {
-                self.has_failed = true;
-                Ok(n)
-            }
-            Err(_) => {
-                self.has_failed = true;
-                Err(DeviceFault)
-            }
-        }
+        let written = self.inner.write(buf);
+        let is_taken = match written {
+            Ok(count) => count > 0 || buf.is_empty(),
+            Err(_) => false,
+        };
+        self.has_failed = self.has_failed || !is_taken;
+        written.map_err(|_| DeviceFault)
     }
 }

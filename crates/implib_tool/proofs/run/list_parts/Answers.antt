@@ -1,4 +1,4 @@
-use Rattle.std.proofs.Common.{refl, sym, subst, append-nil}
+use Rattle.std.proofs.Common.{refl, subst, append-nil}
 use Rattle.std.proofs.lemmas.Result.{err_from_is_err_and}
 use Rattle.implib_tool.specs.Run.{Lists}
 use Rattle.implib_tool.proofs.Running.{part_listed, part_fault}

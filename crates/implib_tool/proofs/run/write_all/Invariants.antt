@@ -1,5 +1,4 @@
-use Rattle.std.proofs.Common.{◌≡◌, ◌++◌, List, length}
-use Rattle.std.specs.Io.KnownBytes.{Appends}
+use Rattle.std.proofs.Common.{◌≡◌, length}
 use Rattle.implib_tool.specs.Views.{WrittenSoFar}
 use Rattle.implib_tool.proofs.run.write_all.Given as goal
 
