@@ -1,9 +1,9 @@
 //! Devices over memory, for tests.
 
-ghost use Rattle.std.specs.Prelude.{◌≡◌, Some, [], false};
+ghost use Rattle.std.specs.Prelude.{◌≡◌, IfOk, Some, false};
 
 use crate::device::{DeviceFault, Sink, Source};
-use std::alloc::Global;
+use std::alloc::{AllocError, Global};
 
 /// A reader of bytes that lie in memory.
 #[derive(Drop)]
@@ -26,11 +26,6 @@ impl<'a> MemorySource<'a> {
             calls,
             has_failed: false,
         }
-    }
-
-    /// How many more calls succeed.
-    pub fn calls(&self) -> usize {
-        self.calls
     }
 }
 
@@ -67,26 +62,22 @@ pub struct MemorySink {
 }
 
 impl MemorySink {
-    /// It takes at most `step` bytes a call, and fails after `calls` calls.
-    pub fn new(alloc: Global, step: usize, calls: usize) -> Self
-        ensures sound { result.has_failed ≡ false }
+    /// It takes at most `step` bytes a call, and fails after `calls` calls. The first 1,024 bytes
+    /// need no more memory.
+    pub fn new(alloc: Global, step: usize, calls: usize) -> Result<Self, AllocError>
+        ensures sound { IfOk result (λ sink. sink.has_failed ≡ false) }
     {
-        MemorySink {
-            bytes: Vec::new(alloc),
+        Ok(MemorySink {
+            bytes: Vec::with_capacity(alloc, 1024)?,
             step,
             calls,
             has_failed: false,
-        }
+        })
     }
 
     /// What it took.
     pub fn bytes(&self) -> &[u8] {
         self.bytes.as_slice()
-    }
-
-    /// How many more calls succeed.
-    pub fn calls(&self) -> usize {
-        self.calls
     }
 }
 

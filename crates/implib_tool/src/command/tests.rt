@@ -1,6 +1,6 @@
 use super::command;
 use crate::doubles::{MemorySink, MemorySource};
-use std::alloc::Global;
+use std::alloc::{AllocError, Global};
 use std::test::Fail;
 
 const ANY: usize = 1_000_000;
@@ -25,14 +25,14 @@ fn answered(
     input: &[u8],
     reads: Pace,
     writes: Pace,
-) -> Result<Answer, Fail> {
+) -> Result<Answer, AllocError> {
     let mut list = Vec::new(alloc);
     for word in words.split_whitespace() {
         list.push(String::from_str(alloc, word)?)?;
     }
     let mut reader = MemorySource::new(input, reads.0, reads.1);
-    let mut writer = MemorySink::new(alloc, writes.0, writes.1);
-    let mut faults = MemorySink::new(alloc, ANY, ANY);
+    let mut writer = MemorySink::new(alloc, writes.0, writes.1)?;
+    let mut faults = MemorySink::new(alloc, ANY, ANY)?;
     let status = command(
         alloc,
         list.as_slice(),
@@ -187,4 +187,20 @@ fn a_writer_that_fails_is_answered(rt: HostRuntime) -> Result<(), Fail> {
         assert_eq!(rt; got.faults.as_str(), "implib: write failed\n");
     }
     Ok(())
+}
+
+// To be run with one allocation refused, each in turn.
+#[test]
+fn refused_memory_is_answered(rt: HostRuntime) {
+    let Ok(got) = answered(rt.alloc(), "", BAR.as_bytes(), WHOLE, WHOLE) else {
+        return;
+    };
+    if got.status == 0 {
+        assert_eq!(rt; got.written.as_str(), BAR_LISTING);
+        assert_eq!(rt; got.faults.as_str(), "");
+    } else {
+        assert_eq!(rt; got.status, 3);
+        assert_eq!(rt; got.written.as_str(), "");
+        assert_eq!(rt; got.faults.as_str(), "implib: out of memory\n");
+    }
 }
