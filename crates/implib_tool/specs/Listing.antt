@@ -17,7 +17,7 @@ is_plain byte = nat_le 0x21 byte && nat_le byte 0x7E && not (byte == 0x5C)
 
 -- a byte of a name; one that is not plain as a backslash, an `x` and two hexadecimal digits
 abbrev pub escaped_byte : ℕ → List ℕ
-escaped_byte byte = if is_plain byte then byte ∷ [] else 92 ∷ 120 ∷ hex_byte byte
+escaped_byte byte = if is_plain byte then byte ∷ [] else codes "\\x" ++ hex_byte byte
 
 -- a name
 abbrev pub escaped : List ℕ → List ℕ

@@ -1,9 +1,9 @@
 -- The parts of a text: its lines that separate divide it, and stand in no part (this project's layout).
-use Rattle.std.specs.Prelude.{ℕ, ◌≡◌, ◌⊎◌, List, [], ◌∷◌, ◌++◌}
+use Rattle.std.specs.Prelude.{ℕ, ◌≡◌, ◌⊎◌, List, [], ◌∷◌, ◌++◌, codes}
 
 -- three hyphens, perhaps with a carriage return
 abbrev pub IsSeparator : List ℕ → Type 0
-IsSeparator line = (line ≡ 45 ∷ 45 ∷ 45 ∷ []) ⊎ (line ≡ 45 ∷ 45 ∷ 45 ∷ 13 ∷ [])
+IsSeparator line = (line ≡ codes "---") ⊎ (line ≡ codes "---\r")
 
 -- a line begins after these bytes: there are none, or the last is a line end
 abbrev pub LineBeginsAfter : List ℕ → Type 0

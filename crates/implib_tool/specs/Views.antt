@@ -55,14 +55,6 @@ OnTextFault text machine flavor Read = ⊥
 OnTextFault text machine flavor Write = ⊥
 OnTextFault text machine flavor OutOfMemory = Unit {0}
 
--- the writer failed
-abbrev pub OnWriteFault : Bool → RunError → Type 0
-OnWriteFault failed (Refused fault) = ⊥
-OnWriteFault failed NotUtf8 = ⊥
-OnWriteFault failed Read = ⊥
-OnWriteFault failed Write = failed ≡ true
-OnWriteFault failed OutOfMemory = ⊥
-
 -- the listing of what is left of a text, if anything is
 abbrev pub ListsLeft : Option (Bor (List ℕ)) → MachineType → Flavor → List ℕ → Type 0
 ListsLeft None machine flavor listing = listing ≡ []

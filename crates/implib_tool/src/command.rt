@@ -4,8 +4,8 @@ ghost use Rattle.implib_tool.specs.Words.{Answers, asked, flavor_named, machine_
 ghost use Rattle.std.specs.Prelude.{◌≡◌, ◌↔◌, IfSome, IsNone, OnOk, false, map};
 ghost use Rattle.std.specs.String.{string_bytes};
 
-use crate::device::{Sink, Source};
-use crate::run::{RunError, run, write_all};
+use crate::device::{Sink, Source, write_all};
+use crate::run::{RunError, run};
 use implib::{Flavor, MachineType};
 use std::alloc::Global;
 use std::fmt;

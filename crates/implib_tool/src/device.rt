@@ -53,3 +53,20 @@ pub trait Sink {
         ensures none { result ≡ Ok 0 → 0 < length buf.now → failed self.new ≡ true }
         ensures fault { OnErr result (failed self.new ≡ true) };
 }
+
+/// Writes all bytes. Where it fails, of how many went out nothing is said.
+pub fn write_all<W: Sink>(writer: &mut W, bytes: &[u8]) -> Result<(), DeviceFault>
+    ensures moved { OnOk result (Appends (W.contents writer.old) (W.contents writer.new) bytes.now) }
+    ensures sound { OnOk result (W.failed writer.new ≡ W.failed writer.old) }
+    ensures fault { OnErr result (W.failed writer.new ≡ true) }
+{
+    let mut rest = bytes;
+    while !rest.is_empty() {
+        let count = writer.write(rest)?;
+        if count == 0 {
+            return Err(DeviceFault);
+        }
+        rest = &rest[count..];
+    }
+    Ok(())
+}

@@ -1,12 +1,12 @@
 //! From the bytes that are read to the bytes that are written.
 
 ghost use Rattle.implib_tool.specs.Run.{Lists, Runs};
-ghost use Rattle.implib_tool.specs.Views.{ListsOnto, OnPartFault, OnReadFault, OnTextFault, OnWriteFault};
+ghost use Rattle.implib_tool.specs.Views.{ListsOnto, OnPartFault, OnReadFault, OnTextFault};
 ghost use Rattle.implib_tool.specs.declared.run.RunError.TheVariants.{OutOfMemory};
-ghost use Rattle.std.specs.Io.KnownBytes.{Appends, Consumes, IsAtEnd};
-ghost use Rattle.std.specs.Prelude.{◌≡◌, ◌++◌, IfErr, IfOk, OnOk, alloc_error, false, length};
+ghost use Rattle.std.specs.Io.KnownBytes.{Consumes, IsAtEnd};
+ghost use Rattle.std.specs.Prelude.{◌≡◌, IfErr, IfOk, OnOk, false};
 
-use crate::device::{Sink, Source};
+use crate::device::{Sink, Source, write_all};
 use crate::listing::list_members;
 use crate::parts::divide;
 use implib::{Error, Fault, Flavor, ImportLibrary, MachineType};
@@ -113,26 +113,6 @@ fn list_parts(
     Ok(listing)
 }
 
-/// Writes all bytes.
-pub fn write_all<W: Sink>(writer: &mut W, bytes: &[u8]) -> Result<(), RunError>
-    ensures ok { OnOk result (Appends (W.contents writer.old) (W.contents writer.new) bytes.now) }
-    ensures sound { OnOk result (W.failed writer.new ≡ W.failed writer.old) }
-    ensures fault { IfErr result (OnWriteFault (W.failed writer.new)) }
-{
-    let mut rest = bytes;
-    while !rest.is_empty() {
-        let count = match writer.write(rest) {
-            Ok(count) => count,
-            Err(_) => return Err(RunError::Write),
-        };
-        if count == 0 {
-            return Err(RunError::Write);
-        }
-        rest = &rest[count..];
-    }
-    Ok(())
-}
-
 /// Reads all of the reader, and writes the listing of its definitions once it is whole.
 ///
 /// No fault is retried. The input is tested for UTF-8 before anything of it is refused.
@@ -156,5 +136,8 @@ pub fn run<R: Source, W: Sink>(
         Err(_) => return Err(RunError::NotUtf8),
     };
     let listing = list_parts(alloc, text, machine, flavor)?;
-    write_all(writer, listing.as_slice())
+    if write_all(writer, listing.as_slice()).is_err() {
+        return Err(RunError::Write);
+    }
+    Ok(())
 }

@@ -1,6 +1,6 @@
 use Rattle.std.proofs.Common.{◌≡◌, length}
 use Rattle.implib_tool.specs.Views.{WrittenSoFar}
-use Rattle.implib_tool.proofs.run.write_all.Given as goal
+use Rattle.implib_tool.proofs.device.write_all.Given as goal
 
 -- the writer has the bytes before those that are left
 abbrev pub invariant-loop-rest : goal.invariant-loop-rest
