@@ -48,6 +48,3 @@ pub mod SpelledStatements
 pub mod OneReading
 pub mod WorkedStatements
 pub mod ObjectReading
-mod SpelledStatements
-mod OneReading
-mod WorkedStatements
