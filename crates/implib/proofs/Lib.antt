@@ -10,3 +10,7 @@ pub mod Lengths
 pub mod Defaults
 pub mod Offsets
 pub mod PictureSizes
+pub mod LongNames
+pub mod WriterPicture
+pub mod Written
+pub mod WriterSound

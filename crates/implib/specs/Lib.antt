@@ -10,3 +10,5 @@ pub mod Pass
 pub mod Object
 pub mod Picture
 pub mod PictureView
+pub mod Writer
+pub mod WriterView

@@ -137,18 +137,19 @@ fn records_of(symbols: &[PictureSymbol]) -> u64
 {
     let mut total = 0u64;
     for symbol in symbols {
-        total = total.saturating_add(1 + auxiliary_count(&symbol.aux) as u64);
+        total = total.saturating_add(1 + auxiliary_count(symbol.aux) as u64);
     }
     total
 }
 
 // The auxiliary records of a symbol.
-#[tactic(auto, unfolding(crate::specs::Picture::auxiliary_count))]
-pub(crate) fn auxiliary_count(aux: &Option<[u8; 18]>) -> u32
-    ensures { result ≡ auxiliary_count aux.now }
+#[tactic(auto, unfolding(crate::specs::Picture::auxiliary_count, crate::specs::Picture::FitsAuxiliary))]
+pub(crate) fn auxiliary_count(aux: Option<[u8; 18]>) -> u32
+    ensures count { result ≡ auxiliary_count aux }
+    ensures whole { FitsAuxiliary aux }
 {
     match aux {
-        Some(_) => 1,
+        Some(_record) => 1,
         None => 0,
     }
 }
