@@ -9,7 +9,7 @@ use Rattle.implib.specs.declared.coff.object.Relocation.{Relocation}
 use Rattle.implib.specs.Object.{Auxiliary, Entry, ObjectSection}
 use Rattle.implib.specs.Picture.{FitsRelocation, FitsSection, auxiliary_count}
 use Rattle.implib.specs.declared.coff.object.Section.{Section as Held}
-use Rattle.implib.specs.PictureView.{section_view}
+use Rattle.implib.specs.Writer.{section_view}
 use Rattle.implib.specs.Writer.{AddedSymbol, HasRoomFor, Holding, IsPlaceAmong, IsSymbol, IsSymbolIndex, all_entries, entries_added, relocated, section_numbered, with_relocation, with_section, with_symbol}
 use Rattle.implib.specs.WriterView.{IsSound, IsSoundSection, IsSoundSymbol}
 

@@ -6,7 +6,8 @@ use Rattle.implib.specs.declared.coff.picture.PictureSymbol.{PictureSymbol}
 use Rattle.implib.specs.Machine.{machine_number}
 use Rattle.implib.specs.Object.{object_in}
 use Rattle.implib.specs.Picture.{Fits, Picture, layout, layout_size, object_of}
-use Rattle.implib.specs.PictureView.{picture_view, section_view, symbol_view}
+use Rattle.implib.specs.PictureView.{picture_view, symbol_view}
+use Rattle.implib.specs.Writer.{section_view}
 use Rattle.implib.specs.Writer.{AddedSymbol, Holding, long_names, picture_of, symbol_written}
 use Rattle.implib.proofs.Reading.{length-layout, object_in-layout}
 

@@ -1,10 +1,12 @@
 -- What a writer of objects holds, and the picture that it writes (this project's layout,
 -- docs/FORMATS.md, "The layout of an object").
-use Rattle.std.specs.Prelude.{ℕ, zero, suc, ◌+◌, ◌<◌, ◌≤◌, Bool, List, [], ◌∷◌, ◌++◌, Option, None, Some, IsSomeAnd, length, map, fold, flat_map, slice_get, nat_lt, if◌then◌else◌, bytes_eq}
+use Rattle.std.specs.Prelude.{ℕ, zero, suc, ◌+◌, ◌<◌, ◌≤◌, Bool, List, [], ◌∷◌, ◌++◌, Option, None, Some, IsSomeAnd, length, map, fold, flat_map, slice_get, nat_lt, string_bytes, if◌then◌else◌, bytes_eq}
 use Rattle.std.specs.List.{list_any, position_or_len}
 use Rattle.implib.specs.declared.coff.object.Place.{Place}
 use Rattle.implib.specs.declared.coff.object.Place.TheVariants.{Undefined, Section, Absolute, Debug}
 use Rattle.implib.specs.declared.coff.object.Relocation.{Relocation}
+use Rattle.implib.specs.declared.coff.object.Section.{Section as Held}
+use Rattle.implib.specs.declared.coff.object.Symbol.{Symbol}
 use Rattle.implib.specs.declared.machine.MachineType.{MachineType}
 use Rattle.implib.specs.Machine.{machine_number}
 use Rattle.implib.specs.Object.{ASymbol, Auxiliary, Entry, Object, ObjectSection}
@@ -17,6 +19,25 @@ pub record AddedSymbol : Type 0 where
   pub place : Place
   pub class : ℕ
   pub aux : Option (List ℕ)
+
+-- what a section of the program holds
+abbrev pub section_view : Held → ObjectSection
+section_view s = record {
+  name = s.name;
+  flags = s.flags;
+  bytes = s.bytes.items;
+  relocations = s.relocations.items;
+}
+
+-- what a symbol of the program holds
+abbrev pub added_view : Symbol → AddedSymbol
+added_view s = record {
+  name = string_bytes s.name;
+  value = s.value;
+  place = s.place;
+  class = s.class;
+  aux = s.aux;
+}
 
 -- what a writer holds: all that was added, in order
 pub record Holding : Type 0 where

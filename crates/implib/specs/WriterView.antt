@@ -1,23 +1,12 @@
 -- Views of the code's state: a writer of objects.
-use Rattle.std.specs.Prelude.{◌≡◌, ℕ, ◌<◌, ◌≤◌, ◌^◌, List, length, map, string_bytes}
+use Rattle.std.specs.Prelude.{◌≡◌, ℕ, ◌<◌, ◌≤◌, ◌^◌, List, length, map}
 use Rattle.std.specs.List.{AllByRecursion}
 use Rattle.implib.specs.declared.coff.object.Section.{Section}
 use Rattle.implib.specs.declared.coff.object.Symbol.{Symbol}
 use Rattle.implib.specs.declared.machine.MachineType.{MachineType}
 use Rattle.implib.specs.Object.{ObjectSection}
 use Rattle.implib.specs.Picture.{FitsAuxiliary, FitsSection, HasNoNul}
-use Rattle.implib.specs.PictureView.{section_view}
-use Rattle.implib.specs.Writer.{AddedSymbol, Holding, IsPlaceAmong, IsSymbolIndex, all_entries}
-
--- what a symbol of the program holds
-abbrev pub added_view : Symbol → AddedSymbol
-added_view s = record {
-  name = string_bytes s.name;
-  value = s.value;
-  place = s.place;
-  class = s.class;
-  aux = s.aux;
-}
+use Rattle.implib.specs.Writer.{AddedSymbol, added_view, section_view, Holding, IsPlaceAmong, IsSymbolIndex, all_entries}
 
 -- what the lists of a writer hold
 abbrev pub holding_view : MachineType → List Section → List Symbol → Holding

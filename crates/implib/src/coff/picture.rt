@@ -4,7 +4,8 @@ ghost use Rattle.implib.specs.Bytes.{u16_bytes, u32_bytes};
 ghost use Rattle.implib.specs.Fault.{Cause, IfInvalid};
 ghost use Rattle.implib.specs.Pass.{Puts};
 ghost use Rattle.implib.specs.Picture.{Fits, FitsAuxiliary, auxiliary_bytes, auxiliary_count, contents, contents_place, contents_size, header_bytes, layout, layout_size, name_field, place_of, record_count, records, relocation_bytes, section_header, section_headers, string_bytes_of, string_size, string_table, string_offsets, strings_size, symbol_bytes, symbols_place};
-ghost use Rattle.implib.specs.PictureView.{FitsField, Measured, name_view, picture_view, section_view, symbol_view};
+ghost use Rattle.implib.specs.PictureView.{FitsField, Measured, name_view, picture_view, symbol_view};
+ghost use Rattle.implib.specs.Writer.{section_view};
 ghost use Rattle.std.specs.Prelude.{All, ◌*◌, ◌+◌, ◌-◌, ◌<◌, ◌^◌, ◌≡◌, ◌≤◌, ℕ, IfErr, IfOk, OnOk, alloc_error, flat_map, length, map, min, slice_index, sum_by};
 
 use crate::coff::object::{Relocation, Section};

@@ -3,9 +3,10 @@
 ghost use Rattle.implib.specs.Fault.{Cause, IfInvalid};
 ghost use Rattle.implib.specs.Object.{object_in};
 ghost use Rattle.implib.specs.Picture.{HasNoNul, layout, layout_size};
-ghost use Rattle.implib.specs.PictureView.{name_view, section_view, symbol_view};
+ghost use Rattle.implib.specs.PictureView.{name_view, symbol_view};
+ghost use Rattle.implib.specs.Writer.{section_view};
 ghost use Rattle.implib.specs.Writer.{HasRoomFor, IsPlaceAmong, IsSymbolIndex, all_entries, entries_added, long_names, name_place, object_held, picture_of, section_number, section_numbered, symbol_written, with_long_name, with_relocation, with_section, with_symbol};
-ghost use Rattle.implib.specs.WriterView.{added_view};
+ghost use Rattle.implib.specs.Writer.{added_view};
 ghost use Rattle.std.specs.Prelude.{◌+◌, ◌<◌, ◌^◌, ◌≡◌, ◌≤◌, Some, [], IfErr, IfOk, IsSomeAnd, OnErr, OnOk, alloc_error, length, map, string_bytes};
 
 use crate::coff::object::{Place, Relocation, Section, Symbol};

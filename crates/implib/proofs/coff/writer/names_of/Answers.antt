@@ -2,7 +2,7 @@ use Rattle.std.proofs.Common.{◌≡◌, ◌+◌, ◌++◌, ◌∷◌, [], ◌�
 use Rattle.std.proofs.lemmas.List.{map-append, take_more}
 use Rattle.implib.specs.PictureView.{symbol_view}
 use Rattle.implib.specs.Writer.{long_names}
-use Rattle.implib.specs.WriterView.{added_view}
+use Rattle.implib.specs.Writer.{added_view}
 use Rattle.implib.proofs.LongNames.{long_names-push, symbol_written-is, symbols_written-push}
 use Rattle.implib.proofs.coff.writer.names_of.Goals as goal
 

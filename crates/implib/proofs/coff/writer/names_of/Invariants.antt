@@ -1,7 +1,7 @@
 use Rattle.std.proofs.Common.{◌≡◌, map, take}
 use Rattle.implib.specs.PictureView.{symbol_view}
 use Rattle.implib.specs.Writer.{long_names, symbol_written}
-use Rattle.implib.specs.WriterView.{added_view}
+use Rattle.implib.specs.Writer.{added_view}
 use Rattle.implib.proofs.coff.writer.names_of.Given as goal
 
 abbrev pub invariant-loop-symbol : goal.invariant-loop-symbol

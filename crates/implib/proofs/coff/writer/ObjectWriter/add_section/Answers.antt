@@ -1,6 +1,6 @@
 use Rattle.std.proofs.Common.{[], ◌∷◌, arith}
 use Rattle.std.proofs.lemmas.List.{map-append}
-use Rattle.implib.specs.PictureView.{section_view}
+use Rattle.implib.specs.Writer.{section_view}
 use Rattle.implib.specs.WriterView.{holding_view}
 use Rattle.implib.proofs.WriterSound.{sound_section}
 use Rattle.implib.proofs.coff.writer.ObjectWriter.add_section.Goals as goal

@@ -1,6 +1,7 @@
 use Rattle.std.proofs.Common.{[], ◌∷◌, arith}
 use Rattle.std.proofs.lemmas.List.{map-append}
-use Rattle.implib.specs.WriterView.{added_view, holding_view}
+use Rattle.implib.specs.WriterView.{holding_view}
+use Rattle.implib.specs.Writer.{added_view}
 use Rattle.implib.proofs.WriterSound.{auxiliary_count-le, length-entries_added, sound_symbol}
 use Rattle.implib.proofs.coff.writer.ObjectWriter.add_symbol.Goals as goal
 

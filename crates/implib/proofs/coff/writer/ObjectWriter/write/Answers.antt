@@ -1,9 +1,10 @@
 use Rattle.std.proofs.Common.{◌≡◌, ◌∙◌, ap, map}
 use Rattle.implib.specs.Machine.{machine_number}
 use Rattle.implib.specs.Picture.{Fits}
-use Rattle.implib.specs.PictureView.{picture_view, section_view, symbol_view}
+use Rattle.implib.specs.PictureView.{picture_view, symbol_view}
+use Rattle.implib.specs.Writer.{section_view}
 use Rattle.implib.specs.Writer.{picture_of}
-use Rattle.implib.specs.WriterView.{added_view}
+use Rattle.implib.specs.Writer.{added_view}
 use Rattle.implib.proofs.WriterPicture.{picture_of-fits, object_of-picture_of}
 use Rattle.implib.proofs.Written.{length_if_ok, picture_same, read_if_ok}
 use Rattle.implib.proofs.coff.writer.ObjectWriter.write.Goals as goal
