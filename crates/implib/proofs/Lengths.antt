@@ -2,7 +2,8 @@
 use Rattle.std.proofs.Common.{◌≡◌, ℕ, ◌+◌, ◌-◌, ◌<◌, List, [], ◌∷◌, ◌++◌, length, map, flat_map, sum_by, take, get_or, replicate, add-zero, append_assoc, length-append, ap, sym, ◌∙◌, arith, refl}
 use Rattle.implib.specs.declared.coff.object.Section.{Section}
 use Rattle.implib.specs.Picture.{InRecord, Listed, PictureSymbol, SymbolName, auxiliary_bytes, contents, contents_size, name_field, section_header, section_headers, string_bytes_of, string_size, symbol_bytes}
-use Rattle.implib.specs.PictureView.{FitsField, section_view}
+use Rattle.implib.specs.PictureView.{FitsField}
+use Rattle.implib.specs.Writer.{section_view}
 use Rattle.implib.specs.Object.{ObjectSection}
 use Rattle.implib.specs.Bytes.{u16_bytes, u32_bytes}
 use Rattle.implib.specs.Pass.{Puts, Written}

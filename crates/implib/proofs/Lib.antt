@@ -48,3 +48,7 @@ pub mod SpelledStatements
 pub mod OneReading
 pub mod WorkedStatements
 pub mod ObjectReading
+pub mod LongNames
+pub mod WriterPicture
+pub mod Written
+pub mod WriterSound

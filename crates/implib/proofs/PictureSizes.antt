@@ -7,7 +7,8 @@ use Rattle.implib.specs.declared.coff.object.Section.{Section}
 use Rattle.implib.specs.declared.coff.picture.Picture.{Picture as Borrowed}
 use Rattle.implib.specs.declared.coff.picture.PictureSymbol.{PictureSymbol as BorrowedSymbol}
 use Rattle.implib.specs.Picture.{Fits, FitsAuxiliary, FitsName, FitsSection, FitsSymbol, InRecord, Listed, SymbolName, offsets_from, contents, contents_place, contents_size, header_bytes, layout_size, record_count, records, section_headers, string_offsets, string_size, string_table, strings_size, symbol_bytes, symbols_place}
-use Rattle.implib.specs.PictureView.{FitsField, name_view, picture_view, section_view, symbol_view}
+use Rattle.implib.specs.PictureView.{FitsField, name_view, picture_view, symbol_view}
+use Rattle.implib.specs.Writer.{section_view}
 use Rattle.implib.proofs.Fields.{length-header_bytes}
 use Rattle.implib.proofs.Lengths.{length-viewed_contents}
 use Rattle.implib.proofs.ObjectReading.{headers_long, length-all_symbols}

@@ -28,3 +28,5 @@ pub mod WorkedStatements
 pub mod Reading
 pub mod Parser
 pub mod ParserViews
+pub mod Writer
+pub mod WriterView

@@ -1,22 +1,12 @@
 -- Views of the code's state: a borrowed picture.
 use Rattle.std.specs.Prelude.{◌≡◌, ℕ, ◌<◌, ◌≤◌, ◌^◌, length, map}
-use Rattle.implib.specs.declared.coff.object.Section.{Section}
 use Rattle.implib.specs.declared.coff.picture.Measure.{Measure}
 use Rattle.implib.specs.declared.coff.picture.Picture.{Picture as Borrowed}
 use Rattle.implib.specs.declared.coff.picture.PictureSymbol.{PictureSymbol as BorrowedSymbol}
 use Rattle.implib.specs.declared.coff.picture.SymbolName.{SymbolName as BorrowedName}
 use Rattle.implib.specs.declared.coff.picture.SymbolName.TheVariants as borrowed
-use Rattle.implib.specs.Object.{ObjectSection}
+use Rattle.implib.specs.Writer.{section_view}
 use Rattle.implib.specs.Picture.{InRecord, Listed, Picture, PictureSymbol, SymbolName, layout_size, records, strings_size, symbols_place}
-
--- what a section of the program holds
-abbrev pub section_view : Section → ObjectSection
-section_view s = record {
-  name = s.name;
-  flags = s.flags;
-  bytes = s.bytes.items;
-  relocations = s.relocations.items;
-}
 
 -- where a name of the program stands
 abbrev pub name_view : BorrowedName → SymbolName

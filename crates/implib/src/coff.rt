@@ -4,7 +4,9 @@ mod constants;
 pub mod object;
 pub mod pass;
 pub(crate) mod picture;
+pub mod writer;
 
 pub use constants::{characteristics, class, flags, machine, relocation, weak};
 pub use object::{Place, Relocation, Section, Symbol};
 pub use pass::Pass;
+pub use writer::ObjectWriter;

@@ -4,7 +4,8 @@ ghost use Rattle.implib.specs.Bytes.{u16_bytes, u32_bytes};
 ghost use Rattle.implib.specs.Fault.{Cause, IfInvalid};
 ghost use Rattle.implib.specs.Pass.{Puts};
 ghost use Rattle.implib.specs.Picture.{Fits, FitsAuxiliary, auxiliary_bytes, auxiliary_count, contents, contents_place, contents_size, header_bytes, layout, layout_size, name_field, place_of, record_count, records, relocation_bytes, section_header, section_headers, string_bytes_of, string_size, string_table, string_offsets, strings_size, symbol_bytes, symbols_place};
-ghost use Rattle.implib.specs.PictureView.{FitsField, Measured, name_view, picture_view, section_view, symbol_view};
+ghost use Rattle.implib.specs.PictureView.{FitsField, Measured, name_view, picture_view, symbol_view};
+ghost use Rattle.implib.specs.Writer.{section_view};
 ghost use Rattle.std.specs.Prelude.{All, ◌*◌, ◌+◌, ◌-◌, ◌<◌, ◌^◌, ◌≡◌, ◌≤◌, ℕ, IfErr, IfOk, OnOk, alloc_error, flat_map, length, map, min, slice_index, sum_by};
 
 use crate::coff::object::{Relocation, Section};
@@ -137,18 +138,19 @@ fn records_of(symbols: &[PictureSymbol]) -> u64
 {
     let mut total = 0u64;
     for symbol in symbols {
-        total = total.saturating_add(1 + auxiliary_count(&symbol.aux) as u64);
+        total = total.saturating_add(1 + auxiliary_count(symbol.aux) as u64);
     }
     total
 }
 
 // The auxiliary records of a symbol.
-#[tactic(auto, unfolding(crate::specs::Picture::auxiliary_count))]
-pub(crate) fn auxiliary_count(aux: &Option<[u8; 18]>) -> u32
-    ensures { result ≡ auxiliary_count aux.now }
+#[tactic(auto, unfolding(crate::specs::Picture::auxiliary_count, crate::specs::Picture::FitsAuxiliary))]
+pub(crate) fn auxiliary_count(aux: Option<[u8; 18]>) -> u32
+    ensures count { result ≡ auxiliary_count aux }
+    ensures whole { FitsAuxiliary aux }
 {
     match aux {
-        Some(_) => 1,
+        Some(_record) => 1,
         None => 0,
     }
 }

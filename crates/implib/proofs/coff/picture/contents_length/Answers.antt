@@ -1,6 +1,6 @@
 use Rattle.std.proofs.Common.{arith}
 use Rattle.implib.specs.Picture.{contents_size}
-use Rattle.implib.specs.PictureView.{section_view}
+use Rattle.implib.specs.Writer.{section_view}
 use Rattle.implib.proofs.Sums.{sum_more}
 use Rattle.implib.proofs.coff.picture.contents_length.Goals as goal
 

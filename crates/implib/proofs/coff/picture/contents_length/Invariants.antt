@@ -1,6 +1,6 @@
 use Rattle.std.proofs.Common.{◌≡◌, ◌-◌, ◌^◌, map, min, sum_by, take}
 use Rattle.implib.specs.Picture.{contents_size}
-use Rattle.implib.specs.PictureView.{section_view}
+use Rattle.implib.specs.Writer.{section_view}
 use Rattle.implib.proofs.coff.picture.contents_length.Given as goal
 
 abbrev pub invariant-loop-section : goal.invariant-loop-section

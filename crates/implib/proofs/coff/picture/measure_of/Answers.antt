@@ -1,7 +1,7 @@
 use Rattle.std.proofs.Common.{arith, refl}
 use Rattle.std.proofs.lemmas.List.{length-map}
 use Rattle.implib.specs.Picture.{contents_place, layout_size, records, strings_size, symbols_place}
-use Rattle.implib.specs.PictureView.{section_view}
+use Rattle.implib.specs.Writer.{section_view}
 use Rattle.implib.proofs.coff.picture.measure_of.Goals as goal
 
 pub returns-then-length-clause-refused : goal.returns-then-length-clause-refused

@@ -1,6 +1,6 @@
 use Rattle.std.proofs.Common.{arith, take}
 use Rattle.implib.specs.Picture.{contents, contents_size}
-use Rattle.implib.specs.PictureView.{section_view}
+use Rattle.implib.specs.Writer.{section_view}
 use Rattle.implib.proofs.Lengths.{length-viewed_contents}
 use Rattle.implib.proofs.Pass.{puts_more}
 use Rattle.implib.proofs.Sums.{sum_room}

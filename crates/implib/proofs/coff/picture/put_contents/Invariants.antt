@@ -1,7 +1,7 @@
 use Rattle.std.proofs.Common.{flat_map, take}
 use Rattle.implib.specs.Pass.{Puts}
 use Rattle.implib.specs.Picture.{contents}
-use Rattle.implib.specs.PictureView.{section_view}
+use Rattle.implib.specs.Writer.{section_view}
 use Rattle.implib.proofs.coff.picture.put_contents.Given as goal
 
 abbrev pub invariant-loop-section : goal.invariant-loop-section

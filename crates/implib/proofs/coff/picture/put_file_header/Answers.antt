@@ -1,6 +1,6 @@
 use Rattle.std.proofs.lemmas.List.{length-map}
 use Rattle.implib.specs.Picture.{header_bytes}
-use Rattle.implib.specs.PictureView.{section_view}
+use Rattle.implib.specs.Writer.{section_view}
 use Rattle.implib.proofs.Pass.{puts_both}
 use Rattle.implib.proofs.coff.picture.put_file_header.Goals as goal
 

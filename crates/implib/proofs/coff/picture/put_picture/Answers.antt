@@ -1,6 +1,7 @@
 use Rattle.std.proofs.Common.{arith}
 use Rattle.implib.specs.Picture.{contents, layout, string_offsets, symbol_bytes}
-use Rattle.implib.specs.PictureView.{picture_view, section_view, symbol_view}
+use Rattle.implib.specs.PictureView.{picture_view, symbol_view}
+use Rattle.implib.specs.Writer.{section_view}
 use Rattle.implib.proofs.Pass.{puts_both}
 use Rattle.implib.proofs.PictureSizes.{few_relocations, headers_place, sizes, symbol_auxiliaries, symbol_names}
 use Rattle.implib.proofs.Sums.{flat_map-map}

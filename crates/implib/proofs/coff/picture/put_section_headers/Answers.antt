@@ -1,6 +1,6 @@
 use Rattle.std.proofs.Common.{add-zero, arith, sym}
 use Rattle.implib.specs.Picture.{contents_size, section_headers}
-use Rattle.implib.specs.PictureView.{section_view}
+use Rattle.implib.specs.Writer.{section_view}
 use Rattle.implib.proofs.Lengths.{headers_more}
 use Rattle.implib.proofs.Pass.{puts_nothing}
 use Rattle.implib.proofs.Sums.{sum_more, sum_room}

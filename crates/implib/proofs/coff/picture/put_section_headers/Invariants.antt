@@ -1,7 +1,7 @@
 use Rattle.std.proofs.Common.{◌≡◌, ◌+◌, ◌*◌, length, map, sum_by, take}
 use Rattle.implib.specs.Pass.{Puts}
 use Rattle.implib.specs.Picture.{contents_size, section_headers}
-use Rattle.implib.specs.PictureView.{section_view}
+use Rattle.implib.specs.Writer.{section_view}
 use Rattle.implib.proofs.coff.picture.put_section_headers.Given as goal
 
 abbrev pub invariant-loop-section : goal.invariant-loop-section

@@ -1,0 +1,33 @@
+use Rattle.std.proofs.Common.{◌≡◌, ◌∙◌, ap, false, length, map, nat_lt, refl, sym, true}
+use Rattle.std.proofs.lemmas.Bool.{le-ltb, lt-ltb}
+use Rattle.implib.specs.Picture.{Listed}
+use Rattle.implib.proofs.LongNames.{insert_key_text, name_place-long, name_place-short, position_key, with_long_name-long, with_long_name-short}
+use Rattle.implib.proofs.coff.writer.name_of.Goals as goal
+
+pub returns-in_ok-index-clause-strings : goal.returns-in_ok-index-clause-strings
+returns-in_ok-index-clause-strings c =
+    let long : nat_lt 8 (length c.args.text.now) ≡ true = lt-ltb 8 (length c.args.text.now) c.if-text-gt8.true in
+    ap (map (λ t. t.now)) c.in_ok-index.ensures.keys
+    ∙ (insert_key_text c.args.text _ (λ x. refl) c.args.strings.now.keys
+    ∙ sym (with_long_name-long (map (λ t. t.now) c.args.strings.now.keys) c.args.text.now long))
+
+pub returns-in_ok-index-clause-name : goal.returns-in_ok-index-clause-name
+returns-in_ok-index-clause-name c =
+    let long : nat_lt 8 (length c.args.text.now) ≡ true = lt-ltb 8 (length c.args.text.now) c.if-text-gt8.true in
+    rw (
+      ap (map (λ t. t.now)) c.in_ok-index.ensures.keys,
+      insert_key_text c.args.text _ (λ x. refl) c.args.strings.now.keys,
+      ← with_long_name-long (map (λ t. t.now) c.args.strings.now.keys) c.args.text.now long,
+      name_place-long (map (λ t. t.now) c.args.strings.now.keys) c.args.text.now long,
+    )
+    (ap Listed (c.in_ok-index.ensures.index ∙ position_key c.args.text _ (λ x. refl) c.args.strings.now.keys))
+
+pub returns-else-text-gt8-clause-strings : goal.returns-else-text-gt8-clause-strings
+returns-else-text-gt8-clause-strings c =
+    let short : nat_lt 8 (length c.args.text.now) ≡ false = le-ltb 8 (length c.args.text.now) c.if-text-gt8.false in
+    sym (with_long_name-short (map (λ t. t.now) c.args.strings.now.keys) c.args.text.now short)
+
+pub returns-else-text-gt8-clause-name : goal.returns-else-text-gt8-clause-name
+returns-else-text-gt8-clause-name c =
+    let short : nat_lt 8 (length c.args.text.now) ≡ false = le-ltb 8 (length c.args.text.now) c.if-text-gt8.false in
+    sym (name_place-short (map (λ t. t.now) c.args.strings.now.keys) c.args.text.now short)

@@ -1,0 +1,163 @@
+-- What a writer of objects holds, and the picture that it writes (this project's layout,
+-- docs/FORMATS.md, "The layout of an object").
+use Rattle.std.specs.Prelude.{ℕ, zero, suc, ◌+◌, ◌<◌, ◌≤◌, Bool, List, [], ◌∷◌, ◌++◌, Option, None, Some, IsSomeAnd, length, map, fold, flat_map, slice_get, nat_lt, string_bytes, if◌then◌else◌, bytes_eq}
+use Rattle.std.specs.List.{list_any, position_or_len}
+use Rattle.implib.specs.declared.coff.object.Place.{Place}
+use Rattle.implib.specs.declared.coff.object.Place.TheVariants.{Undefined, Section, Absolute, Debug}
+use Rattle.implib.specs.declared.coff.object.Relocation.{Relocation}
+use Rattle.implib.specs.declared.coff.object.Section.{Section as Held}
+use Rattle.implib.specs.declared.coff.object.Symbol.{Symbol}
+use Rattle.implib.specs.declared.machine.MachineType.{MachineType}
+use Rattle.implib.specs.Machine.{machine_number}
+use Rattle.implib.specs.Object.{ASymbol, Auxiliary, Entry, Object, ObjectSection}
+use Rattle.implib.specs.Picture.{InRecord, Listed, Picture, PictureSymbol, SymbolName}
+
+-- a symbol that was added
+pub record AddedSymbol : Type 0 where
+  pub name : List ℕ
+  pub value : ℕ
+  pub place : Place
+  pub class : ℕ
+  pub aux : Option (List ℕ)
+
+-- what a section of the program holds
+abbrev pub section_view : Held → ObjectSection
+section_view s = record {
+  name = s.name;
+  flags = s.flags;
+  bytes = s.bytes.items;
+  relocations = s.relocations.items;
+}
+
+-- what a symbol of the program holds
+abbrev pub added_view : Symbol → AddedSymbol
+added_view s = record {
+  name = string_bytes s.name;
+  value = s.value;
+  place = s.place;
+  class = s.class;
+  aux = s.aux;
+}
+
+-- what a writer holds: all that was added, in order
+pub record Holding : Type 0 where
+  pub machine : MachineType
+  pub sections : List ObjectSection
+  pub symbols : List AddedSymbol
+
+-- the section number of a place, in 16 bits: -1 is absolute, -2 debug
+abbrev pub section_number : Place → ℕ
+section_number Undefined = 0
+section_number (Section number) = number
+section_number Absolute = 0xFFFF
+section_number Debug = 0xFFFE
+
+-- the entries of the symbol table that a symbol makes: its own, and the auxiliary one
+abbrev pub entries_added : AddedSymbol → List Entry
+entries_added s =
+    ASymbol (record {
+      name = s.name;
+      value = s.value;
+      section = section_number s.place;
+      kind = 0;
+      class = s.class;
+    }) ∷ elim s.aux [ None ↦ [] | Some aux ↦ Auxiliary aux ∷ [] ]
+
+-- the entries of the symbol table, in order
+abbrev pub all_entries : List AddedSymbol → List Entry
+all_entries symbols = flat_map entries_added symbols
+
+-- the object that a writer stands for
+abbrev pub object_held : Holding → Object
+object_held h = record {
+  machine = machine_number h.machine;
+  time = 0;
+  optional_header_size = 0;
+  characteristics = 0;
+  sections = h.sections;
+  entries = all_entries h.symbols;
+}
+
+-- the entry is a symbol
+abbrev pub IsSymbol : Entry → Type 0
+IsSymbol (ASymbol symbol) = Unit {0}
+IsSymbol (Auxiliary bytes) = ⊥
+
+-- the index is that of a symbol, and of no auxiliary record
+abbrev pub IsSymbolIndex : List AddedSymbol → ℕ → Type 0
+IsSymbolIndex symbols index = IsSomeAnd (slice_get (all_entries symbols) index) IsSymbol
+
+-- the section of a number from 1
+abbrev pub section_numbered : List ObjectSection → ℕ → Option ObjectSection
+section_numbered sections zero = None
+section_numbered sections (suc index) = slice_get sections index
+
+-- a section that the place names is among so many
+abbrev pub IsPlaceAmong : ℕ → Place → Type 0
+IsPlaceAmong count Undefined = Unit {0}
+IsPlaceAmong count (Section number) = (0 < number) × (number ≤ count)
+IsPlaceAmong count Absolute = Unit {0}
+IsPlaceAmong count Debug = Unit {0}
+
+-- one section more
+abbrev pub with_section : Holding → ObjectSection → Holding
+with_section h s = record h { sections = h.sections ++ s ∷ [] }
+
+-- one symbol more
+abbrev pub with_symbol : Holding → AddedSymbol → Holding
+with_symbol h s = record h { symbols = h.symbols ++ s ∷ [] }
+
+-- the section has room for the relocation, and data where it is
+pub record HasRoomFor (r : Relocation) (s : ObjectSection) : Type 0 where
+  pub count : length s.relocations < 65535
+  pub within : r.offset + 4 ≤ length s.bytes
+
+-- one relocation more, in the section of a number
+unfoldable pub relocated : List ObjectSection → ℕ → Relocation → List ObjectSection
+relocated [] number r = []
+relocated (s ∷ rest) zero r = s ∷ rest
+relocated (s ∷ rest) (suc zero) r = record s { relocations = s.relocations ++ r ∷ [] } ∷ rest
+relocated (s ∷ rest) (suc (suc number)) r = s ∷ relocated rest (suc number) r
+
+abbrev pub with_relocation : Holding → ℕ → Relocation → Holding
+with_relocation h number r = record h { sections = relocated h.sections number r }
+
+-- a name of more than 8 bytes stands in the string table
+abbrev pub is_long : List ℕ → Bool
+is_long name = nat_lt 8 (length name)
+
+-- the names, and this one after them if it is not among them
+unfoldable pub with_name : List (List ℕ) → List ℕ → List (List ℕ)
+with_name names name = if list_any (bytes_eq name) names then names else names ++ name ∷ []
+
+-- the names, and this one if it is long
+unfoldable pub with_long_name : List (List ℕ) → List ℕ → List (List ℕ)
+with_long_name names name = if is_long name then with_name names name else names
+
+-- the different long names, in the order of their first use
+unfoldable pub long_names : List AddedSymbol → List (List ℕ)
+long_names symbols = fold with_long_name [] (map (λ s. s.name) symbols)
+
+-- where a name stands
+unfoldable pub name_place : List (List ℕ) → List ℕ → SymbolName
+name_place names name = if is_long name then Listed (position_or_len (bytes_eq name) names) else InRecord name
+
+-- a symbol as it is written
+unfoldable pub symbol_written : List (List ℕ) → AddedSymbol → PictureSymbol
+symbol_written names s = record {
+  name = name_place names s.name;
+  value = s.value;
+  section = section_number s.place;
+  class = s.class;
+  aux = s.aux;
+}
+
+-- the picture that a writer writes
+unfoldable pub picture_of : Holding → Picture
+picture_of h = record {
+  machine = machine_number h.machine;
+  characteristics = 0;
+  sections = h.sections;
+  symbols = map (symbol_written (long_names h.symbols)) h.symbols;
+  strings = long_names h.symbols;
+}

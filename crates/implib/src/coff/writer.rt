@@ -1,0 +1,181 @@
+//! The writer of objects.
+
+ghost use Rattle.implib.specs.Fault.{Cause, IfInvalid};
+ghost use Rattle.implib.specs.Object.{object_in};
+ghost use Rattle.implib.specs.Picture.{HasNoNul, layout, layout_size};
+ghost use Rattle.implib.specs.PictureView.{name_view, symbol_view};
+ghost use Rattle.implib.specs.Writer.{section_view};
+ghost use Rattle.implib.specs.Writer.{HasRoomFor, IsPlaceAmong, IsSymbolIndex, all_entries, entries_added, long_names, name_place, object_held, picture_of, section_number, section_numbered, symbol_written, with_long_name, with_relocation, with_section, with_symbol};
+ghost use Rattle.implib.specs.Writer.{added_view};
+ghost use Rattle.std.specs.Prelude.{◌+◌, ◌<◌, ◌^◌, ◌≡◌, ◌≤◌, Some, [], IfErr, IfOk, IsSomeAnd, OnErr, OnOk, alloc_error, length, map, string_bytes};
+
+use crate::coff::object::{Place, Relocation, Section, Symbol};
+use crate::coff::picture::{Picture, PictureSymbol, SymbolName, auxiliary_count, lay_out};
+use crate::error::Error;
+use crate::machine::MachineType;
+use indexmap::IndexSet;
+use std::alloc::{AllocError, Global};
+use std::marker::Model;
+
+/// An object in the making: sections and symbols, in the order they are added.
+#[derive(Debug, Drop)]
+pub struct ObjectWriter {
+    machine: MachineType,
+    sections: Vec<Section>,
+    symbols: Vec<Symbol>,
+    records: u32,
+}
+
+// The names of an object's string table, and the symbols that name them by their index.
+#[derive(Drop)]
+struct Names<'a> {
+    strings: IndexSet<&'a str>,
+    symbols: Vec<PictureSymbol<'a>>,
+}
+
+impl Model for ObjectWriter {
+    ghost use Rattle.implib.specs.Writer.{Holding};
+    ghost use Rattle.implib.specs.WriterView.{IsSound, holding_view};
+
+    ghost Value = { Holding };
+
+    ghost view = { λ w. holding_view w.machine w.sections.items w.symbols.items };
+
+    ghost invariant = { λ w. IsSound (holding_view w.machine w.sections.items w.symbols.items) w.records };
+}
+
+impl ObjectWriter {
+    /// A writer with no section and no symbol.
+    pub fn new(alloc: Global, machine: MachineType) -> Self
+        ensures { result ≡ record { machine = machine; sections = []; symbols = [] } }
+    {
+        ObjectWriter {
+            machine,
+            sections: Vec::new(alloc),
+            symbols: Vec::new(alloc),
+            records: 0,
+        }
+    }
+
+    /// Adds a section and gives its number, from 1. A refusal leaves the writer unchanged.
+    pub fn add_section(&mut self, section: Section) -> Result<u16, Error>
+        requires no_relocation { section.relocations.items ≡ [] }
+        requires room { length self.old.sections < 32767 }
+        ensures ok { OnOk result (self.new ≡ with_section self.old (section_view section)) }
+        ensures number { IfOk result (λ number. number ≡ length self.old.sections + 1) }
+        ensures err { OnErr result (self.new ≡ self.old) }
+        ensures memory { IfErr result (λ e. e ≡ Error.OutOfMemory alloc_error) }
+    {
+        self.sections.push(section)?;
+        Ok(self.sections.len() as u16)
+    }
+
+    /// Adds a symbol and gives its index, auxiliary records counted. A refusal leaves the writer
+    /// unchanged.
+    pub fn add_symbol(&mut self, symbol: Symbol) -> Result<u32, Error>
+        requires named { 0 < length (string_bytes symbol.name) }
+        requires no_nul { HasNoNul (string_bytes symbol.name) }
+        requires place { IsPlaceAmong (length self.old.sections) symbol.place }
+        requires room { length (all_entries self.old.symbols)
+            + length (entries_added (added_view symbol)) < 2 ^ 32 }
+        ensures ok { OnOk result (self.new ≡ with_symbol self.old (added_view symbol)) }
+        ensures index { IfOk result (λ index. index ≡ length (all_entries self.old.symbols)) }
+        ensures err { OnErr result (self.new ≡ self.old) }
+        ensures memory { IfErr result (λ e. e ≡ Error.OutOfMemory alloc_error) }
+    {
+        let index = self.records;
+        let count = 1 + auxiliary_count(symbol.aux);
+        self.symbols.push(symbol)?;
+        self.records += count;
+        Ok(index)
+    }
+
+    /// Adds a relocation to the section of this number. A refusal leaves the writer unchanged.
+    pub fn add_relocation(&mut self, section: u16, relocation: Relocation) -> Result<(), Error>
+        requires section { IsSomeAnd (section_numbered self.old.sections section) (HasRoomFor relocation) }
+        requires symbol { IsSymbolIndex self.old.symbols relocation.symbol }
+        ensures ok { OnOk result (self.new ≡ with_relocation self.old section relocation) }
+        ensures err { OnErr result (self.new ≡ self.old) }
+        ensures memory { IfErr result (λ e. e ≡ Error.OutOfMemory alloc_error) }
+    {
+        let section = &mut self.sections[section as usize - 1];
+        section.relocations.push(relocation)?;
+        Ok(())
+    }
+
+    /// The bytes of the object.
+    ///
+    /// Refuses with `MemberTooLong` where they are more than 2^32 - 1, before they grow.
+    pub fn write(&self) -> Result<Vec<u8>, Error>
+        ensures bytes { IfOk result (λ bytes. bytes.items ≡ layout (picture_of self.now)) }
+        ensures read { IfOk result (λ bytes. object_in bytes.items ≡ Some (object_held self.now)) }
+        ensures length { IfOk result (λ bytes. length bytes.items ≡ layout_size (picture_of self.now)) }
+        ensures short { OnOk result (layout_size (picture_of self.now) < 2 ^ 32) }
+        ensures refused { IfInvalid result (λ cause.
+            (cause ≡ Cause.MemberTooLong) × (2 ^ 32 ≤ layout_size (picture_of self.now))) }
+    {
+        let alloc = *self.symbols.allocator();
+        let names = names_of(alloc, &self.symbols)?;
+        let picture = Picture {
+            machine: self.machine.number(),
+            characteristics: 0,
+            sections: &self.sections,
+            symbols: &names.symbols,
+            strings: names.strings.as_slice(),
+        };
+        lay_out(alloc, &picture)
+    }
+}
+
+// Names each symbol: in its record, or, where the name has more than 8 bytes, in the string table.
+fn names_of(alloc: Global, symbols: &[Symbol]) -> Result<Names<'_>, AllocError>
+    ensures strings { IfOk result (λ names.
+        map (λ text. text.now) names.strings.keys ≡ long_names (map added_view symbols.now)) }
+    ensures symbols { IfOk result (λ names. map symbol_view names.symbols.items
+        ≡ map (symbol_written (long_names (map added_view symbols.now))) (map added_view symbols.now)) }
+{
+    let mut strings = IndexSet::new(alloc);
+    let mut named = Vec::with_capacity(alloc, symbols.len())?;
+    for symbol in symbols {
+        named.push(PictureSymbol {
+            name: name_of(&mut strings, symbol.name.as_str())?,
+            value: symbol.value,
+            section: number_of(symbol.place),
+            class: symbol.class,
+            aux: symbol.aux,
+        })?;
+    }
+    Ok(Names {
+        strings,
+        symbols: named,
+    })
+}
+
+// Where a name stands; a long one is put among the strings, unless it is there.
+fn name_of<'a>(strings: &mut IndexSet<&'a str>, text: &'a str) -> Result<SymbolName<'a>, AllocError>
+    ensures strings { OnOk result (map (λ t. t.now) strings.new.keys
+        ≡ with_long_name (map (λ t. t.now) strings.old.keys) text.now) }
+    ensures name { IfOk result (λ name. name_view name ≡ name_place (map (λ t. t.now) strings.new.keys) text.now) }
+{
+    if text.len() > 8 {
+        let (index, _) = strings.insert_full(text)?;
+        Ok(SymbolName::Listed(index))
+    } else {
+        Ok(SymbolName::InRecord(text))
+    }
+}
+
+// The number of a symbol's section in its record.
+fn number_of(place: Place) -> u16
+    ensures { result ≡ section_number place }
+{
+    match place {
+        Place::Undefined => 0,
+        Place::Section(number) => number,
+        Place::Absolute => 0xFFFF,
+        Place::Debug => 0xFFFE,
+    }
+}
+
+#[cfg(test)]
+mod tests;

@@ -1,0 +1,137 @@
+//! Objects whose bytes are known from outside this program.
+
+ghost use Rattle.implib.specs.Writer.{section_view};
+ghost use Rattle.implib.specs.Writer.{added_view};
+ghost use Rattle.std.specs.Prelude.{◌≡◌, None, [], IfOk};
+
+use super::*;
+use crate::coff::{class, relocation};
+use std::test::Fail;
+
+// A symbol of value 0.
+fn symbol(
+    alloc: Global,
+    name: &str,
+    place: Place,
+    class: u8,
+    aux: Option<[u8; 18]>,
+) -> Result<Symbol, AllocError>
+    ensures { IfOk result (λ s. added_view s
+        ≡ record { name = name.now; value = 0; place = place; class = class; aux = aux }) }
+{
+    Ok(Symbol {
+        name: String::from_str(alloc, name)?,
+        value: 0,
+        place,
+        class,
+        aux,
+    })
+}
+
+// A section without relocations.
+fn section(alloc: Global, name: [u8; 8], flags: u32, bytes: &[u8]) -> Result<Section, AllocError>
+    ensures { IfOk result (λ s. section_view s
+        ≡ record { name = name; flags = flags; bytes = bytes.now; relocations = [] }) }
+{
+    Ok(Section {
+        name,
+        flags,
+        bytes: Vec::from_slice(alloc, bytes)?,
+        relocations: Vec::new(alloc),
+    })
+}
+
+#[test]
+fn long_name_stands_in_the_string_table(rt: HostRuntime) -> Result<(), Fail> {
+    let alloc = rt.alloc();
+    let mut writer = ObjectWriter::new(alloc, MachineType::AMD64);
+    let short = symbol(alloc, "abcdefgh", Place::Undefined, class::EXTERNAL, None)?;
+    writer.add_symbol(short)?;
+    let long = symbol(alloc, "abcdefghi", Place::Undefined, class::EXTERNAL, None)?;
+    writer.add_symbol(long)?;
+    let bytes = writer.write()?;
+    assert_eq!(rt; bytes.len(), 70);
+    assert_eq!(rt;
+        bytes.as_slice(),
+        b"\x64\x86\0\0\0\0\0\0\x14\0\0\0\x02\0\0\0\0\0\0\0\
+        abcdefgh\0\0\0\0\0\0\0\0\x02\0\
+        \0\0\0\0\x04\0\0\0\0\0\0\0\0\0\0\0\x02\0\
+        \x0e\0\0\0abcdefghi\0"
+            .as_slice()
+    );
+    Ok(())
+}
+
+#[test]
+fn object_of_one_section(rt: HostRuntime) -> Result<(), Fail> {
+    let alloc = rt.alloc();
+    let mut writer = ObjectWriter::new(alloc, MachineType::ARM64);
+    let number = writer.add_section(section(alloc, *b".idata$2", 0xC030_0040, &[0; 20])?)?;
+    let named = symbol(alloc, "x", Place::Section(1), class::EXTERNAL, None)?;
+    let index = writer.add_symbol(named)?;
+    writer.add_relocation(
+        1,
+        Relocation {
+            offset: 16,
+            symbol: 0,
+            kind: relocation::ARM64_ADDR32NB,
+        },
+    )?;
+    let bytes = writer.write()?;
+    assert_eq!(rt; (number, index), (1, 0));
+    assert_eq!(rt; bytes.len(), 112);
+    assert_eq!(rt;
+        bytes.as_slice(),
+        b"\x64\xaa\x01\0\0\0\0\0\x5a\0\0\0\x01\0\0\0\0\0\0\0\
+        .idata$2\0\0\0\0\0\0\0\0\x14\0\0\0\x3c\0\0\0\x50\0\0\0\0\0\0\0\x01\0\0\0\x40\0\x30\xc0\
+        \0\0\0\0\0\0\0\0\0\0\0\0\0\0\0\0\0\0\0\0\
+        \x10\0\0\0\0\0\0\0\x02\0\
+        x\0\0\0\0\0\0\0\0\0\0\0\x01\0\0\0\x02\0\
+        \x04\0\0\0"
+            .as_slice()
+    );
+    Ok(())
+}
+
+#[test]
+fn long_name_stands_once(rt: HostRuntime) -> Result<(), Fail> {
+    let alloc = rt.alloc();
+    let mut writer = ObjectWriter::new(alloc, MachineType::AMD64);
+    let first = symbol(alloc, "abcdefghi", Place::Undefined, class::EXTERNAL, None)?;
+    writer.add_symbol(first)?;
+    let second = symbol(alloc, "abcdefghi", Place::Undefined, class::EXTERNAL, None)?;
+    writer.add_symbol(second)?;
+    let bytes = writer.write()?;
+    assert_eq!(rt; bytes.len(), 70);
+    assert_eq!(rt; &bytes[20..28], b"\0\0\0\0\x04\0\0\0".as_slice());
+    assert_eq!(rt; &bytes[38..46], b"\0\0\0\0\x04\0\0\0".as_slice());
+    Ok(())
+}
+
+#[test]
+fn auxiliary_record_has_an_index(rt: HostRuntime) -> Result<(), Fail> {
+    let alloc = rt.alloc();
+    let mut writer = ObjectWriter::new(alloc, MachineType::AMD64);
+    let file = symbol(
+        alloc,
+        ".file",
+        Place::Debug,
+        class::FILE,
+        Some(*b"fake\0\0\0\0\0\0\0\0\0\0\0\0\0\0"),
+    )?;
+    let first = writer.add_symbol(file)?;
+    let next = symbol(alloc, "x", Place::Absolute, class::STATIC, None)?;
+    let second = writer.add_symbol(next)?;
+    let bytes = writer.write()?;
+    assert_eq!(rt; (first, second), (0, 2));
+    assert_eq!(rt;
+        bytes.as_slice(),
+        b"\x64\x86\0\0\0\0\0\0\x14\0\0\0\x03\0\0\0\0\0\0\0\
+        .file\0\0\0\0\0\0\0\xfe\xff\0\0\x67\x01\
+        fake\0\0\0\0\0\0\0\0\0\0\0\0\0\0\
+        x\0\0\0\0\0\0\0\0\0\0\0\xff\xff\0\0\x03\0\
+        \x04\0\0\0"
+            .as_slice()
+    );
+    Ok(())
+}
