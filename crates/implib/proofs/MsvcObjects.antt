@@ -16,10 +16,10 @@ use Rattle.implib.specs.Picture.{Picture, PictureSymbol, Fits, FitsAuxiliary, Fi
 
 -- a text without NUL
 pub HasNoNul-from_holds : (text : List ℕ) → holds 0 text ≡ false → HasNoNul text
-unfolding HasNoNul
-HasNoNul-from_holds text free = λ found.
-    let held : holds 0 text ≡ true = list_any_at (λ b. nat_eq b 0) text found.0 0 found.1 (eq-eqb (get_or text found.0 0) 0 found.2) in
-    cc
+HasNoNul-from_holds [] free = refl
+HasNoNul-from_holds (b ∷ text) free =
+    let parts = or_parts (nat_eq b 0) (holds 0 text) free in
+    rw parts.0 (HasNoNul-from_holds text parts.1)
 
 -- the front of a text without NUL has none
 holds-take : (n : ℕ) (text : List ℕ) → holds 0 text ≡ false → holds 0 (take n text) ≡ false

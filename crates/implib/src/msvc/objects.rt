@@ -7,7 +7,8 @@ ghost use Rattle.implib.specs.Library.{member_view};
 ghost use Rattle.implib.specs.Made.{descriptor_plan, is_too_long, member_of, null_descriptor_plan, null_thunk_plan, weak_plan};
 ghost use Rattle.implib.specs.MsvcObjects.{descriptor_symbols, null_descriptor_section, relocation, symbol, weak_section, weak_symbols, base_name, descriptor, descriptor_characteristics, descriptor_symbol, null_descriptor, null_descriptor_symbol, null_thunk, null_thunk_section, null_thunk_symbol, thunk_width, weak_auxiliary, weak_object, zeros};
 ghost use Rattle.implib.specs.Picture.{InRecord, Listed, layout, layout_size};
-ghost use Rattle.implib.specs.PictureView.{section_view, symbol_view};
+ghost use Rattle.implib.specs.PictureView.{symbol_view};
+ghost use Rattle.implib.specs.Writer.{section_view};
 ghost use Rattle.std.specs.List.{ends_with};
 ghost use Rattle.std.specs.Prelude.{[], false, map, nat_eq, string_bytes, true, ◌∷◌, ◌<◌, ◌^◌, ◌≡◌, ◌≤◌, IfOk, OnOk};
 
