@@ -1,5 +1,6 @@
 -- What the members for Microsoft's linker declare and mean.
-use Rattle.std.proofs.Common.{◌≡◌, ℕ, Bool, true, false, if◌then◌else◌, ◌&&◌, ◌||◌, List, [], ◌∷◌, ◌++◌, drop, map, Option, Some, None, refl, ap, sym, ◌∙◌, codes}
+use Rattle.std.proofs.Common.{◌≡◌, ℕ, Bool, true, false, if◌then◌else◌, ◌&&◌, ◌||◌, List, [], ◌∷◌, ◌++◌, drop, map, Option, Some, None, refl, ap, sym, ◌∙◌, codes, Result, Ok, Err, Global, arith, ◌<◌, ◌^◌}
+use Rattle.std.specs.Prelude.{IfOk, OnOk, Vec}
 use Rattle.std.specs.Prelude.{◌==◌, not, slice_get}
 use Rattle.std.specs.List.{AllByRecursion, filter, filter_map, flat_map, list_all}
 use Rattle.std.specs.Option.{option_and_then, option_map}
@@ -17,13 +18,13 @@ use Rattle.implib.specs.Made.{Contents, ARecord, AnObject, Plan, MemberView, Mad
 use Rattle.implib.specs.Msvc.{record_listed, record_of, record_symbol, symbol_or_name, kind_of}
 use Rattle.implib.specs.MsvcObjects.{descriptor, descriptor_symbol, null_descriptor, null_thunk, weak_object}
 use Rattle.implib.specs.Object.{before_nul, u32_at}
-use Rattle.implib.specs.Picture.{entries_of, name_text, object_of}
+use Rattle.implib.specs.Picture.{entries_of, layout, layout_size, name_text, object_of}
 use Rattle.implib.specs.Reads.{ReadsForMsvc, MeansWhatIsMeant, Reads, file_of, has_no_symbol_names, import_among, alias_among, import_written, meanings_written}
 use Rattle.implib.specs.Record.{import_data}
 use Rattle.implib.specs.Renaming.{renamed, renamed_export}
 use Rattle.implib.proofs.Import.{import_of_record-record_of, import_written-meant, kind_is_data}
-use Rattle.implib.proofs.MemberReadings.{ReadsBack, all_append, files_read, import_name_is_free, map_after, map_same, of_members, plans_read_back}
-use Rattle.implib.proofs.MsvcObjects.{HasNoNul-from_holds}
+use Rattle.implib.proofs.MemberReadings.{ReadsBack, machine_number_nonzero, object_reads, all_append, files_read, import_name_is_free, lengths_read, map_after, map_same, of_members, plans_read_back}
+use Rattle.implib.proofs.MsvcObjects.{Fits-weak_object, HasNoNul-from_holds}
 use Rattle.implib.proofs.Symbols.{before_nul-ended}
 
 -- What is declared.
@@ -61,13 +62,30 @@ read_declares : (plans : List Plan) → AllByRecursion (λ p. ReadsBack p.conten
     AllByRecursion (λ p. option_map declared_by (file_in (contents_bytes p.contents)) ≡ Some p.listed) plans
 read_declares [] reads declares = tt
 read_declares (p ∷ plans) reads declares =
-    (ap (option_map declared_by) reads.0 ∙ ap (λ listed. Some listed) declares.0, read_declares plans reads.1 declares.1)
+    (ap (option_map declared_by) reads.0.read ∙ ap (λ listed. Some listed) declares.0, read_declares plans reads.1 declares.1)
 
 -- What is meant.
 
 weak_means : (machine : MachineType) (weak target : List ℕ) → meaning_of (file_of (AnObject (weak_object machine weak target))) ≡ Some (AnAlias (record { weak = weak; target = target }))
 unfolding weak_object object_of entries_of name_text u32_at u32_bytes
 weak_means machine weak target = refl
+
+-- the object of a weak external reads as its pair
+pub weak_object_means : (machine : MachineType) (weak target : List ℕ) → holds 0 weak ≡ false → holds 0 target ≡ false → layout_size (weak_object machine weak target) < 2 ^ 32 →
+    meaning_in (layout (weak_object machine weak target)) ≡ Some (AnAlias (record { weak = weak; target = target }))
+unfolding weak_object
+weak_object_means machine weak target weak_free target_free short =
+    let reads : ReadsBack (AnObject (weak_object machine weak target)) =
+    object_reads (weak_object machine weak target) (Fits-weak_object machine weak target weak_free target_free) (machine_number_nonzero machine) (omega arith) in
+    ap (option_and_then meaning_of) reads.read ∙ weak_means machine weak target
+
+-- and so do the bytes that are its layout
+pub weak_bytes_mean : {E : Type 0} (machine : MachineType) (weak target : List ℕ) (result : Result (Vec ℕ Global) E) → holds 0 weak ≡ false → holds 0 target ≡ false →
+    IfOk result (λ bytes. bytes.items ≡ layout (weak_object machine weak target)) → OnOk result (layout_size (weak_object machine weak target) < 2 ^ 32) →
+    IfOk result (λ bytes. meaning_in bytes.items ≡ Some (AnAlias (record { weak = weak; target = target })))
+weak_bytes_mean machine weak target (Err error) weak_free target_free same short = tt
+weak_bytes_mean machine weak target (Ok bytes) weak_free target_free same short =
+    ap meaning_in same ∙ weak_object_means machine weak target weak_free target_free short
 
 record_means : (machine : MachineType) (dll : List ℕ) (e : ExportView) → meaning_of (file_of (ARecord (record_of machine dll e))) ≡ Some (AnImport (import_written machine dll e))
 record_means machine dll e = ap (option_map AnImport) (import_of_record-record_of machine dll e)
@@ -178,13 +196,13 @@ drop_heading machine dll plans = refl
 first_reads : (machine : MachineType) (dll : List ℕ) (plans : List Plan) → AllByRecursion (λ p. ReadsBack p.contents) (heading_plans machine dll ++ plans) →
     option_and_then (λ (m : MemberView). dll_in m.bytes) (slice_get (map member_of (heading_plans machine dll ++ plans)) 0) ≡ dll_of (ObjectFile (object_of (descriptor machine dll)))
 unfolding heading_plans descriptor_plan null_descriptor_plan null_thunk_plan
-first_reads machine dll plans reads = ap (option_and_then dll_of) reads.0
+first_reads machine dll plans reads = ap (option_and_then dll_of) reads.0.read
 
 plans_mean : (plans : List Plan) → AllByRecursion (λ p. ReadsBack p.contents) plans →
     map (λ (m : MemberView). meaning_in m.bytes) (map member_of plans) ≡ map (λ (p : Plan). meaning_of (file_of p.contents)) plans
 plans_mean [] reads = refl
 plans_mean (p ∷ plans) reads =
-    let first : meaning_in (contents_bytes p.contents) ≡ meaning_of (file_of p.contents) = ap (option_and_then meaning_of) reads.0 in
+    let first : meaning_in (contents_bytes p.contents) ≡ meaning_of (file_of p.contents) = ap (option_and_then meaning_of) reads.0.read in
     let rest = plans_mean plans reads.1 in
     rw (first, rest) refl
 
@@ -201,6 +219,7 @@ module _ (d : DefinitionView) (machine : MachineType) (members : List MemberView
   pub reads_for_msvc : ReadsForMsvc d machine members
   reads_for_msvc = record {
     files = files_read d machine members made;
+    lengths = lengths_read d machine members made;
     declared =
         of_members d machine members made (λ m. option_map declared_by (file_in m.bytes))
         ∙ (map_same (λ (p : Plan). option_map declared_by (file_in (contents_bytes p.contents))) (λ (p : Plan). Some p.listed) (plans_of (renamed d) machine Msvc)

@@ -26,21 +26,25 @@ use Rattle.implib.specs.Renaming.{renamed, renamed_export}
 use Rattle.implib.specs.Fault.{Cause, EmptyImportName, NulInImportName, EmptyName, NulInExport, EmptyAskedName, MemberTooLong}
 use Rattle.implib.proofs.Import.{FitsRecord-record_of, import_of_record-record_of, import_written-meant, symbol_without_nul}
 use Rattle.implib.proofs.MsvcObjects.{Fits-descriptor, Fits-null_descriptor, Fits-null_thunk, Fits-weak_object}
-use Rattle.implib.proofs.ObjectReading.{object_in-layout}
-use Rattle.implib.proofs.Record.{short_record_in-record_bytes}
+use Rattle.implib.proofs.ObjectReading.{length-layout, object_in-layout}
+use Rattle.implib.proofs.Record.{length-record_bytes, short_record_in-record_bytes}
 
 -- the file of a plan reads as what was planned
-abbrev pub ReadsBack : Contents → Type 0
-ReadsBack contents = file_in (contents_bytes contents) ≡ Some (file_of contents)
+pub record ReadsBack (contents : Contents) : Type 0 where
+  pub read : file_in (contents_bytes contents) ≡ Some (file_of contents)
+  pub length : length (contents_bytes contents) ≡ contents_size contents
 
-record_reads : (r : ShortRecord) → FitsRecord r → record_size r ≤ 0xFFFF_FFFF → file_in (record_bytes r) ≡ Some (RecordFile r)
-record_reads r fits short = ap (λ x. record_or_object x (object_in (record_bytes r))) (short_record_in-record_bytes r fits short)
+record_reads : (r : ShortRecord) → FitsRecord r → record_size r ≤ 0xFFFF_FFFF → ReadsBack (ARecord r)
+record_reads r fits short = record {
+  read = ap (λ x. record_or_object x (object_in (record_bytes r))) (short_record_in-record_bytes r fits short);
+  length = length-record_bytes r;
+}
 
 not_record : (a b c d : Bool) → b ≡ false → (((a && b) && c) && d) ≡ false
 not_record true b c d is = rw is refl
 not_record false b c d is = refl
 
-machine_number_nonzero : (machine : MachineType) → (machine_number machine == 0) ≡ false
+pub machine_number_nonzero : (machine : MachineType) → (machine_number machine == 0) ≡ false
 machine_number_nonzero I386 = refl
 machine_number_nonzero ARMNT = refl
 machine_number_nonzero AMD64 = refl
@@ -58,11 +62,15 @@ object_is_no_record p fits nonzero =
     not_record (nat_le record_header_size (length (layout p))) (record_u16_at 0 (layout p) == 0) (record_u16_at 2 (layout p) == 0xFFFF)
     (record_u32_at 12 (layout p) == length (layout p) - record_header_size) first
 
-object_reads : (p : Picture) → Fits p → (p.machine == 0) ≡ false → layout_size p ≤ 0xFFFF_FFFF → file_in (layout p) ≡ Some (ObjectFile (object_of p))
+pub object_reads : (p : Picture) → Fits p → (p.machine == 0) ≡ false → layout_size p ≤ 0xFFFF_FFFF → ReadsBack (AnObject p)
 object_reads p fits nonzero short =
-    let read : object_in (layout p) ≡ Some (object_of p) = object_in-layout p fits (omega arith) in
-    ap (λ x. record_or_object x (object_in (layout p))) (no_record (layout p) (object_is_no_record p fits.machine nonzero))
-    ∙ ap (option_map ObjectFile) read
+    let below : layout_size p < 2 ^ 32 = omega arith in
+    record {
+      read =
+          ap (λ x. record_or_object x (object_in (layout p))) (no_record (layout p) (object_is_no_record p fits.machine nonzero))
+          ∙ ap (option_map ObjectFile) (object_in-layout p fits below);
+      length = length-layout p fits below;
+    }
 
 -- an export whose texts have no NUL
 record Sound (e : ExportView) : Type 0 where
@@ -199,6 +207,16 @@ pub map_after : {X Y Z : Type 0} (f : Y → Z) (g : X → Y) (xs : List X) → m
 map_after f g [] = refl
 map_after f g (x ∷ xs) = ap (λ ys. f (g x) ∷ ys) (map_after f g xs)
 
+each_read : (plans : List Plan) → AllByRecursion (λ p. ReadsBack p.contents) plans →
+    AllByRecursion (λ p. file_in (contents_bytes p.contents) ≡ Some (file_of p.contents)) plans
+each_read [] reads = tt
+each_read (p ∷ plans) reads = (reads.0.read, each_read plans reads.1)
+
+each_length : (plans : List Plan) → AllByRecursion (λ p. ReadsBack p.contents) plans →
+    AllByRecursion (λ p. length (contents_bytes p.contents) ≡ contents_size p.contents) plans
+each_length [] reads = tt
+each_length (p ∷ plans) reads = (reads.0.length, each_length plans reads.1)
+
 -- the files of the members of a definition that is not refused are read as what was planned
 module _ (d : DefinitionView) (machine : MachineType) (members : List MemberView) (made : Made d machine Msvc members) where
   refusals : (definition_names_refusal (renamed d) machine Msvc ≡ None) × (length_refusal (plans_of (renamed d) machine Msvc) ≡ None)
@@ -223,4 +241,10 @@ module _ (d : DefinitionView) (machine : MachineType) (members : List MemberView
 
   pub files_read : map (λ m. file_in m.bytes) members ≡ map (λ p. Some (file_of p.contents)) (plans_of (renamed d) machine Msvc)
   files_read = of_members (λ m. file_in m.bytes)
-      ∙ map_same (λ p. file_in (contents_bytes p.contents)) (λ p. Some (file_of p.contents)) (plans_of (renamed d) machine Msvc) plans_read_back
+      ∙ map_same (λ p. file_in (contents_bytes p.contents)) (λ p. Some (file_of p.contents)) (plans_of (renamed d) machine Msvc)
+      (each_read (plans_of (renamed d) machine Msvc) plans_read_back)
+
+  pub lengths_read : map (λ m. length m.bytes) members ≡ map (λ p. contents_size p.contents) (plans_of (renamed d) machine Msvc)
+  lengths_read = of_members (λ m. length m.bytes)
+      ∙ map_same (λ p. length (contents_bytes p.contents)) (λ p. contents_size p.contents) (plans_of (renamed d) machine Msvc)
+      (each_length (plans_of (renamed d) machine Msvc) plans_read_back)

@@ -1,5 +1,5 @@
 -- What the members' bytes are read as.
-use Rattle.std.specs.Prelude.{◌≡◌, ℕ, ◌<◌, ◌^◌, Bool, true, false, List, [], ◌∷◌, ◌++◌, map, drop, slice_get, Option, Some, None, if◌then◌else◌}
+use Rattle.std.specs.Prelude.{◌≡◌, ℕ, ◌<◌, ◌^◌, Bool, true, false, List, [], ◌∷◌, ◌++◌, map, drop, length, slice_get, Option, Some, None, if◌then◌else◌}
 use Rattle.std.specs.List.{filter_map, flat_map, list_all}
 use Rattle.std.specs.Option.{option_and_then, option_map}
 use Rattle.implib.specs.declared.library.Flavor.{Flavor}
@@ -8,7 +8,7 @@ use Rattle.implib.specs.declared.machine.MachineType.{MachineType}
 use Rattle.implib.specs.Definition.{DefinitionView, ExportView}
 use Rattle.implib.specs.File.{File, RecordFile, ObjectFile, Meaning, AnImport, AnAlias, declared_by, dll_in, file_in, meaning_in}
 use Rattle.implib.specs.Import.{Alias, Ask, Ordinal, Name, Import, aliases_for, aliases_of, holds, imports_of, is_empty_text, public_exports}
-use Rattle.implib.specs.Made.{Contents, ARecord, AnObject, MemberView, plans_of}
+use Rattle.implib.specs.Made.{Contents, ARecord, AnObject, MemberView, contents_size, plans_of}
 use Rattle.implib.specs.Msvc.{asked_by_record, record_listed, record_symbol}
 use Rattle.implib.specs.Picture.{object_of}
 use Rattle.implib.specs.Record.{ShortRecord}
@@ -61,6 +61,8 @@ has_no_symbol_names d = list_all (λ e. is_empty_text e.symbol_name) d.exports
 pub record ReadsForMsvc (d : DefinitionView) (machine : MachineType) (members : List MemberView) : Type 0 where
   -- each file reads as what was planned: each object as its table, each record as its fields
   pub files : map (λ m. file_in m.bytes) members ≡ map (λ p. Some (file_of p.contents)) (plans_of (renamed d) machine Msvc)
+  -- each file has the length of what was planned
+  pub lengths : map (λ m. length m.bytes) members ≡ map (λ p. contents_size p.contents) (plans_of (renamed d) machine Msvc)
   -- each member declares exactly the symbols that it is listed for
   pub declared : map (λ m. option_map declared_by (file_in m.bytes)) members ≡ map (λ m. Some m.symbols) members
   -- the first member, the import descriptor, names the DLL

@@ -2,6 +2,7 @@
 
 ghost use Rattle.implib.specs.Constants.{image_relative};
 ghost use Rattle.implib.specs.Fault.{IfInvalid, MemberTooLong};
+ghost use Rattle.implib.specs.File.{AnAlias, meaning_in};
 ghost use Rattle.implib.specs.Import.{holds};
 ghost use Rattle.implib.specs.Library.{member_view};
 ghost use Rattle.implib.specs.Made.{descriptor_plan, is_too_long, member_of, null_descriptor_plan, null_thunk_plan, weak_plan};
@@ -10,7 +11,7 @@ ghost use Rattle.implib.specs.Picture.{InRecord, Listed, layout, layout_size};
 ghost use Rattle.implib.specs.PictureView.{symbol_view};
 ghost use Rattle.implib.specs.Writer.{section_view};
 ghost use Rattle.std.specs.List.{ends_with};
-ghost use Rattle.std.specs.Prelude.{[], false, map, nat_eq, string_bytes, true, ◌∷◌, ◌<◌, ◌^◌, ◌≡◌, ◌≤◌, IfOk, OnOk};
+ghost use Rattle.std.specs.Prelude.{Some, [], false, map, nat_eq, string_bytes, true, ◌∷◌, ◌<◌, ◌^◌, ◌≡◌, ◌≤◌, IfOk, OnOk};
 
 use crate::coff::picture::{Picture, PictureSymbol, SymbolName, lay_out};
 use crate::coff::{Relocation, Section, characteristics, class, flags, relocation};
@@ -438,6 +439,7 @@ pub(crate) fn weak_external(
     requires weak_text { holds 0 weak.now ≡ false }
     requires target_text { holds 0 target.now ≡ false }
     ensures bytes { IfOk result (λ bytes. bytes.items ≡ layout (weak_object machine weak.now target.now)) }
+    ensures meaning { IfOk result (λ bytes. meaning_in bytes.items ≡ Some (AnAlias (record { weak = weak.now; target = target.now }))) }
     ensures short { OnOk result (layout_size (weak_object machine weak.now target.now) < 2 ^ 32) }
     ensures too_long { IfInvalid result (λ cause. (cause ≡ MemberTooLong)
         × (2 ^ 32 ≤ layout_size (weak_object machine weak.now target.now))) }
