@@ -4,6 +4,7 @@
 pub mod coff;
 pub mod def;
 mod error;
+pub mod laws;
 mod library;
 mod machine;
 
