@@ -52,3 +52,4 @@ pub mod LongNames
 pub mod WriterPicture
 pub mod Written
 pub mod WriterSound
+pub mod WorkedObjects

@@ -1,6 +1,7 @@
 //! Laws: functions that answer nothing, and whose contracts are facts about the definitions.
 
 pub mod grammar;
+pub mod objects;
 pub mod renaming;
 pub mod tokens;
 

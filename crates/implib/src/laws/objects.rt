@@ -1,0 +1,21 @@
+//! Laws of objects: their layout and their reading.
+
+ghost use Rattle.implib.specs.Object.{Object, object_in};
+ghost use Rattle.implib.specs.Picture.{Fits, Picture, layout, layout_size, object_of};
+ghost use Rattle.std.specs.Prelude.{◌<◌, ◌^◌, ◌≡◌, ℕ, List, Some, length};
+
+/// A picture whose fields have their ranges and whose bytes are fewer than 2^32 reads back from its
+/// bytes as what it shows.
+pub fn picture_reads_back()
+    ensures { (p : Picture) → Fits p → layout_size p < 2 ^ 32 → object_in (layout p) ≡ Some (object_of p) }
+{}
+
+/// Such a picture has as many bytes as its parts say.
+pub fn picture_has_its_size()
+    ensures { (p : Picture) → Fits p → layout_size p < 2 ^ 32 → length (layout p) ≡ layout_size p }
+{}
+
+/// Bytes are read as one object at most.
+pub fn object_is_one()
+    ensures { (bytes : List ℕ) (a b : Object) → object_in bytes ≡ Some a → object_in bytes ≡ Some b → a ≡ b }
+{}
