@@ -48,3 +48,4 @@ pub mod SpelledStatements
 pub mod OneReading
 pub mod WorkedStatements
 pub mod ObjectReading
+pub mod Asked

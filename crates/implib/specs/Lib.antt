@@ -28,3 +28,4 @@ pub mod WorkedStatements
 pub mod Reading
 pub mod Parser
 pub mod ParserViews
+pub mod Asked
