@@ -49,3 +49,4 @@ pub mod OneReading
 pub mod WorkedStatements
 pub mod ObjectReading
 pub mod Asked
+pub mod WorkedMembers

@@ -29,3 +29,4 @@ pub mod Reading
 pub mod Parser
 pub mod ParserViews
 pub mod Asked
+pub mod WorkedMembers

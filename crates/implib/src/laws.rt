@@ -2,6 +2,7 @@
 
 pub mod asked;
 pub mod grammar;
+pub mod members;
 pub mod renaming;
 pub mod tokens;
 
