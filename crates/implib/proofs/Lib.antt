@@ -53,3 +53,5 @@ pub mod WriterPicture
 pub mod Written
 pub mod WriterSound
 pub mod WorkedObjects
+pub mod Asked
+pub mod WorkedMembers

@@ -15,14 +15,14 @@ use Rattle.implib.specs.WorkedStatements.{WorkedSettings, WorkedExports, WorkedR
 use Rattle.implib.proofs.Reading.{Parses-from_read, Refuses-from_read}
 use Rattle.implib.proofs.Token.{Lexed-exists}
 
-parses : (text : List ℕ) (machine : MachineType) (d : DefinitionView) → is_utf8 text ≡ true → read machine (tokens_from 0 (pieces_in text)) ≡ Ok d → Parses text machine d
+pub parses : (text : List ℕ) (machine : MachineType) (d : DefinitionView) → is_utf8 text ≡ true → read machine (tokens_from 0 (pieces_in text)) ≡ Ok d → Parses text machine d
 parses text machine d utf8 e = Parses-from_read text (tokens_from 0 (pieces_in text)) machine d (Lexed-exists text (IsUtf8-from_is_utf8 text utf8)) e
 
 refuses : (text : List ℕ) (cause : Cause) → is_utf8 text ≡ true → read AMD64 (tokens_from 0 (pieces_in text)) ≡ Err cause → Refuses text cause
 refuses text cause utf8 e = Refuses-from_read text (tokens_from 0 (pieces_in text)) AMD64 cause (Lexed-exists text (IsUtf8-from_is_utf8 text utf8)) e
 
 -- what the computing has to open
-abbrev opened : Unit {0}
+unfoldable pub opened : Unit {0}
 unfolding chars is_utf8 encode_utf8 trim_end trim_start kind_of_word pieces_within number_of version_of at_word word_read number_read version_read commit_read sizes_read sign_read base_read name_read no_name_read ordinal_read attribute_read many target_read attributes_read export_read exports_read statement_read statements_read made_export with_statements read
 opened = tt
 

@@ -30,3 +30,5 @@ pub mod Parser
 pub mod ParserViews
 pub mod Writer
 pub mod WriterView
+pub mod Asked
+pub mod WorkedMembers
