@@ -7,8 +7,8 @@ use Rattle.implib.specs.declared.machine.MachineType.{MachineType}
 use Rattle.implib.specs.Definition.{DefinitionView}
 use Rattle.implib.specs.Fault.{Cause, cause_of}
 use Rattle.implib.specs.Made.{Made, MemberView, refusal}
-use Rattle.implib.specs.Renaming.{renamed}
 use Rattle.implib.specs.Parses.{Parses, Refuses}
+use Rattle.implib.specs.Renaming.{renamed}
 use Rattle.implib_tool.specs.declared.run.RunError.{RunError}
 use Rattle.implib_tool.specs.declared.run.RunError.TheVariants.{Refused, NotUtf8, Read, Write, OutOfMemory}
 use Rattle.implib_tool.specs.Listing.{listing_of}

@@ -6,6 +6,7 @@ ghost use Rattle.std.specs.List.{enumerate_from, list_all};
 ghost use Rattle.std.specs.Prelude.{◌≡◌, ◌+◌, ◌<◌, ◌≤◌, [], ◌∷◌, ◌++◌, OnOk, decimal, flat_map, length, map, slice_range};
 ghost use Rattle.std.specs.String.{string_bytes};
 
+use crate::blocks::TextBlocks;
 use implib::Member;
 use itoa::Buffer;
 use std::alloc::AllocError;
@@ -37,11 +38,11 @@ fn stand_plain(name: &[u8]) -> bool
 }
 
 /// Appends a byte of a name.
-fn list_name_byte(listing: &mut Vec<u8>, byte: u8) -> Result<(), AllocError>
-    ensures { OnOk result (listing.new.items ≡ listing.old.items ++ escaped_byte byte) }
+fn list_name_byte(listing: &mut TextBlocks, byte: u8) -> Result<(), AllocError>
+    ensures { OnOk result (listing.new ≡ listing.old ++ escaped_byte byte) }
 {
     if stands_plain(byte) {
-        listing.push(byte)?;
+        listing.push(&[byte])?;
         return Ok(());
     }
     let escape = [
@@ -50,15 +51,15 @@ fn list_name_byte(listing: &mut Vec<u8>, byte: u8) -> Result<(), AllocError>
         hex_digit_of(byte / 16),
         hex_digit_of(byte % 16),
     ];
-    listing.extend_from_slice(&escape)
+    listing.push(&escape)
 }
 
 /// Appends a name.
-fn list_name(listing: &mut Vec<u8>, name: &str) -> Result<(), AllocError>
-    ensures { OnOk result (listing.new.items ≡ listing.old.items ++ escaped name.now) }
+fn list_name(listing: &mut TextBlocks, name: &str) -> Result<(), AllocError>
+    ensures { OnOk result (listing.new ≡ listing.old ++ escaped name.now) }
 {
     if stand_plain(name.as_bytes()) {
-        return listing.extend_from_slice(name.as_bytes());
+        return listing.push(name.as_bytes());
     }
     for byte in name.as_bytes() {
         list_name_byte(listing, *byte)?;
@@ -67,18 +68,18 @@ fn list_name(listing: &mut Vec<u8>, name: &str) -> Result<(), AllocError>
 }
 
 /// Appends the line of a listed symbol.
-fn list_symbol(listing: &mut Vec<u8>, symbol: &str) -> Result<(), AllocError>
-    ensures { OnOk result (listing.new.items ≡ listing.old.items ++ symbol_listing symbol.now) }
+fn list_symbol(listing: &mut TextBlocks, symbol: &str) -> Result<(), AllocError>
+    ensures { OnOk result (listing.new ≡ listing.old ++ symbol_listing symbol.now) }
 {
-    listing.extend_from_slice(b"symbol ")?;
+    listing.push(b"symbol ")?;
     list_name(listing, symbol)?;
-    listing.push(b'\n')?;
+    listing.push(b"\n")?;
     Ok(())
 }
 
 /// Appends the lines of listed symbols.
-fn list_symbols(listing: &mut Vec<u8>, symbols: &[String]) -> Result<(), AllocError>
-    ensures { OnOk result (listing.new.items ≡ listing.old.items ++ flat_map symbol_listing (map string_bytes symbols.now)) }
+fn list_symbols(listing: &mut TextBlocks, symbols: &[String]) -> Result<(), AllocError>
+    ensures { OnOk result (listing.new ≡ listing.old ++ flat_map symbol_listing (map string_bytes symbols.now)) }
 {
     for symbol in symbols {
         list_symbol(listing, symbol.as_str())?;
@@ -100,7 +101,7 @@ fn end_of_byte(count: usize, index: usize) -> u8
 
 /// Appends the bytes from `start` to `end`, which have room on one line.
 fn list_line(
-    listing: &mut Vec<u8>,
+    listing: &mut TextBlocks,
     bytes: &[u8],
     start: usize,
     end: usize,
@@ -108,7 +109,7 @@ fn list_line(
     requires order { start ≤ end }
     requires within { end ≤ length bytes.now }
     requires short { end ≤ start + 16 }
-    ensures { OnOk result (listing.new.items ≡ listing.old.items
+    ensures { OnOk result (listing.new ≡ listing.old
         ++ flat_map (byte_listing (length bytes.now)) (enumerate_from start (slice_range bytes.now start end))) }
 {
     let mut line = [0u8; 48];
@@ -118,12 +119,12 @@ fn list_line(
         line[at + 1] = hex_digit_of(bytes[index] % 16);
         line[at + 2] = end_of_byte(bytes.len(), index);
     }
-    listing.extend_from_slice(&line[..3 * (end - start)])
+    listing.push(&line[..3 * (end - start)])
 }
 
 /// Appends bytes, in lines of at most 16.
-fn list_bytes(listing: &mut Vec<u8>, bytes: &[u8]) -> Result<(), AllocError>
-    ensures { OnOk result (listing.new.items ≡ listing.old.items ++ bytes_listing bytes.now) }
+fn list_bytes(listing: &mut TextBlocks, bytes: &[u8]) -> Result<(), AllocError>
+    ensures { OnOk result (listing.new ≡ listing.old ++ bytes_listing bytes.now) }
 {
     let mut start = 0;
     while start < bytes.len() {
@@ -135,25 +136,27 @@ fn list_bytes(listing: &mut Vec<u8>, bytes: &[u8]) -> Result<(), AllocError>
 }
 
 /// Appends the text that shows a member.
-fn list_member(listing: &mut Vec<u8>, member: &Member) -> Result<(), AllocError>
-    ensures { OnOk result (listing.new.items ≡ listing.old.items ++ member_listing (member_view member.now)) }
+fn list_member(listing: &mut TextBlocks, member: &Member) -> Result<(), AllocError>
+    ensures { OnOk result (listing.new ≡ listing.old ++ member_listing (member_view member.now)) }
 {
     let mut number = Buffer::new();
-    listing.extend_from_slice(b"member ")?;
+    listing.push(b"member ")?;
     list_name(listing, member.name.as_str())?;
-    listing.push(b' ')?;
-    listing.extend_from_slice(number.format(member.bytes.len()).as_bytes())?;
-    listing.push(b'\n')?;
+    listing.push(b" ")?;
+    listing.push(number.format(member.bytes.len()).as_bytes())?;
+    listing.push(b"\n")?;
     list_symbols(listing, member.symbols.as_slice())?;
     list_bytes(listing, member.bytes.as_slice())
 }
 
-/// Appends the text that shows members.
-pub fn list_members(listing: &mut Vec<u8>, members: &[Member]) -> Result<(), AllocError>
-    ensures { OnOk result (listing.new.items ≡ listing.old.items ++ listing_of (map member_view members.now)) }
+/// Appends the text that shows members, and frees each as soon as it is shown.
+pub fn list_members(listing: &mut TextBlocks, members: Vec<Member>) -> Result<(), AllocError>
+    ensures { OnOk result (listing.new ≡ listing.old ++ listing_of (map member_view members.items)) }
 {
-    for member in members {
-        list_member(listing, member)?;
+    let mut left = members;
+    left.reverse();
+    while let Some(member) = left.pop() {
+        list_member(listing, &member)?;
     }
     Ok(())
 }

@@ -1,6 +1,7 @@
 //! Prints the members of the import libraries of module definitions.
 #![tactic(auto)]
 
+mod blocks;
 mod command;
 mod device;
 #[cfg(test)]

@@ -6,7 +6,8 @@ ghost use Rattle.implib_tool.specs.declared.run.RunError.TheVariants.{OutOfMemor
 ghost use Rattle.std.specs.Io.KnownBytes.{Consumes, IsAtEnd};
 ghost use Rattle.std.specs.Prelude.{◌≡◌, IfErr, IfOk, OnOk, false};
 
-use crate::device::{Sink, Source, write_all};
+use crate::blocks::TextBlocks;
+use crate::device::{Sink, Source};
 use crate::listing::list_members;
 use crate::parts::divide;
 use implib::{Error, Fault, Flavor, ImportLibrary, MachineType};
@@ -77,19 +78,19 @@ fn read_all<R: Source>(alloc: Global, reader: &mut R) -> Result<Vec<u8>, RunErro
 /// Appends the listing of the definition that a text means.
 fn list_part(
     alloc: Global,
-    listing: &mut Vec<u8>,
+    listing: &mut TextBlocks,
     part: &str,
     machine: MachineType,
     flavor: Flavor,
 ) -> Result<(), RunError>
-    ensures ok { OnOk result (ListsOnto part.now machine flavor listing.old.items listing.new.items) }
+    ensures ok { OnOk result (ListsOnto part.now machine flavor listing.old listing.new) }
     ensures fault { IfErr result (OnPartFault part.now machine flavor) }
 {
     let members = {
         let library = ImportLibrary::new(alloc, part, machine, flavor)?;
         library.members()?
     };
-    list_members(listing, members.as_slice())?;
+    list_members(listing, members)?;
     Ok(())
 }
 
@@ -99,11 +100,11 @@ fn list_parts(
     text: &str,
     machine: MachineType,
     flavor: Flavor,
-) -> Result<Vec<u8>, RunError>
-    ensures ok { IfOk result (λ listing. Lists text.now machine flavor listing.items) }
+) -> Result<TextBlocks, RunError>
+    ensures ok { IfOk result (λ listing. Lists text.now machine flavor listing) }
     ensures fault { IfErr result (OnTextFault text.now machine flavor) }
 {
-    let mut listing = Vec::new(alloc);
+    let mut listing = TextBlocks::new(alloc);
     let mut rest = Some(text);
     while let Some(left) = rest {
         let (part, after) = divide(left);
@@ -136,7 +137,7 @@ pub fn run<R: Source, W: Sink>(
         Err(_) => return Err(RunError::NotUtf8),
     };
     let listing = list_parts(alloc, text, machine, flavor)?;
-    if write_all(writer, listing.as_slice()).is_err() {
+    if listing.write_to(writer).is_err() {
         return Err(RunError::Write);
     }
     Ok(())

@@ -47,86 +47,132 @@ fn answered(
     })
 }
 
+/// The lines of a listing that name members and symbols.
+fn heads(alloc: Global, listing: &str) -> Result<String, AllocError> {
+    let mut heads = String::new(alloc);
+    for line in listing.lines() {
+        if line.starts_with("member ") || line.starts_with("symbol ") {
+            heads.push_str(line)?;
+            heads.push('\n')?;
+        }
+    }
+    Ok(heads)
+}
+
 const BAR: &str = "LIBRARY foo.dll\nEXPORTS\nbar";
 
-const BAR_LISTING: &str = "member foo.dll 32\n\
-    symbol __imp_bar\n\
-    symbol bar\n\
-    00 00 ff ff 00 00 64 86 00 00 00 00 0c 00 00 00\n\
+const FOO_HEADS: &str = "member foo.dll 358\n\
+    symbol __IMPORT_DESCRIPTOR_foo\n\
+    member foo.dll 127\n\
+    symbol __NULL_IMPORT_DESCRIPTOR\n\
+    member foo.dll 159\n\
+    symbol \\x7ffoo_NULL_THUNK_DATA\n";
+
+const ZED_HEADS: &str = "member zed.dll 358\n\
+    symbol __IMPORT_DESCRIPTOR_zed\n\
+    member zed.dll 127\n\
+    symbol __NULL_IMPORT_DESCRIPTOR\n\
+    member zed.dll 159\n\
+    symbol \\x7fzed_NULL_THUNK_DATA\n";
+
+const I386_HEADS: &str = "member a.dll 352\n\
+    symbol __IMPORT_DESCRIPTOR_a\n\
+    member a.dll 127\n\
+    symbol __NULL_IMPORT_DESCRIPTOR\n\
+    member a.dll 149\n\
+    symbol \\x7fa_NULL_THUNK_DATA\n\
+    member a.dll 29\n\
+    symbol __imp__f\n\
+    symbol _f\n\
+    member a.dll 31\n\
+    symbol __imp__g@8\n\
+    symbol _g@8\n\
+    member a.dll 31\n\
+    symbol __imp_@h@4\n\
+    symbol @h@4\n";
+
+const BAR_HEADS: &str = "member foo.dll 32\nsymbol __imp_bar\nsymbol bar\n";
+
+const BAR_BYTES: &str = "00 00 ff ff 00 00 64 86 00 00 00 00 0c 00 00 00\n\
     00 00 04 00 62 61 72 00 66 6f 6f 2e 64 6c 6c 00\n";
 
 #[test]
-fn definitions_are_answered(rt: HostRuntime) -> Result<(), Fail> {
-    let qux_listing = "member foo.dll 32\n\
-        symbol __imp_qux\n\
-        symbol qux\n\
-        00 00 ff ff 00 00 64 86 00 00 00 00 0c 00 00 00\n\
-        00 00 04 00 71 75 78 00 66 6f 6f 2e 64 6c 6c 00\n";
-    let zed_listing = "member zed.dll 32\n\
-        symbol __imp_qux\n\
-        symbol qux\n\
-        00 00 ff ff 00 00 64 86 00 00 00 00 0c 00 00 00\n\
-        00 00 04 00 71 75 78 00 7a 65 64 2e 64 6c 6c 00\n";
-    let i386_listing = "member a.dll 29\n\
-        symbol __imp__f\n\
-        symbol _f\n\
-        00 00 ff ff 00 00 4c 01 00 00 00 00 09 00 00 00\n\
-        00 00 08 00 5f 66 00 61 2e 64 6c 6c 00\n";
+fn definitions_are_listed(rt: HostRuntime) -> Result<(), Fail> {
     let rows = [
-        ("", BAR, 0, BAR_LISTING, "", ""),
+        ("", BAR, [FOO_HEADS, BAR_HEADS, "", ""], BAR_BYTES),
+        ("AMD64 msvc", BAR, [FOO_HEADS, BAR_HEADS, "", ""], BAR_BYTES),
         (
-            "AMD64 msvc",
-            "LIBRARY foo.dll\nEXPORTS\nbar\nqux",
-            0,
-            BAR_LISTING,
-            qux_listing,
             "",
+            "LIBRARY foo.dll\nEXPORTS\nbar\nqux",
+            [
+                FOO_HEADS,
+                BAR_HEADS,
+                "member foo.dll 32\nsymbol __imp_qux\nsymbol qux\n",
+                "",
+            ],
+            "00 00 04 00 71 75 78 00 66 6f 6f 2e 64 6c 6c 00\n",
         ),
         (
             "I386 msvc",
-            "LIBRARY a.dll\nEXPORTS\nf",
-            0,
-            i386_listing,
-            "",
-            "",
+            "LIBRARY a.dll\nEXPORTS\nf\n_g@8\n@h@4 @ 7 NONAME",
+            [I386_HEADS, "", "", ""],
+            "00 00 ff ff 00 00 4c 01 00 00 00 00 0b 00 00 00\n\
+            07 00 00 00 40 68 40 34 00 61 2e 64 6c 6c 00\n",
         ),
-        ("", "LIBRARY foo.dll\nEXPORTS", 0, "", "", ""),
+        ("", "LIBRARY foo.dll\nEXPORTS", [FOO_HEADS, "", "", ""], ""),
         (
             "",
             "LIBRARY foo.dll\nEXPORTS\nbar\n---\nLIBRARY zed.dll\nEXPORTS\nqux",
-            0,
-            BAR_LISTING,
-            zed_listing,
-            "",
-        ),
-        (
-            "",
-            "LIBRARY foo.dll\nEXPORTS\nbar\n---\n",
-            1,
-            "",
-            "",
-            "implib: import name is empty\n",
-        ),
-        ("", "---", 1, "", "", "implib: import name is empty\n"),
-        ("", "", 1, "", "", "implib: import name is empty\n"),
-        ("", "foo", 1, "", "", "implib: unknown directive: foo\n"),
-        (
-            "",
-            "LIBRARY foo.dll\nEXPORTS\nbar\n---\nfoo\n---\n",
-            1,
-            "",
-            "",
-            "implib: unknown directive: foo\n",
+            [
+                FOO_HEADS,
+                BAR_HEADS,
+                ZED_HEADS,
+                "member zed.dll 32\nsymbol __imp_qux\nsymbol qux\n",
+            ],
+            "00 00 04 00 71 75 78 00 7a 65 64 2e 64 6c 6c 00\n",
         ),
     ];
-    for (words, text, status, first, second, fault) in rows {
+    for (words, text, [first, second, third, fourth], end) in rows {
         for pace in [WHOLE, (1, ANY)] {
             let got = answered(rt.alloc(), words, text.as_bytes(), pace, pace)?;
-            let written = format!(in rt.alloc(); "{first}{second}")?;
-            assert_eq!(rt; got.status, status, "{text:?}");
-            assert_eq!(rt; got.written.as_str(), written.as_str(), "{text:?}");
-            assert_eq!(rt; got.faults.as_str(), fault, "{text:?}");
+            let want = format!(in rt.alloc(); "{first}{second}{third}{fourth}")?;
+            assert_eq!(rt; got.status, 0, "{text:?}");
+            assert_eq!(rt;
+                heads(rt.alloc(), got.written.as_str())?.as_str(),
+                want.as_str(),
+                "{text:?}"
+            );
+            assert!(rt; got.written.ends_with(end), "{text:?}");
+            assert_eq!(rt; got.faults.as_str(), "", "{text:?}");
         }
+    }
+    Ok(())
+}
+
+#[test]
+fn refusals_are_answered(rt: HostRuntime) -> Result<(), Fail> {
+    let rows = [
+        (
+            "LIBRARY foo.dll\nEXPORTS\nbar\n---\n",
+            "import name is empty",
+        ),
+        ("---", "import name is empty"),
+        ("", "import name is empty"),
+        ("LIBRARY foo.dll\nEXPORTS\n\"\"", "export name is empty"),
+        ("foo", "unknown directive: foo"),
+        ("a\nb", "unknown directive: a"),
+        (
+            "LIBRARY foo.dll\nEXPORTS\nbar\n---\nfoo\n---\n",
+            "unknown directive: foo",
+        ),
+        ("\"a\nb\"", "unknown directive: a\nb"),
+    ];
+    for (text, fault) in rows {
+        let got = answered(rt.alloc(), "", text.as_bytes(), WHOLE, (ANY, 0))?;
+        let want = format!(in rt.alloc(); "implib: {fault}\n")?;
+        assert_eq!(rt; got.status, 1, "{text:?}");
+        assert_eq!(rt; got.written.as_str(), "", "{text:?}");
+        assert_eq!(rt; got.faults.as_str(), want.as_str(), "{text:?}");
     }
     Ok(())
 }
@@ -175,13 +221,12 @@ fn a_reader_that_fails_is_answered(rt: HostRuntime) -> Result<(), Fail> {
 
 #[test]
 fn a_writer_that_fails_is_answered(rt: HostRuntime) -> Result<(), Fail> {
+    let all = answered(rt.alloc(), "", BAR.as_bytes(), WHOLE, WHOLE)?
+        .written
+        .len();
     // One that fails at its first call, its second, and so on; the last takes no byte.
-    for calls in 0..BAR_LISTING.len() + 1 {
-        let pace = if calls < BAR_LISTING.len() {
-            (1, calls)
-        } else {
-            (0, ANY)
-        };
+    for calls in 0..=all {
+        let pace = if calls < all { (1, calls) } else { (0, ANY) };
         let got = answered(rt.alloc(), "", BAR.as_bytes(), WHOLE, pace)?;
         assert_eq!(rt; got.status, 3);
         assert_eq!(rt; got.faults.as_str(), "implib: write failed\n");
@@ -196,7 +241,7 @@ fn refused_memory_is_answered(rt: HostRuntime) {
         return;
     };
     if got.status == 0 {
-        assert_eq!(rt; got.written.as_str(), BAR_LISTING);
+        assert!(rt; got.written.ends_with(BAR_BYTES));
         assert_eq!(rt; got.faults.as_str(), "");
     } else {
         assert_eq!(rt; got.status, 3);

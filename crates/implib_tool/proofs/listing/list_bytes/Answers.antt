@@ -13,7 +13,7 @@ loop-start-preserved c = record {
       let end = start + c.min.result in
       let shown = flat_map (byte_listing (length bytes)) in
       ap (λ t. t ++ shown (enumerate_from end (drop end bytes))) c.in_ok-list_line.ensures
-      ∙ append_assoc c.loop-start.listing.items (shown (enumerate_from start (slice_range bytes start end))) (shown (enumerate_from end (drop end bytes)))
-      ∙ ap (λ t. c.loop-start.listing.items ++ t) (sym (lines_more (byte_listing (length bytes)) start end bytes (search rules) (search rules)))
+      ∙ append_assoc c.loop-start.listing (shown (enumerate_from start (slice_range bytes start end))) (shown (enumerate_from end (drop end bytes)))
+      ∙ ap (λ t. c.loop-start.listing ++ t) (sym (lines_more (byte_listing (length bytes)) start end bytes (search rules) (search rules)))
       ∙ c.loop-start.invariant.listed;
 }

@@ -7,8 +7,8 @@ use Rattle.implib_tool.proofs.listing.list_bytes.Given as goal
 abbrev pub invariant-loop-start : goal.invariant-loop-start
 invariant-loop-start l = record {
   within : l.start ≤ length l.bytes;
-  listed : l.listing.items ++ flat_map (byte_listing (length l.bytes)) (enumerate_from l.start (drop l.start l.bytes))
-      ≡ l.fn.listing.items ++ bytes_listing l.bytes;
+  listed : l.listing ++ flat_map (byte_listing (length l.bytes)) (enumerate_from l.start (drop l.start l.bytes))
+      ≡ l.fn.listing ++ bytes_listing l.bytes;
 }
 
 abbrev pub decreases-loop-start : goal.decreases-loop-start

@@ -6,4 +6,4 @@ use Rattle.implib_tool.proofs.listing.list_symbols.Given as goal
 -- the symbols are listed up to here
 abbrev pub invariant-loop-symbol : goal.invariant-loop-symbol
 invariant-loop-symbol l =
-    l.listing.items ≡ l.fn.listing.items ++ flat_map symbol_listing (map string_bytes (take l.symbol-index l.symbols))
+    l.listing ≡ l.fn.listing ++ flat_map symbol_listing (map string_bytes (take l.symbol-index l.symbols))
