@@ -8,6 +8,8 @@ use super::*;
 use crate::coff::{class, relocation};
 use std::test::Fail;
 
+mod memory;
+
 // A symbol of value 0.
 fn symbol(
     alloc: Global,
