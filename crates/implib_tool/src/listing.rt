@@ -30,11 +30,15 @@ fn stands_plain(byte: u8) -> bool
     byte >= 0x21 && byte <= 0x7E && byte != b'\\'
 }
 
-/// Whether each byte of a name stands as it is.
+/// Whether each byte of a name stands as it is. It looks at all of them, many at a time.
 fn stand_plain(name: &[u8]) -> bool
     ensures { result ≡ list_all is_plain name.now }
 {
-    name.iter().all(|byte| stands_plain(*byte))
+    let mut plain = true;
+    for byte in name {
+        plain = plain & stands_plain(*byte);
+    }
+    plain
 }
 
 /// Appends a byte of a name.
