@@ -11,7 +11,7 @@ use Rattle.implib.specs.PictureView.{FitsField, name_view, picture_view, symbol_
 use Rattle.implib.specs.Writer.{section_view}
 use Rattle.implib.proofs.Fields.{length-header_bytes}
 use Rattle.implib.proofs.Lengths.{length-viewed_contents}
-use Rattle.implib.proofs.Reading.{headers_long, length-all_symbols}
+use Rattle.implib.proofs.ObjectReading.{headers_long, length-all_symbols}
 use Rattle.implib.proofs.Sums.{flat_map-map}
 use Rattle.implib.proofs.Symbols.{length-string_table}
 

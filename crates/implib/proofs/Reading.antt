@@ -1,192 +1,105 @@
--- A picture that fits reads back from its bytes.
-use Rattle.std.proofs.Common.{◌≡◌, ℕ, suc, ◌+◌, ◌*◌, ◌<◌, ◌^◌, List, [], ◌∷◌, ◌++◌, Option, None, Some, length, refl, ◌∙◌, ap, arith, length-append, one-add}
-use Rattle.std.specs.List.{AllByRecursion, flat_map, sum_by}
-use Rattle.std.proofs.lemmas.List.Sums.{sum_by-cons}
-use Rattle.implib.specs.Object.{ASymbol, Auxiliary, Entry, each_at, entries_at, object_in, object_of_header, section_at}
-use Rattle.implib.specs.Picture.{Fits, FitsAuxiliary, FitsSymbol, HasNoNul, Picture, PictureSymbol, SymbolName, auxiliary_bytes, auxiliary_count, contents, contents_place, contents_size, entries_of, header_bytes, layout, layout_size, object_of, record_count, records, section_headers, string_offsets, string_table, strings_size, symbol_bytes, symbols_place}
-use Rattle.implib.proofs.Fields.{header-characteristics, header-machine, header-optional, header-records, header-sections, header-symbols_place, header-time, length-header_bytes}
-use Rattle.implib.proofs.Stands.{Stands, bytes_at-stands, stands_first, stands_next, stands_whole}
-use Rattle.implib.proofs.Symbols.{length-all_contents, length-record_bytes, length-section_headers, length-string_table, record-auxiliary, record_bytes, sections_read, shown, strings_read, symbol_bytes-parts, symbol_of-record}
+-- What the readers give is what the grammar says.
+use Rattle.std.proofs.Common.{◌≡◌, inl, inr, List, [], ◌∷◌, ℕ, Result, Ok, Err, subst}
+use Rattle.std.specs.Result.{MatchResult}
+use Rattle.implib.specs.declared.def.lexer.TokenKind.TheVariants.{Eof}
+use Rattle.implib.specs.declared.machine.MachineType.{MachineType}
+use Rattle.implib.specs.Definition.{DefinitionView}
+use Rattle.implib.specs.Fault.{Cause}
+use Rattle.implib.specs.Grammar.{Statement, Of, Sentence, Begins, spelling}
+use Rattle.implib.specs.Meaning.{meaning}
+use Rattle.implib.specs.Parses.{Parses, Refuses}
+use Rattle.implib.specs.Reading.{◌>>=◌, statements_read, definition_from, read}
+use Rattle.implib.specs.Refusal.{Broken, started_spelling, RefusedAfter}
+use Rattle.implib.specs.Token.{Lexed, Seen, EndsInEof}
+use Rattle.implib.proofs.Begins.{Begins-append, Begins-ends, EndsInEof-last, EndsInEof-some, AtFront}
+use Rattle.implib.proofs.Many.{Chain}
+use Rattle.implib.proofs.Meaning.{with_statements-meaning}
+use Rattle.implib.proofs.ReadStatements.{StatementStands, NoStatement, BeginsNone, StartedCut, StatementCut, StatementsRead, StatementsCut, statements_outcome, statements_begin, statements_end}
+use Rattle.implib.proofs.Token.{EndsInEof-from_Lexed}
+use Rattle.implib.proofs.Statements.{statements_want_no_end, started_wants_no_end}
 
--- the entries of a symbol without an auxiliary record, and of one with it
+-- the statements of a token list, and what they mean
+pub record Spelled (machine : MachineType) (tokens : List Seen) (d : DefinitionView) : Type 0 where
+  pub statements : List Statement
+  pub sentence : Sentence tokens statements
+  pub means : meaning machine statements ≡ d
 
-plain_symbol : (bytes : List ℕ) (place : ℕ) (strings : List (List ℕ)) (s : PictureSymbol) (fits : FitsSymbol strings s) (count : ℕ) (rest : List Entry)
-    → AllByRecursion HasNoNul strings → strings_size strings < 2 ^ 32 → auxiliary_count s.aux ≡ 0
-    → Stands bytes place (record_bytes strings s)
-    → entries_at bytes (string_table strings) (place + 18) 0 count ≡ Some rest
-    → entries_at bytes (string_table strings) place 0 (suc count) ≡ Some (ASymbol (shown strings s fits) ∷ rest)
-unfolding entries_at
-plain_symbol bytes place strings s fits count rest all below plain stands others =
-    rw (bytes_at-stands 18 (length-record_bytes strings s fits) stands, symbol_of-record strings s fits all below, record-auxiliary strings s fits, plain, others) refl
+-- the end of the text is all that is left
+only_eof : (rest : List Seen) → EndsInEof rest → NoStatement rest → Begins rest (Of Eof ∷ []) []
+only_eof [] ends none = absurd (no_tokens ends)
+  where
+    no_tokens : EndsInEof [] → ⊥
+    no_tokens h = let some = EndsInEof-some [] h in absurd cc
+only_eof (t ∷ rest) ends none = (none, EndsInEof-last t rest none ends)
 
-auxiliary_symbol : (bytes : List ℕ) (place : ℕ) (strings : List (List ℕ)) (s : PictureSymbol) (fits : FitsSymbol strings s) (aux : List ℕ) (count : ℕ) (rest : List Entry)
-    → AllByRecursion HasNoNul strings → strings_size strings < 2 ^ 32 → auxiliary_count s.aux ≡ 1 → length aux ≡ 18
-    → Stands bytes place (record_bytes strings s) → Stands bytes (place + 18) aux
-    → entries_at bytes (string_table strings) ((place + 18) + 18) 0 count ≡ Some rest
-    → entries_at bytes (string_table strings) place 0 (suc (suc count)) ≡ Some (ASymbol (shown strings s fits) ∷ (Auxiliary aux ∷ rest))
-unfolding entries_at
-auxiliary_symbol bytes place strings s fits aux count rest all below more long stands aux_stands others =
-    rw (bytes_at-stands 18 (length-record_bytes strings s fits) stands, symbol_of-record strings s fits all below, record-auxiliary strings s fits, more, bytes_at-stands 18 long aux_stands, others) refl
+ends_after : (tokens rest : List Seen) (statements : List Statement) → EndsInEof tokens → Begins tokens (spelling statements) rest → EndsInEof rest
+ends_after tokens rest statements ends h = Begins-ends tokens (spelling statements) rest (statements_want_no_end statements) h ends
 
--- where a symbol's bytes stand, its own record does, and then its auxiliary record
+spelled_from : (machine : MachineType) (tokens : List Seen) (d : DefinitionView) → EndsInEof tokens → (r : Result (List Statement × List Seen) Cause) → MatchResult r (StatementsRead tokens) (StatementsCut tokens)
+    → (r >>= definition_from machine) ≡ Ok d → Spelled machine tokens d
+spelled_from machine tokens d ends (Ok found) h e =
+    let begins = statements_begin found.0 tokens found.1 h.0 in
+    let gathered = with_statements-meaning machine found.0 in
+    record {
+      statements = found.0;
+      sentence = Begins-append tokens (spelling found.0) (Of Eof ∷ []) found.1 [] begins (only_eof found.1 (ends_after tokens found.1 found.0 ends begins) h.1);
+      means = cc;
+    }
+spelled_from machine tokens d ends (Err cause) h e = absurd cc
 
-symbol_parts : (bytes : List ℕ) (place : ℕ) (strings : List (List ℕ)) (s : PictureSymbol) → Stands bytes place (symbol_bytes (string_offsets strings) s) → Stands bytes place (record_bytes strings s ++ auxiliary_bytes s.aux)
-symbol_parts bytes place strings s stands = rw (symbol_bytes-parts strings s) at stands
+-- what is read is spelled so
+pub read-spelled : (machine : MachineType) (tokens : List Seen) (d : DefinitionView) → EndsInEof tokens → read machine tokens ≡ Ok d → Spelled machine tokens d
+unfolding read
+read-spelled machine tokens d ends e = spelled_from machine tokens d ends (statements_read tokens) (statements_outcome tokens) e
 
-record_stands : (bytes : List ℕ) (place : ℕ) (strings : List (List ℕ)) (s : PictureSymbol) → Stands bytes place (symbol_bytes (string_offsets strings) s) → Stands bytes place (record_bytes strings s)
-record_stands bytes place strings s stands = stands_first (record_bytes strings s) (auxiliary_bytes s.aux) (symbol_parts bytes place strings s stands)
+broken_started : (tokens mid : List Seen) (cause : Cause) (statements : List Statement) → EndsInEof tokens → Begins tokens (spelling statements) mid → StartedCut mid cause → Broken tokens cause
+broken_started tokens mid cause statements ends begins c =
+    let last = Begins-ends mid (started_spelling c.started) c.mid (started_wants_no_end c.started) c.begins (ends_after tokens mid statements ends begins) in
+    let some = EndsInEof-some c.mid last in
+    inr (record {
+      statements = statements;
+      started = c.started;
+      token = some.0;
+      rest = some.1;
+      begins = Begins-append tokens (spelling statements) (started_spelling c.started) mid (some.0 ∷ some.1) begins (subst (Begins mid (started_spelling c.started)) some.2 c.begins);
+      refused = subst (λ (s : List Seen). AtFront (RefusedAfter c.started) s cause) some.2 c.refused;
+    })
 
-auxiliary_stands : (bytes : List ℕ) (place : ℕ) (strings : List (List ℕ)) (s : PictureSymbol) → FitsSymbol strings s → Stands bytes place (symbol_bytes (string_offsets strings) s) → Stands bytes (place + 18) (auxiliary_bytes s.aux)
-auxiliary_stands bytes place strings s fits stands =
-    stands_next (record_bytes strings s) (auxiliary_bytes s.aux) 18 (length-record_bytes strings s fits) (symbol_parts bytes place strings s stands)
+broken_unknown : (tokens mid : List Seen) (cause : Cause) (statements : List Statement) → EndsInEof tokens → Chain StatementStands NoStatement statements tokens mid → AtFront BeginsNone mid cause → Broken tokens cause
+broken_unknown tokens [] cause statements ends chain h =
+    let some = EndsInEof-some [] (ends_after tokens [] statements ends (statements_begin statements tokens [] chain)) in absurd cc
+broken_unknown tokens (t ∷ rest) cause statements ends chain h = inl (record {
+  statements = statements;
+  token = t;
+  rest = rest;
+  begins = statements_begin statements tokens (t ∷ rest) chain;
+  not_end = h.not_end;
+  no_directive = h.no_directive;
+  goes_nowhere = statements_end statements tokens (t ∷ rest) chain;
+  told = h.told;
+})
 
--- the entries of a symbol before those of others
-one_symbol : (bytes : List ℕ) (place : ℕ) (strings : List (List ℕ)) (name : SymbolName) (value section class : ℕ) (aux : Option (List ℕ)) (count : ℕ) (rest : List Entry)
-    → FitsSymbol strings (record { name = name; value = value; section = section; class = class; aux = aux })
-    → AllByRecursion HasNoNul strings → strings_size strings < 2 ^ 32
-    → Stands bytes place (symbol_bytes (string_offsets strings) (record { name = name; value = value; section = section; class = class; aux = aux }))
-    → entries_at bytes (string_table strings) (place + 18 * record_count (record { name = name; value = value; section = section; class = class; aux = aux })) 0 count ≡ Some rest
-    → entries_at bytes (string_table strings) place 0 (record_count (record { name = name; value = value; section = section; class = class; aux = aux }) + count)
-    ≡ Some (entries_of strings (record { name = name; value = value; section = section; class = class; aux = aux }) ++ rest)
-unfolding record_count auxiliary_count entries_of shown auxiliary_bytes
-one_symbol bytes place strings name value section class None count rest fits all below stands others =
-    rw (one-add count)
-    (plain_symbol bytes place strings (record { name = name; value = value; section = section; class = class; aux = None }) fits count rest all below refl
-    (record_stands bytes place strings (record { name = name; value = value; section = section; class = class; aux = None }) stands) others)
-one_symbol bytes place strings name value section class (Some aux) count rest fits all below stands others =
-    let two : 2 + count ≡ suc (suc count) = omega arith in
-    let further : place + 36 ≡ (place + 18) + 18 = omega arith in
-    rw two
-    (auxiliary_symbol bytes place strings (record { name = name; value = value; section = section; class = class; aux = Some aux }) fits aux count rest all below refl fits.aux
-    (record_stands bytes place strings (record { name = name; value = value; section = section; class = class; aux = Some aux }) stands)
-    (auxiliary_stands bytes place strings (record { name = name; value = value; section = section; class = class; aux = Some aux }) fits stands)
-    (rw further at others))
+broken_from : (tokens mid : List Seen) (cause : Cause) (statements : List Statement) → EndsInEof tokens → Chain StatementStands NoStatement statements tokens mid → StatementCut mid cause → Broken tokens cause
+broken_from tokens mid cause statements ends chain (inl h) = broken_unknown tokens mid cause statements ends chain h
+broken_from tokens mid cause statements ends chain (inr c) = broken_started tokens mid cause statements ends (statements_begin statements tokens mid chain) c
 
-pub auxiliary_counted : (aux : Option (List ℕ)) → FitsAuxiliary aux → 18 + length (auxiliary_bytes aux) ≡ 18 * (1 + auxiliary_count aux)
-unfolding auxiliary_bytes auxiliary_count
-auxiliary_counted None fits = refl
-auxiliary_counted (Some aux) fits = ap (λ n. 18 + n) fits
+refused_from : (machine : MachineType) (tokens : List Seen) (cause : Cause) → EndsInEof tokens → (r : Result (List Statement × List Seen) Cause) → MatchResult r (StatementsRead tokens) (StatementsCut tokens)
+    → (r >>= definition_from machine) ≡ Err cause → Broken tokens cause
+refused_from machine tokens cause ends (Ok found) h e = absurd cc
+refused_from machine tokens cause ends (Err other) h e =
+    let same : other ≡ cause = cc in
+    subst (Broken tokens) same (broken_from tokens h.mid other h.items ends h.chain h.refused)
 
-pub length-symbol_bytes : (strings : List (List ℕ)) (s : PictureSymbol) → FitsSymbol strings s → length (symbol_bytes (string_offsets strings) s) ≡ 18 * record_count s
-unfolding record_count
-length-symbol_bytes strings s fits =
-    ap length (symbol_bytes-parts strings s)
-    ∙ (length-append (record_bytes strings s) (auxiliary_bytes s.aux)
-    ∙ (ap (λ n. n + length (auxiliary_bytes s.aux)) (length-record_bytes strings s fits) ∙ auxiliary_counted s.aux fits.aux))
+-- what the readers refuse the grammar refuses for that cause
+pub read-refused : (machine : MachineType) (tokens : List Seen) (cause : Cause) → EndsInEof tokens → read machine tokens ≡ Err cause → Broken tokens cause
+unfolding read
+read-refused machine tokens cause ends e = refused_from machine tokens cause ends (statements_read tokens) (statements_outcome tokens) e
 
-pub length-all_symbols : (strings : List (List ℕ)) (ss : List PictureSymbol) → AllByRecursion (FitsSymbol strings) ss → length (flat_map (symbol_bytes (string_offsets strings)) ss) ≡ 18 * sum_by record_count ss
-length-all_symbols strings [] all = refl
-length-all_symbols strings (s ∷ ss) all =
-    omega (arith, length-append (symbol_bytes (string_offsets strings) s) (flat_map (symbol_bytes (string_offsets strings)) ss), length-symbol_bytes strings s all.0, length-all_symbols strings ss all.1, sum_by-cons record_count s ss)
+pub Parses-from_read : (text : List ℕ) (tokens : List Seen) (machine : MachineType) (d : DefinitionView) → Lexed text tokens → read machine tokens ≡ Ok d → Parses text machine d
+Parses-from_read text tokens machine d lexed e =
+    let s = read-spelled machine tokens d (EndsInEof-from_Lexed text tokens lexed) e in
+    record { tokens = tokens; statements = s.statements; lexed = lexed; sentence = s.sentence; means = s.means }
 
-entries_none : (bytes table : List ℕ) (place : ℕ) → entries_at bytes table place 0 0 ≡ Some []
-unfolding entries_at
-entries_none bytes table place = refl
-
-entries_read : (bytes : List ℕ) (place : ℕ) (strings : List (List ℕ)) (ss : List PictureSymbol) → AllByRecursion (FitsSymbol strings) ss → AllByRecursion HasNoNul strings → strings_size strings < 2 ^ 32
-    → Stands bytes place (flat_map (symbol_bytes (string_offsets strings)) ss)
-    → entries_at bytes (string_table strings) place 0 (sum_by record_count ss) ≡ Some (flat_map (entries_of strings) ss)
-entries_read bytes place strings [] all texts below stands = entries_none bytes (string_table strings) place
-entries_read bytes place strings (s ∷ ss) all texts below stands =
-    rw (sum_by-cons record_count s ss)
-    (one_symbol bytes place strings s.name s.value s.section s.class s.aux (sum_by record_count ss) (flat_map (entries_of strings) ss) all.0 texts below
-    (stands_first (symbol_bytes (string_offsets strings) s) (flat_map (symbol_bytes (string_offsets strings)) ss) stands)
-    (entries_read bytes (place + 18 * record_count s) strings ss all.1 texts below
-    (stands_next (symbol_bytes (string_offsets strings) s) (flat_map (symbol_bytes (string_offsets strings)) ss) (18 * record_count s) (length-symbol_bytes strings s all.0) stands)))
-
--- the picture
-
-module _ (p : Picture) (fits : Fits p) (short : layout_size p < 2 ^ 32) where
-  places_below : (20 + 40 * length p.sections) + sum_by contents_size p.sections + 18 * sum_by record_count p.symbols + strings_size p.strings < 2 ^ 32
-  unfolding layout_size symbols_place contents_place records
-  places_below = short
-
-  pub headers_long : length (section_headers (contents_place p) p.sections) ≡ 40 * length p.sections
-  unfolding contents_place
-  headers_long = length-section_headers (20 + 40 * length p.sections) p.sections fits.sections (omega (arith, places_below))
-
-  after_header : Stands (layout p) 20 (section_headers (contents_place p) p.sections ++ (flat_map contents p.sections ++ (flat_map (symbol_bytes (string_offsets p.strings)) p.symbols ++ string_table p.strings)))
-  unfolding layout
-  after_header = stands_next (header_bytes p) _ 20 (length-header_bytes p) (stands_whole (layout p))
-
-  header_stands : Stands (layout p) 0 (header_bytes p)
-  unfolding layout
-  header_stands = stands_first (header_bytes p) _ (stands_whole (layout p))
-
-  headers_stand : Stands (layout p) 20 (section_headers (contents_place p) p.sections)
-  headers_stand = stands_first _ (flat_map contents p.sections ++ (flat_map (symbol_bytes (string_offsets p.strings)) p.symbols ++ string_table p.strings)) after_header
-
-  after_headers : Stands (layout p) (contents_place p) (flat_map contents p.sections ++ (flat_map (symbol_bytes (string_offsets p.strings)) p.symbols ++ string_table p.strings))
-  unfolding contents_place
-  after_headers = stands_next (section_headers (contents_place p) p.sections) _ (40 * length p.sections) headers_long after_header
-
-  contents_stand : Stands (layout p) (contents_place p) (flat_map contents p.sections)
-  contents_stand = stands_first (flat_map contents p.sections) _ after_headers
-
-  after_contents : Stands (layout p) (symbols_place p) (flat_map (symbol_bytes (string_offsets p.strings)) p.symbols ++ string_table p.strings)
-  unfolding symbols_place
-  after_contents = stands_next (flat_map contents p.sections) _ (sum_by contents_size p.sections) (length-all_contents p.sections) after_headers
-
-  symbols_stand : Stands (layout p) (symbols_place p) (flat_map (symbol_bytes (string_offsets p.strings)) p.symbols)
-  symbols_stand = stands_first (flat_map (symbol_bytes (string_offsets p.strings)) p.symbols) _ after_contents
-
-  strings_stand : Stands (layout p) (symbols_place p + 18 * records p) (string_table p.strings)
-  unfolding records
-  strings_stand = stands_next (flat_map (symbol_bytes (string_offsets p.strings)) p.symbols) _ (18 * sum_by record_count p.symbols) (length-all_symbols p.strings p.symbols fits.symbols) after_contents
-
-  strings_below : strings_size p.strings < 2 ^ 32
-  strings_below = omega (arith, places_below)
-
-  symbols_place_below : symbols_place p < 2 ^ 32
-  unfolding symbols_place contents_place
-  symbols_place_below = omega (arith, places_below)
-
-  records_below : records p < 2 ^ 32
-  unfolding records
-  records_below = omega (arith, places_below)
-
-  all_sections : each_at (section_at (layout p)) (20 + 0) 40 (length p.sections) ≡ Some p.sections
-  unfolding contents_place
-  all_sections = sections_read (layout p) 20 (contents_place p) p.sections fits.sections (omega arith) (omega (arith, places_below)) headers_stand contents_stand
-
-  all_entries : entries_at (layout p) (string_table p.strings) (symbols_place p) 0 (records p) ≡ Some (flat_map (entries_of p.strings) p.symbols)
-  unfolding records
-  all_entries = entries_read (layout p) (symbols_place p) p.strings p.symbols fits.symbols fits.strings strings_below symbols_stand
-
-  object_of_header-layout : object_of_header (layout p) (header_bytes p) ≡ Some (object_of p)
-  unfolding object_of_header object_of
-  object_of_header-layout =
-      rw (
-        header-symbols_place p symbols_place_below,
-        header-records p records_below,
-        header-optional p,
-        header-sections p fits.count,
-        header-machine p fits.machine,
-        header-time p,
-        header-characteristics p fits.characteristics,
-        strings_read (layout p) (symbols_place p + 18 * records p) p.strings strings_below strings_stand,
-        all_sections,
-        all_entries,
-      )
-      refl
-
-  -- a picture that fits reads back as itself
-  pub object_in-layout : object_in (layout p) ≡ Some (object_of p)
-  unfolding object_in
-  object_in-layout = rw (bytes_at-stands 20 (length-header_bytes p) header_stands) object_of_header-layout
-
-  -- its bytes are as many as its parts say
-  pub length-layout : length (layout p) ≡ layout_size p
-  unfolding layout layout_size symbols_place contents_place records
-  length-layout = omega (
-    arith,
-    length-append (header_bytes p) (section_headers (contents_place p) p.sections ++ (flat_map contents p.sections ++ (flat_map (symbol_bytes (string_offsets p.strings)) p.symbols ++ string_table p.strings))),
-    length-append (section_headers (contents_place p) p.sections) (flat_map contents p.sections ++ (flat_map (symbol_bytes (string_offsets p.strings)) p.symbols ++ string_table p.strings)),
-    length-append (flat_map contents p.sections) (flat_map (symbol_bytes (string_offsets p.strings)) p.symbols ++ string_table p.strings),
-    length-append (flat_map (symbol_bytes (string_offsets p.strings)) p.symbols) (string_table p.strings),
-    length-header_bytes p,
-    headers_long,
-    length-all_contents p.sections,
-    length-all_symbols p.strings p.symbols fits.symbols,
-    length-string_table p.strings,
-  )
+pub Refuses-from_read : (text : List ℕ) (tokens : List Seen) (machine : MachineType) (cause : Cause) → Lexed text tokens → read machine tokens ≡ Err cause → Refuses text cause
+Refuses-from_read text tokens machine cause lexed e =
+    record { tokens = tokens; lexed = lexed; broken = read-refused machine tokens cause (EndsInEof-from_Lexed text tokens lexed) e }

@@ -9,7 +9,7 @@ use Rattle.implib.specs.Picture.{Fits, Picture, layout, layout_size, object_of}
 use Rattle.implib.specs.PictureView.{picture_view, symbol_view}
 use Rattle.implib.specs.Writer.{section_view}
 use Rattle.implib.specs.Writer.{AddedSymbol, Holding, long_names, picture_of, symbol_written}
-use Rattle.implib.proofs.Reading.{length-layout, object_in-layout}
+use Rattle.implib.proofs.ObjectReading.{length-layout, object_in-layout}
 
 -- the picture that is borrowed of a writer is the writer's
 pub picture_same : (h : Holding) (machine : ℕ) (sections : Bor (List Section)) (symbols : Bor (List PictureSymbol)) (strings : Bor (List (Bor (List ℕ)))) (added : List AddedSymbol)

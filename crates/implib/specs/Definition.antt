@@ -1,6 +1,6 @@
 -- What a module definition holds: its texts as bytes, its exports as a list, its numbers.
 -- Two definitions that show the same here are equal field by field.
-use Rattle.std.specs.Prelude.{ℕ, Bool, false, List, [], map, Option, None, String}
+use Rattle.std.specs.Prelude.{ℕ, Bool, false, List, [], map, Option, None}
 use Rattle.std.specs.String.{string_bytes}
 use Rattle.std.specs.Option.{option_map}
 use Rattle.implib.specs.declared.def.ModuleDef.{ModuleDef}

@@ -1,5 +1,5 @@
 -- What a fault says: its texts as bytes.
-use Rattle.std.specs.Prelude.{ℕ, List, Result, IfErr}
+use Rattle.std.specs.Prelude.{ℕ, List, Option, Some, None, Result, IfErr}
 use Rattle.std.specs.String.{string_bytes}
 use Rattle.implib.specs.declared.error.Error.{Error}
 use Rattle.implib.specs.declared.error.Error.TheVariants.{Invalid, OutOfMemory}
@@ -45,3 +45,8 @@ OfCause P (OutOfMemory refused) = Unit {0}
 -- where the answer is a fault of the input, this holds of its cause
 abbrev pub IfInvalid : {T : Type 0} → Result T Error → (Cause → Type 0) → Type 0
 IfInvalid result P = IfErr result (OfCause P)
+
+-- what is wrong with the input, where the error says that something is
+abbrev pub error_cause : Error → Option Cause
+error_cause (Invalid fault) = Some (cause_of fault)
+error_cause (OutOfMemory refused) = None

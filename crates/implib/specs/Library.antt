@@ -6,7 +6,8 @@ use Rattle.implib.specs.declared.library.Flavor.{Flavor}
 use Rattle.implib.specs.declared.library.Member.{Member}
 use Rattle.implib.specs.declared.machine.MachineType.{MachineType}
 use Rattle.implib.specs.Definition.{DefinitionView, definition_view}
-use Rattle.implib.specs.Made.{MemberView, renamed}
+use Rattle.implib.specs.Made.{MemberView}
+use Rattle.implib.specs.Renaming.{renamed}
 use Rattle.implib.specs.Parses.{Parses}
 
 -- a definition, and what its members are made for

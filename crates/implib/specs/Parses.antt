@@ -1,13 +1,31 @@
--- What a text means, and why a text is refused. (Stand-in, until the grammar is here.)
-use Rattle.std.specs.Prelude.{ℕ, List}
+-- What a text means, and why a text is refused.
+use Rattle.std.specs.Prelude.{◌≡◌, ℕ, List}
 use Rattle.implib.specs.declared.machine.MachineType.{MachineType}
 use Rattle.implib.specs.Definition.{DefinitionView}
 use Rattle.implib.specs.Fault.{Cause}
+use Rattle.implib.specs.Grammar.{Sentence, Statement}
+use Rattle.implib.specs.Meaning.{meaning}
+use Rattle.implib.specs.Refusal.{Broken}
+use Rattle.implib.specs.Token.{Lexed, Seen}
 
--- the text is in the grammar, and means this definition on this machine
-unfoldable pub Parses : List ℕ → MachineType → DefinitionView → Type 0
-Parses _ _ _ = Unit {0}
+-- the text's tokens are statements, which mean this definition on this machine
+pub record Parses (text : List ℕ) (machine : MachineType) (definition : DefinitionView) : Type 0 where
+  pub tokens : List Seen
+  pub statements : List Statement
+  pub lexed : Lexed text tokens
+  pub sentence : Sentence tokens statements
+  pub means : meaning machine statements ≡ definition
 
--- the text is outside the grammar, for this cause
-unfoldable pub Refuses : List ℕ → Cause → Type 0
-Refuses _ _ = Unit {0}
+-- the text's tokens are no statements, for this cause
+pub record Refuses (text : List ℕ) (cause : Cause) : Type 0 where
+  pub tokens : List Seen
+  pub lexed : Lexed text tokens
+  pub broken : Broken tokens cause
+
+-- on each machine the text means a definition
+abbrev pub InGrammar : List ℕ → Type 0
+InGrammar text = (machine : MachineType) → (definition : DefinitionView) × Parses text machine definition
+
+-- the text is refused, for some cause
+abbrev pub IsBroken : List ℕ → Type 0
+IsBroken text = (cause : Cause) × Refuses text cause

@@ -1,11 +1,18 @@
 //! Module definitions: what a definition file says.
 
 ghost use Rattle.implib.specs.Definition.{definition_view, empty_definition, empty_export, export_view};
-ghost use Rattle.std.specs.Prelude.{◌≡◌, IfOk};
+ghost use Rattle.implib.specs.Fault.{IfInvalid, error_cause};
+ghost use Rattle.implib.specs.Parses.{Parses, Refuses};
+ghost use Rattle.implib.specs.Renaming.{renamed, renamed_export};
+ghost use Rattle.std.specs.Prelude.{◌≡◌, IfErr, IfOk, None, map};
 
-use std::alloc::{AllocError, Global};
+use crate::def::parser::Parser;
+use crate::error::Error;
+use crate::machine::MachineType;
+use std::alloc::Global;
 
 pub mod lexer;
+pub mod parser;
 
 /// One export of a module definition.
 #[derive(Debug, Drop)]
@@ -74,6 +81,28 @@ impl ShortExport {
             constant: false,
         }
     }
+
+    /// An equal export. Refuses for memory alone.
+    pub fn clone(&self) -> Result<Self, Error>
+        ensures ok { IfOk result (λ copy. export_view copy ≡ export_view self.now) }
+        ensures memory { IfErr result (λ error. error_cause error ≡ None) }
+    {
+        let ext_name = match &self.ext_name {
+            Some(name) => Some(name.clone()?),
+            None => None,
+        };
+        Ok(ShortExport {
+            name: self.name.clone()?,
+            ext_name,
+            symbol_name: self.symbol_name.clone()?,
+            alias_target: self.alias_target.clone()?,
+            ordinal: self.ordinal,
+            no_name: self.no_name,
+            is_data: self.is_data,
+            private: self.private,
+            constant: self.constant,
+        })
+    }
 }
 
 impl ModuleDef {
@@ -94,5 +123,66 @@ impl ModuleDef {
             major_os_version: 0,
             minor_os_version: 0,
         }
+    }
+
+    /// What a text means on a machine, in time linear in its length.
+    ///
+    /// # Errors
+    ///
+    /// As [`Parser::parse`].
+    pub fn parse(alloc: Global, def: &str, machine: MachineType) -> Result<ModuleDef, Error>
+        ensures parses { IfOk result (λ d. Parses def.now machine (definition_view d)) }
+        ensures refused { IfInvalid result (Refuses def.now) }
+    {
+        Parser::new(def, machine).parse(alloc)
+    }
+
+    /// An equal definition. Refuses for memory alone.
+    pub fn clone(&self) -> Result<Self, Error>
+        ensures ok { IfOk result (λ copy. definition_view copy ≡ definition_view self.now) }
+        ensures memory { IfErr result (λ error. error_cause error ≡ None) }
+    {
+        Ok(ModuleDef {
+            exports: clone_exports(&self.exports)?,
+            import_name: self.import_name.clone()?,
+            image_base: self.image_base,
+            stack_reserve: self.stack_reserve,
+            stack_commit: self.stack_commit,
+            heap_reserve: self.heap_reserve,
+            heap_commit: self.heap_commit,
+            major_image_version: self.major_image_version,
+            minor_image_version: self.minor_image_version,
+            major_os_version: self.major_os_version,
+            minor_os_version: self.minor_os_version,
+        })
+    }
+}
+
+fn clone_exports(exports: &Vec<ShortExport>) -> Result<Vec<ShortExport>, Error>
+    ensures ok { IfOk result (λ copies. map export_view copies.items ≡ map export_view exports.now.items) }
+    ensures memory { IfErr result (λ error. error_cause error ≡ None) }
+{
+    let mut copies = Vec::with_capacity(*exports.allocator(), exports.len())?;
+    for export in exports.iter() {
+        copies.push(export.clone()?)?;
+    }
+    Ok(copies)
+}
+
+/// Moves each external name that is given into the name.
+pub(crate) fn rename(mut def: ModuleDef) -> ModuleDef
+    ensures { definition_view result ≡ renamed (definition_view def) }
+{
+    for export in def.exports.iter_mut() {
+        rename_export(export);
+    }
+    def
+}
+
+fn rename_export(export: &mut ShortExport)
+    ensures { export_view export.new ≡ renamed_export (export_view export.old) }
+{
+    if let Some(name) = export.ext_name.take() {
+        export.name = name;
     }
 }

@@ -1,3 +1,12 @@
-//! Laws: functions that do nothing, whose contracts are facts about the definitions.
+//! Laws: functions that answer nothing, and whose contracts are facts about the definitions.
 
+pub mod asked;
+pub mod grammar;
+pub mod members;
 pub mod objects;
+pub mod renaming;
+pub mod tokens;
+
+pub use asked::asked_is_word;
+pub use grammar::grammar_or_broken;
+pub use renaming::rename_twice;

@@ -7,6 +7,8 @@ mod error;
 pub mod laws;
 mod library;
 mod machine;
+pub mod msvc;
+mod refusal;
 
 pub use error::{Error, Fault};
 pub use library::{Flavor, ImportLibrary, Member};

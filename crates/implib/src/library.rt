@@ -1,15 +1,20 @@
 //! The import library of a definition: its members.
 
-ghost use Rattle.implib.specs.Fault.{IfInvalid};
-ghost use Rattle.implib.specs.Library.{LibraryOf, member_view};
-ghost use Rattle.implib.specs.Made.{Made, refusal};
+ghost use Rattle.implib.specs.Definition.{definition_view, export_view};
+ghost use Rattle.implib.specs.Fault.{IfInvalid, error_cause};
+ghost use Rattle.implib.specs.Library.{LibraryOf, library_view, member_view};
+ghost use Rattle.implib.specs.Made.{Made, RefusesAlways, refusal};
 ghost use Rattle.implib.specs.Parses.{Refuses};
-ghost use Rattle.std.specs.Prelude.{◌≡◌, IfOk, Some, map};
+ghost use Rattle.implib.specs.Reads.{Reads};
+ghost use Rattle.implib.specs.Renaming.{is_renamed, renamed};
+ghost use Rattle.std.specs.Prelude.{◌≡◌, IfErr, IfOk, None, Some, map, true};
 
-use crate::def::ModuleDef;
+use crate::def::{self, ModuleDef};
 use crate::error::Error;
 use crate::machine::MachineType;
-use std::alloc::{AllocError, Global};
+use crate::msvc;
+use crate::refusal::names_fault;
+use std::alloc::Global;
 use std::marker::Model;
 
 /// Whose import objects are made.
@@ -39,15 +44,23 @@ pub struct ImportLibrary {
 }
 
 impl Model for ImportLibrary {
+    ghost use Rattle.implib.specs.Definition.{export_view};
     ghost use Rattle.implib.specs.Library.{LibraryView, library_view};
+    ghost use Rattle.implib.specs.Reads.{Reads};
+    ghost use Rattle.implib.specs.Renaming.{is_renamed};
+    ghost use Rattle.std.specs.Prelude.{◌≡◌, map, true};
 
     ghost Value = { LibraryView };
 
     ghost view = { λ l. library_view l.def l.machine l.flavor };
+
+    ghost invariant = { λ l. is_renamed (map export_view l.def.exports.items) ≡ true };
 }
 
 impl ImportLibrary {
-    /// Reads a definition and holds it, renamed.
+    /// Reads a definition and holds it, each export under the name to link by.
+    ///
+    /// Answers the faults of [`ModuleDef::parse`], and nothing else but for memory.
     pub fn new(
         alloc: Global,
         def: &str,
@@ -57,17 +70,74 @@ impl ImportLibrary {
         ensures ok { IfOk result (LibraryOf def.now machine flavor) }
         ensures refused { IfInvalid result (Refuses def.now) }
     {
-        let _definition = ModuleDef::empty(alloc);
-        Err(Error::OutOfMemory(AllocError))
+        let def = ModuleDef::parse(alloc, def, machine)?;
+        Ok(ImportLibrary::from_def(def, machine, flavor))
+    }
+
+    /// Holds a definition: each `ext_name` that is given is moved into `name`.
+    pub fn from_def(def: ModuleDef, machine: MachineType, flavor: Flavor) -> Self
+        ensures held { result ≡ record { definition = renamed (definition_view def); machine = machine; flavor = flavor } }
+    {
+        ImportLibrary {
+            def: def::rename(def),
+            machine,
+            flavor,
+        }
+    }
+
+    /// The name of the DLL.
+    pub fn import_name(&self) -> &str
+        ensures { result.now ≡ self.now.definition.import_name }
+    {
+        self.def.import_name.as_str()
     }
 
     /// The members, in order.
+    ///
+    /// Refuses, by the first that holds: an empty import name, a NUL in it; then for each export that
+    /// is not private, in order, an empty name, a NUL in one of its texts, an empty name to ask for;
+    /// then a member longer than 2^32 - 1 bytes. The faults of names come whatever memory there is.
     pub fn members(&self) -> Result<Vec<Member>, Error>
         ensures ok { IfOk result (λ members.
             Made self.now.definition self.now.machine self.now.flavor (map member_view members.items)) }
+        ensures reads { IfOk result (λ members.
+            Reads self.now.definition self.now.machine self.now.flavor (map member_view members.items)) }
         ensures refused { IfInvalid result (λ cause.
             refusal self.now.definition self.now.machine self.now.flavor ≡ Some cause) }
+        ensures names_refused_always { RefusesAlways self.now.definition self.now.machine self.now.flavor result }
     {
-        Err(Error::OutOfMemory(AllocError))
+        members_of(&self.def, self.machine, self.flavor)
+    }
+
+    /// An equal library. Refuses for memory alone.
+    pub fn clone(&self) -> Result<Self, Error>
+        ensures ok { IfOk result (λ copy. copy ≡ self.now) }
+        ensures memory { IfErr result (λ error. error_cause error ≡ None) }
+    {
+        Ok(ImportLibrary {
+            def: self.def.clone()?,
+            machine: self.machine,
+            flavor: self.flavor,
+        })
+    }
+}
+
+/// The members of a definition whose exports are under their names to link by.
+pub(crate) fn members_of(
+    def: &ModuleDef,
+    machine: MachineType,
+    flavor: Flavor,
+) -> Result<Vec<Member>, Error>
+    requires { is_renamed (map export_view def.now.exports.items) ≡ true }
+    ensures ok { IfOk result (λ members. Made (definition_view def.now) machine flavor (map member_view members.items)) }
+    ensures reads { IfOk result (λ members. Reads (definition_view def.now) machine flavor (map member_view members.items)) }
+    ensures refused { IfInvalid result (λ cause. refusal (definition_view def.now) machine flavor ≡ Some cause) }
+    ensures names_refused_always { RefusesAlways (definition_view def.now) machine flavor result }
+{
+    if let Some(fault) = names_fault(def, machine, flavor) {
+        return Err(Error::Invalid(fault));
+    }
+    match flavor {
+        Flavor::Msvc => msvc::members(def, machine),
     }
 }

@@ -1,6 +1,13 @@
 //! The tokens of a module definition, as slices of its text.
 
+ghost use Rattle.implib.specs.Division.{BeginsNoGap, PassesGap, SkipsGap, StartsWord, TakesPiece, TakesToken, tokens_left};
+ghost use Rattle.implib.specs.Token.{begins, is_delimiter, is_equal_sign, is_quote, kind_of_word, seen, value_start, IsWordEnd, Lexed, Seen};
+ghost use Rattle.std.specs.Iterator.{item_count, YieldsFirstBy};
+ghost use Rattle.std.specs.Prelude.{◌≡◌, ◌==◌, ◌+◌, ◌<◌, ◌≤◌, ◌^◌, [], ◌∷◌, drop, length, take, true, List};
+ghost use Rattle.std.specs.Str.{trim, IsCharBoundary, IsUtf8};
+
 use std::fmt;
+use std::marker::Model;
 
 /// What a token is.
 #[derive(Clone, Copy, Debug, Default, PartialEq, Eq)]
@@ -58,3 +65,230 @@ pub struct Token<'a> {
     /// The byte offset in the text.
     pub at: usize,
 }
+
+/// The tokens of a text, in order: `Eof` comes once, last.
+#[derive(Drop)]
+pub struct Lexer<'a> {
+    text: &'a str,
+    rest: &'a str,
+    is_done: bool,
+}
+
+impl<'a> Model for Lexer<'a> {
+    ghost Value = { List Seen };
+
+    ghost view = { λ l. tokens_left l.text.now l.rest.now l.is_done };
+
+    ghost invariant = { λ l. length l.rest.now ≤ length l.text.now };
+}
+
+impl<'a> Lexer<'a> {
+    /// The tokens of `text`, none of them given yet.
+    pub fn new(text: &'a str) -> Self
+        ensures { Lexed text.now result }
+    {
+        Lexer {
+            text,
+            rest: text,
+            is_done: false,
+        }
+    }
+}
+
+impl<'a> Iterator for Lexer<'a> {
+    type Item = Token<'a>;
+
+    ghost next_gives = { YieldsFirstBy seen (λ s. s) };
+
+    ghost remaining = { item_count (λ s. s) };
+
+    fn next(&mut self) -> Option<Token<'a>> {
+        if self.is_done {
+            return None;
+        }
+        let start = skip_gap(self.rest);
+        let at = self.text.len() - start.len();
+        let (token, after) = first_token(start, at);
+        self.rest = after;
+        self.is_done = token.kind == TokenKind::Eof;
+        Some(token)
+    }
+}
+
+/// The first place, not below `from`, that holds a byte which ends a word, or the length.
+///
+/// The bytes `=`, `,`, `;`, `\r`, `\n`, space, `\t` and `\x0B` end a word. The bytes need not be
+/// UTF-8.
+pub fn word_end(bytes: &[u8], from: usize) -> usize
+    requires { from ≤ length bytes.now }
+    ensures { IsWordEnd bytes.now from result }
+{
+    let mut end = from;
+    while end < bytes.len() && !is_delimiter(bytes[end]) {
+        end += 1;
+    }
+    end
+}
+
+// Whether the byte ends a word.
+fn is_delimiter(byte: u8) -> bool
+    ensures { result ≡ is_delimiter byte }
+{
+    matches!(
+        byte,
+        b'=' | b',' | b';' | b'\r' | b'\n' | b' ' | b'\t' | 0x0B
+    )
+}
+
+// What is left of the text once its white space and comments are passed.
+fn skip_gap(text: &str) -> &str
+    ensures skips { SkipsGap text.now result.now }
+    ensures utf8 { IsUtf8 text.now }
+{
+    let mut rest = text.trim_start();
+    while begins_with(rest, b';') {
+        rest = after_line(&rest[1..]).trim_start();
+    }
+    rest
+}
+
+// Whether this is the first byte of the text.
+fn begins_with(text: &str, byte: u8) -> bool
+    ensures { result ≡ begins (λ b. b == byte) text.now }
+{
+    let bytes = text.as_bytes();
+    !bytes.is_empty() && bytes[0] == byte
+}
+
+// What follows the line of a comment.
+fn after_line(comment: &str) -> &str
+    ensures passes { PassesGap (59 ∷ comment.now) result.now }
+    ensures shorter { length result.now ≤ length comment.now }
+{
+    match comment.split_once('\n') {
+        Some((_, after)) => after,
+        None => &comment[comment.len()..],
+    }
+}
+
+// The token at the front of a text that begins at the byte `at`, and what follows it.
+fn first_token<'a>(text: &'a str, at: usize) -> (Token<'a>, &'a str)
+    requires no_gap { BeginsNoGap text.now }
+    requires fits { at + length text.now < 2 ^ 64 }
+    ensures { TakesToken text.now at (seen result.0) result.1.now }
+{
+    let bytes = text.as_bytes();
+    if bytes.is_empty() || bytes[0] == 0 {
+        return cut_token(TokenKind::Eof, text, 0, at);
+    }
+    match bytes[0] {
+        b'=' => equal_sign(text, at),
+        b',' => cut_token(TokenKind::Comma, text, 1, at),
+        b'"' => quoted_name(text, at),
+        _ => word(text, at),
+    }
+}
+
+// The token whose value is the first `len` bytes, and what follows them.
+fn cut_token<'a>(kind: TokenKind, text: &'a str, len: usize, at: usize) -> (Token<'a>, &'a str)
+    requires { IsCharBoundary text.now len }
+    ensures token { seen result.0 ≡ record { kind = kind; value = take len text.now; at = at } }
+    ensures after { result.1.now ≡ drop len text.now }
+{
+    let (value, after) = text.split_at(len);
+    (Token { kind, value, at }, after)
+}
+
+// The token of the `=` or `==` at the front of the text.
+fn equal_sign<'a>(text: &'a str, at: usize) -> (Token<'a>, &'a str)
+    requires { begins is_equal_sign text.now ≡ true }
+    ensures { TakesPiece text.now at (seen result.0) result.1.now }
+{
+    if begins_with(&text[1..], b'=') {
+        cut_token(TokenKind::EqualEqual, text, 2, at)
+    } else {
+        cut_token(TokenKind::Equal, text, 1, at)
+    }
+}
+
+// The token of the quoted name at the front of the text. Without a closing quote the value is
+// empty, and so it is without anything but white space inside; it then stands right after the
+// opening quote.
+fn quoted_name<'a>(text: &'a str, at: usize) -> (Token<'a>, &'a str)
+    requires quote { begins is_quote text.now ≡ true }
+    requires fits { at + length text.now < 2 ^ 64 }
+    ensures { TakesPiece text.now at (seen result.0) result.1.now }
+{
+    let inside = &text[1..];
+    match inside.split_once('"') {
+        Some((name, after)) => (name_token(name, at + 1), after),
+        None => (empty_name(inside, at + 1), &inside[inside.len()..]),
+    }
+}
+
+// The token of what stands between two quotes, from the byte `at` on.
+fn name_token(name: &str, at: usize) -> Token<'_>
+    requires { at + length name.now < 2 ^ 64 }
+    ensures { seen result ≡ record {
+      kind = TokenKind.Identifier;
+      value = trim name.now;
+      at = at + value_start name.now;
+    } }
+{
+    let start = name.trim_start();
+    let value = start.trim_end();
+    if value.is_empty() {
+        return empty_name(name, at);
+    }
+    Token {
+        kind: TokenKind::Identifier,
+        value,
+        at: at + (name.len() - start.len()),
+    }
+}
+
+// An empty name at the front of the text.
+fn empty_name(text: &str, at: usize) -> Token<'_>
+    ensures { seen result ≡ record { kind = TokenKind.Identifier; value = []; at = at } }
+{
+    Token {
+        kind: TokenKind::Identifier,
+        value: &text[..0],
+        at,
+    }
+}
+
+// The token of the word at the front of the text.
+fn word<'a>(text: &'a str, at: usize) -> (Token<'a>, &'a str)
+    requires { StartsWord text.now }
+    ensures { TakesPiece text.now at (seen result.0) result.1.now }
+{
+    let (run, after) = text.split_at(word_end(text.as_bytes(), 0));
+    let value = run.trim_end();
+    let kind = word_kind(value);
+    (Token { kind, value, at }, after)
+}
+
+// A word is a keyword in this case alone.
+#[tactic(auto, unfolding(crate::specs::Token::kind_of_word))]
+fn word_kind(word: &str) -> TokenKind
+    ensures { result ≡ kind_of_word word.now }
+{
+    match word {
+        "BASE" => TokenKind::KwBase,
+        "CONSTANT" => TokenKind::KwConstant,
+        "DATA" => TokenKind::KwData,
+        "EXPORTS" => TokenKind::KwExports,
+        "HEAPSIZE" => TokenKind::KwHeapsize,
+        "LIBRARY" => TokenKind::KwLibrary,
+        "NAME" => TokenKind::KwName,
+        "NONAME" => TokenKind::KwNoname,
+        "PRIVATE" => TokenKind::KwPrivate,
+        "STACKSIZE" => TokenKind::KwStacksize,
+        "VERSION" => TokenKind::KwVersion,
+        _ => TokenKind::Identifier,
+    }
+}
+
+#[cfg(test)]
+mod tests;

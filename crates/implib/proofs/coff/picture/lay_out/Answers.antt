@@ -1,6 +1,6 @@
 use Rattle.std.proofs.Common.{◌≡◌, ap, arith}
 use Rattle.implib.specs.PictureView.{picture_view}
-use Rattle.implib.proofs.Reading.{length-layout}
+use Rattle.implib.proofs.ObjectReading.{length-layout}
 use Rattle.implib.proofs.coff.picture.lay_out.Goals as goal
 
 pub finish-requires : goal.finish-requires

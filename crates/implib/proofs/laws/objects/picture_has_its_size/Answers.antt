@@ -1,4 +1,4 @@
-use Rattle.implib.proofs.Reading.{length-layout}
+use Rattle.implib.proofs.ObjectReading.{length-layout}
 use Rattle.implib.proofs.laws.objects.picture_has_its_size.Goals as goal
 
 pub returns : goal.returns

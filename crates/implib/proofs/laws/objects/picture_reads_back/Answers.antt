@@ -1,4 +1,4 @@
-use Rattle.implib.proofs.Reading.{object_in-layout}
+use Rattle.implib.proofs.ObjectReading.{object_in-layout}
 use Rattle.implib.proofs.laws.objects.picture_reads_back.Goals as goal
 
 pub returns : goal.returns

@@ -1,0 +1,133 @@
+-- The import that an export's record stands for.
+use Rattle.std.proofs.Common.{◌≡◌, ℕ, ◌<◌, ◌^◌, Bool, true, false, if◌then◌else◌, ◌&&◌, nat_le, nat_lt, List, [], ◌∷◌, Some, refl, ap, ◌∙◌, arith}
+use Rattle.std.specs.Prelude.{◌==◌, bytes_eq, not}
+use Rattle.std.proofs.lemmas.Bool.{eqb-true, le-leb, ltb-true}
+use Rattle.implib.specs.declared.machine.MachineType.{MachineType}
+use Rattle.implib.specs.declared.machine.MachineType.TheVariants.{I386, ARMNT, AMD64, ARM64}
+use Rattle.implib.specs.Definition.{ExportView}
+use Rattle.implib.specs.Import.{Ordinal, Name, holds, begins_with, underscore, at_sign, is_i386, import_symbols, import_meant, ask_meant, asked_name, without_first}
+use Rattle.implib.specs.Machine.{machine_number}
+use Rattle.implib.specs.Msvc.{record_of, record_symbol, symbol_or_name, kind_of, name_type_of, record_listed}
+use Rattle.implib.specs.Reads.{FitsRecord, import_written, ask_written}
+use Rattle.implib.specs.Record.{ShortRecord, import_of_record, asked_by_name_type, import_ordinal, import_name, import_name_noprefix, import_name_undecorate, import_code, import_data, import_const, without_prefix}
+use Rattle.std.proofs.lemmas.Slice.Eq.{bytes_eq-Decides}
+
+machine_number_fits : (machine : MachineType) → machine_number machine < 2 ^ 16
+machine_number_fits I386 = omega arith
+machine_number_fits ARMNT = omega arith
+machine_number_fits AMD64 = omega arith
+machine_number_fits ARM64 = omega arith
+
+-- a choice of numbers is below what each of them is below
+chosen_below : (b : Bool) (x y n : ℕ) → x < n → y < n → (if b then x else y) < n
+chosen_below true x y n first second = first
+chosen_below false x y n first second = second
+
+kind_of_fits : (e : ExportView) → kind_of e < 3
+kind_of_fits e = chosen_below e.is_data 1 (if e.constant then 2 else 0) 3 (omega arith) (chosen_below e.constant 2 0 3 (omega arith) (omega arith))
+
+name_type_of_fits : (machine : MachineType) (e : ExportView) → name_type_of machine e < 4
+name_type_of_fits machine e =
+    chosen_below e.no_name 0 _ 4 (omega arith)
+    (chosen_below (begins_with underscore e.name && holds at_sign e.name) 1 _ 4 (omega arith)
+    (chosen_below (not (bytes_eq (record_symbol e) e.name)) 3 _ 4 (omega arith)
+    (chosen_below (is_i386 machine && begins_with underscore (record_symbol e)) 2 1 4 (omega arith) (omega arith))))
+
+pub symbol_without_nul : (symbol name : List ℕ) → holds 0 symbol ≡ false → holds 0 name ≡ false → holds 0 (symbol_or_name symbol name) ≡ false
+symbol_without_nul [] name symbol_free name_free = name_free
+symbol_without_nul (b ∷ symbol) name symbol_free name_free = symbol_free
+
+-- the record of an export without NULs has room for its fields
+pub FitsRecord-record_of : (machine : MachineType) (dll : List ℕ) (e : ExportView) → holds 0 e.name ≡ false → holds 0 e.symbol_name ≡ false →
+    holds 0 dll ≡ false → nat_lt e.ordinal 0x1_0000 ≡ true → FitsRecord (record_of machine dll e)
+FitsRecord-record_of machine dll e name_free symbol_free dll_free ordinal = record {
+  version = omega arith;
+  machine = machine_number_fits machine;
+  time = omega arith;
+  ordinal = ltb-true e.ordinal 0x1_0000 ordinal;
+  kind = omega (arith, kind_of_fits e);
+  name_type = omega (arith, name_type_of_fits machine e);
+  symbol = symbol_without_nul e.symbol_name e.name symbol_free name_free;
+  dll = dll_free;
+}
+
+-- a record whose types have a meaning stands for the import that they say
+import_by_types : (r : ShortRecord) (is_data no_name : Bool) → nat_le r.kind import_const ≡ true → nat_le r.name_type import_name_undecorate ≡ true →
+    (r.kind == import_data) ≡ is_data → (r.name_type == import_ordinal) ≡ no_name →
+    import_of_record r ≡ Some record {
+      dll = r.dll;
+      declared = import_symbols is_data r.symbol;
+      ask = if no_name then Ordinal r.ordinal else Name (asked_by_name_type r.name_type r.symbol) r.ordinal;
+    }
+import_by_types r is_data no_name kind name_type data' ordinal = rw (kind, name_type, data', ordinal) refl
+
+pub kind_is_data : (is_data constant : Bool) → ((if is_data then import_data else if constant then import_const else import_code) == import_data) ≡ is_data
+kind_is_data true constant = refl
+kind_is_data false true = refl
+kind_is_data false false = refl
+
+-- a choice of numbers that are not 0 is not 0
+chosen_nonzero : (b : Bool) (x y : ℕ) → (x == 0) ≡ false → (y == 0) ≡ false → ((if b then x else y) == 0) ≡ false
+chosen_nonzero true x y first second = first
+chosen_nonzero false x y first second = second
+
+type_is_ordinal : (no_name : Bool) (otherwise : ℕ) → (otherwise == 0) ≡ false → ((if no_name then import_ordinal else otherwise) == import_ordinal) ≡ no_name
+type_is_ordinal true otherwise nonzero = refl
+type_is_ordinal false otherwise nonzero = nonzero
+
+-- the import that the record of an export stands for
+pub import_of_record-record_of : (machine : MachineType) (dll : List ℕ) (e : ExportView) → import_of_record (record_of machine dll e) ≡ Some (import_written machine dll e)
+import_of_record-record_of machine dll e =
+    import_by_types (record_of machine dll e) e.is_data e.no_name
+    (le-leb (kind_of e) 2 (omega (arith, kind_of_fits e)))
+    (le-leb (name_type_of machine e) 3 (omega (arith, name_type_of_fits machine e)))
+    (kind_is_data e.is_data e.constant)
+    (type_is_ordinal e.no_name _
+    (chosen_nonzero (begins_with underscore e.name && holds at_sign e.name) 1 _ refl
+    (chosen_nonzero (not (bytes_eq (record_symbol e) e.name)) 3 _ refl
+    (chosen_nonzero (is_i386 machine && begins_with underscore (record_symbol e)) 2 1 refl refl))))
+
+without_prefix-underscore : (name : List ℕ) → begins_with underscore name ≡ true → without_prefix name ≡ without_first name
+without_prefix-underscore [] begins = cc
+without_prefix-underscore (b ∷ name) begins = let same : b ≡ 0x5F = eqb-true b 0x5F begins in rw same refl
+
+-- the name type of a plain symbol asks for the name without the underscore of I386
+same_name_asked : (i386 begins has : Bool) (name : List ℕ) → begins_with underscore name ≡ begins →
+    asked_by_name_type (if begins && has then import_name else if i386 && begins then import_name_noprefix else import_name) name
+    ≡ (if (i386 && begins) && not has then without_first name else name)
+same_name_asked true true true name is = refl
+same_name_asked true true false name is = without_prefix-underscore name is
+same_name_asked true false true name is = refl
+same_name_asked true false false name is = refl
+same_name_asked false true true name is = refl
+same_name_asked false true false name is = refl
+same_name_asked false false true name is = refl
+same_name_asked false false false name is = refl
+
+-- where the symbol is the name, the name type does not undecorate
+plain_name_type : (begins_has i386_begins same : Bool) → same ≡ true →
+    (if begins_has then import_name else if not same then import_name_undecorate else if i386_begins then import_name_noprefix else import_name)
+    ≡ (if begins_has then import_name else if i386_begins then import_name_noprefix else import_name)
+plain_name_type begins_has i386_begins same is = rw is refl
+
+same_ask : (no_name : Bool) (ordinal name_type : ℕ) (name asked : List ℕ) → asked_by_name_type name_type name ≡ asked →
+    (if no_name then Ordinal ordinal else Name (asked_by_name_type (if no_name then import_ordinal else name_type) name) ordinal)
+    ≡ (if no_name then Ordinal ordinal else Name asked ordinal)
+same_ask true ordinal name_type name asked is = refl
+same_ask false ordinal name_type name asked is = ap (λ x. Name x ordinal) is
+
+-- an export without a symbol name asks for what it means to ask for
+pub ask_written-meant : (machine : MachineType) (e : ExportView) → e.symbol_name ≡ [] → ask_written machine e ≡ ask_meant machine e
+ask_written-meant machine e plain =
+    ap (λ (s : List ℕ). ask_written machine (record e { symbol_name = s })) plain
+    ∙ same_ask e.no_name e.ordinal _ e.name (asked_name machine e.name)
+    (ap (λ n. asked_by_name_type n e.name)
+    (plain_name_type (begins_with underscore e.name && holds at_sign e.name) (is_i386 machine && begins_with underscore e.name) (bytes_eq e.name e.name) ((bytes_eq-Decides e.name e.name).1 refl))
+    ∙ same_name_asked (is_i386 machine) (begins_with underscore e.name) (holds at_sign e.name) e.name refl)
+
+-- and its record stands for the import that it means
+pub import_written-meant : (machine : MachineType) (dll : List ℕ) (e : ExportView) → e.symbol_name ≡ [] → import_written machine dll e ≡ import_meant machine dll e
+import_written-meant machine dll e plain =
+    let listed : record_listed e ≡ import_symbols e.is_data e.name = ap (λ (s : List ℕ). import_symbols e.is_data (symbol_or_name s e.name)) plain in
+    let asks = ask_written-meant machine e plain in
+    rw (listed, asks) refl

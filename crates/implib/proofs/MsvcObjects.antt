@@ -1,0 +1,206 @@
+-- The objects for Microsoft's linker fit what a file has room for.
+use Rattle.std.proofs.Common.{◌≡◌, ℕ, ◌+◌, ◌-◌, ◌<◌, ◌≤◌, ◌^◌, Bool, true, false, if◌then◌else◌, List, [], ◌∷◌, ◌++◌, length, take, refl, ◌∙◌, arith, codes, zero, suc}
+use Rattle.std.specs.Prelude.{nat_eq}
+use Rattle.std.proofs.lemmas.Bool.{or_parts, or_from}
+use Rattle.std.proofs.lemmas.List.Folds.{list_any-append}
+use Rattle.implib.specs.declared.machine.MachineType.{MachineType}
+use Rattle.implib.specs.declared.machine.MachineType.TheVariants.{I386, ARMNT, AMD64, ARM64}
+use Rattle.implib.specs.Import.{holds}
+use Rattle.implib.specs.Machine.{is_32bit, machine_number}
+use Rattle.implib.specs.Bytes.{u32_bytes}
+use Rattle.implib.specs.Constants.{initialized_data, align_4, align_8, read_write, external, static, section_class, undefined, absolute, image_relative}
+use Rattle.implib.specs.MsvcObjects.{symbol, relocation, descriptor_characteristics, weak_auxiliary, base_name, descriptor, descriptor_symbol, null_descriptor, null_descriptor_symbol, null_thunk, null_thunk_symbol, weak_object}
+use Rattle.implib.specs.Object.{ObjectSection}
+use Rattle.implib.specs.Picture.{Picture, PictureSymbol, Fits, FitsAuxiliary, FitsName, FitsRelocation, FitsSection, FitsSymbol, HasNoNul, InRecord, Listed}
+
+-- a text without NUL
+pub HasNoNul-from_holds : (text : List ℕ) → holds 0 text ≡ false → HasNoNul text
+HasNoNul-from_holds [] free = refl
+HasNoNul-from_holds (b ∷ text) free =
+    let parts = or_parts (nat_eq b 0) (holds 0 text) free in
+    rw parts.0 (HasNoNul-from_holds text parts.1)
+
+-- the front of a text without NUL has none
+holds-take : (n : ℕ) (text : List ℕ) → holds 0 text ≡ false → holds 0 (take n text) ≡ false
+holds-take zero text free = refl
+holds-take (suc n) [] free = refl
+holds-take (suc n) (b ∷ text) free =
+    let parts = or_parts (nat_eq b 0) (holds 0 text) free in
+    or_from (nat_eq b 0) (holds 0 (take n text)) parts.0 (holds-take n text parts.1)
+
+holds-chosen : (test : Bool) (first second : List ℕ) → holds 0 first ≡ false → holds 0 second ≡ false → holds 0 (if test then first else second) ≡ false
+holds-chosen true first second first_free second_free = first_free
+holds-chosen false first second first_free second_free = second_free
+
+holds-base_name : (dll : List ℕ) → holds 0 dll ≡ false → holds 0 (base_name dll) ≡ false
+unfolding base_name
+holds-base_name dll free = holds-chosen _ (take (length dll - 4) dll) dll (holds-take (length dll - 4) dll free) free
+
+pub holds-descriptor_symbol : (dll : List ℕ) → holds 0 dll ≡ false → holds 0 (descriptor_symbol dll) ≡ false
+unfolding descriptor_symbol
+holds-descriptor_symbol dll free = holds-base_name dll free
+
+pub holds-null_descriptor_symbol : holds 0 null_descriptor_symbol ≡ false
+unfolding null_descriptor_symbol
+holds-null_descriptor_symbol = refl
+
+pub holds-null_thunk_symbol : (dll : List ℕ) → holds 0 dll ≡ false → holds 0 (null_thunk_symbol dll) ≡ false
+unfolding null_thunk_symbol
+holds-null_thunk_symbol dll free =
+    list_any-append (λ b. nat_eq b 0) (base_name dll) (codes "_NULL_THUNK_DATA")
+    ∙ or_from (holds 0 (base_name dll)) false (holds-base_name dll free) refl
+
+machine_fits : (machine : MachineType) → machine_number machine < 2 ^ 16
+machine_fits I386 = omega arith
+machine_fits ARMNT = omega arith
+machine_fits AMD64 = omega arith
+machine_fits ARM64 = omega arith
+
+image_relative_fits : (machine : MachineType) → image_relative machine < 2 ^ 16
+image_relative_fits I386 = omega arith
+image_relative_fits ARMNT = omega arith
+image_relative_fits AMD64 = omega arith
+image_relative_fits ARM64 = omega arith
+
+descriptor_characteristics_fits : (machine : MachineType) → descriptor_characteristics machine < 2 ^ 16
+descriptor_characteristics_fits I386 = omega arith
+descriptor_characteristics_fits ARMNT = omega arith
+descriptor_characteristics_fits AMD64 = omega arith
+descriptor_characteristics_fits ARM64 = omega arith
+
+relocation_fits : (machine : MachineType) (offset index : ℕ) → offset < 2 ^ 32 → index < 2 ^ 32 → FitsRelocation (relocation machine offset index)
+relocation_fits machine offset index offset_fits index_fits = record { offset = offset_fits; symbol = index_fits; kind = image_relative_fits machine }
+
+-- a symbol whose name is listed
+listed_fits : (strings : List (List ℕ)) (index section class : ℕ) → index < length strings → section < 2 ^ 16 → FitsSymbol strings (symbol (Listed index) section class)
+unfolding FitsName FitsAuxiliary
+listed_fits strings index section class listed section_fits = record { name = listed; value = omega arith; section = section_fits; aux = tt }
+
+-- a symbol whose name stands in its record
+in_record_fits : (strings : List (List ℕ)) (name : List ℕ) (section class : ℕ) → 0 < length name → length name ≤ 8 → holds 0 name ≡ false → section < 2 ^ 16 →
+    FitsSymbol strings (symbol (InRecord name) section class)
+unfolding FitsName FitsAuxiliary
+in_record_fits strings name section class some few free section_fits =
+    record { name = (some, few, HasNoNul-from_holds name free); value = omega arith; section = section_fits; aux = tt }
+
+-- a section without relocations
+plain_section_fits : (name contents : List ℕ) (flags : ℕ) → length name ≡ 8 → flags < 2 ^ 32 → FitsSection (record { name = name; flags = flags; bytes = contents; relocations = [] })
+plain_section_fits name contents flags eight flags_fit = record { name = eight; flags = flags_fit; count = omega arith; relocations = tt }
+
+-- the import descriptor fits
+pub Fits-descriptor : (machine : MachineType) (dll : List ℕ) → holds 0 dll ≡ false → Fits (descriptor machine dll)
+unfolding descriptor
+Fits-descriptor machine dll free =
+    let strings = descriptor_symbol dll ∷ null_descriptor_symbol ∷ null_thunk_symbol dll ∷ [] in
+    record {
+      machine = machine_fits machine;
+      characteristics = descriptor_characteristics_fits machine;
+      count = omega arith;
+      sections = (
+        record {
+          name = refl;
+          flags = omega arith;
+          count = omega arith;
+          relocations = (
+            relocation_fits machine 12 2 (omega arith) (omega arith),
+            (
+              relocation_fits machine 0 3 (omega arith) (omega arith),
+              (relocation_fits machine 16 4 (omega arith) (omega arith), tt),
+            ),
+          );
+        },
+        (plain_section_fits (codes ".idata$6") (dll ++ 0 ∷ []) _ refl (omega arith), tt),
+      );
+      symbols = (
+        listed_fits strings 0 1 external (omega arith) (omega arith),
+        (
+          in_record_fits strings (codes ".idata$2") 1 section_class (omega arith) (omega arith) refl (omega arith),
+          (
+            in_record_fits strings (codes ".idata$6") 2 static (omega arith) (omega arith) refl (omega arith),
+            (
+              in_record_fits strings (codes ".idata$4") undefined section_class (omega arith) (omega arith) refl (omega arith),
+              (
+                in_record_fits strings (codes ".idata$5") undefined section_class (omega arith) (omega arith) refl (omega arith),
+                (
+                  listed_fits strings 1 undefined external (omega arith) (omega arith),
+                  (listed_fits strings 2 undefined external (omega arith) (omega arith), tt),
+                ),
+              ),
+            ),
+          ),
+        ),
+      );
+      strings = (
+        HasNoNul-from_holds (descriptor_symbol dll) (holds-descriptor_symbol dll free),
+        (
+          HasNoNul-from_holds null_descriptor_symbol holds-null_descriptor_symbol,
+          (HasNoNul-from_holds (null_thunk_symbol dll) (holds-null_thunk_symbol dll free), tt),
+        ),
+      );
+    }
+
+-- the null descriptor fits
+pub Fits-null_descriptor : (machine : MachineType) → Fits (null_descriptor machine)
+unfolding null_descriptor
+Fits-null_descriptor machine = record {
+  machine = machine_fits machine;
+  characteristics = descriptor_characteristics_fits machine;
+  count = omega arith;
+  sections = (plain_section_fits (codes ".idata$3") _ _ refl (omega arith), tt);
+  symbols = (listed_fits (null_descriptor_symbol ∷ []) 0 1 external (omega arith) (omega arith), tt);
+  strings = (HasNoNul-from_holds null_descriptor_symbol holds-null_descriptor_symbol, tt);
+}
+
+null_thunk_flags_fit : (is_32bit : Bool) → initialized_data + (if is_32bit then align_4 else align_8) + read_write < 2 ^ 32
+null_thunk_flags_fit true = omega arith
+null_thunk_flags_fit false = omega arith
+
+-- the null thunk fits
+pub Fits-null_thunk : (machine : MachineType) (dll : List ℕ) → holds 0 dll ≡ false → Fits (null_thunk machine dll)
+unfolding null_thunk
+Fits-null_thunk machine dll free = record {
+  machine = machine_fits machine;
+  characteristics = descriptor_characteristics_fits machine;
+  count = omega arith;
+  sections = (
+    plain_section_fits (codes ".idata$5") _ _ refl (null_thunk_flags_fit (is_32bit machine)),
+    (plain_section_fits (codes ".idata$4") _ _ refl (null_thunk_flags_fit (is_32bit machine)), tt),
+  );
+  symbols = (listed_fits (null_thunk_symbol dll ∷ []) 0 1 external (omega arith) (omega arith), tt);
+  strings = (HasNoNul-from_holds (null_thunk_symbol dll) (holds-null_thunk_symbol dll free), tt);
+}
+
+length-weak_auxiliary : length (weak_auxiliary 2) ≡ 18
+unfolding u32_bytes
+length-weak_auxiliary = refl
+
+-- a weak external fits
+pub Fits-weak_object : (machine : MachineType) (weak target : List ℕ) → holds 0 weak ≡ false → holds 0 target ≡ false → Fits (weak_object machine weak target)
+unfolding weak_object FitsName FitsAuxiliary
+Fits-weak_object machine weak target weak_free target_free =
+    let strings = target ∷ weak ∷ [] in
+    record {
+      machine = machine_fits machine;
+      characteristics = omega arith;
+      count = omega arith;
+      sections = (plain_section_fits (codes ".drectve") [] _ refl (omega arith), tt);
+      symbols = (
+        in_record_fits strings (codes "@comp.id") absolute static (omega arith) (omega arith) refl (omega arith),
+        (
+          in_record_fits strings (codes "@feat.00") absolute static (omega arith) (omega arith) refl (omega arith),
+          (
+            listed_fits strings 0 undefined external (omega arith) (omega arith),
+            (record { name = omega arith; value = omega arith; section = omega arith; aux = length-weak_auxiliary }, tt),
+          ),
+        ),
+      );
+      strings = (HasNoNul-from_holds target target_free, (HasNoNul-from_holds weak weak_free, tt));
+    }
+
+-- A picture of the program is a table where its parts are.
+
+pub same_picture : (q : Picture) (machine characteristics : ℕ) (sections : List ObjectSection) (symbols : List PictureSymbol) (strings : List (List ℕ)) →
+    machine ≡ q.machine → characteristics ≡ q.characteristics → sections ≡ q.sections → symbols ≡ q.symbols → strings ≡ q.strings →
+    q ≡ record { machine = machine; characteristics = characteristics; sections = sections; symbols = symbols; strings = strings }
+same_picture q machine characteristics sections symbols strings same_machine same_characteristics same_sections same_symbols same_strings =
+    rw (same_machine, same_characteristics, same_sections, same_symbols, same_strings) refl

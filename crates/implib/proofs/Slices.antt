@@ -1,0 +1,92 @@
+-- Each token's value is a slice of its text.
+use Rattle.std.proofs.Common.{◌≡◌, ℕ, ◌+◌, ◌≤◌, ◌<◌, ◌⊎◌, inl, inr, true, List, [], ◌∷◌, ◌++◌, length, get_or, take, drop, refl, sym, ap, subst, ◌∙◌, arith, append_assoc, length-append, length-take-le, take-append-drop}
+use Rattle.std.proofs.lemmas.List.{append-nil, drop_at, get_or_at, take_at}
+use Rattle.std.proofs.lemmas.Str.{IsCharBoundary-after_ascii, IsCharBoundary-before_ascii, IsUtf8-drop, IsUtf8-take}
+use Rattle.std.specs.List.{AllByRecursion}
+use Rattle.std.specs.Str.{IsUtf8, trim, trim_end}
+use Rattle.implib.specs.Token.{begins, is_delimiter, spelling, text_of, token_of, tokens_from, value_start, Blank, Comment, CommaSign, EachStands, EqualSign, EqualSigns, IsSliceOf, LastComment, Lexed, Piece, Quoted, Seen, Stands, Unclosed, Word}
+use Rattle.implib.proofs.Division.{delimiter_ascii, utf8_after_piece}
+use Rattle.implib.proofs.Gap.{AllByRecursion-append}
+use Rattle.implib.proofs.Trimmed.{take-trim_end, take-value, value_within}
+
+-- what stands between a front and the rest is the slice there
+slice_between : (text front value after : List ℕ) (at : ℕ) → text ≡ front ++ (value ++ after) → at ≡ length front → take (length value) (drop at text) ≡ value
+slice_between text front value after at e place =
+    ap (λ n. take (length value) (drop n text)) place
+    ∙ ap (λ l. take (length value) (drop (length front) l)) e
+    ∙ ap (take (length value)) (drop_at front (value ++ after) (length front) refl)
+    ∙ take_at value after (length value) refl
+
+-- the front of a text before an ASCII byte is text
+utf8_before_ascii : (front after : List ℕ) (b : ℕ) → b < 128 → IsUtf8 (front ++ (b ∷ after)) → IsUtf8 front
+utf8_before_ascii front after b small utf8 =
+    let text = front ++ (b ∷ after) in
+    let at : get_or text (length front) 0 ≡ b = get_or_at front b after 0 (length front) refl in
+    let boundary = IsCharBoundary-before_ascii text (length front) (omega (arith, length-append front (b ∷ after))) (omega (arith, at)) in
+    subst IsUtf8 (take_at front (b ∷ after) (length front) refl) (IsUtf8-take text (length front) utf8 boundary)
+
+utf8_before_stop : (run after : List ℕ) → (after ≡ []) ⊎ (begins is_delimiter after ≡ true) → IsUtf8 (run ++ after) → IsUtf8 run
+utf8_before_stop run [] stops utf8 = subst IsUtf8 (append-nil run) utf8
+utf8_before_stop run (b ∷ after) stops utf8 =
+    elim stops [ inl e ↦ cc | inr ends ↦ utf8_before_ascii run after b (delimiter_ascii b ends) utf8 ]
+
+-- what follows an ASCII byte at the front is text
+utf8_after_first : (b : ℕ) (rest : List ℕ) → b < 128 → IsUtf8 (b ∷ rest) → IsUtf8 rest
+utf8_after_first b rest small utf8 = IsUtf8-drop (b ∷ rest) 1 utf8 (IsCharBoundary-after_ascii (b ∷ rest) 0 utf8 (omega arith) small)
+
+slice_of_word : (text front run after : List ℕ) → text ≡ front ++ (run ++ after) → IsUtf8 run → take (length (trim_end run)) (drop (length front) text) ≡ trim_end run
+slice_of_word text front run after e utf8 =
+    let value = trim_end run in
+    let back = drop (length value) run in
+    let whole : value ++ back ≡ run = ap (λ l. l ++ back) (sym (take-trim_end run utf8)) ∙ take-append-drop (length value) run in
+    slice_between text front value (back ++ after) (length front)
+    (e ∙ ap (λ l. front ++ (l ++ after)) (sym whole) ∙ ap (λ l. front ++ l) (append_assoc value back after))
+    refl
+
+slice_of_name : (text front inside after : List ℕ) → text ≡ front ++ (34 ∷ (inside ++ after)) → IsUtf8 inside → take (length (trim inside)) (drop (length front + 1 + value_start inside) text) ≡ trim inside
+slice_of_name text front inside after e utf8 =
+    let value = trim inside in
+    let start = value_start inside in
+    let before = take start inside in
+    let rest = drop start inside in
+    let back = drop (length value) rest in
+    let bound : start ≤ length inside = omega (arith, value_within inside utf8) in
+    let end_is : value ++ back ≡ rest = ap (λ l. l ++ back) (sym (take-value inside utf8)) ∙ take-append-drop (length value) rest in
+    let whole : before ++ (value ++ back) ≡ inside = ap (λ l. before ++ l) end_is ∙ take-append-drop start inside in
+    let opened = front ++ (34 ∷ before) in
+    let spelled : front ++ (34 ∷ (inside ++ after)) ≡ opened ++ (value ++ (back ++ after)) =
+    ap (λ l. front ++ (34 ∷ (l ++ after))) (sym whole)
+    ∙ ap (λ l. front ++ (34 ∷ l)) (append_assoc before (value ++ back) after ∙ ap (λ l. before ++ l) (append_assoc value back after))
+    ∙ sym (append_assoc front (34 ∷ before) (value ++ (back ++ after))) in
+    slice_between text opened value (back ++ after) (length front + 1 + start) (e ∙ spelled)
+    (omega (arith, length-append front (34 ∷ before), length-take-le start inside bound))
+
+-- the token of a piece, if it has one
+piece_slices : (text front : List ℕ) (piece : Piece) (after : List ℕ) → text ≡ front ++ (spelling piece ++ after) → Stands piece after → IsUtf8 (spelling piece ++ after) → AllByRecursion (IsSliceOf text) (token_of (length front) piece)
+piece_slices text front (Blank c) after e stands utf8 = tt
+piece_slices text front (Comment line) after e stands utf8 = tt
+piece_slices text front (LastComment line) after e stands utf8 = tt
+piece_slices text front EqualSign after e stands utf8 = (slice_between text front (61 ∷ []) after (length front) e refl, tt)
+piece_slices text front EqualSigns after e stands utf8 = (slice_between text front (61 ∷ 61 ∷ []) after (length front) e refl, tt)
+piece_slices text front CommaSign after e stands utf8 = (slice_between text front (44 ∷ []) after (length front) e refl, tt)
+piece_slices text front (Quoted inside) after e stands utf8 =
+    let closed = append_assoc (34 ∷ inside) (34 ∷ []) after in
+    let inner = utf8_before_ascii inside after 34 (omega arith) (utf8_after_first 34 (inside ++ (34 ∷ after)) (omega arith) (subst IsUtf8 closed utf8)) in
+    (slice_of_name text front inside (34 ∷ after) (e ∙ ap (λ l. front ++ l) closed) inner, tt)
+piece_slices text front (Unclosed inside) after e stands utf8 = (refl, tt)
+piece_slices text front (Word run) after e (starts, none, stops) utf8 = (slice_of_word text front run after e (utf8_before_stop run after stops utf8), tt)
+
+pieces_slices : (text front : List ℕ) (pieces : List Piece) (end : List ℕ) → text ≡ front ++ text_of pieces end → EachStands pieces end → IsUtf8 (text_of pieces end) → AllByRecursion (IsSliceOf text) (tokens_from (length front) pieces)
+pieces_slices text front [] end e stand utf8 = (refl, tt)
+pieces_slices text front (piece ∷ pieces) end e stand utf8 =
+    let after = text_of pieces end in
+    let rest = pieces_slices text (front ++ spelling piece) pieces end (e ∙ sym (append_assoc front (spelling piece) after)) stand.1 (utf8_after_piece piece after stand.0 utf8) in
+    AllByRecursion-append (IsSliceOf text) (token_of (length front) piece) (tokens_from (length front + length (spelling piece)) pieces)
+    (piece_slices text front piece after e stand.0 utf8)
+    (subst (λ n. AllByRecursion (IsSliceOf text) (tokens_from n pieces)) (length-append front (spelling piece)) rest)
+
+-- each token's value is the slice of the text at its place
+pub Lexed-slices : (text : List ℕ) (tokens : List Seen) → IsUtf8 text → Lexed text tokens → AllByRecursion (IsSliceOf text) tokens
+Lexed-slices text tokens utf8 lexed =
+    let d = lexed.divides in
+    subst (AllByRecursion (IsSliceOf text)) (sym lexed.given) (pieces_slices text [] lexed.pieces lexed.end d.spelled d.each_stands (subst IsUtf8 d.spelled utf8))

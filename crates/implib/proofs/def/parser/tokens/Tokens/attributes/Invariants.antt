@@ -1,0 +1,15 @@
+use Rattle.std.proofs.Common.{◌≤◌, length}
+use Rattle.implib.specs.Definition.{export_view}
+use Rattle.implib.specs.ParserViews.{all_put}
+use Rattle.implib.specs.Reading.{attribute_read, attributes_read, with_attribute}
+use Rattle.implib.proofs.ParserLoops.{Remains}
+use Rattle.implib.proofs.def.parser.tokens.Tokens.attributes.Given as goal
+
+abbrev pub invariant-loop : goal.invariant-loop
+invariant-loop l = record {
+  shorter : length l.self ≤ length l.initial.self;
+  remains : Remains attribute_read with_attribute l.self (export_view l.export) (all_put with_attribute (export_view l.initial.export) (attributes_read l.initial.self));
+}
+
+abbrev pub decreases-loop : goal.decreases-loop
+decreases-loop l = length l.self

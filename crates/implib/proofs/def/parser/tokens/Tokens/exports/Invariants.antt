@@ -1,0 +1,15 @@
+use Rattle.std.proofs.Common.{◌≤◌, length, map}
+use Rattle.implib.specs.Definition.{export_view}
+use Rattle.implib.specs.ParserViews.{all_put, with_export}
+use Rattle.implib.specs.Reading.{export_read, exports_read}
+use Rattle.implib.proofs.ParserLoops.{Remains}
+use Rattle.implib.proofs.def.parser.tokens.Tokens.exports.Given as goal
+
+abbrev pub invariant-loop : goal.invariant-loop
+invariant-loop l = record {
+  shorter : length l.self ≤ length l.initial.self;
+  remains : Remains export_read (with_export l.machine) l.self (map export_view l.exports.items) (all_put (with_export l.machine) (map export_view l.initial.exports.items) (exports_read l.initial.self));
+}
+
+abbrev pub decreases-loop : goal.decreases-loop
+decreases-loop l = length l.self

@@ -1,0 +1,13 @@
+use Rattle.std.proofs.Common.{length}
+use Rattle.implib.specs.Definition.{definition_view}
+use Rattle.implib.specs.ParserViews.{all_put}
+use Rattle.implib.specs.Reading.{statement_read, statements_read, with_statement}
+use Rattle.implib.proofs.ParserLoops.{Remains}
+use Rattle.implib.proofs.def.parser.tokens.Tokens.statements.Given as goal
+
+abbrev pub invariant-loop : goal.invariant-loop
+invariant-loop l =
+    Remains statement_read (with_statement l.machine) l.self (definition_view l.def) (all_put (with_statement l.machine) (definition_view l.initial.def) (statements_read l.initial.self))
+
+abbrev pub decreases-loop : goal.decreases-loop
+decreases-loop l = length l.self

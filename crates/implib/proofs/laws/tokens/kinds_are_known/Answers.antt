@@ -1,0 +1,5 @@
+use Rattle.implib.proofs.Token.{Lexed-known}
+use Rattle.implib.proofs.laws.tokens.kinds_are_known.Goals as goal
+
+pub returns : goal.returns
+returns c = Lexed-known c.args.text.now

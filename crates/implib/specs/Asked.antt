@@ -1,0 +1,37 @@
+-- What the exports of a text ask their DLL for: the words of the text.
+use Rattle.std.specs.Prelude.{◌≡◌, ℕ, false, List, [], ◌∷◌}
+use Rattle.std.specs.List.{flat_map}
+use Rattle.implib.specs.declared.machine.MachineType.{MachineType}
+use Rattle.implib.specs.Definition.{DefinitionView, ExportView}
+use Rattle.implib.specs.Grammar.{Export, Statement}
+use Rattle.implib.specs.Import.{asked_name}
+use Rattle.implib.specs.Meaning.{exports_in}
+use Rattle.implib.specs.Msvc.{asked_by_record}
+use Rattle.implib.specs.Parses.{Parses}
+use Rattle.implib.specs.Renaming.{renamed}
+
+-- the word that an export is known by outside its DLL: its first identifier, as the text has it
+abbrev pub external_word : Export → List ℕ
+external_word e = e.word
+
+-- the exports of a text, in order
+abbrev pub exports_of_text : List Statement → List Export
+exports_of_text statements = flat_map exports_in statements
+
+-- where an export asks by name, it asks for this word: by what is meant, and by its record
+pub record AsksFor (machine : MachineType) (e : ExportView) (word : List ℕ) : Type 0 where
+  pub meant : e.no_name ≡ false → asked_name machine e.name ≡ word
+  pub by_record : e.no_name ≡ false → asked_by_record machine e ≡ word
+
+-- there are as many exports as there are in the text, and each asks for the word of its own
+abbrev pub EachAsksForItsWord : MachineType → List ExportView → List Export → Type 0
+EachAsksForItsWord machine [] [] = Unit {0}
+EachAsksForItsWord machine [] (e ∷ exports) = ⊥
+EachAsksForItsWord machine (view ∷ views) [] = ⊥
+EachAsksForItsWord machine (view ∷ views) (e ∷ exports) =
+    AsksFor machine view (external_word e) × EachAsksForItsWord machine views exports
+
+-- each export of a text that means this definition, under its name to link by, asks for its word in the text
+abbrev pub AsksForWords : (text : List ℕ) (machine : MachineType) (definition : DefinitionView) → Parses text machine definition → Type 0
+AsksForWords text machine definition parsed =
+    EachAsksForItsWord machine (renamed definition).exports (exports_of_text parsed.statements)

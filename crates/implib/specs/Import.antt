@@ -1,0 +1,114 @@
+-- What a program imports by a definition: of which DLL, under which symbols, asking for what.
+-- Nothing here knows a byte of a file, nor for whose linker the files are.
+use Rattle.std.specs.Prelude.{ℕ, Bool, true, false, ◌&&◌, ◌==◌, not, List, [], ◌∷◌, ◌++◌, map, if◌then◌else◌, codes, bytes_eq}
+use Rattle.std.specs.List.{filter, flat_map, list_any}
+use Rattle.implib.specs.declared.machine.MachineType.{MachineType}
+use Rattle.implib.specs.declared.machine.MachineType.TheVariants.{I386, ARMNT, AMD64, ARM64}
+use Rattle.implib.specs.Definition.{DefinitionView, ExportView}
+use Rattle.implib.specs.Renaming.{renamed}
+
+-- what is asked of the DLL: an ordinal, or a name with a hint where to look for it
+-- (PE/COFF specification, "Import Lookup Table" and "Hint/Name Table")
+pub data Ask : Type 0 where
+  Ordinal : ℕ → Ask
+  Name : List ℕ → ℕ → Ask
+
+-- an import: the DLL, the symbols that stand for it, and what is asked of the DLL
+pub record Import : Type 0 where
+  pub dll : List ℕ
+  pub declared : List (List ℕ)
+  pub ask : Ask
+
+-- a machine whose names carry a leading underscore
+abbrev pub is_i386 : MachineType → Bool
+is_i386 I386 = true
+is_i386 ARMNT = false
+is_i386 AMD64 = false
+is_i386 ARM64 = false
+
+-- whether a name begins with this byte
+abbrev pub begins_with : ℕ → List ℕ → Bool
+begins_with byte [] = false
+begins_with byte (first ∷ rest) = first == byte
+
+-- whether a name holds this byte
+abbrev pub holds : ℕ → List ℕ → Bool
+holds byte name = list_any (λ b. b == byte) name
+
+-- a name without its first byte
+abbrev pub without_first : List ℕ → List ℕ
+without_first [] = []
+without_first (first ∷ rest) = rest
+
+abbrev pub underscore : ℕ
+underscore = 0x5F
+
+abbrev pub at_sign : ℕ
+at_sign = 0x40
+
+-- whether a name has the underscore that I386 puts before an undecorated name
+abbrev pub has_underscore : MachineType → List ℕ → Bool
+has_underscore machine name = is_i386 machine && begins_with underscore name && not (holds at_sign name)
+
+-- the name that an export asks for: its name without that underscore
+abbrev pub asked_name : MachineType → List ℕ → List ℕ
+asked_name machine name = if has_underscore machine name then without_first name else name
+
+-- the symbol of the address that the loader fills in
+abbrev pub address_symbol : List ℕ → List ℕ
+address_symbol name = codes "__imp_" ++ name
+
+-- the symbols of an import: its address, and for what is no data the name itself
+abbrev pub import_symbols : Bool → List ℕ → List (List ℕ)
+import_symbols is_data name = address_symbol name ∷ (if is_data then [] else name ∷ [])
+
+-- what an export asks for
+abbrev pub ask_meant : MachineType → ExportView → Ask
+ask_meant machine e = if e.no_name then Ordinal e.ordinal else Name (asked_name machine e.name) e.ordinal
+
+-- the import that an export means
+abbrev pub import_meant : MachineType → List ℕ → ExportView → Import
+import_meant machine dll e = record {
+  dll = dll;
+  declared = import_symbols e.is_data e.name;
+  ask = ask_meant machine e;
+}
+
+-- a symbol that stands for another where nothing defines it (PE/COFF specification, "Auxiliary Format 3: Weak Externals")
+pub record Alias : Type 0 where
+  pub weak : List ℕ
+  pub target : List ℕ
+
+-- whether two names are one
+abbrev pub same_name : List ℕ → List ℕ → Bool
+same_name first second = bytes_eq first second
+
+-- whether a text is empty
+abbrev pub is_empty_text : List ℕ → Bool
+is_empty_text [] = true
+is_empty_text (first ∷ rest) = false
+
+-- whether a symbol is to stand for an alias target: there is one, and it is another symbol
+abbrev pub is_alias : List ℕ → List ℕ → Bool
+is_alias target symbol = not (is_empty_text target) && not (same_name target symbol)
+
+-- the aliases of a symbol for a target: of the name, and of its address
+abbrev pub aliases_for : List ℕ → List ℕ → List Alias
+aliases_for symbol target =
+    if is_alias target symbol then
+    record { weak = symbol; target = target }
+    ∷ record { weak = address_symbol symbol; target = address_symbol target }
+    ∷ []
+    else []
+
+-- the exports that are not private
+abbrev pub public_exports : DefinitionView → List ExportView
+public_exports d = filter (λ e. not e.private) d.exports
+
+-- the imports that a definition means, in its order
+abbrev pub imports_of : MachineType → DefinitionView → List Import
+imports_of machine d = map (import_meant machine d.import_name) (public_exports (renamed d))
+
+-- the aliases that a definition means, in its order
+abbrev pub aliases_of : DefinitionView → List Alias
+aliases_of d = flat_map (λ e. aliases_for e.name e.alias_target) (public_exports (renamed d))

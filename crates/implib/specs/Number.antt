@@ -1,0 +1,28 @@
+-- Numbers as texts.
+use Rattle.std.specs.Prelude.{◌≡◌, ℕ, ◌<◌, ◌≤◌, ◌⊎◌, List, ◌∷◌, length, IsTrue}
+use Rattle.std.specs.Str.{all_ascii_digits}
+use Rattle.std.specs.Str.Parse.{digits_value}
+
+-- the greatest numbers of 16, 32 and 64 bits
+abbrev pub u16_limit : ℕ
+u16_limit = 0xFFFF
+
+abbrev pub u32_limit : ℕ
+u32_limit = 0xFFFFFFFF
+
+abbrev pub u64_limit : ℕ
+u64_limit = 0xFFFFFFFFFFFFFFFF
+
+-- `+` in ASCII
+abbrev pub plus_sign : ℕ
+plus_sign = 43
+
+-- value is one ASCII digit or more, with or without a `+` in front, and writes in base ten the
+-- number n, which is at most limit; leading zeros are allowed
+pub record IsNumber (value : List ℕ) (limit n : ℕ) : Type 0 where
+  pub digits : List ℕ
+  pub spelled : (value ≡ digits) ⊎ (value ≡ plus_sign ∷ digits)
+  pub all_digits : IsTrue (all_ascii_digits digits)
+  pub some_digit : 0 < length digits
+  pub written : n ≡ digits_value 10 digits
+  pub within : n ≤ limit

@@ -1,0 +1,101 @@
+-- Views of the parser's state and of what its functions answer. No promise cites them.
+use Rattle.std.specs.Prelude.{◌≡◌, ℕ, ◌++◌, Bool, true, false, List, [], ◌∷◌, Option, Some, None, MatchOption, unwrap_or, Result, Ok, Err}
+use Rattle.std.specs.List.{fold}
+use Rattle.std.specs.Borrow.{Bor}
+use Rattle.implib.specs.declared.def.lexer.Token.{Token}
+use Rattle.implib.specs.declared.def.parser.numbers.AtWord.{AtWord}
+use Rattle.implib.specs.declared.def.parser.numbers.AtWord.TheVariants.{Lone, WithOrdinal, Plain}
+use Rattle.implib.specs.declared.error.Error.{Error}
+use Rattle.implib.specs.declared.error.Error.TheVariants.{Invalid, OutOfMemory}
+use Rattle.implib.specs.declared.machine.MachineType.{MachineType}
+use Rattle.implib.specs.Definition.{DefinitionView, ExportView}
+use Rattle.implib.specs.Fault.{Cause, cause_of}
+use Rattle.implib.specs.Grammar.{Export, Statement, Nameless, Named}
+use Rattle.implib.specs.Meaning.{heap_commit_in, heap_reserve_in, image_base_in, import_name_in, major_in, minor_in, stack_commit_in, stack_reserve_in}
+use Rattle.implib.specs.Reading as reading
+use Rattle.implib.specs.Reading.{◌>>=◌, Reads, made_export, with_attribute, with_statement}
+use Rattle.implib.specs.Token.{Seen, seen}
+
+-- the tokens to come: the one that was looked at, if any, and those of the lexer
+abbrev pub ahead : Option Token → List Seen → List Seen
+ahead None tokens = tokens
+ahead (Some token) tokens = seen token ∷ tokens
+
+-- the first token is the one that was given, and the others are left
+abbrev pub TakesFirst : List Seen → Option Token → List Seen → Type 0
+TakesFirst before given after = MatchOption given ((before ≡ []) × (after ≡ [])) (λ token. before ≡ seen token ∷ after)
+
+-- the first token is the one that was given
+abbrev pub ShowsFirst : List Seen → Option Token → Type 0
+ShowsFirst tokens given = MatchOption given (tokens ≡ []) (λ token. (rest : List Seen) × (tokens ≡ seen token ∷ rest))
+
+-- an error is the cause that a reader gives, unless memory ran out
+abbrev pub Fails : {Y : Type 0} → Error → Result Y Cause → Type 0
+Fails (Invalid fault) read = read ≡ Err (cause_of fault)
+Fails (OutOfMemory refused) read = Unit {0}
+
+-- an answer, seen by view, is what a reader gives, unless memory ran out
+abbrev pub Gives : {X Y : Type 0} → (X → Y) → Result X Error → Result Y Cause → Type 0
+Gives view (Ok x) read = read ≡ Ok (view x)
+Gives view (Err e) read = Fails e read
+
+-- an item that was read is put to what is there, and told; or there was none
+abbrev pub put : {A S : Type 0} → (S → A → S) → S → Option A × List Seen → Result (Bool × S × List Seen) Cause
+put apply state (None, rest) = Ok (false, state, rest)
+put apply state (Some item, rest) = Ok (true, apply state item, rest)
+
+-- all items that were read are put to what is there
+abbrev pub put_all : {A S : Type 0} → (S → A → S) → S → List A × List Seen → Result (S × List Seen) Cause
+put_all apply state items = Ok (fold apply state items.0, items.1)
+
+-- the same, of what a reader of one item gives
+abbrev pub one_put : {A S : Type 0} → (S → A → S) → S → Reads (Option A) → Result (Bool × S × List Seen) Cause
+one_put apply state read = read >>= put apply state
+
+-- the same, of what a reader of all items gives
+abbrev pub all_put : {A S : Type 0} → (S → A → S) → S → Reads (List A) → Result (S × List Seen) Cause
+all_put apply state read = read >>= put_all apply state
+
+-- a definition after a statement without exports
+abbrev pub with_settings : DefinitionView → Statement → DefinitionView
+with_settings d s = record {
+  exports = d.exports;
+  import_name = unwrap_or (import_name_in s) d.import_name;
+  image_base = unwrap_or (image_base_in s) d.image_base;
+  stack_reserve = unwrap_or (stack_reserve_in s) d.stack_reserve;
+  stack_commit = unwrap_or (stack_commit_in s) d.stack_commit;
+  heap_reserve = unwrap_or (heap_reserve_in s) d.heap_reserve;
+  heap_commit = unwrap_or (heap_commit_in s) d.heap_commit;
+  major_image_version = unwrap_or (major_in s) d.major_image_version;
+  minor_image_version = unwrap_or (minor_in s) d.minor_image_version;
+  major_os_version = d.major_os_version;
+  minor_os_version = d.minor_os_version;
+}
+
+-- a statement that was read sets what it sets
+abbrev pub put_settings : DefinitionView → Statement × List Seen → Result (DefinitionView × List Seen) Cause
+put_settings d s = Ok (with_settings d s.0, s.1)
+
+-- the same, of what a reader of a statement gives
+abbrev pub settings_put : DefinitionView → Reads Statement → Result (DefinitionView × List Seen) Cause
+settings_put d read = read >>= put_settings d
+
+-- one more export of the machine
+abbrev pub with_export : MachineType → List ExportView → Export → List ExportView
+with_export machine exports e = exports ++ made_export machine e ∷ []
+
+-- what a word is
+abbrev pub at_word_view : AtWord → reading.AtWord
+at_word_view Lone = reading.Lone
+at_word_view (WithOrdinal n) = reading.WithOrdinal n
+at_word_view Plain = reading.Plain
+
+-- the value of a word, if there is one
+abbrev pub value_of : Option (Bor (List ℕ)) → Option (List ℕ)
+value_of None = None
+value_of (Some word) = Some word.now
+
+-- the statement that a name and its base make
+abbrev pub named : Option (Bor (List ℕ) × Option ℕ) → Statement
+named None = Nameless
+named (Some name) = Named (name.0).now name.1

@@ -1,0 +1,87 @@
+-- What the members' bytes are read as.
+use Rattle.std.specs.Prelude.{◌≡◌, ℕ, ◌<◌, ◌^◌, Bool, true, false, List, [], ◌∷◌, ◌++◌, map, drop, length, slice_get, Option, Some, None, if◌then◌else◌}
+use Rattle.std.specs.List.{filter_map, flat_map, list_all}
+use Rattle.std.specs.Option.{option_and_then, option_map}
+use Rattle.implib.specs.declared.library.Flavor.{Flavor}
+use Rattle.implib.specs.declared.library.Flavor.TheVariants.{Msvc}
+use Rattle.implib.specs.declared.machine.MachineType.{MachineType}
+use Rattle.implib.specs.Definition.{DefinitionView, ExportView}
+use Rattle.implib.specs.File.{File, RecordFile, ObjectFile, Meaning, AnImport, AnAlias, declared_by, dll_in, file_in, meaning_in}
+use Rattle.implib.specs.Import.{Alias, Ask, Ordinal, Name, Import, aliases_for, aliases_of, holds, imports_of, is_empty_text, public_exports}
+use Rattle.implib.specs.Made.{Contents, ARecord, AnObject, MemberView, contents_size, plans_of}
+use Rattle.implib.specs.Msvc.{asked_by_record, record_listed, record_symbol}
+use Rattle.implib.specs.Picture.{object_of}
+use Rattle.implib.specs.Record.{ShortRecord}
+use Rattle.implib.specs.Renaming.{renamed}
+
+-- the fields of a record are within what the file has room for
+pub record FitsRecord (r : ShortRecord) : Type 0 where
+  pub version : r.version < 2 ^ 16
+  pub machine : r.machine < 2 ^ 16
+  pub time : r.time < 2 ^ 32
+  pub ordinal : r.ordinal < 2 ^ 16
+  pub kind : r.kind < 4
+  pub name_type : r.name_type < 8
+  pub symbol : holds 0 r.symbol ≡ false
+  pub dll : holds 0 r.dll ≡ false
+
+-- what an export's record asks for, with its symbol name
+abbrev pub ask_written : MachineType → ExportView → Ask
+ask_written machine e = if e.no_name then Ordinal e.ordinal else Name (asked_by_record machine e) e.ordinal
+
+-- the import that an export's record stands for, with its symbol name
+abbrev pub import_written : MachineType → List ℕ → ExportView → Import
+import_written machine dll e = record { dll = dll; declared = record_listed e; ask = ask_written machine e }
+
+-- the file that a plan is to be read as
+abbrev pub file_of : Contents → File
+file_of (ARecord r) = RecordFile r
+file_of (AnObject p) = ObjectFile (object_of p)
+
+-- what an export's members mean, with its symbol name: its aliases, then its import
+abbrev pub meanings_written : MachineType → List ℕ → ExportView → List Meaning
+meanings_written machine dll e =
+    map AnAlias (aliases_for (record_symbol e) e.alias_target) ++ AnImport (import_written machine dll e) ∷ []
+
+-- the import among meanings
+abbrev pub import_among : Meaning → Option Import
+import_among (AnImport i) = Some i
+import_among (AnAlias a) = None
+
+-- the alias among meanings
+abbrev pub alias_among : Meaning → Option Alias
+alias_among (AnImport i) = None
+alias_among (AnAlias a) = Some a
+
+-- whether no export has a symbol name, as after parsing
+abbrev pub has_no_symbol_names : DefinitionView → Bool
+has_no_symbol_names d = list_all (λ e. is_empty_text e.symbol_name) d.exports
+
+-- What the members for Microsoft's linker are read as.
+pub record ReadsForMsvc (d : DefinitionView) (machine : MachineType) (members : List MemberView) : Type 0 where
+  -- each file reads as what was planned: each object as its table, each record as its fields
+  pub files : map (λ m. file_in m.bytes) members ≡ map (λ p. Some (file_of p.contents)) (plans_of (renamed d) machine Msvc)
+  -- each file has the length of what was planned
+  pub lengths : map (λ m. length m.bytes) members ≡ map (λ p. contents_size p.contents) (plans_of (renamed d) machine Msvc)
+  -- each member declares exactly the symbols that it is listed for
+  pub declared : map (λ m. option_map declared_by (file_in m.bytes)) members ≡ map (λ m. Some m.symbols) members
+  -- the first member, the import descriptor, names the DLL
+  pub dll : option_and_then (λ m. dll_in m.bytes) (slice_get members 0) ≡ Some d.import_name
+  -- after the first three, the members mean, export by export, its aliases and its import
+  pub meanings : map (λ m. meaning_in m.bytes) (drop 3 members)
+      ≡ map Some (flat_map (meanings_written machine d.import_name) (public_exports (renamed d)))
+
+-- Where no export has a symbol name, the members mean the imports and the aliases of the definition.
+pub record MeansWhatIsMeant (d : DefinitionView) (machine : MachineType) (members : List MemberView) : Type 0 where
+  pub meanings : List Meaning
+  -- after the first three, each member is an import or an alias
+  pub read : map (λ m. meaning_in m.bytes) (drop 3 members) ≡ map Some meanings
+  -- the imports are those that are meant, in order
+  pub imports : filter_map import_among meanings ≡ imports_of machine d
+  -- the aliases are those that are meant, in order
+  pub aliases : filter_map alias_among meanings ≡ aliases_of d
+
+-- what the members of a flavour are read as
+pub record Reads (d : DefinitionView) (machine : MachineType) (flavor : Flavor) (members : List MemberView) : Type 0 where
+  pub files : ReadsForMsvc d machine members
+  pub meant : has_no_symbol_names d ≡ true → MeansWhatIsMeant d machine members

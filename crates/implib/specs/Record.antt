@@ -1,0 +1,120 @@
+-- Reading a short import record (PE/COFF specification, "Import Library Format"):
+-- a header of 20 bytes, then the symbol and the DLL's name, each ended by a NUL.
+-- The reader takes what it finds in the bytes, and knows nothing of who wrote them.
+use Rattle.std.specs.Prelude.{ℕ, ◌-◌, ◌/◌, ◌%◌, Bool, ◌&&◌, ◌==◌, nat_le, List, [], ◌∷◌, length, drop, Option, Some, None, if◌then◌else◌}
+use Rattle.std.specs.List.{before_first}
+use Rattle.implib.specs.Import.{Ask, Ordinal, Name, Import, import_symbols, without_first, begins_with, underscore, at_sign}
+use Rattle.implib.specs.Object.{u16_at, u32_at}
+
+-- the fields of a record
+pub record ShortRecord : Type 0 where
+  pub version : ℕ
+  pub machine : ℕ
+  pub time : ℕ
+  pub ordinal : ℕ
+  pub kind : ℕ
+  pub name_type : ℕ
+  pub symbol : List ℕ
+  pub dll : List ℕ
+
+-- the bytes of the header
+abbrev pub record_header_size : ℕ
+record_header_size = 20
+
+-- "Import Type"
+abbrev pub import_code : ℕ
+import_code = 0
+
+abbrev pub import_data : ℕ
+import_data = 1
+
+abbrev pub import_const : ℕ
+import_const = 2
+
+-- "Import Name Type"
+abbrev pub import_ordinal : ℕ
+import_ordinal = 0
+
+abbrev pub import_name : ℕ
+import_name = 1
+
+abbrev pub import_name_noprefix : ℕ
+import_name_noprefix = 2
+
+abbrev pub import_name_undecorate : ℕ
+import_name_undecorate = 3
+
+-- one more byte at the front of the text that was found
+abbrev pub text_longer : ℕ → Option (List ℕ × List ℕ) → Option (List ℕ × List ℕ)
+text_longer byte None = None
+text_longer byte (Some (text, rest)) = Some (byte ∷ text, rest)
+
+-- the text up to the first NUL, and what follows that NUL
+abbrev pub text_in : List ℕ → Option (List ℕ × List ℕ)
+text_in [] = None
+text_in (byte ∷ rest) = if byte == 0 then Some ([], rest) else text_longer byte (text_in rest)
+
+-- whether a header stands at the front, and its size is that of all that follows it
+abbrev pub is_record : List ℕ → Bool
+is_record bytes =
+    nat_le record_header_size (length bytes) && (u16_at bytes 0 == 0) && (u16_at bytes 2 == 0xFFFF)
+    && (u32_at bytes 12 == length bytes - record_header_size)
+
+-- the record, where nothing follows the second text
+abbrev pub record_with : List ℕ → List ℕ → Option (List ℕ × List ℕ) → Option ShortRecord
+record_with bytes symbol None = None
+record_with bytes symbol (Some (dll, byte ∷ rest)) = None
+record_with bytes symbol (Some (dll, [])) = Some record {
+  version = u16_at bytes 4;
+  machine = u16_at bytes 6;
+  time = u32_at bytes 8;
+  ordinal = u16_at bytes 16;
+  kind = u16_at bytes 18 % 4;
+  name_type = u16_at bytes 18 / 4 % 8;
+  symbol = symbol;
+  dll = dll;
+}
+
+-- the record, from its first text and what follows it
+abbrev pub record_from : List ℕ → Option (List ℕ × List ℕ) → Option ShortRecord
+record_from bytes None = None
+record_from bytes (Some (symbol, rest)) = record_with bytes symbol (text_in rest)
+
+-- the record that these bytes are
+unfoldable pub short_record_in : List ℕ → Option ShortRecord
+short_record_in bytes = if is_record bytes then record_from bytes (text_in (drop record_header_size bytes)) else None
+
+-- a symbol without one leading `?`, `@` or `_`
+abbrev pub without_prefix : List ℕ → List ℕ
+without_prefix symbol =
+    if begins_with 0x3F symbol then without_first symbol
+    else if begins_with at_sign symbol then without_first symbol
+    else if begins_with underscore symbol then without_first symbol
+    else symbol
+
+-- a symbol up to its first `@`
+abbrev pub before_at_sign : List ℕ → List ℕ
+before_at_sign symbol = before_first (λ byte. byte == at_sign) symbol
+
+-- the name that a record asks for, by its name type. The specification leaves open what the last
+-- two cut off; this is this project's reading of it.
+abbrev pub asked_by_name_type : ℕ → List ℕ → List ℕ
+asked_by_name_type name_type symbol =
+    if name_type == import_name then symbol
+    else if name_type == import_name_noprefix then without_prefix symbol
+    else before_at_sign (without_prefix symbol)
+
+-- what a record asks of its DLL
+abbrev pub ask_of_record : ShortRecord → Ask
+ask_of_record r =
+    if r.name_type == import_ordinal then Ordinal r.ordinal
+    else Name (asked_by_name_type r.name_type r.symbol) r.ordinal
+
+-- the import that a record stands for, where its types have a meaning
+abbrev pub import_of_record : ShortRecord → Option Import
+import_of_record r =
+    if nat_le r.kind import_const && nat_le r.name_type import_name_undecorate then Some record {
+      dll = r.dll;
+      declared = import_symbols (r.kind == import_data) r.symbol;
+      ask = ask_of_record r;
+    } else None

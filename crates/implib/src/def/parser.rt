@@ -1,0 +1,161 @@
+//! The statements of a module definition.
+
+ghost use Rattle.implib.specs.Definition.{definition_view};
+ghost use Rattle.implib.specs.Fault.{IfInvalid};
+ghost use Rattle.implib.specs.Parser.{ParsesFrom, RefusesFrom};
+ghost use Rattle.implib.specs.ParserViews.{all_put, Gives, one_put, settings_put};
+ghost use Rattle.implib.specs.Reading.{name_read, statement_read, statements_read, with_statement};
+ghost use Rattle.implib.specs.Token.{Lexed};
+ghost use Rattle.std.specs.Prelude.{◌≡◌, ◌<◌, ◌≤◌, length, IfOk, IsTrue, OnOk};
+
+mod attributes;
+mod exports;
+mod numbers;
+mod settings;
+mod tokens;
+
+use crate::def::ModuleDef;
+use crate::def::lexer::TokenKind;
+use crate::def::parser::tokens::Tokens;
+use crate::error::{Error, Fault};
+use crate::machine::MachineType;
+use std::alloc::Global;
+use std::marker::Model;
+
+/// A parser of one module definition, for one machine.
+///
+/// It borrows the text, and keeps no copy of it.
+#[derive(Drop)]
+pub struct Parser<'a> {
+    tokens: Tokens<'a>,
+    machine: MachineType,
+}
+
+impl<'a> Model for Parser<'a> {
+    ghost use Rattle.implib.specs.Parser.{Source};
+
+    ghost Value = { Source };
+
+    ghost view = { λ p. record { tokens = p.tokens; machine = p.machine } };
+}
+
+impl<'a> Parser<'a> {
+    /// A parser at the beginning of the text.
+    pub fn new(text: &'a str, machine: MachineType) -> Self
+        ensures tokens { Lexed text.now result.tokens }
+        ensures machine { result.machine ≡ machine }
+    {
+        Parser {
+            tokens: Tokens::new(text),
+            machine,
+        }
+    }
+
+    /// What the text means on the machine, in time linear in its length.
+    ///
+    /// # Errors
+    ///
+    /// `Invalid` where the text is no module definition, with the first of
+    /// `UnknownDirective`, `ExpectedIdentifier`, `ExpectedEqual`, `ExpectedInteger`,
+    /// `InvalidOrdinal` and `LoneAt` that its tokens meet from the left; `OutOfMemory` where
+    /// memory was asked for and not given.
+    pub fn parse(self, alloc: Global) -> Result<ModuleDef, Error>
+        ensures parses { IfOk result (λ d. ParsesFrom self.entry (definition_view d)) }
+        ensures refused { IfInvalid result (RefusesFrom self.entry) }
+    {
+        let Parser {
+            mut tokens,
+            machine,
+        } = self;
+        let mut def = ModuleDef::empty(alloc);
+        tokens.statements(alloc, machine, &mut def)?;
+        Ok(def)
+    }
+}
+
+impl<'a> Tokens<'a> {
+    /// Reads all statements into the definition.
+    fn statements(
+        &mut self,
+        alloc: Global,
+        machine: MachineType,
+        def: &mut ModuleDef,
+    ) -> Result<(), Error>
+        ensures { Gives (λ _. (definition_view def.new, self.new)) result
+            (all_put (with_statement machine) (definition_view def.old)
+            (statements_read self.old)) }
+    {
+        while self.statement(alloc, machine, def)? {}
+        Ok(())
+    }
+
+    /// Reads a statement into the definition, and answers false where the tokens end.
+    #[tactic(auto, unfolding(crate::specs::Reading::statement_read))]
+    fn statement(
+        &mut self,
+        alloc: Global,
+        machine: MachineType,
+        def: &mut ModuleDef,
+    ) -> Result<bool, Error>
+        ensures read { Gives (λ more. (more, definition_view def.new, self.new)) result
+            (one_put (with_statement machine) (definition_view def.old)
+            (statement_read self.old)) }
+        ensures no_longer { OnOk result (length self.new ≤ length self.old) }
+        ensures shorter { IfOk result (λ more. IsTrue more → length self.new < length self.old) }
+    {
+        let Some(token) = self.peek() else {
+            return Ok(false);
+        };
+        if token.kind == TokenKind::Eof {
+            return Ok(false);
+        }
+        self.advance();
+        match token.kind {
+            TokenKind::KwExports => self.exports(alloc, machine, &mut def.exports)?,
+            TokenKind::KwHeapsize => {
+                let (reserve, commit) = self.sizes()?;
+                def.heap_reserve = reserve;
+                def.heap_commit = commit.unwrap_or(0);
+            }
+            TokenKind::KwStacksize => {
+                let (reserve, commit) = self.sizes()?;
+                def.stack_reserve = reserve;
+                def.stack_commit = commit.unwrap_or(0);
+            }
+            TokenKind::KwName | TokenKind::KwLibrary => self.set_name(alloc, def)?,
+            TokenKind::KwVersion => {
+                let (major, minor) = self.version()?;
+                def.major_image_version = major;
+                def.minor_image_version = minor;
+            }
+            _ => {
+                let value = String::from_str(alloc, token.value)?;
+                return Err(Error::Invalid(Fault::UnknownDirective(value)));
+            }
+        }
+        Ok(true)
+    }
+
+    /// Sets the name and the base, to nothing and 0 where they are not given.
+    fn set_name(&mut self, alloc: Global, def: &mut ModuleDef) -> Result<(), Error>
+        ensures read { Gives (λ _. (definition_view def.new, self.new)) result
+            (settings_put (definition_view def.old) (name_read self.old)) }
+        ensures no_longer { OnOk result (length self.new ≤ length self.old) }
+    {
+        match self.name()? {
+            None => {
+                def.import_name = String::new(alloc);
+                def.image_base = 0;
+                Ok(())
+            }
+            Some((name, base)) => {
+                def.import_name = String::from_str(alloc, name)?;
+                def.image_base = base.unwrap_or(0);
+                Ok(())
+            }
+        }
+    }
+}
+
+#[cfg(test)]
+mod tests;

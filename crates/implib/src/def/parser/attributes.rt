@@ -1,0 +1,130 @@
+//! The attributes of an export.
+
+ghost use Rattle.implib.specs.Definition.{export_view};
+ghost use Rattle.implib.specs.Grammar.{Joined};
+ghost use Rattle.implib.specs.ParserViews.{all_put, Gives, one_put};
+ghost use Rattle.implib.specs.Reading.{
+  attribute_read,
+  attributes_read,
+  no_name_read,
+  ordinal_read,
+  with_attribute,
+};
+ghost use Rattle.std.specs.Prelude.{◌≡◌, ◌<◌, ◌≤◌, length, IfOk, IsTrue, OnOk};
+
+use crate::def::ShortExport;
+use crate::def::lexer::TokenKind;
+use crate::def::parser::numbers::{AtWord, at_word, u16_of};
+use crate::def::parser::tokens::Tokens;
+use crate::error::{Error, Fault};
+use std::alloc::Global;
+
+impl<'a> Tokens<'a> {
+    /// Reads all attributes that stand here into the export.
+    pub fn attributes(&mut self, alloc: Global, export: &mut ShortExport) -> Result<(), Error>
+        ensures read { Gives (λ _. (export_view export.new, self.new)) result
+            (all_put with_attribute (export_view export.old) (attributes_read self.old)) }
+        ensures no_longer { OnOk result (length self.new ≤ length self.old) }
+    {
+        while self.attribute(alloc, export)? {}
+        Ok(())
+    }
+
+    /// Reads an attribute into the export, and answers false where none stands.
+    #[tactic(auto, unfolding(crate::specs::Reading::attribute_read))]
+    fn attribute(&mut self, alloc: Global, export: &mut ShortExport) -> Result<bool, Error>
+        ensures read { Gives (λ more. (more, export_view export.new, self.new)) result
+            (one_put with_attribute (export_view export.old) (attribute_read self.old)) }
+        ensures no_longer { OnOk result (length self.new ≤ length self.old) }
+        ensures shorter { IfOk result (λ more. IsTrue more → length self.new < length self.old) }
+    {
+        let Some(token) = self.peek() else {
+            return Ok(false);
+        };
+        match token.kind {
+            TokenKind::Identifier => match at_word(token.value) {
+                AtWord::Plain => return Ok(false),
+                AtWord::Lone => {
+                    self.advance();
+                    let ordinal = self.ordinal(alloc)?;
+                    self.set_ordinal(ordinal, export);
+                }
+                AtWord::WithOrdinal(ordinal) => {
+                    self.advance();
+                    self.set_ordinal(ordinal, export);
+                }
+            },
+            TokenKind::EqualEqual => {
+                self.advance();
+                let target = self.identifier()?;
+                export.alias_target = String::from_str(alloc, target)?;
+            }
+            TokenKind::KwData => {
+                self.advance();
+                export.is_data = true;
+            }
+            TokenKind::KwConstant => {
+                self.advance();
+                export.constant = true;
+            }
+            TokenKind::KwPrivate => {
+                self.advance();
+                export.private = true;
+            }
+            _ => return Ok(false),
+        }
+        Ok(true)
+    }
+
+    /// The ordinal in the token after a lone `@`.
+    #[tactic(auto, unfolding(crate::specs::Reading::ordinal_read))]
+    fn ordinal(&mut self, alloc: Global) -> Result<u16, Error>
+        ensures read { Gives (λ n. (n, self.new)) result (ordinal_read self.old) }
+        ensures no_longer { OnOk result (length self.new ≤ length self.old) }
+    {
+        let Some(token) = self.advance() else {
+            return Err(Error::Invalid(Fault::ExpectedIdentifier(TokenKind::Eof)));
+        };
+        if token.kind == TokenKind::Eof {
+            return Err(Error::Invalid(Fault::ExpectedIdentifier(TokenKind::Eof)));
+        }
+        match u16_of(token.value) {
+            Some(ordinal) => Ok(ordinal),
+            None => {
+                let value = String::from_str(alloc, token.value)?;
+                Err(Error::Invalid(Fault::InvalidOrdinal(value)))
+            }
+        }
+    }
+
+    /// Sets the ordinal of the export, and takes `NONAME` after it.
+    fn set_ordinal(&mut self, ordinal: u16, export: &mut ShortExport)
+        ensures set { export_view export.new
+            ≡ with_attribute (export_view export.old) (Joined ordinal (no_name_read self.old).0) }
+        ensures rest { self.new ≡ (no_name_read self.old).1 }
+        ensures no_longer { length self.new ≤ length self.old }
+    {
+        export.ordinal = ordinal;
+        if self.no_name() {
+            export.no_name = true;
+        }
+    }
+
+    /// Takes `NONAME`, and says whether it was there.
+    #[tactic(auto, unfolding(crate::specs::Reading::no_name_read))]
+    fn no_name(&mut self) -> bool
+        ensures read { (result, self.new) ≡ no_name_read self.old }
+        ensures no_longer { length self.new ≤ length self.old }
+    {
+        let Some(token) = self.peek() else {
+            return false;
+        };
+        match token.kind {
+            TokenKind::KwNoname => {
+                self.advance();
+                true
+            }
+            _ => false,
+        }
+    }
+}

@@ -1,0 +1,129 @@
+//! The exports of a statement, and their names.
+
+ghost use Rattle.implib.specs.Definition.{export_view};
+ghost use Rattle.implib.specs.Meaning.{decorated, is_decorated};
+ghost use Rattle.implib.specs.ParserViews.{all_put, Gives, one_put, value_of, with_export};
+ghost use Rattle.implib.specs.Reading.{export_read, exports_read, named_export, target_read};
+ghost use Rattle.std.specs.Prelude.{◌≡◌, ◌<◌, ◌≤◌, length, map, IfOk, IsTrue, OnOk};
+ghost use Rattle.std.specs.String.{string_bytes};
+
+use crate::def::ShortExport;
+use crate::def::lexer::TokenKind;
+use crate::def::parser::numbers::{AtWord, at_word};
+use crate::def::parser::tokens::Tokens;
+use crate::error::{Error, Fault};
+use crate::machine::MachineType;
+use std::alloc::{AllocError, Global};
+
+impl<'a> Tokens<'a> {
+    /// Reads all exports that stand here onto the list.
+    pub fn exports(
+        &mut self,
+        alloc: Global,
+        machine: MachineType,
+        exports: &mut Vec<ShortExport>,
+    ) -> Result<(), Error>
+        ensures read { Gives (λ _. (map export_view exports.new.items, self.new)) result
+            (all_put (with_export machine) (map export_view exports.old.items)
+            (exports_read self.old)) }
+        ensures no_longer { OnOk result (length self.new ≤ length self.old) }
+    {
+        while self.export(alloc, machine, exports)? {}
+        Ok(())
+    }
+
+    /// Reads an export onto the list, and answers false where none stands.
+    #[tactic(auto, unfolding(crate::specs::Reading::export_read))]
+    fn export(
+        &mut self,
+        alloc: Global,
+        machine: MachineType,
+        exports: &mut Vec<ShortExport>,
+    ) -> Result<bool, Error>
+        ensures read { Gives (λ more. (more, map export_view exports.new.items, self.new)) result
+            (one_put (with_export machine) (map export_view exports.old.items)
+            (export_read self.old)) }
+        ensures no_longer { OnOk result (length self.new ≤ length self.old) }
+        ensures shorter { IfOk result (λ more. IsTrue more → length self.new < length self.old) }
+    {
+        let Some(token) = self.peek() else {
+            return Ok(false);
+        };
+        match token.kind {
+            TokenKind::Identifier => {
+                self.advance();
+                let target = self.target()?;
+                let mut export = named_export(alloc, machine, token.value, target)?;
+                self.attributes(alloc, &mut export)?;
+                exports.push(export)?;
+                Ok(true)
+            }
+            _ => Ok(false),
+        }
+    }
+
+    /// The word after the `=` of an export, if they are there.
+    #[tactic(auto, unfolding(crate::specs::Reading::target_read))]
+    fn target(&mut self) -> Result<Option<&'a str>, Error>
+        ensures read { Gives (λ target. (value_of target, self.new)) result
+            (target_read self.old) }
+        ensures no_longer { OnOk result (length self.new ≤ length self.old) }
+    {
+        let Some(token) = self.peek() else {
+            return Ok(None);
+        };
+        match token.kind {
+            TokenKind::Equal => {
+                self.advance();
+                let target = self.identifier()?;
+                match at_word(target) {
+                    AtWord::Lone => Err(Error::Invalid(Fault::LoneAt)),
+                    _ => Ok(Some(target)),
+                }
+            }
+            _ => Ok(None),
+        }
+    }
+}
+
+/// An export with its names alone: the word, or the target inside and the word outside.
+fn named_export(
+    alloc: Global,
+    machine: MachineType,
+    word: &str,
+    target: Option<&str>,
+) -> Result<ShortExport, AllocError>
+    ensures { IfOk result
+        (λ e. export_view e ≡ named_export machine word.now (value_of target.entry)) }
+{
+    let mut export = ShortExport::empty(alloc);
+    match target {
+        None => export.name = decorated(alloc, machine, word)?,
+        Some(target) => {
+            export.name = decorated(alloc, machine, target)?;
+            export.ext_name = Some(decorated(alloc, machine, word)?);
+        }
+    }
+    Ok(export)
+}
+
+/// The name to link by: on I386 with `_` in front, unless it begins with `?` or holds `@`.
+fn decorated(alloc: Global, machine: MachineType, name: &str) -> Result<String, AllocError>
+    ensures { IfOk result (λ made. string_bytes made ≡ decorated machine name.now) }
+{
+    let mut made = String::new(alloc);
+    match machine {
+        MachineType::I386 if !is_decorated(name) => made.push('_')?,
+        _ => {}
+    }
+    made.push_str(name)?;
+    Ok(made)
+}
+
+/// Whether the name begins with `?` or holds `@`.
+fn is_decorated(name: &str) -> bool
+    ensures { result ≡ is_decorated name.now }
+{
+    let bytes = name.as_bytes();
+    bytes.first() == Some(&b'?') || bytes.contains(&b'@')
+}

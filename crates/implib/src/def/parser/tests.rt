@@ -1,0 +1,210 @@
+use super::*;
+use crate::def::ShortExport;
+use std::alloc::AllocError;
+use std::fmt::Write;
+use std::test::Fail;
+
+/// Texts for AMD64, each with what it means or why it is refused, in the words of `outcome`.
+const OUTCOMES: [(&str, &str); 51] = [
+    ("", ""),
+    ("EXPORTS\nfoo @10 NONAME", "; foo @10 noname"),
+    ("EXPORTS\nfoo @70000", "; foo; @70000"),
+    ("EXPORTS foo NONAME", "unknown directive: NONAME"),
+    ("HEAPSIZE 1,2", " heap 1 2"),
+    ("HEAPSIZE 1", " heap 1 0"),
+    ("HEAPSIZE 1,", "expected identifier, found: Eof"),
+    ("STACKSIZE 3,4", " stack 3 4"),
+    ("VERSION 1.2", " version 1.2"),
+    ("VERSION 1.2.3", "expected integer"),
+    (
+        " \x0bEXPORTS D \x0b===",
+        "expected identifier, found: Equal",
+    ),
+    ("EXPORTS 8= @", "lone @ after ="),
+    ("NAME a.exe BASE=4096", "a.exe base 4096"),
+    ("NAME a.exe BASE=4096\nLIBRARY", ""),
+    (
+        "LIBRARY foo.dll\nEXPORTS\nfoo = bar == baz",
+        "foo.dll; bar outside foo for baz",
+    ),
+    (
+        ";\n; Definition file of python310.dll\n;\nLIBRARY \"python310.dll\"\nEXPORTS\nPyAIter_Check\nPyArg_Parse\nPyByteArray_Type DATA\nPyBytesIter_Type DATA",
+        "python310.dll; PyAIter_Check; PyArg_Parse; PyByteArray_Type data; PyBytesIter_Type data",
+    ),
+    ("EXPORTS\nf @ x", "invalid ordinal: x"),
+    ("EXPORTS\nf @", "expected identifier, found: Eof"),
+    ("LIBRARY a\0b", "a\0b"),
+    ("LIBRARY a.dll \0EXPORTS x", "a.dll"),
+    ("NAME foo", "foo"),
+    ("LIBRARY foo.dll", "foo.dll"),
+    (";\n; comment\nLIBRARY foo.dll", "foo.dll"),
+    ("EXPORTS\na\nLIBRARY x\nEXPORTS\nb", "x; a; b"),
+    ("EXPORTS\nf == g == h", "; f for h"),
+    ("NAME x BASE 5", "expected equal, found: Identifier"),
+    ("NAME x BASE=", "expected identifier, found: Eof"),
+    ("foo", "unknown directive: foo"),
+    (",", "unknown directive: ,"),
+    ("LIBRARY \"NAME\"", "NAME"),
+    (
+        "HEAPSIZE 18446744073709551615",
+        " heap 18446744073709551615 0",
+    ),
+    ("HEAPSIZE 18446744073709551616", "expected integer"),
+    ("HEAPSIZE +0007", " heap 7 0"),
+    ("HEAPSIZE -1", "expected integer"),
+    ("HEAPSIZE +", "expected integer"),
+    ("VERSION 4294967295.0", " version 4294967295.0"),
+    ("VERSION 4294967296", "expected integer"),
+    ("VERSION .1", "expected integer"),
+    ("VERSION 1.", "expected integer"),
+    ("EXPORTS f @65535", "; f @65535"),
+    ("EXPORTS f @65536", "; f; @65536"),
+    ("EXPORTS f @ 65536", "invalid ordinal: 65536"),
+    ("EXPORTS @5", "; @5"),
+    ("EXPORTS f @+5", "; f @5"),
+    ("EXPORTS f @ \"7\"", "; f @7"),
+    ("EXPORTS f @ =", "invalid ordinal: ="),
+    ("EXPORTS\na\x0cb\nc\x0c\n", "; a\x0cb; c"),
+    ("LIBRARY \"a.dll", ""),
+    ("; a\0b\nLIBRARY x", "x"),
+    ("LIBRARY \"a\0b\"", "a\0b"),
+    (
+        "EXPORTS f CONSTANT PRIVATE DATA",
+        "; f data private constant",
+    ),
+];
+
+/// Texts for I386, likewise.
+const OUTCOMES_I386: [(&str, &str); 3] = [
+    (
+        "LIBRARY foo.dll\nEXPORTS\nfoo\n@bar@8\n_x@8\n?y",
+        "foo.dll; _foo; @bar@8; _x@8; ?y",
+    ),
+    ("EXPORTS\n\tf@8 @ 1 NONAME DATA ; x", "; f@8 @1 noname data"),
+    ("EXPORTS\nf = @g@4", "; @g@4 outside _f"),
+];
+
+/// What is set in a definition.
+fn shown(def: &ModuleDef) -> Result<String, AllocError> {
+    let mut out = def.import_name.clone()?;
+    if def.image_base != 0 {
+        write!(out, " base {}", def.image_base)?;
+    }
+    if def.heap_reserve != 0 {
+        write!(out, " heap {} {}", def.heap_reserve, def.heap_commit)?;
+    }
+    if def.stack_reserve != 0 {
+        write!(out, " stack {} {}", def.stack_reserve, def.stack_commit)?;
+    }
+    if def.major_image_version != 0 {
+        write!(
+            out,
+            " version {}.{}",
+            def.major_image_version, def.minor_image_version
+        )?;
+    }
+    for export in &def.exports {
+        show_export(&mut out, export)?;
+    }
+    Ok(out)
+}
+
+/// What is set in an export.
+fn show_export(out: &mut String, export: &ShortExport) -> Result<(), AllocError> {
+    write!(out, "; {}", export.name)?;
+    if let Some(name) = &export.ext_name {
+        write!(out, " outside {name}")?;
+    }
+    if !export.alias_target.is_empty() {
+        write!(out, " for {}", export.alias_target)?;
+    }
+    if export.ordinal != 0 {
+        write!(out, " @{}", export.ordinal)?;
+    }
+    let flags = [
+        (export.no_name, " noname"),
+        (export.is_data, " data"),
+        (export.private, " private"),
+        (export.constant, " constant"),
+    ];
+    for (is_set, word) in flags {
+        if is_set {
+            out.push_str(word)?;
+        }
+    }
+    Ok(())
+}
+
+/// What a call answered: the definition, or the fault.
+fn outcome(alloc: Global, answer: Result<ModuleDef, Error>) -> Result<String, AllocError> {
+    match answer {
+        Ok(def) => shown(&def),
+        Err(error) => format!(in alloc; "{error}"),
+    }
+}
+
+#[test]
+fn outcomes(rt: HostRuntime) -> Result<(), Fail> {
+    let alloc = rt.alloc();
+    for (text, expected) in OUTCOMES {
+        let answer = outcome(alloc, ModuleDef::parse(alloc, text, MachineType::AMD64))?;
+        assert_eq!(rt; answer.as_str(), expected, "{text}");
+    }
+    for (text, expected) in OUTCOMES_I386 {
+        let answer = outcome(alloc, Parser::new(text, MachineType::I386).parse(alloc))?;
+        assert_eq!(rt; answer.as_str(), expected, "{text}");
+    }
+    Ok(())
+}
+
+/// What each front of a text means, by the front's length.
+const FRONTS: [&str; 36] = [
+    "",
+    "unknown directive: E",
+    "unknown directive: EX",
+    "unknown directive: EXP",
+    "unknown directive: EXPO",
+    "unknown directive: EXPOR",
+    "unknown directive: EXPORT",
+    "",
+    "",
+    "; f",
+    "; fo",
+    "; foo",
+    "; foo",
+    "expected identifier, found: Eof",
+    "expected identifier, found: Eof",
+    "; b outside foo",
+    "; ba outside foo",
+    "; bar outside foo",
+    "; bar outside foo",
+    "unknown directive: =",
+    "expected identifier, found: Eof",
+    "expected identifier, found: Eof",
+    "; bar outside foo for b",
+    "; bar outside foo for ba",
+    "; bar outside foo for baz",
+    "; bar outside foo for baz",
+    "expected identifier, found: Eof",
+    "expected identifier, found: Eof",
+    "; bar outside foo for baz @1",
+    "; bar outside foo for baz @1",
+    "; bar outside foo for baz @1; N",
+    "; bar outside foo for baz @1; NO",
+    "; bar outside foo for baz @1; NON",
+    "; bar outside foo for baz @1; NONA",
+    "; bar outside foo for baz @1; NONAM",
+    "; bar outside foo for baz @1 noname",
+];
+
+#[test]
+fn each_front(rt: HostRuntime) -> Result<(), Fail> {
+    let alloc = rt.alloc();
+    let text = "EXPORTS\nfoo = bar == baz @ 1 NONAME";
+    for (length, expected) in FRONTS.iter().enumerate() {
+        let front = text.get(..length).ok_or("a front")?;
+        let answer = outcome(alloc, ModuleDef::parse(alloc, front, MachineType::AMD64))?;
+        assert_eq!(rt; answer.as_str(), *expected, "{front}");
+    }
+    Ok(())
+}

@@ -1,0 +1,108 @@
+//! The tokens that a parser has ahead of it.
+
+ghost use Rattle.implib.specs.ParserViews.{Gives, ShowsFirst, TakesFirst};
+ghost use Rattle.implib.specs.Reading.{number_read, sign_read, word_read};
+ghost use Rattle.implib.specs.Token.{Lexed};
+ghost use Rattle.std.specs.Prelude.{◌≡◌, ◌<◌, length, OnOk};
+
+use crate::def::lexer::{Lexer, Token, TokenKind};
+use crate::def::parser::numbers::u64_of;
+use crate::error::{Error, Fault};
+use std::marker::Model;
+
+/// The tokens that are still to be read, the first of which may have been looked at.
+#[derive(Drop)]
+pub struct Tokens<'a> {
+    lexer: Lexer<'a>,
+    pushed: Option<Token<'a>>,
+}
+
+impl<'a> Model for Tokens<'a> {
+    ghost use Rattle.std.specs.Prelude.{List};
+    ghost use Rattle.implib.specs.Token.{Seen};
+
+    ghost Value = { List Seen };
+
+    ghost use Rattle.implib.specs.ParserViews.{ahead};
+
+    ghost view = { λ t. ahead t.pushed t.lexer };
+}
+
+impl<'a> Tokens<'a> {
+    /// All tokens of the text.
+    pub fn new(text: &'a str) -> Self
+        ensures { Lexed text.now result }
+    {
+        Tokens {
+            lexer: Lexer::new(text),
+            pushed: None,
+        }
+    }
+
+    /// Takes the next token, if there is one.
+    pub fn advance(&mut self) -> Option<Token<'a>>
+        ensures { TakesFirst self.old result self.new }
+    {
+        match self.pushed {
+            Some(token) => {
+                self.pushed = None;
+                Some(token)
+            }
+            None => self.lexer.next(),
+        }
+    }
+
+    /// Looks at the next token, if there is one, and leaves it.
+    pub fn peek(&mut self) -> Option<Token<'a>>
+        ensures first { ShowsFirst self.old result }
+        ensures unchanged { self.new ≡ self.old }
+    {
+        if self.pushed.is_none() {
+            self.pushed = self.lexer.next();
+        }
+        self.pushed
+    }
+
+    /// The value of the identifier that is owed.
+    #[tactic(auto, unfolding(crate::specs::Reading::word_read))]
+    pub fn identifier(&mut self) -> Result<&'a str, Error>
+        ensures read { Gives (λ value. (value.now, self.new)) result (word_read self.old) }
+        ensures shorter { OnOk result (length self.new < length self.old) }
+    {
+        let Some(token) = self.advance() else {
+            return Err(Error::Invalid(Fault::ExpectedIdentifier(TokenKind::Eof)));
+        };
+        match token.kind {
+            TokenKind::Identifier => Ok(token.value),
+            kind => Err(Error::Invalid(Fault::ExpectedIdentifier(kind))),
+        }
+    }
+
+    /// The `=` that is owed.
+    #[tactic(auto, unfolding(crate::specs::Reading::sign_read))]
+    pub fn equal(&mut self) -> Result<(), Error>
+        ensures read { Gives (λ _. self.new) result (sign_read self.old) }
+        ensures shorter { OnOk result (length self.new < length self.old) }
+    {
+        let Some(token) = self.advance() else {
+            return Err(Error::Invalid(Fault::ExpectedEqual(TokenKind::Eof)));
+        };
+        match token.kind {
+            TokenKind::Equal => Ok(()),
+            kind => Err(Error::Invalid(Fault::ExpectedEqual(kind))),
+        }
+    }
+
+    /// The number of the identifier that is owed.
+    #[tactic(auto, unfolding(crate::specs::Reading::number_read))]
+    pub fn number(&mut self) -> Result<u64, Error>
+        ensures read { Gives (λ n. (n, self.new)) result (number_read self.old) }
+        ensures shorter { OnOk result (length self.new < length self.old) }
+    {
+        let text = self.identifier()?;
+        match u64_of(text) {
+            Some(number) => Ok(number),
+            None => Err(Error::Invalid(Fault::ExpectedInteger)),
+        }
+    }
+}

@@ -1,0 +1,14 @@
+//! The law of the names that are asked for.
+
+ghost use Rattle.implib.specs.Asked.{AsksForWords};
+ghost use Rattle.implib.specs.Definition.{DefinitionView};
+ghost use Rattle.implib.specs.Parses.{Parses};
+
+use crate::machine::MachineType;
+
+/// Each export of a text that asks its DLL by name asks for the word that the text gives it first,
+/// on every machine.
+pub fn asked_is_word(text: &str, machine: MachineType)
+    ensures { (definition : DefinitionView) (parsed : Parses text.now machine definition) →
+        AsksForWords text.now machine definition parsed }
+{}

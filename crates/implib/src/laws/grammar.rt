@@ -1,0 +1,43 @@
+//! Laws of the statements of a text.
+
+ghost use Rattle.implib.specs.Definition.{DefinitionView};
+ghost use Rattle.implib.specs.Fault.{Cause};
+ghost use Rattle.implib.specs.Grammar.{IsSentence, Sentence, Statement};
+ghost use Rattle.implib.specs.Parses.{InGrammar, IsBroken, Parses, Refuses};
+ghost use Rattle.implib.specs.Refusal.{Broken, IsBrokenOff};
+ghost use Rattle.implib.specs.Token.{EndsInEof, Seen};
+ghost use Rattle.implib.specs.WorkedStatements.{WorkedExports, WorkedFronts, WorkedRefusals, WorkedSettings};
+ghost use Rattle.implib.specs.declared.machine.MachineType.{MachineType};
+ghost use Rattle.std.specs.Prelude.{◌≡◌, ◌⊎◌, List};
+
+/// Tokens that end in `Eof` are statements or broken, never both; they are one list of statements,
+/// or broken for one cause.
+pub fn sentence_or_broken()
+    ensures either { (tokens : List Seen) → EndsInEof tokens → IsSentence tokens ⊎ IsBrokenOff tokens }
+    ensures never_both { (tokens : List Seen) (statements : List Statement) (cause : Cause) →
+        Sentence tokens statements → ¬ (Broken tokens cause) }
+    ensures one_list { (tokens : List Seen) (statements others : List Statement) →
+        Sentence tokens statements → Sentence tokens others → statements ≡ others }
+    ensures one_cause { (tokens : List Seen) (cause other : Cause) →
+        Broken tokens cause → Broken tokens other → cause ≡ other }
+{}
+
+/// A text is in the grammar or broken, never both; one that is in the grammar means one definition
+/// on each machine, and a broken one has one cause.
+pub fn grammar_or_broken(text: &str)
+    ensures either { InGrammar text.now ⊎ IsBroken text.now }
+    ensures never_both { (machine : MachineType) (definition : DefinitionView) (cause : Cause) →
+        Parses text.now machine definition → ¬ (Refuses text.now cause) }
+    ensures one_definition { (machine : MachineType) (definition other : DefinitionView) →
+        Parses text.now machine definition → Parses text.now machine other → definition ≡ other }
+    ensures one_cause { (cause other : Cause) →
+        Refuses text.now cause → Refuses text.now other → cause ≡ other }
+{}
+
+/// Texts that were worked by hand mean these definitions, and are refused for these causes.
+pub fn worked_statements()
+    ensures settings { WorkedSettings }
+    ensures exports { WorkedExports }
+    ensures refusals { WorkedRefusals }
+    ensures fronts { WorkedFronts }
+{}

@@ -1,0 +1,13 @@
+//! Members that were worked by hand.
+
+ghost use Rattle.implib.specs.WorkedMembers.{WorkedBytes, WorkedFields, WorkedMeanings, WorkedOutlines, WorkedRefusals};
+
+/// Definitions that were worked by hand have these members for Microsoft's linker, or are refused
+/// for these causes.
+pub fn worked_members()
+    ensures outlines { WorkedOutlines }
+    ensures refusals { WorkedRefusals }
+    ensures meanings { WorkedMeanings }
+    ensures bytes { WorkedBytes }
+    ensures fields { WorkedFields }
+{}

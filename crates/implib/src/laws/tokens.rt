@@ -1,0 +1,36 @@
+//! Laws of the tokens of a text.
+
+ghost use Rattle.implib.specs.Token.{DividesOnce, EndsInEof, IsKnown, IsSliceOf, Lexed, LexedOnce, Seen};
+ghost use Rattle.implib.specs.WorkedTokens.{WorkedTokens};
+ghost use Rattle.std.specs.List.{AllByRecursion};
+ghost use Rattle.std.specs.Prelude.{List};
+
+/// A text divides into pieces in one way.
+pub fn one_division(text: &str)
+    ensures { DividesOnce text.now }
+{}
+
+/// A text has one list of tokens.
+pub fn one_token_list(text: &str)
+    ensures { LexedOnce text.now }
+{}
+
+/// `Eof` comes once, as the last token.
+pub fn eof_once(text: &str)
+    ensures { (tokens : List Seen) → Lexed text.now tokens → EndsInEof tokens }
+{}
+
+/// No token is of the kind `Unknown`.
+pub fn kinds_are_known(text: &str)
+    ensures { (tokens : List Seen) → Lexed text.now tokens → AllByRecursion IsKnown tokens }
+{}
+
+/// Each token's value is the slice of the text that begins at the token's place.
+pub fn values_are_slices(text: &str)
+    ensures { (tokens : List Seen) → Lexed text.now tokens → AllByRecursion (IsSliceOf text.now) tokens }
+{}
+
+/// Texts that were worked by hand have these tokens.
+pub fn worked_tokens()
+    ensures { WorkedTokens }
+{}

@@ -1,0 +1,175 @@
+//! The members for Microsoft's linker.
+
+ghost use Rattle.implib.specs.Definition.{definition_view, export_view};
+ghost use Rattle.implib.specs.Fault.{IfInvalid, MemberTooLong};
+ghost use Rattle.implib.specs.Import.{holds, is_alias, public_exports};
+ghost use Rattle.implib.specs.Library.{member_view};
+ghost use Rattle.implib.specs.Made.{Made, RefusesAlways, definition_names_refusal, export_plans, has_u16_ordinal, heading_plans, holds_nul, is_too_long, member_of, plans_of, refusal, weak_plans};
+ghost use Rattle.implib.specs.Reads.{Reads};
+ghost use Rattle.implib.specs.Renaming.{renamed};
+ghost use Rattle.implib.specs.Msvc.{record_symbol};
+ghost use Rattle.implib.specs.declared.library.Flavor.TheVariants.{Msvc};
+ghost use Rattle.std.specs.List.{list_all, list_any};
+ghost use Rattle.std.specs.Prelude.{None, Some, false, map, true, ◌++◌, ◌≡◌, IfOk, OnOk};
+
+use crate::def::{self, ModuleDef, ShortExport};
+use crate::error::Error;
+use crate::library::{Flavor, Member, members_of};
+use crate::machine::MachineType;
+use std::marker::Model;
+
+mod objects;
+mod record;
+
+use objects::{descriptor_member, null_descriptor_member, null_thunk_member, weak_member};
+pub(crate) use record::asked;
+use record::{address_symbol, record_member, record_symbol};
+
+/// The import library of a module definition for Microsoft's linker.
+#[derive(Drop)]
+pub struct MsvcImportLibrary {
+    def: ModuleDef,
+    machine: MachineType,
+}
+
+impl Model for MsvcImportLibrary {
+    ghost use Rattle.implib.specs.Definition.{export_view};
+    ghost use Rattle.implib.specs.Library.{LibraryView, library_view};
+    ghost use Rattle.implib.specs.Renaming.{is_renamed};
+    ghost use Rattle.implib.specs.declared.library.Flavor.TheVariants.{Msvc};
+    ghost use Rattle.std.specs.Prelude.{map, true, ◌≡◌};
+
+    ghost Value = { LibraryView };
+
+    ghost view = { λ l. library_view l.def l.machine Msvc };
+
+    ghost invariant = { λ l. is_renamed (map export_view l.def.exports.items) ≡ true };
+}
+
+impl MsvcImportLibrary {
+    /// Holds a definition: each `ext_name` that is given is moved into `name`.
+    pub fn new(def: ModuleDef, machine: MachineType) -> Self
+        ensures held { result ≡ record { definition = renamed (definition_view def); machine = machine; flavor = Msvc } }
+    {
+        MsvcImportLibrary {
+            def: def::rename(def),
+            machine,
+        }
+    }
+
+    /// The members, in order; refuses as [`ImportLibrary::members`](crate::ImportLibrary::members).
+    pub fn members(&self) -> Result<Vec<Member>, Error>
+        ensures ok { IfOk result (λ members.
+            Made self.now.definition self.now.machine Msvc (map member_view members.items)) }
+        ensures reads { IfOk result (λ members.
+            Reads self.now.definition self.now.machine Msvc (map member_view members.items)) }
+        ensures refused { IfInvalid result (λ cause. refusal self.now.definition self.now.machine Msvc ≡ Some cause) }
+        ensures names_refused_always { RefusesAlways self.now.definition self.now.machine Msvc result }
+    {
+        members_of(&self.def, self.machine, Flavor::Msvc)
+    }
+}
+
+/// The members of a definition that breaks no rule on names, in order.
+pub(crate) fn members(def: &ModuleDef, machine: MachineType) -> Result<Vec<Member>, Error>
+    requires { definition_names_refusal (definition_view def.now) machine Msvc ≡ None }
+    ensures ok { IfOk result (λ members. map member_view members.items ≡ map member_of (plans_of (definition_view def.now) machine Msvc)) }
+    ensures fit { OnOk result (list_any is_too_long (plans_of (definition_view def.now) machine Msvc) ≡ false) }
+    ensures ordinals { OnOk result (list_all has_u16_ordinal (public_exports (definition_view def.now)) ≡ true) }
+    ensures too_long { IfInvalid result (λ cause. (cause ≡ MemberTooLong)
+        × (list_any is_too_long (plans_of (definition_view def.now) machine Msvc) ≡ true)) }
+{
+    let alloc = *def.exports.allocator();
+    let dll = def.import_name.as_str();
+    let mut members = Vec::with_capacity(alloc, member_count(def))?;
+    push_heading(&mut members, machine, dll)?;
+    for export in def.exports.iter() {
+        if !export.private {
+            push_export(&mut members, export, machine, dll)?;
+        }
+    }
+    Ok(members)
+}
+
+// How many members there are; at most 2^64 - 1 are counted.
+fn member_count(def: &ModuleDef) -> usize {
+    let mut count = 3usize;
+    for export in def.exports.iter() {
+        if !export.private {
+            count = count.saturating_add(if has_aliases(export) { 3 } else { 1 });
+        }
+    }
+    count
+}
+
+// Whether the export's symbol is weak for another.
+fn has_aliases(export: &ShortExport) -> bool
+    ensures { result ≡ is_alias (export_view export.now).alias_target (record_symbol (export_view export.now)) }
+{
+    let target = export.alias_target.as_str();
+    !target.is_empty() && target != record_symbol(export)
+}
+
+// Pushes the import descriptor, the null descriptor and the null thunk.
+#[tactic(auto, unfolding(crate::specs::Made::heading_plans))]
+fn push_heading(members: &mut Vec<Member>, machine: MachineType, dll: &str) -> Result<(), Error>
+    requires { holds 0 dll.now ≡ false }
+    ensures ok { OnOk result (map member_view members.new.items
+        ≡ map member_view members.old.items ++ map member_of (heading_plans machine dll.now)) }
+    ensures fit { OnOk result (list_any is_too_long (heading_plans machine dll.now) ≡ false) }
+    ensures too_long { IfInvalid result (λ cause. (cause ≡ MemberTooLong) × (list_any is_too_long (heading_plans machine dll.now) ≡ true)) }
+{
+    members.push(descriptor_member(*members.allocator(), machine, dll)?)?;
+    members.push(null_descriptor_member(*members.allocator(), machine, dll)?)?;
+    members.push(null_thunk_member(*members.allocator(), machine, dll)?)?;
+    Ok(())
+}
+
+// Pushes the weak externals of an export, if any, and then its record.
+#[tactic(auto, unfolding(crate::specs::Made::weak_plans))]
+fn push_export(
+    members: &mut Vec<Member>,
+    export: &ShortExport,
+    machine: MachineType,
+    dll: &str,
+) -> Result<(), Error>
+    requires { holds_nul (export_view export.now) ≡ false }
+    ensures ok { OnOk result (map member_view members.new.items
+        ≡ map member_view members.old.items ++ map member_of (export_plans machine dll.now (export_view export.now))) }
+    ensures fit { OnOk result (list_any is_too_long (export_plans machine dll.now (export_view export.now)) ≡ false) }
+    ensures ordinal { OnOk result (has_u16_ordinal (export_view export.now) ≡ true) }
+    ensures too_long { IfInvalid result (λ cause. (cause ≡ MemberTooLong)
+        × (list_any is_too_long (export_plans machine dll.now (export_view export.now)) ≡ true)) }
+{
+    if has_aliases(export) {
+        push_weak_externals(members, export, machine, dll)?;
+    }
+    members.push(record_member(*members.allocator(), export, machine, dll)?)?;
+    Ok(())
+}
+
+// Pushes the weak externals of an export: of its symbol, and of its address.
+#[tactic(auto, unfolding(crate::specs::Made::weak_plans))]
+fn push_weak_externals(
+    members: &mut Vec<Member>,
+    export: &ShortExport,
+    machine: MachineType,
+    dll: &str,
+) -> Result<(), Error>
+    requires nul { holds_nul (export_view export.now) ≡ false }
+    requires aliases { is_alias (export_view export.now).alias_target (record_symbol (export_view export.now)) ≡ true }
+    ensures ok { OnOk result (map member_view members.new.items
+        ≡ map member_view members.old.items ++ map member_of (weak_plans machine dll.now (export_view export.now))) }
+    ensures fit { OnOk result (list_any is_too_long (weak_plans machine dll.now (export_view export.now)) ≡ false) }
+    ensures too_long { IfInvalid result (λ cause. (cause ≡ MemberTooLong)
+        × (list_any is_too_long (weak_plans machine dll.now (export_view export.now)) ≡ true)) }
+{
+    let alloc = *members.allocator();
+    let symbol = record_symbol(export);
+    let target = export.alias_target.as_str();
+    members.push(weak_member(alloc, machine, dll, symbol, target)?)?;
+    let symbol = address_symbol(alloc, symbol)?;
+    let target = address_symbol(alloc, target)?;
+    members.push(weak_member(alloc, machine, dll, symbol.as_str(), target.as_str())?)?;
+    Ok(())
+}

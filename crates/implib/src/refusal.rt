@@ -1,0 +1,81 @@
+//! Which definitions have no members: the rules on names, decided without memory.
+
+ghost use Rattle.implib.specs.Definition.{definition_view, export_view};
+ghost use Rattle.implib.specs.Fault.{cause_of};
+ghost use Rattle.implib.specs.Import.{holds};
+ghost use Rattle.implib.specs.Made.{asked_in, definition_names_refusal, import_name_refusal, name_refusal, names_refusal};
+ghost use Rattle.std.specs.Option.{option_map};
+ghost use Rattle.std.specs.Prelude.{map, string_bytes, ◌≡◌};
+
+use crate::def::{ModuleDef, ShortExport};
+use crate::error::Fault;
+use crate::library::Flavor;
+use crate::machine::MachineType;
+use crate::msvc;
+
+/// The first rule on names that the definition breaks: of the import name, then of each export that
+/// is not private, in order.
+pub(crate) fn names_fault(def: &ModuleDef, machine: MachineType, flavor: Flavor) -> Option<Fault>
+    ensures { option_map cause_of result ≡ definition_names_refusal (definition_view def.now) machine flavor }
+{
+    if let Some(fault) = import_name_fault(def.import_name.as_str()) {
+        return Some(fault);
+    }
+    for (index, export) in def.exports.iter().enumerate() {
+        if !export.private {
+            if let Some(fault) = export_fault(index, export, machine, flavor) {
+                return Some(fault);
+            }
+        }
+    }
+    None
+}
+
+fn holds_nul(text: &str) -> bool
+    ensures { result ≡ holds 0 text.now }
+{
+    text.as_bytes().contains(&0)
+}
+
+fn import_name_fault(name: &str) -> Option<Fault>
+    ensures { option_map cause_of result ≡ import_name_refusal name.now }
+{
+    if name.is_empty() {
+        Some(Fault::EmptyImportName)
+    } else if holds_nul(name) {
+        Some(Fault::NulInImportName)
+    } else {
+        None
+    }
+}
+
+fn export_fault(
+    index: usize,
+    export: &ShortExport,
+    machine: MachineType,
+    flavor: Flavor,
+) -> Option<Fault>
+    ensures { option_map cause_of result ≡ name_refusal flavor machine index (export_view export.now) }
+{
+    if export.name.is_empty() {
+        Some(Fault::EmptyName(index))
+    } else if holds_nul(export.name.as_str())
+        || holds_nul(export.symbol_name.as_str())
+        || holds_nul(export.alias_target.as_str())
+    {
+        Some(Fault::NulInExport(index))
+    } else if !export.no_name && asked(export, machine, flavor).is_empty() {
+        Some(Fault::EmptyAskedName(index))
+    } else {
+        None
+    }
+}
+
+/// The name that the export asks the DLL for.
+fn asked(export: &ShortExport, machine: MachineType, flavor: Flavor) -> &[u8]
+    ensures { result.now ≡ asked_in flavor machine (export_view export.now) }
+{
+    match flavor {
+        Flavor::Msvc => msvc::asked(export, machine),
+    }
+}

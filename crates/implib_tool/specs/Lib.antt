@@ -1,0 +1,6 @@
+pub mod Device
+pub mod Listing
+pub mod Parts
+pub mod Run
+pub mod Views
+pub mod Words

@@ -1,0 +1,94 @@
+-- What a run of the program does with its devices.
+use Rattle.std.specs.Prelude.{◌≡◌, ◌⊎◌, ℕ, Bool, true, false, List, [], ◌∷◌, ◌++◌, Option, Some, Result, IfSome, OnOk, IfErr, flat_map}
+use Rattle.std.specs.Io.KnownBytes.{Appends, IsAtEnd, Keeps}
+use Rattle.std.specs.Str.{IsUtf8}
+use Rattle.implib.specs.declared.library.Flavor.{Flavor}
+use Rattle.implib.specs.declared.machine.MachineType.{MachineType}
+use Rattle.implib.specs.Definition.{DefinitionView}
+use Rattle.implib.specs.Fault.{Cause, cause_of}
+use Rattle.implib.specs.Made.{Made, MemberView, refusal}
+use Rattle.implib.specs.Parses.{Parses, Refuses}
+use Rattle.implib.specs.Renaming.{renamed}
+use Rattle.implib_tool.specs.declared.run.RunError.{RunError}
+use Rattle.implib_tool.specs.declared.run.RunError.TheVariants.{Refused, NotUtf8, Read, Write, OutOfMemory}
+use Rattle.implib_tool.specs.Listing.{listing_of}
+use Rattle.implib_tool.specs.Parts.{Parts}
+
+-- the members are those of the definition that the text means, renamed
+pub record MembersOf (text : List ℕ) (machine : MachineType) (flavor : Flavor) (members : List MemberView) : Type 0 where
+  pub meant : DefinitionView
+  pub parses : Parses text machine meant
+  pub made : Made (renamed meant) machine flavor members
+
+-- the definition that the text means, renamed, has no members, for this cause
+pub record HasNoMembers (text : List ℕ) (machine : MachineType) (flavor : Flavor) (cause : Cause) : Type 0 where
+  pub meant : DefinitionView
+  pub parses : Parses text machine meant
+  pub refused : refusal (renamed meant) machine flavor ≡ Some cause
+
+-- a text is refused as it stands, or for what it means
+abbrev pub IsRefused : List ℕ → MachineType → Flavor → Cause → Type 0
+IsRefused text machine flavor cause = Refuses text cause ⊎ HasNoMembers text machine flavor cause
+
+-- for each text, in order, its members
+abbrev pub EachMade : MachineType → Flavor → List (List ℕ) → List (List MemberView) → Type 0
+EachMade machine flavor [] [] = Unit {0}
+EachMade machine flavor [] (members ∷ lists) = ⊥
+EachMade machine flavor (text ∷ texts) [] = ⊥
+EachMade machine flavor (text ∷ texts) (members ∷ lists) = MembersOf text machine flavor members × EachMade machine flavor texts lists
+
+-- the listing shows the members of each part of the text, in order
+pub record Lists (text : List ℕ) (machine : MachineType) (flavor : Flavor) (listing : List ℕ) : Type 0 where
+  pub parts : List (List ℕ)
+  pub lists : List (List MemberView)
+  pub parted : Parts text parts
+  pub made : EachMade machine flavor parts lists
+  pub listed : listing ≡ flat_map listing_of lists
+
+-- a part of the text is refused for this cause, and those before it have members
+pub record FirstRefused (text : List ℕ) (machine : MachineType) (flavor : Flavor) (cause : Cause) : Type 0 where
+  pub before : List (List ℕ)
+  pub part : List ℕ
+  pub after : List (List ℕ)
+  pub lists : List (List MemberView)
+  pub parted : Parts text (before ++ part ∷ after)
+  pub made : EachMade machine flavor before lists
+  pub refused : IsRefused part machine flavor cause
+
+-- what the devices tell: the bytes that the reader has left and those that the writer has, where they tell them, and whether they have failed
+pub record Devices : Type 0 where
+  pub remaining : Option (List ℕ)
+  pub contents : Option (List ℕ)
+  pub reader_failed : Bool
+  pub writer_failed : Bool
+
+-- the reader is read to its end, and the writer has the listing of the text after what it had
+pub record IsDone (machine : MachineType) (flavor : Flavor) (before after : Devices) : Type 0 where
+  pub reader : after.reader_failed ≡ false
+  pub writer : after.writer_failed ≡ false
+  pub read : IsAtEnd after.remaining
+  pub utf8 : IfSome before.remaining IsUtf8
+  pub written : IfSome before.remaining (λ text.
+      (listing : List ℕ) × Lists text machine flavor listing × Appends before.contents after.contents listing)
+
+-- no device has failed, and nothing is written
+pub record NothingWritten (before after : Devices) : Type 0 where
+  pub reader : after.reader_failed ≡ false
+  pub writer : after.writer_failed ≡ false
+  pub unwritten : Keeps before.contents after.contents
+
+-- when each error comes, and what it leaves
+abbrev pub HasCause : MachineType → Flavor → Devices → Devices → RunError → Type 0
+HasCause machine flavor before after (Refused fault) =
+    NothingWritten before after × IfSome before.remaining IsUtf8
+    × IfSome before.remaining (λ text. FirstRefused text machine flavor (cause_of fault))
+HasCause machine flavor before after NotUtf8 = NothingWritten before after × IfSome before.remaining (λ text. ¬ (IsUtf8 text))
+HasCause machine flavor before after Read =
+    (after.reader_failed ≡ true) × (after.writer_failed ≡ false) × Keeps before.contents after.contents
+HasCause machine flavor before after Write = (after.reader_failed ≡ false) × (after.writer_failed ≡ true)
+HasCause machine flavor before after OutOfMemory = NothingWritten before after
+
+-- what a run answers, and what it does
+pub record Runs (machine : MachineType) (flavor : Flavor) (before after : Devices) (answer : Result (Unit {0}) RunError) : Type 0 where
+  pub done : OnOk answer (IsDone machine flavor before after)
+  pub fault : IfErr answer (HasCause machine flavor before after)

@@ -1,0 +1,119 @@
+//! The program, but for the devices of the system.
+
+ghost use Rattle.implib_tool.specs.Words.{Answers, asked, flavor_named, machine_named, status_of};
+ghost use Rattle.std.specs.Prelude.{◌≡◌, ◌↔◌, IfSome, IsNone, OnOk, false, map};
+ghost use Rattle.std.specs.String.{string_bytes};
+
+use crate::device::{Sink, Source, write_all};
+use crate::run::{RunError, run};
+use implib::{Flavor, MachineType};
+use std::alloc::Global;
+use std::fmt;
+use std::fmt::Write;
+
+/// A sink that text is written to.
+#[derive(Drop)]
+struct Lines<'a, E> {
+    sink: &'a mut E,
+}
+
+impl<'a, E: Sink> fmt::Write for Lines<'a, E> {
+    fn write_str(&mut self, text: &str) -> fmt::Result {
+        write_all(self.sink, text.as_bytes()).map_err(|_| fmt::Error)
+    }
+}
+
+/// The machine with a name.
+fn machine_of(word: &str) -> Option<MachineType>
+    ensures { result ≡ machine_named word.now }
+{
+    match word {
+        "I386" => Some(MachineType::I386),
+        "ARMNT" => Some(MachineType::ARMNT),
+        "AMD64" => Some(MachineType::AMD64),
+        "ARM64" => Some(MachineType::ARM64),
+        _ => None,
+    }
+}
+
+/// The flavour with a name.
+fn flavor_of(word: &str) -> Option<Flavor>
+    ensures { result ≡ flavor_named word.now }
+{
+    match word {
+        "msvc" => Some(Flavor::Msvc),
+        _ => None,
+    }
+}
+
+/// The machine and the flavour that the words ask for.
+fn asked_by(words: &[String]) -> Option<(MachineType, Flavor)>
+    ensures { result ≡ asked (map string_bytes words.now) }
+{
+    match words {
+        [] => Some((MachineType::AMD64, Flavor::Msvc)),
+        [machine, flavor] => {
+            let machine = machine_of(machine.as_str())?;
+            let flavor = flavor_of(flavor.as_str())?;
+            Some((machine, flavor))
+        }
+        _ => None,
+    }
+}
+
+/// The status of a run that ended with an error.
+fn status(error: &RunError) -> u8
+    ensures { result ≡ status_of (Err error.now) }
+{
+    match error {
+        RunError::Refused(_) | RunError::NotUtf8 => 1,
+        RunError::Read | RunError::Write | RunError::OutOfMemory => 3,
+    }
+}
+
+/// Writes the line that says which words there are, and gives its status.
+///
+/// A fault of `faults` is not told.
+pub fn usage<E: Sink>(faults: &mut E) -> u8
+    ensures { result ≡ 2 }
+{
+    let mut lines = Lines { sink: faults };
+    let _ = writeln!(lines, "usage: implib_tool MACHINE FLAVOUR");
+    2
+}
+
+/// Runs what the words ask for: none, or a machine and a flavour.
+///
+/// A fault goes as a line to `faults`, whose own fault is not told. The status is 0 where the
+/// listing is written, 1 where the input is refused, 2 for other words, and 3 where a device or
+/// memory failed.
+pub fn command<R: Source, W: Sink, E: Sink>(
+    alloc: Global,
+    words: &[String],
+    reader: &mut R,
+    writer: &mut W,
+    faults: &mut E,
+) -> u8
+    requires reader { R.failed reader.old ≡ false }
+    requires writer { W.failed writer.old ≡ false }
+    ensures words { (result ≡ 2) ↔ IsNone (asked (map string_bytes words.now)) }
+    ensures untouched { IsNone (asked (map string_bytes words.now)) → (reader.new ≡ reader.old) × (writer.new ≡ writer.old) }
+    ensures run { IfSome (asked (map string_bytes words.now)) (λ wanted. Answers wanted.0 wanted.1
+        (record { remaining = R.remaining reader.old; contents = W.contents writer.old; reader_failed = R.failed reader.old; writer_failed = W.failed writer.old })
+        (record { remaining = R.remaining reader.new; contents = W.contents writer.new; reader_failed = R.failed reader.new; writer_failed = W.failed writer.new })
+        result) }
+{
+    let Some((machine, flavor)) = asked_by(words) else {
+        return usage(faults);
+    };
+    let Err(error) = run(alloc, reader, writer, machine, flavor) else {
+        return 0;
+    };
+    let status = status(&error);
+    let mut lines = Lines { sink: faults };
+    let _ = writeln!(lines, "implib: {error}");
+    status
+}
+
+#[cfg(test)]
+mod tests;

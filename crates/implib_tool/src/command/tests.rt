@@ -1,0 +1,251 @@
+use super::command;
+use crate::doubles::{MemorySink, MemorySource};
+use std::alloc::{AllocError, Global};
+use std::test::Fail;
+
+const ANY: usize = 1_000_000;
+
+/// What a command does.
+#[derive(Debug, PartialEq, Eq, Drop)]
+struct Answer {
+    status: u8,
+    written: String,
+    faults: String,
+}
+
+/// How many bytes a device moves in a call, and how many calls succeed.
+type Pace = (usize, usize);
+
+const WHOLE: Pace = (ANY, ANY);
+
+/// What a command does with devices of these paces.
+fn answered(
+    alloc: Global,
+    words: &str,
+    input: &[u8],
+    reads: Pace,
+    writes: Pace,
+) -> Result<Answer, AllocError> {
+    let mut list = Vec::new(alloc);
+    for word in words.split_whitespace() {
+        list.push(String::from_str(alloc, word)?)?;
+    }
+    let mut reader = MemorySource::new(input, reads.0, reads.1);
+    let mut writer = MemorySink::new(alloc, writes.0, writes.1)?;
+    let mut faults = MemorySink::new(alloc, ANY, ANY)?;
+    let status = command(
+        alloc,
+        list.as_slice(),
+        &mut reader,
+        &mut writer,
+        &mut faults,
+    );
+    Ok(Answer {
+        status,
+        written: String::from_utf8_lossy(alloc, writer.bytes())?,
+        faults: String::from_utf8_lossy(alloc, faults.bytes())?,
+    })
+}
+
+/// The lines of a listing that name members and symbols.
+fn heads(alloc: Global, listing: &str) -> Result<String, AllocError> {
+    let mut heads = String::new(alloc);
+    for line in listing.lines() {
+        if line.starts_with("member ") || line.starts_with("symbol ") {
+            heads.push_str(line)?;
+            heads.push('\n')?;
+        }
+    }
+    Ok(heads)
+}
+
+const BAR: &str = "LIBRARY foo.dll\nEXPORTS\nbar";
+
+const FOO_HEADS: &str = "member foo.dll 358\n\
+    symbol __IMPORT_DESCRIPTOR_foo\n\
+    member foo.dll 127\n\
+    symbol __NULL_IMPORT_DESCRIPTOR\n\
+    member foo.dll 159\n\
+    symbol \\x7ffoo_NULL_THUNK_DATA\n";
+
+const ZED_HEADS: &str = "member zed.dll 358\n\
+    symbol __IMPORT_DESCRIPTOR_zed\n\
+    member zed.dll 127\n\
+    symbol __NULL_IMPORT_DESCRIPTOR\n\
+    member zed.dll 159\n\
+    symbol \\x7fzed_NULL_THUNK_DATA\n";
+
+const I386_HEADS: &str = "member a.dll 352\n\
+    symbol __IMPORT_DESCRIPTOR_a\n\
+    member a.dll 127\n\
+    symbol __NULL_IMPORT_DESCRIPTOR\n\
+    member a.dll 149\n\
+    symbol \\x7fa_NULL_THUNK_DATA\n\
+    member a.dll 29\n\
+    symbol __imp__f\n\
+    symbol _f\n\
+    member a.dll 31\n\
+    symbol __imp__g@8\n\
+    symbol _g@8\n\
+    member a.dll 31\n\
+    symbol __imp_@h@4\n\
+    symbol @h@4\n";
+
+const BAR_HEADS: &str = "member foo.dll 32\nsymbol __imp_bar\nsymbol bar\n";
+
+const BAR_BYTES: &str = "00 00 ff ff 00 00 64 86 00 00 00 00 0c 00 00 00\n\
+    00 00 04 00 62 61 72 00 66 6f 6f 2e 64 6c 6c 00\n";
+
+#[test]
+fn definitions_are_listed(rt: HostRuntime) -> Result<(), Fail> {
+    let rows = [
+        ("", BAR, [FOO_HEADS, BAR_HEADS, "", ""], BAR_BYTES),
+        ("AMD64 msvc", BAR, [FOO_HEADS, BAR_HEADS, "", ""], BAR_BYTES),
+        (
+            "",
+            "LIBRARY foo.dll\nEXPORTS\nbar\nqux",
+            [
+                FOO_HEADS,
+                BAR_HEADS,
+                "member foo.dll 32\nsymbol __imp_qux\nsymbol qux\n",
+                "",
+            ],
+            "00 00 04 00 71 75 78 00 66 6f 6f 2e 64 6c 6c 00\n",
+        ),
+        (
+            "I386 msvc",
+            "LIBRARY a.dll\nEXPORTS\nf\n_g@8\n@h@4 @ 7 NONAME",
+            [I386_HEADS, "", "", ""],
+            "00 00 ff ff 00 00 4c 01 00 00 00 00 0b 00 00 00\n\
+            07 00 00 00 40 68 40 34 00 61 2e 64 6c 6c 00\n",
+        ),
+        ("", "LIBRARY foo.dll\nEXPORTS", [FOO_HEADS, "", "", ""], ""),
+        (
+            "",
+            "LIBRARY foo.dll\nEXPORTS\nbar\n---\nLIBRARY zed.dll\nEXPORTS\nqux",
+            [
+                FOO_HEADS,
+                BAR_HEADS,
+                ZED_HEADS,
+                "member zed.dll 32\nsymbol __imp_qux\nsymbol qux\n",
+            ],
+            "00 00 04 00 71 75 78 00 7a 65 64 2e 64 6c 6c 00\n",
+        ),
+    ];
+    for (words, text, [first, second, third, fourth], end) in rows {
+        for pace in [WHOLE, (1, ANY)] {
+            let got = answered(rt.alloc(), words, text.as_bytes(), pace, pace)?;
+            let want = format!(in rt.alloc(); "{first}{second}{third}{fourth}")?;
+            assert_eq!(rt; got.status, 0, "{text:?}");
+            assert_eq!(rt;
+                heads(rt.alloc(), got.written.as_str())?.as_str(),
+                want.as_str(),
+                "{text:?}"
+            );
+            assert!(rt; got.written.ends_with(end), "{text:?}");
+            assert_eq!(rt; got.faults.as_str(), "", "{text:?}");
+        }
+    }
+    Ok(())
+}
+
+#[test]
+fn refusals_are_answered(rt: HostRuntime) -> Result<(), Fail> {
+    let rows = [
+        (
+            "LIBRARY foo.dll\nEXPORTS\nbar\n---\n",
+            "import name is empty",
+        ),
+        ("---", "import name is empty"),
+        ("", "import name is empty"),
+        ("LIBRARY foo.dll\nEXPORTS\n\"\"", "export name is empty"),
+        ("foo", "unknown directive: foo"),
+        ("a\nb", "unknown directive: a"),
+        (
+            "LIBRARY foo.dll\nEXPORTS\nbar\n---\nfoo\n---\n",
+            "unknown directive: foo",
+        ),
+        ("\"a\nb\"", "unknown directive: a\nb"),
+    ];
+    for (text, fault) in rows {
+        let got = answered(rt.alloc(), "", text.as_bytes(), WHOLE, (ANY, 0))?;
+        let want = format!(in rt.alloc(); "implib: {fault}\n")?;
+        assert_eq!(rt; got.status, 1, "{text:?}");
+        assert_eq!(rt; got.written.as_str(), "", "{text:?}");
+        assert_eq!(rt; got.faults.as_str(), want.as_str(), "{text:?}");
+    }
+    Ok(())
+}
+
+#[test]
+fn other_words_are_answered(rt: HostRuntime) -> Result<(), Fail> {
+    for words in [
+        "AMD64",
+        "msvc",
+        "amd64 msvc",
+        "AMD64 other",
+        "AMD64 msvc msvc",
+    ] {
+        let got = answered(rt.alloc(), words, BAR.as_bytes(), (ANY, 0), (ANY, 0))?;
+        assert_eq!(rt; got.status, 2, "{words}");
+        assert_eq!(rt; got.faults.as_str(), "usage: implib_tool MACHINE FLAVOUR\n");
+    }
+    Ok(())
+}
+
+#[test]
+fn other_bytes_are_answered(rt: HostRuntime) -> Result<(), Fail> {
+    let utf16 = [0xff, 0xfe, b'N', 0];
+    for input in [
+        [0xff].as_slice(),
+        [b'\n', b'-', b'-', b'-', b'\n', 0xff].as_slice(),
+        utf16.as_slice(),
+    ] {
+        let got = answered(rt.alloc(), "", input, WHOLE, (ANY, 0))?;
+        assert_eq!(rt; got.status, 1);
+        assert_eq!(rt; got.faults.as_str(), "implib: input is not UTF-8\n");
+    }
+    Ok(())
+}
+
+#[test]
+fn a_reader_that_fails_is_answered(rt: HostRuntime) -> Result<(), Fail> {
+    // One call for each byte, and one that finds the end.
+    for reads in 0..BAR.len() + 1 {
+        let got = answered(rt.alloc(), "", BAR.as_bytes(), (1, reads), (ANY, 0))?;
+        assert_eq!(rt; got.status, 3);
+        assert_eq!(rt; got.faults.as_str(), "implib: read failed\n");
+    }
+    Ok(())
+}
+
+#[test]
+fn a_writer_that_fails_is_answered(rt: HostRuntime) -> Result<(), Fail> {
+    let all = answered(rt.alloc(), "", BAR.as_bytes(), WHOLE, WHOLE)?
+        .written
+        .len();
+    // One that fails at its first call, its second, and so on; the last takes no byte.
+    for calls in 0..=all {
+        let pace = if calls < all { (1, calls) } else { (0, ANY) };
+        let got = answered(rt.alloc(), "", BAR.as_bytes(), WHOLE, pace)?;
+        assert_eq!(rt; got.status, 3);
+        assert_eq!(rt; got.faults.as_str(), "implib: write failed\n");
+    }
+    Ok(())
+}
+
+// To be run with one allocation refused, each in turn.
+#[test]
+fn refused_memory_is_answered(rt: HostRuntime) {
+    let Ok(got) = answered(rt.alloc(), "", BAR.as_bytes(), WHOLE, WHOLE) else {
+        return;
+    };
+    if got.status == 0 {
+        assert!(rt; got.written.ends_with(BAR_BYTES));
+        assert_eq!(rt; got.faults.as_str(), "");
+    } else {
+        assert_eq!(rt; got.status, 3);
+        assert_eq!(rt; got.written.as_str(), "");
+        assert_eq!(rt; got.faults.as_str(), "implib: out of memory\n");
+    }
+}

@@ -1,0 +1,109 @@
+//! Devices over memory, for tests.
+
+ghost use Rattle.std.specs.Prelude.{◌≡◌, IfOk, Some, false};
+
+use crate::device::{DeviceFault, Sink, Source};
+use std::alloc::{AllocError, Global};
+
+/// A reader of bytes that lie in memory.
+#[derive(Drop)]
+pub struct MemorySource<'a> {
+    rest: &'a [u8],
+    step: usize,
+    calls: usize,
+    has_failed: bool,
+}
+
+impl<'a> MemorySource<'a> {
+    /// It gives at most `step` bytes a call, and at least one that is left, and fails after `calls`
+    /// calls.
+    pub fn new(bytes: &'a [u8], step: usize, calls: usize) -> Self
+        ensures sound { result.has_failed ≡ false }
+    {
+        MemorySource {
+            rest: bytes,
+            step,
+            calls,
+            has_failed: false,
+        }
+    }
+}
+
+impl<'a> Source for MemorySource<'a> {
+    ghost remaining = { λ source. Some source.rest.now };
+
+    ghost failed = { λ source. source.has_failed };
+
+    fn has_failed(&self) -> bool {
+        self.has_failed
+    }
+
+    fn read(&mut self, buf: &mut [u8]) -> Result<usize, DeviceFault> {
+        if self.calls == 0 {
+            self.has_failed = true;
+            return Err(DeviceFault);
+        }
+        self.calls -= 1;
+        let count = self.step.max(1).min(buf.len()).min(self.rest.len());
+        let (front, rest) = self.rest.split_at(count);
+        buf[..count].copy_from_slice(front);
+        self.rest = rest;
+        Ok(count)
+    }
+}
+
+/// A writer to memory.
+#[derive(Drop)]
+pub struct MemorySink {
+    bytes: Vec<u8>,
+    step: usize,
+    calls: usize,
+    has_failed: bool,
+}
+
+impl MemorySink {
+    /// It takes at most `step` bytes a call, and fails after `calls` calls. The first 4,096 bytes
+    /// need no more memory.
+    pub fn new(alloc: Global, step: usize, calls: usize) -> Result<Self, AllocError>
+        ensures sound { IfOk result (λ sink. sink.has_failed ≡ false) }
+    {
+        Ok(MemorySink {
+            bytes: Vec::with_capacity(alloc, 4096)?,
+            step,
+            calls,
+            has_failed: false,
+        })
+    }
+
+    /// What it took.
+    pub fn bytes(&self) -> &[u8] {
+        self.bytes.as_slice()
+    }
+}
+
+impl Sink for MemorySink {
+    ghost contents = { λ sink. Some sink.bytes.items };
+
+    ghost failed = { λ sink. sink.has_failed };
+
+    fn has_failed(&self) -> bool {
+        self.has_failed
+    }
+
+    fn write(&mut self, buf: &[u8]) -> Result<usize, DeviceFault> {
+        if self.calls == 0 {
+            self.has_failed = true;
+            return Err(DeviceFault);
+        }
+        self.calls -= 1;
+        let count = self.step.min(buf.len());
+        if self.bytes.extend_from_slice(&buf[..count]).is_err() {
+            self.has_failed = true;
+            return Err(DeviceFault);
+        }
+        if count == 0 && !buf.is_empty() {
+            self.has_failed = true;
+        }
+        Ok(count)
+    }
+}

@@ -1,0 +1,9 @@
+//! What holds of the program's definitions.
+
+ghost use Rattle.implib_tool.specs.Parts.{HasOneParting};
+ghost use Rattle.std.specs.Prelude.{List, ℕ};
+
+/// A text has one list of parts.
+pub fn one_parting()
+    ensures { (text : List ℕ) → HasOneParting text }
+{}

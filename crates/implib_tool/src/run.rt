@@ -1,0 +1,144 @@
+//! From the bytes that are read to the bytes that are written.
+
+ghost use Rattle.implib_tool.specs.Run.{Lists, Runs};
+ghost use Rattle.implib_tool.specs.Views.{ListsOnto, OnPartFault, OnReadFault, OnTextFault};
+ghost use Rattle.implib_tool.specs.declared.run.RunError.TheVariants.{OutOfMemory};
+ghost use Rattle.std.specs.Io.KnownBytes.{Consumes, IsAtEnd};
+ghost use Rattle.std.specs.Prelude.{◌≡◌, IfErr, IfOk, OnOk, false};
+
+use crate::blocks::TextBlocks;
+use crate::device::{Sink, Source};
+use crate::listing::list_members;
+use crate::parts::divide;
+use implib::{Error, Fault, Flavor, ImportLibrary, MachineType};
+use std::alloc::{AllocError, AllocFailed, Global};
+
+/// Why a run ended with nothing done.
+#[derive(Debug, Drop, thiserror::Error)]
+pub enum RunError {
+    /// A definition is refused.
+    #[error("{0}")]
+    Refused(Fault),
+    /// The input is not UTF-8.
+    #[error("input is not UTF-8")]
+    NotUtf8,
+    /// The reader failed.
+    #[error("read failed")]
+    Read,
+    /// The writer failed. Of how much it took before nothing is said.
+    #[error("write failed")]
+    Write,
+    /// Memory was asked for and not given.
+    #[error("out of memory")]
+    OutOfMemory,
+}
+
+impl From<AllocError> for RunError {
+    ghost from_gives = { λ _ error. error ≡ OutOfMemory };
+
+    fn from(_refused: AllocError) -> RunError {
+        RunError::OutOfMemory
+    }
+}
+
+impl From<Error> for RunError {
+    ghost use Rattle.implib_tool.specs.Views.{run_error};
+
+    ghost from_gives = { λ error given. given ≡ run_error error };
+
+    fn from(error: Error) -> RunError {
+        match error {
+            Error::Invalid(fault) => RunError::Refused(fault),
+            Error::OutOfMemory(_) => RunError::OutOfMemory,
+        }
+    }
+}
+
+/// Reads all that a reader has left.
+fn read_all<R: Source>(alloc: Global, reader: &mut R) -> Result<Vec<u8>, RunError>
+    ensures bytes { IfOk result (λ input. Consumes (R.remaining reader.old) (R.remaining reader.new) input.items) }
+    ensures end { OnOk result (IsAtEnd (R.remaining reader.new)) }
+    ensures sound { OnOk result (R.failed reader.new ≡ R.failed reader.old) }
+    ensures fault { IfErr result (OnReadFault (R.failed reader.old) (R.failed reader.new)) }
+{
+    let mut input = Vec::new(alloc);
+    let mut buffer = [0u8; 16384];
+    loop {
+        let count = match reader.read(&mut buffer) {
+            Ok(count) => count,
+            Err(_) => return Err(RunError::Read),
+        };
+        if count == 0 {
+            return Ok(input);
+        }
+        input.extend_from_slice(&buffer[..count])?;
+    }
+}
+
+/// Appends the listing of the definition that a text means.
+fn list_part(
+    alloc: Global,
+    listing: &mut TextBlocks,
+    part: &str,
+    machine: MachineType,
+    flavor: Flavor,
+) -> Result<(), RunError>
+    ensures ok { OnOk result (ListsOnto part.now machine flavor listing.old listing.new) }
+    ensures fault { IfErr result (OnPartFault part.now machine flavor) }
+{
+    let members = {
+        let library = ImportLibrary::new(alloc, part, machine, flavor)?;
+        library.members()?
+    };
+    list_members(listing, members)?;
+    Ok(())
+}
+
+/// The listing of the parts of a text.
+fn list_parts(
+    alloc: Global,
+    text: &str,
+    machine: MachineType,
+    flavor: Flavor,
+) -> Result<TextBlocks, RunError>
+    ensures ok { IfOk result (λ listing. Lists text.now machine flavor listing) }
+    ensures fault { IfErr result (OnTextFault text.now machine flavor) }
+{
+    let mut listing = TextBlocks::new(alloc);
+    let mut rest = Some(text);
+    while let Some(left) = rest {
+        let (part, after) = divide(left);
+        list_part(alloc, &mut listing, part, machine, flavor)?;
+        rest = after;
+    }
+    Ok(listing)
+}
+
+/// Reads all of the reader, and writes the listing of its definitions once it is whole.
+///
+/// No fault is retried. The input is tested for UTF-8 before anything of it is refused.
+pub fn run<R: Source, W: Sink>(
+    alloc: Global,
+    reader: &mut R,
+    writer: &mut W,
+    machine: MachineType,
+    flavor: Flavor,
+) -> Result<(), RunError>
+    requires reader { R.failed reader.old ≡ false }
+    requires writer { W.failed writer.old ≡ false }
+    ensures { Runs machine flavor
+        (record { remaining = R.remaining reader.old; contents = W.contents writer.old; reader_failed = R.failed reader.old; writer_failed = W.failed writer.old })
+        (record { remaining = R.remaining reader.new; contents = W.contents writer.new; reader_failed = R.failed reader.new; writer_failed = W.failed writer.new })
+        result }
+{
+    let input = read_all(alloc, reader)?;
+    let text = match str::from_utf8(input.as_slice()) {
+        Ok(text) => text,
+        Err(_) => return Err(RunError::NotUtf8),
+    };
+    let listing = list_parts(alloc, text, machine, flavor)?;
+    if listing.write_to(writer).is_err() {
+        return Err(RunError::Write);
+    }
+    Ok(())
+}
