@@ -3,6 +3,7 @@
 -- The reader takes what it finds in the bytes, and knows nothing of who wrote them.
 use Rattle.std.specs.Prelude.{ℕ, ◌-◌, ◌/◌, ◌%◌, Bool, ◌&&◌, ◌==◌, nat_le, List, [], ◌∷◌, length, drop, Option, Some, None, if◌then◌else◌}
 use Rattle.std.specs.List.{before_first}
+use Rattle.implib.specs.Ascii.{question_mark}
 use Rattle.implib.specs.Import.{Ask, Ordinal, Name, Import, import_symbols, without_first, begins_with, underscore, at_sign}
 use Rattle.implib.specs.Object.{u16_at, u32_at}
 
@@ -87,7 +88,7 @@ short_record_in bytes = if is_record bytes then record_from bytes (text_in (drop
 -- a symbol without one leading `?`, `@` or `_`
 abbrev pub without_prefix : List ℕ → List ℕ
 without_prefix symbol =
-    if begins_with 0x3F symbol then without_first symbol
+    if begins_with question_mark symbol then without_first symbol
     else if begins_with at_sign symbol then without_first symbol
     else if begins_with underscore symbol then without_first symbol
     else symbol
