@@ -32,3 +32,4 @@ pub mod Writer
 pub mod WriterView
 pub mod Asked
 pub mod WorkedMembers
+pub mod Gnu
