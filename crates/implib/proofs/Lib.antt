@@ -55,3 +55,4 @@ pub mod WriterSound
 pub mod WorkedObjects
 pub mod Asked
 pub mod WorkedMembers
+pub mod WorkedGnu
