@@ -56,3 +56,8 @@ pub mod WorkedObjects
 pub mod Asked
 pub mod WorkedMembers
 pub mod WorkedGnu
+pub mod Ranges
+pub mod Placement
+pub mod Definitions
+pub mod Tables
+pub mod Linked
