@@ -56,3 +56,4 @@ pub mod WorkedObjects
 pub mod Asked
 pub mod WorkedMembers
 pub mod WorkedGnu
+pub mod GnuObjects
