@@ -61,3 +61,4 @@ pub mod Placement
 pub mod Definitions
 pub mod Tables
 pub mod Linked
+pub mod GnuObjects

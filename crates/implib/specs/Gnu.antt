@@ -96,34 +96,52 @@ table_flags = initialized_data + align_4 + read_write
 
 -- the head: the import descriptor, with the lookup table's address at 0, the address table's at 16,
 -- the name's at 12
+abbrev pub head_sections : MachineType → List ObjectSection
+head_sections machine =
+    empty_sections
+    ++ section (codes ".idata$2") table_flags (zeros descriptor_size)
+    (relocation machine 0 3 ∷ relocation machine 16 2 ∷ relocation machine 12 5 ∷ [])
+    ∷ section (codes ".idata$5") table_flags [] []
+    ∷ section (codes ".idata$4") table_flags [] []
+    ∷ []
+
+-- the symbols of the head, by the descriptor's and the name's
+abbrev pub head_symbols : List ℕ → List ℕ → List AddedSymbol
+head_symbols head name =
+    file_symbol
+    ∷ added (codes ".idata$5") (Section 5) static
+    ∷ added (codes ".idata$4") (Section 6) static
+    ∷ added head (Section 4) external
+    ∷ added name Undefined external
+    ∷ []
+
+-- the head
 unfoldable pub head_object : MachineType → List ℕ → Holding
 head_object machine dll = record {
   machine = machine;
-  sections = empty_sections
-      ++ section (codes ".idata$2") table_flags (zeros descriptor_size)
-      (relocation machine 0 3 ∷ relocation machine 16 2 ∷ relocation machine 12 5 ∷ [])
-      ∷ section (codes ".idata$5") table_flags [] []
-      ∷ section (codes ".idata$4") table_flags [] []
-      ∷ [];
-  symbols =
-      file_symbol
-      ∷ added (codes ".idata$5") (Section 5) static
-      ∷ added (codes ".idata$4") (Section 6) static
-      ∷ added (head_symbol machine dll) (Section 4) external
-      ∷ added (name_symbol machine dll) Undefined external
-      ∷ [];
+  sections = head_sections machine;
+  symbols = head_symbols (head_symbol machine dll) (name_symbol machine dll);
 }
 
 -- the tail: the thunks that end the lookup table and the address table, and the DLL's name
+abbrev pub tail_sections : MachineType → List ℕ → List ObjectSection
+tail_sections machine dll =
+    empty_sections
+    ++ section (codes ".idata$4") table_flags (zeros (thunk_width machine)) []
+    ∷ section (codes ".idata$5") table_flags (zeros (thunk_width machine)) []
+    ∷ section (codes ".idata$7") table_flags (dll ++ 0 ∷ []) []
+    ∷ []
+
+-- the symbols of the tail, by the name's
+abbrev pub tail_symbols : List ℕ → List AddedSymbol
+tail_symbols name = file_symbol ∷ added name (Section 6) external ∷ []
+
+-- the tail
 unfoldable pub tail_object : MachineType → List ℕ → Holding
 tail_object machine dll = record {
   machine = machine;
-  sections = empty_sections
-      ++ section (codes ".idata$4") table_flags (zeros (thunk_width machine)) []
-      ∷ section (codes ".idata$5") table_flags (zeros (thunk_width machine)) []
-      ∷ section (codes ".idata$7") table_flags (dll ++ 0 ∷ []) []
-      ∷ [];
-  symbols = file_symbol ∷ added (name_symbol machine dll) (Section 6) external ∷ [];
+  sections = tail_sections machine dll;
+  symbols = tail_symbols (name_symbol machine dll);
 }
 
 -- the instructions that jump to the address of an import (this project's choice)
@@ -190,10 +208,10 @@ export_sections machine e =
 abbrev pub code_symbol : ExportView → List AddedSymbol
 code_symbol e = if e.is_data then [] else added e.name (Section 1) external ∷ []
 
--- the symbols of an export
-abbrev pub export_symbols : MachineType → List ℕ → ExportView → List AddedSymbol
-export_symbols machine dll e =
-    added (head_symbol machine dll) Undefined external
+-- the symbols of an export, by the descriptor's
+abbrev pub export_symbols : List ℕ → ExportView → List AddedSymbol
+export_symbols head e =
+    added head Undefined external
     ∷ (code_symbol e
     ++ added (address_symbol e.name) (Section 5) external
     ∷ added (codes ".idata$6") (Section 7) static
@@ -204,7 +222,7 @@ unfoldable pub export_object : MachineType → List ℕ → ExportView → Holdi
 export_object machine dll e = record {
   machine = machine;
   sections = export_sections machine e;
-  symbols = export_symbols machine dll e;
+  symbols = export_symbols (head_symbol machine dll) e;
 }
 
 -- the symbols that an export is listed for

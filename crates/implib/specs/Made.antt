@@ -3,12 +3,12 @@ use Rattle.std.specs.Prelude.{◌≡◌, ℕ, ◌+◌, ◌^◌, ◌<◌, Bool, t
 use Rattle.std.specs.List.{flat_map, list_all, list_any}
 use Rattle.implib.specs.declared.error.Error.{Error}
 use Rattle.implib.specs.declared.library.Flavor.{Flavor}
-use Rattle.implib.specs.declared.library.Flavor.TheVariants.{Msvc}
+use Rattle.implib.specs.declared.library.Flavor.TheVariants.{Msvc, Gnu}
 use Rattle.implib.specs.declared.machine.MachineType.{MachineType}
 use Rattle.implib.specs.Definition.{DefinitionView, ExportView}
 use Rattle.implib.specs.Fault.{Cause, EmptyImportName, NulInImportName, EmptyName, NulInExport, EmptyAskedName, MemberTooLong, error_cause}
 use Rattle.implib.specs.Gnu.{export_listed, export_name, export_object, head_name, head_object, head_symbol, name_symbol, tail_name, tail_object, weak_address_name, weak_name}
-use Rattle.implib.specs.Import.{address_symbol, holds, is_alias, is_empty_text, public_exports}
+use Rattle.implib.specs.Import.{address_symbol, asked_name, holds, is_alias, is_empty_text, public_exports}
 use Rattle.implib.specs.Msvc.{record_of, record_size, record_bytes, record_listed, record_symbol, asked_by_record}
 use Rattle.implib.specs.MsvcObjects.{descriptor, descriptor_symbol, null_descriptor, null_descriptor_symbol, null_thunk, null_thunk_symbol, weak_object}
 use Rattle.implib.specs.Picture.{Picture, layout, layout_size}
@@ -86,11 +86,6 @@ record_plan machine dll e = record { name = dll; contents = ARecord (record_of m
 abbrev pub export_plans : MachineType → List ℕ → ExportView → List Plan
 export_plans machine dll e = weak_plans machine dll e ++ record_plan machine dll e ∷ []
 
--- the members of a definition whose exports are under their names to link by
-abbrev pub plans_of : DefinitionView → MachineType → Flavor → List Plan
-plans_of d machine Msvc =
-    heading_plans machine d.import_name ++ flat_map (export_plans machine d.import_name) (public_exports d)
-
 -- Members for GNU's linker have each a name of its own.
 
 -- the plan of the tail
@@ -130,19 +125,30 @@ alias_plans machine dll number e =
     ∷ []
     else []
 
+-- the plans of the export of this number, in the order of building
+abbrev pub numbered_plans_of : MachineType → List ℕ → ℕ → ExportView → List Plan
+numbered_plans_of machine dll number e = alias_plans machine dll number e ++ export_plan machine dll number e ∷ []
+
 -- the plans of exports that are numbered from this number, in the order of building
 abbrev pub numbered_plans : MachineType → List ℕ → ℕ → List ExportView → List Plan
 numbered_plans machine dll number [] = []
 numbered_plans machine dll number (e ∷ exports) =
-    alias_plans machine dll number e ++ (export_plan machine dll number e ∷ numbered_plans machine dll (number + 1) exports)
+    numbered_plans_of machine dll number e ++ numbered_plans machine dll (number + 1) exports
 
 -- the tail, the head, and what was built, from the last to the first
 abbrev pub gnu_plans : MachineType → List ℕ → List ExportView → List Plan
 gnu_plans machine dll exports = tail_plan machine dll ∷ head_plan machine dll ∷ reverse (numbered_plans machine dll 0 exports)
 
+-- the members of a definition whose exports are under their names to link by
+abbrev pub plans_of : DefinitionView → MachineType → Flavor → List Plan
+plans_of d machine Msvc =
+    heading_plans machine d.import_name ++ flat_map (export_plans machine d.import_name) (public_exports d)
+plans_of d machine Gnu = gnu_plans machine d.import_name (public_exports d)
+
 -- the name that an export asks for in a flavour
 abbrev pub asked_in : Flavor → MachineType → ExportView → List ℕ
 asked_in Msvc machine e = asked_by_record machine e
+asked_in Gnu machine e = asked_name machine e.name
 
 -- whether one of an export's texts holds a NUL
 abbrev pub holds_nul : ExportView → Bool
