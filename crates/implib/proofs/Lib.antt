@@ -61,4 +61,5 @@ pub mod Placement
 pub mod Definitions
 pub mod Tables
 pub mod Linked
+pub mod LinkedMembers
 pub mod GnuObjects

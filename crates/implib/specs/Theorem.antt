@@ -1,14 +1,20 @@
 -- What linking the members of a definition for GNU's linker gives: a loader finds in the image the
 -- DLL and what the chosen exports ask for, and no more.
-use Rattle.std.specs.Prelude.{◌≡◌, ℕ, ◌+◌, List, [], ◌∷◌, map, Option, Some, None, if◌then◌else◌}
+use Rattle.std.specs.Prelude.{◌≡◌, ℕ, ◌+◌, ◌<◌, List, [], ◌∷◌, ◌++◌, length, map, slice_get, slice_index, Option, Some, None, if◌then◌else◌}
+use Rattle.std.specs.Cmp.Lexicographic.{slice_cmp}
 use Rattle.std.specs.List.{AllByRecursion, filter_map, flat_map}
+use Rattle.std.specs.Option.{option_map}
+use Rattle.std.specs.Ordering.{nat_cmp}
+use Rattle.std.specs.declared.cmp.Ordering.TheVariants.{Less}
 use Rattle.implib.specs.declared.machine.MachineType.{MachineType}
-use Rattle.implib.specs.Definition.{ExportView}
-use Rattle.implib.specs.Import.{address_symbol, ask_meant}
+use Rattle.implib.specs.Definition.{DefinitionView, ExportView}
+use Rattle.implib.specs.Import.{address_symbol, ask_meant, public_exports}
 use Rattle.implib.specs.Link.{At, Bases, Descriptors, Kind, Nowhere, Place, Placed, SymbolDefinition, definitions_of, image_of, is_undefined_external, placed_from, same_kind}
 use Rattle.implib.specs.Load.{Loads}
+use Rattle.implib.specs.Made.{MemberView, Plan, export_plan, head_plan, member_of, tail_plan}
 use Rattle.implib.specs.MsvcObjects.{thunk_width}
-use Rattle.implib.specs.Object.{ASymbol, Auxiliary, Entry, Object}
+use Rattle.implib.specs.Object.{ASymbol, Auxiliary, Entry, Object, object_in}
+use Rattle.implib.specs.Renaming.{renamed}
 
 -- the first place of a kind
 abbrev pub first_place : Kind → List Place → Option ℕ
@@ -51,3 +57,44 @@ pub record Links (machine : MachineType) (bases : Bases) (dll : List ℕ) (expor
   pub loads : Loads (image_of machine bases (placed_from bases objects)) (thunk_width machine) descriptor dll (map (ask_meant machine) exports)
   pub entries : EntriesAt (placed_from bases objects) (thunk_width machine) loads.addresses exports
   pub defined : AllByRecursion (IsDefinedOnce (placed_from bases objects)) (undefined_names (placed_from bases objects))
+
+-- the exports of these numbers, which count the exports that are not private from 0
+abbrev pub chosen_exports : DefinitionView → List ℕ → List ExportView
+chosen_exports d chosen = filter_map (slice_get (public_exports (renamed d))) chosen
+
+-- the plan of the member of the export of a number
+abbrev pub plan_numbered : MachineType → List ℕ → List ExportView → ℕ → Option Plan
+plan_numbered machine dll exports number = option_map (export_plan machine dll number) (slice_get exports number)
+
+-- what is linked: the head, the members of chosen exports, the tail
+abbrev pub linked_plans : DefinitionView → MachineType → List ℕ → List Plan
+linked_plans d machine chosen =
+    head_plan machine d.import_name
+    ∷ (filter_map (plan_numbered machine d.import_name (public_exports (renamed d))) chosen ++ tail_plan machine d.import_name ∷ [])
+
+abbrev pub linked_members : DefinitionView → MachineType → List ℕ → List MemberView
+linked_members d machine chosen = map member_of (linked_plans d machine chosen)
+
+-- the objects that are read in members' bytes
+abbrev pub objects_in : List MemberView → List Object
+objects_in members = filter_map (λ m. object_in m.bytes) members
+
+-- a name comes before another in the order of bytes
+abbrev pub ComesBefore : List ℕ → List ℕ → Type 0
+ComesBefore first second = slice_cmp nat_cmp first second ≡ Less
+
+-- each name comes before the next one
+abbrev pub AllRise : List (List ℕ) → Type 0
+AllRise [] = Unit {0}
+AllRise (first ∷ []) = Unit {0}
+AllRise (first ∷ second ∷ others) = ComesBefore first second × AllRise (second ∷ others)
+
+-- the bases in the order of the kinds' numbers
+abbrev pub bases_of : List ℕ → Bases
+bases_of bases = record {
+  descriptors = slice_index bases 0;
+  lookups = slice_index bases 1;
+  addresses = slice_index bases 2;
+  hint_names = slice_index bases 3;
+  dll_names = slice_index bases 4;
+}
