@@ -1,12 +1,12 @@
 -- The objects for GNU's linker link to what their definition means.
-use Rattle.std.proofs.Common.{◌≡◌, ℕ, ◌+◌, ◌-◌, ◌*◌, ◌/◌, ◌%◌, ◌<◌, ◌≤◌, ◌^◌, Bool, true, false, ◌&&◌, List, [], ◌∷◌, ◌++◌, length, map, codes, Option, Some, None, refl, ap, sym, ◌∙◌, arith, subst, inl, inr, ◌⊎◌, if◌then◌else◌}
-use Rattle.std.specs.Prelude.{◌==◌, bytes_eq}
+use Rattle.std.proofs.Common.{◌≡◌, ℕ, ◌+◌, ◌-◌, ◌%◌, ◌<◌, ◌≤◌, ◌^◌, List, [], ◌∷◌, ◌++◌, length, map, Some, refl, ap, sym, ◌∙◌, arith, subst, inl, inr}
+use Rattle.std.specs.Prelude.{bytes_eq}
 use Rattle.std.specs.List.{AllByRecursion, IsDistinct, filter, flat_map}
 use Rattle.std.proofs.lemmas.Bool.{cases_Bool}
-use Rattle.std.proofs.lemmas.List.{append-nil, append_assoc, length-append, length-replicate}
+use Rattle.std.proofs.lemmas.List.{length-append, length-replicate}
 use Rattle.implib.specs.declared.machine.MachineType.{MachineType}
 use Rattle.implib.specs.declared.machine.MachineType.TheVariants.{I386, ARMNT, AMD64, ARM64}
-use Rattle.implib.specs.Bytes.{u16_bytes, u32_bytes}
+use Rattle.implib.specs.Bytes.{u32_bytes}
 use Rattle.implib.specs.Definition.{ExportView}
 use Rattle.implib.specs.Gnu.{export_listed, export_object, head_object, head_symbol, name_symbol, tail_object}
 use Rattle.implib.specs.Import.{Ask, address_symbol, ask_meant}
@@ -17,7 +17,7 @@ use Rattle.implib.specs.Object.{Object, u32_at}
 use Rattle.implib.specs.Picture.{HasNoNul}
 use Rattle.implib.specs.Theorem.{EntriesAt, IsDefinedOnce, descriptor_place, Links, undefined_names}
 use Rattle.implib.proofs.Ranges.{Among, address_bounds, among_back, among_first, among_flat, among_later, filled_stands, stands_parts}
-use Rattle.implib.proofs.Placement.{AreAligned, address_definition, after_head, aligned_after, at_least, code_definition, defined_after, definitions-after, ends_of_export, ends_of_exports, ends_of_head, export, head, names-after, placed-export, placed-head, placed-tail, placed_export, placed_head, tail}
+use Rattle.implib.proofs.Placement.{AreAligned, address_definition, after_head, aligned_after, at_least, code_definition, defined_after, definitions-after, ends_of_export, ends_of_exports, ends_of_head, head, names-after, placed-export, placed-head, placed-tail, placed_export, placed_head}
 use Rattle.implib.proofs.Definitions.{only_definition}
 use Rattle.implib.proofs.Tables.{CanBeAsked, addresses_filled, filled_first, hint_bytes, hint_names_filled, lookups_filled, same_number, table_at, thunk_bytes}
 

@@ -1,23 +1,23 @@
 -- The members for GNU's linker, read from their bytes, link to what their definition means.
-use Rattle.std.proofs.Common.{◌≡◌, ℕ, ◌+◌, ◌-◌, ◌<◌, ◌≤◌, ◌^◌, zero, suc, Bool, true, false, ◌&&◌, ◌||◌, List, [], ◌∷◌, ◌++◌, length, map, codes, Option, Some, None, refl, ap, sym, ◌∙◌, arith, subst, inl, inr, ◌⊎◌, if◌then◌else◌}
-use Rattle.std.specs.Prelude.{◌==◌, bytes_eq, not, reverse, slice_get, slice_index_or}
+use Rattle.std.proofs.Common.{◌≡◌, ℕ, ◌+◌, ◌<◌, ◌≤◌, ◌^◌, zero, suc, Bool, true, false, ◌||◌, List, [], ◌∷◌, ◌++◌, length, map, Option, Some, None, refl, ap, sym, ◌∙◌, arith, subst, inl, inr, if◌then◌else◌}
+use Rattle.std.specs.Prelude.{◌==◌, bytes_eq, not, reverse, slice_get}
 use Rattle.std.specs.Cmp.Lexicographic.{slice_cmp}
 use Rattle.std.specs.List.{AllByRecursion, Contains, IsDistinct, cons_option, filter, filter_map, flat_map, list_all, list_any}
 use Rattle.std.specs.Option.{option_map}
 use Rattle.std.specs.Ordering.{nat_cmp}
-use Rattle.std.specs.declared.cmp.Ordering.TheVariants.{Equal, Less}
-use Rattle.std.proofs.lemmas.Bool.{and_parts, cases_Bool, eq-eqb, le-ltb, ltb-false, ltb-true, or_parts}
-use Rattle.std.proofs.lemmas.List.{append-nil, append_assoc, length-append, reverse-append}
+use Rattle.std.specs.declared.cmp.Ordering.TheVariants.{Equal}
+use Rattle.std.proofs.lemmas.Bool.{and_parts, eq-eqb, le-ltb, ltb-false, ltb-true, or_parts}
+use Rattle.std.proofs.lemmas.List.{append_assoc, reverse-append}
 use Rattle.implib.specs.declared.library.Flavor.TheVariants.{Gnu}
 use Rattle.implib.specs.declared.machine.MachineType.{MachineType}
 use Rattle.implib.specs.Definition.{DefinitionView, ExportView}
-use Rattle.implib.specs.Fault.{Cause, EmptyAskedName, EmptyName, MemberTooLong, NulInExport}
-use Rattle.implib.specs.Gnu.{name_symbol, export_listed, export_name, export_object, five_digits, head_name, head_object, numbered_name, stem, tail_name, tail_object}
+use Rattle.implib.specs.Fault.{EmptyName, NulInExport}
+use Rattle.implib.specs.Gnu.{head_symbol, name_symbol, export_listed, export_name, export_object, head_name, head_object, numbered_name, stem, tail_name, tail_object}
 use Rattle.implib.specs.Import.{asked_name, holds, has_underscore, is_empty_text, public_exports, without_first}
 use Rattle.implib.specs.Link.{Bases, IsAdmissible}
-use Rattle.implib.specs.Made.{AnObject, Contents, Made, MemberView, Plan, alias_plans, contents_bytes, contents_size, definition_names_refusal, export_plan, first_of_both, gnu_plans, has_u16_ordinal, head_plan, holds_nul, import_name_refusal, is_too_long, length_refusal, member_of, name_refusal, names_refusal, numbered_plans, numbered_plans_of, plans_of, refusal, renamed_refusal, tail_plan}
-use Rattle.implib.specs.Object.{Object, object_in}
-use Rattle.implib.specs.Picture.{Fits, HasNoNul, layout, layout_size, object_of}
+use Rattle.implib.specs.Made.{Made, MemberView, Plan, alias_plans, contents_size, definition_names_refusal, export_plan, gnu_plans, has_u16_ordinal, head_plan, holds_nul, import_name_refusal, is_too_long, length_refusal, member_of, name_refusal, names_refusal, numbered_plans, numbered_plans_of, plans_of, refusal, renamed_refusal, tail_plan}
+use Rattle.implib.specs.Object.{object_in}
+use Rattle.implib.specs.Picture.{Fits, layout, layout_size}
 use Rattle.implib.specs.Renaming.{renamed, renamed_export}
 use Rattle.implib.specs.Theorem.{AllRise, ComesBefore, Links, chosen_exports, linked_members, linked_plans, objects_in, plan_numbered}
 use Rattle.implib.specs.Writer.{Holding, object_held, picture_of}
@@ -233,3 +233,117 @@ module _ (machine : MachineType) (dll : List ℕ) (exports : List ExportView) (d
       by_place (λ o. AllByRecursion (λ p. Among p (gnu_plans machine dll exports)) (cons_option (option_map (export_plan machine dll n) o) (filter_map (plan_numbered machine dll exports) ns) ++ tail_plan machine dll ∷ [])) n (slice_get exports n) refl
       (λ is. chosen_among ns)
       (λ e is. (export_among n e is, chosen_among ns))
+
+-- The order of the names.
+
+same_cmp : (n : ℕ) → nat_cmp n n ≡ Equal
+same_cmp n = rw (le-ltb n n (omega arith), eq-eqb n n refl) refl
+
+-- names that begin alike are in the order of their rests
+after_same : (front xs ys : List ℕ) → slice_cmp nat_cmp (front ++ xs) (front ++ ys) ≡ slice_cmp nat_cmp xs ys
+after_same [] xs ys = refl
+after_same (byte ∷ front) xs ys = rw (same_cmp byte) (after_same front xs ys)
+
+head_first : (dll : List ℕ) (n : ℕ) → ComesBefore (head_name dll) (export_name dll n)
+unfolding head_name numbered_name
+head_first dll n = after_same (stem dll) _ _
+
+tail_last : (dll : List ℕ) (n : ℕ) → ComesBefore (export_name dll n) (tail_name dll)
+unfolding tail_name numbered_name
+tail_last dll n = after_same (stem dll) _ _
+
+head_before_tail : (dll : List ℕ) → ComesBefore (head_name dll) (tail_name dll)
+unfolding head_name tail_name
+head_before_tail dll = after_same (stem dll) _ _
+
+rise_to_tail : (dll : List ℕ) (n : ℕ) (ns : List ℕ) → AllRise (export_name dll n ∷ map (export_name dll) ns) →
+    AllRise (export_name dll n ∷ (map (export_name dll) ns ++ tail_name dll ∷ []))
+rise_to_tail dll n [] rise = (tail_last dll n, tt)
+rise_to_tail dll n (next ∷ ns) rise = (rise.0, rise_to_tail dll next ns rise.1)
+
+names_rise : (dll : List ℕ) (ns : List ℕ) → AllRise (map (export_name dll) ns) → AllRise (head_name dll ∷ (map (export_name dll) ns ++ tail_name dll ∷ []))
+names_rise dll [] rise = (head_before_tail dll, tt)
+names_rise dll (n ∷ ns) rise = (head_first dll n, rise_to_tail dll n ns rise)
+
+map_map : {X Y Z : Type 0} (f : Y → Z) (g : X → Y) (xs : List X) → map f (map g xs) ≡ map (λ x. f (g x)) xs
+map_map f g [] = refl
+map_map f g (x ∷ xs) = ap (λ ys. f (g x) ∷ ys) (map_map f g xs)
+
+flat_map_map : {X Y Z : Type 0} (f : Y → List Z) (g : X → Y) (xs : List X) → flat_map f (map g xs) ≡ flat_map (λ x. f (g x)) xs
+flat_map_map f g [] = refl
+flat_map_map f g (x ∷ xs) = ap (λ ys. f (g x) ++ ys) (flat_map_map f g xs)
+
+all_contained : {X Y : Type 0} (f : X → Y) (all : List X) (xs : List X) → AllByRecursion (λ x. Among x all) xs → AllByRecursion (Contains (map f all)) (map f xs)
+all_contained f all [] among = tt
+all_contained f all (x ∷ xs) among = (among_contains (f x) (map f all) (among_map f x all among.0), all_contained f all xs among.1)
+
+module _ (d : DefinitionView) (machine : MachineType) (members : List MemberView) (chosen : List ℕ) (made : Made d machine Gnu members) where
+  abbrev public : List ExportView
+  public = public_exports (renamed d)
+
+  refusals : (definition_names_refusal (renamed d) machine Gnu ≡ None) × (length_refusal (plans_of (renamed d) machine Gnu) ≡ None)
+  unfolding refusal renamed_refusal
+  refusals = first_none (definition_names_refusal (renamed d) machine Gnu) (length_refusal (plans_of (renamed d) machine Gnu)) made.accepted
+
+  name_refusals : (import_name_refusal d.import_name ≡ None) × (names_refusal Gnu machine 0 (map renamed_export d.exports) ≡ None)
+  name_refusals = first_none (import_name_refusal d.import_name) (names_refusal Gnu machine 0 (map renamed_export d.exports)) refusals.0
+
+  dll_free : holds 0 d.import_name ≡ false
+  dll_free = import_name_free d.import_name name_refusals.0
+
+  all_good : AllByRecursion IsNamed (public_exports (renamed d))
+  all_good = all_named machine 0 (map renamed_export d.exports) name_refusals.1
+
+  none_long : list_any is_too_long (gnu_plans machine d.import_name (public_exports (renamed d))) ≡ false
+  none_long = none_too_long (plans_of (renamed d) machine Gnu) refusals.1
+
+  pub members_among : AllByRecursion (Contains members) (linked_members d machine chosen)
+  members_among =
+      subst (λ ms. AllByRecursion (Contains ms) (linked_members d machine chosen)) (sym made.made)
+      (all_contained member_of (gnu_plans machine d.import_name public) (linked_plans d machine chosen) (
+        head_among machine d.import_name public dll_free all_good made.ordinals none_long,
+        chosen_among machine d.import_name public dll_free all_good made.ordinals none_long chosen,
+      ))
+
+  pub members_named : AllByRecursion (λ n. n < length (public_exports (renamed d))) chosen →
+      map (λ (m : MemberView). m.name) (linked_members d machine chosen) ≡ head_name d.import_name ∷ (map (export_name d.import_name) chosen ++ tail_name d.import_name ∷ [])
+  unfolding head_plan
+  members_named within =
+      map_map (λ (m : MemberView). m.name) member_of (linked_plans d machine chosen)
+      ∙ ap (λ names. head_name d.import_name ∷ names) (chosen_names machine d.import_name public dll_free all_good made.ordinals none_long chosen within)
+
+  pub members_rise : AllByRecursion (λ n. n < length (public_exports (renamed d))) chosen → AllRise (map (export_name d.import_name) chosen) →
+      AllRise (map (λ (m : MemberView). m.name) (linked_members d machine chosen))
+  members_rise within rise = subst AllRise (sym (members_named within)) (names_rise d.import_name chosen rise)
+
+  read_as : map (λ (m : MemberView). object_in m.bytes) (linked_members d machine chosen) ≡ map Some (linked_objects machine d.import_name (chosen_exports d chosen))
+  read_as =
+      map_map (λ (m : MemberView). object_in m.bytes) member_of (linked_plans d machine chosen)
+      ∙ ap (λ o. o ∷ map (λ (p : Plan). object_in (member_of p).bytes) (plans_after machine d.import_name public dll_free all_good made.ordinals none_long chosen))
+      (head_reads machine d.import_name public dll_free all_good made.ordinals none_long)
+      ∙ ap (λ rest. Some (head machine d.import_name) ∷ rest) (chosen_read machine d.import_name public dll_free all_good made.ordinals none_long chosen)
+
+  objects_are : objects_in (linked_members d machine chosen) ≡ linked_objects machine d.import_name (chosen_exports d chosen)
+  objects_are =
+      filter_map-present (λ (m : MemberView). object_in m.bytes) (linked_members d machine chosen)
+      ∙ ap present read_as
+      ∙ present-some (linked_objects machine d.import_name (chosen_exports d chosen))
+
+  pub members_read : map (λ (m : MemberView). object_in m.bytes) (linked_members d machine chosen) ≡ map Some (objects_in (linked_members d machine chosen))
+  members_read = read_as ∙ ap (map Some) (sym objects_are)
+
+  symbols_are : flat_map (λ (m : MemberView). m.symbols) (linked_members d machine chosen) ≡ linked_symbols machine d.import_name (chosen_exports d chosen)
+  unfolding head_plan
+  symbols_are =
+      flat_map_map (λ (m : MemberView). m.symbols) member_of (linked_plans d machine chosen)
+      ∙ ap (λ rest. head_symbol machine d.import_name ∷ rest) (chosen_listed machine d.import_name public dll_free all_good made.ordinals none_long chosen)
+
+  pub members_link : (bases : Bases) → IsDistinct bytes_eq (flat_map (λ (m : MemberView). m.symbols) (linked_members d machine chosen)) →
+      IsAdmissible machine bases (objects_in (linked_members d machine chosen)) →
+      Links machine bases d.import_name (chosen_exports d chosen) (objects_in (linked_members d machine chosen))
+  members_link bases distinct admissible =
+      subst (Links machine bases d.import_name (chosen_exports d chosen)) (sym objects_are)
+      (objects_link machine d.import_name (chosen_exports d chosen) bases (HasNoNul-from_holds d.import_name dll_free)
+      (chosen_fit machine d.import_name public dll_free all_good made.ordinals none_long chosen)
+      (subst (IsDistinct bytes_eq) symbols_are distinct)
+      (subst (IsAdmissible machine bases) objects_are admissible))

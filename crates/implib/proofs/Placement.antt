@@ -1,19 +1,17 @@
 -- Where the sections of the objects for GNU's linker are placed, and what these objects define.
-use Rattle.std.proofs.Common.{◌≡◌, ℕ, ◌+◌, ◌-◌, ◌*◌, ◌/◌, ◌%◌, ◌<◌, ◌≤◌, ◌^◌, Bool, true, false, ◌&&◌, List, [], ◌∷◌, ◌++◌, length, map, codes, Option, Some, None, refl, ap, sym, ◌∙◌, arith, subst, inl, inr, ◌⊎◌, if◌then◌else◌}
-use Rattle.std.specs.List.{AllByRecursion, flat_map}
+use Rattle.std.proofs.Common.{◌≡◌, ℕ, ◌+◌, ◌-◌, ◌%◌, ◌≤◌, Bool, true, false, List, [], ◌∷◌, ◌++◌, length, map, Some, None, refl, ap, ◌∙◌, arith, inl, inr, if◌then◌else◌}
+use Rattle.std.specs.List.{flat_map}
 use Rattle.std.proofs.lemmas.Bool.{cases_Bool}
-use Rattle.std.proofs.lemmas.List.{append_assoc, length-append, length-replicate, map-append}
 use Rattle.implib.specs.declared.machine.MachineType.{MachineType}
 use Rattle.implib.specs.declared.machine.MachineType.TheVariants.{I386, ARMNT, AMD64, ARM64}
 use Rattle.implib.specs.Bytes.{u16_bytes}
 use Rattle.implib.specs.Definition.{ExportView}
-use Rattle.implib.specs.Gnu.{export_listed, export_object, head_object, head_symbol, hint_name, name_symbol, tail_object, thunk}
+use Rattle.implib.specs.Gnu.{export_listed, export_object, head_object, hint_name, name_symbol, tail_object, thunk}
 use Rattle.implib.specs.Import.{address_symbol}
-use Rattle.implib.specs.Link.{Addresses, At, Bases, Descriptors, DllNames, HintNames, Lookups, Nowhere, Place, Placed, SymbolDefinition, defined_by, definitions, next_multiple, placed_from}
+use Rattle.implib.specs.Link.{Addresses, At, Bases, Descriptors, DllNames, HintNames, Lookups, Nowhere, Placed, SymbolDefinition, defined_by, definitions, next_multiple, placed_from}
 use Rattle.implib.specs.MsvcObjects.{thunk_width, zeros}
 use Rattle.implib.specs.Object.{Object}
 use Rattle.implib.specs.Writer.{object_held}
-use Rattle.implib.proofs.Ranges.{Among, among_back, among_first, among_front, among_later}
 
 pub aligned : (n : ℕ) → n % 4 ≡ 0 → next_multiple 4 n ≡ n
 unfolding next_multiple

@@ -1,24 +1,23 @@
 -- The lookup table and the address table of linked objects for GNU's linker ask for what was meant.
-use Rattle.std.proofs.Common.{◌≡◌, ℕ, ◌+◌, ◌-◌, ◌*◌, ◌/◌, ◌%◌, ◌<◌, ◌≤◌, ◌^◌, Bool, true, false, ◌&&◌, List, [], ◌∷◌, ◌++◌, length, map, codes, Option, Some, None, refl, ap, sym, ◌∙◌, arith, subst, inl, inr, ◌⊎◌, if◌then◌else◌}
+use Rattle.std.proofs.Common.{◌≡◌, ℕ, ◌+◌, ◌-◌, ◌*◌, ◌%◌, ◌<◌, ◌≤◌, ◌^◌, true, false, List, [], ◌∷◌, ◌++◌, length, map, refl, ap, sym, ◌∙◌, arith, subst, inl, inr, if◌then◌else◌}
 use Rattle.std.specs.Prelude.{◌==◌}
-use Rattle.std.specs.List.{AllByRecursion, flat_map}
-use Rattle.std.proofs.lemmas.Bool.{cases_Bool, ltb-true}
-use Rattle.std.proofs.lemmas.List.{append-nil, append_assoc, length-append, length-replicate}
+use Rattle.std.specs.List.{AllByRecursion}
+use Rattle.std.proofs.lemmas.Bool.{cases_Bool}
+use Rattle.std.proofs.lemmas.List.{append-nil, length-replicate}
 use Rattle.implib.specs.declared.machine.MachineType.{MachineType}
 use Rattle.implib.specs.declared.machine.MachineType.TheVariants.{I386, ARMNT, AMD64, ARM64}
 use Rattle.implib.specs.Bytes.{u16_bytes, u32_bytes}
 use Rattle.implib.specs.Constants.{image_relative}
 use Rattle.implib.specs.Definition.{ExportView}
-use Rattle.implib.specs.Gnu.{export_object, head_object, hint_name, hint_name_symbol, relocations_of_thunk, tail_object, thunk}
-use Rattle.implib.specs.Import.{Ask, Name, Ordinal, ask_meant, asked_name}
-use Rattle.implib.specs.Link.{Addresses, Bases, Descriptors, DllNames, HintNames, Lookups, Piece, Placed, Range, byte_at, filled, next_multiple, pieces, placed_from, range_end, relocated, target_address, with_address}
+use Rattle.implib.specs.Gnu.{export_object, hint_name, hint_name_symbol, relocations_of_thunk, tail_object, thunk}
+use Rattle.implib.specs.Import.{Name, Ordinal, ask_meant, asked_name}
+use Rattle.implib.specs.Link.{Addresses, Bases, HintNames, Lookups, Piece, Placed, Range, filled, next_multiple, pieces, placed_from, range_end, relocated, target_address, with_address}
 use Rattle.implib.specs.Load.{AsksFor, BytesAt, NumberAt, TableAt, TextAt, ThunkAt, number_in}
-use Rattle.implib.specs.Made.{has_u16_ordinal}
 use Rattle.implib.specs.MsvcObjects.{thunk_width, zeros}
 use Rattle.implib.specs.Object.{u32_at}
 use Rattle.implib.specs.Picture.{HasNoNul}
 use Rattle.implib.proofs.Ranges.{address_bounds, stands_parts}
-use Rattle.implib.proofs.Placement.{AreAligned, after_head, aligned_after, at_least, ends_of_export, length-thunk, length-thunk_of, placed-export, placed-tail, placed_export}
+use Rattle.implib.proofs.Placement.{AreAligned, after_head, aligned_after, at_least, ends_of_export, length-thunk_of, placed-export, placed-tail, placed_export}
 
 -- an export whose ordinal is a 16-bit number and whose asked name has no NUL
 pub record CanBeAsked (machine : MachineType) (e : ExportView) : Type 0 where

@@ -1,7 +1,7 @@
 -- Linking: objects are placed, their symbols get addresses, and the import tables become an image
 -- (this project's model of placement, docs/FORMATS.md, "Placement"; the relocations are those of
 -- the PE/COFF specification, "COFF Relocations").
-use Rattle.std.specs.Prelude.{◌≡◌, ℕ, zero, suc, ◌+◌, ◌-◌, ◌/◌, ◌%◌, ◌^◌, ◌<◌, ◌≤◌, Bool, ◌&&◌, ◌==◌, nat_le, nat_lt, true, List, [], ◌∷◌, ◌++◌, length, take, drop, bytes_eq, codes, slice_get, slice_index, Option, Some, None, if◌then◌else◌}
+use Rattle.std.specs.Prelude.{◌≡◌, ℕ, zero, suc, ◌+◌, ◌-◌, ◌/◌, ◌%◌, ◌^◌, ◌<◌, Bool, ◌&&◌, ◌==◌, nat_le, nat_lt, true, List, [], ◌∷◌, ◌++◌, length, take, drop, bytes_eq, codes, slice_get, slice_index, Option, Some, None, if◌then◌else◌}
 use Rattle.std.specs.List.{AllByRecursion, filter, filter_map, flat_map}
 use Rattle.std.specs.Option.{option_and_then}
 use Rattle.implib.specs.declared.coff.object.Relocation.{Relocation}
