@@ -55,3 +55,11 @@ pub mod WriterSound
 pub mod WorkedObjects
 pub mod Asked
 pub mod WorkedMembers
+pub mod WorkedGnu
+pub mod Ranges
+pub mod Placement
+pub mod Definitions
+pub mod Tables
+pub mod Linked
+pub mod LinkedMembers
+pub mod GnuObjects

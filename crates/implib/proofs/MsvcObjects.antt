@@ -56,7 +56,7 @@ machine_fits ARMNT = omega arith
 machine_fits AMD64 = omega arith
 machine_fits ARM64 = omega arith
 
-image_relative_fits : (machine : MachineType) → image_relative machine < 2 ^ 16
+pub image_relative_fits : (machine : MachineType) → image_relative machine < 2 ^ 16
 image_relative_fits I386 = omega arith
 image_relative_fits ARMNT = omega arith
 image_relative_fits AMD64 = omega arith
@@ -68,7 +68,7 @@ descriptor_characteristics_fits ARMNT = omega arith
 descriptor_characteristics_fits AMD64 = omega arith
 descriptor_characteristics_fits ARM64 = omega arith
 
-relocation_fits : (machine : MachineType) (offset index : ℕ) → offset < 2 ^ 32 → index < 2 ^ 32 → FitsRelocation (relocation machine offset index)
+pub relocation_fits : (machine : MachineType) (offset index : ℕ) → offset < 2 ^ 32 → index < 2 ^ 32 → FitsRelocation (relocation machine offset index)
 relocation_fits machine offset index offset_fits index_fits = record { offset = offset_fits; symbol = index_fits; kind = image_relative_fits machine }
 
 -- a symbol whose name is listed
@@ -84,7 +84,7 @@ in_record_fits strings name section class some few free section_fits =
     record { name = (some, few, HasNoNul-from_holds name free); value = omega arith; section = section_fits; aux = tt }
 
 -- a section without relocations
-plain_section_fits : (name contents : List ℕ) (flags : ℕ) → length name ≡ 8 → flags < 2 ^ 32 → FitsSection (record { name = name; flags = flags; bytes = contents; relocations = [] })
+pub plain_section_fits : (name contents : List ℕ) (flags : ℕ) → length name ≡ 8 → flags < 2 ^ 32 → FitsSection (record { name = name; flags = flags; bytes = contents; relocations = [] })
 plain_section_fits name contents flags eight flags_fit = record { name = eight; flags = flags_fit; count = omega arith; relocations = tt }
 
 -- the import descriptor fits

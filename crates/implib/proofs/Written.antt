@@ -2,12 +2,15 @@
 use Rattle.std.proofs.Common.{◌≡◌, ℕ, ◌<◌, ◌^◌, List, Result, Ok, Err, IfOk, OnOk, Some, length, map, refl}
 use Rattle.std.specs.Borrow.{Bor}
 use Rattle.implib.specs.declared.coff.object.Section.{Section}
+use Rattle.implib.specs.declared.coff.object.Symbol.{Symbol}
+use Rattle.implib.specs.declared.machine.MachineType.{MachineType}
+use Rattle.implib.specs.WriterView.{holding_view}
 use Rattle.implib.specs.declared.coff.picture.PictureSymbol.{PictureSymbol}
 use Rattle.implib.specs.Machine.{machine_number}
 use Rattle.implib.specs.Object.{object_in}
 use Rattle.implib.specs.Picture.{Fits, Picture, layout, layout_size, object_of}
 use Rattle.implib.specs.PictureView.{picture_view, symbol_view}
-use Rattle.implib.specs.Writer.{section_view}
+use Rattle.implib.specs.Writer.{added_view, section_view}
 use Rattle.implib.specs.Writer.{AddedSymbol, Holding, long_names, picture_of, symbol_written}
 use Rattle.implib.proofs.ObjectReading.{length-layout, object_in-layout}
 
@@ -21,6 +24,11 @@ pub picture_same : (h : Holding) (machine : ℕ) (sections : Bor (List Section))
     → picture_view (record { machine = machine; characteristics = 0; sections = sections; symbols = symbols; strings = strings }) ≡ picture_of h
 unfolding picture_of
 picture_same h machine sections symbols strings added m s a y n = rw (m, s, y, n, a) refl
+
+-- parts of the program are a writer's where they show the same
+pub same_holding : (h : Holding) (machine : MachineType) (sections : List Section) (symbols : List Symbol) →
+    machine ≡ h.machine → map section_view sections ≡ h.sections → map added_view symbols ≡ h.symbols → holding_view machine sections symbols ≡ h
+same_holding h machine sections symbols m s y = rw (m, s, y) refl
 
 module _ {V E : Type 0} (items : V → List ℕ) (r : Result V E) (p : Picture) (fits : Fits p) where
   -- the bytes of a picture read back as what it shows

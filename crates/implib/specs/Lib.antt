@@ -30,7 +30,11 @@ pub mod Parser
 pub mod ParserViews
 pub mod Writer
 pub mod WriterView
+pub mod Link
+pub mod Load
+pub mod Theorem
 pub mod Asked
 pub mod WorkedMembers
 pub mod WorkedObjects
 pub mod Ascii
+pub mod Gnu

@@ -1,18 +1,20 @@
 -- What the members of a definition are, and which definitions are refused.
-use Rattle.std.specs.Prelude.{◌≡◌, ℕ, ◌+◌, Bool, true, ◌&&◌, ◌||◌, not, nat_lt, List, [], ◌∷◌, ◌++◌, map, Option, Some, None, Result, IsErrAnd, if◌then◌else◌}
+use Rattle.std.specs.Prelude.{◌≡◌, ℕ, ◌+◌, Bool, true, ◌&&◌, ◌||◌, not, nat_lt, List, [], ◌∷◌, ◌++◌, map, reverse, Option, Some, None, Result, IsErrAnd, if◌then◌else◌}
 use Rattle.std.specs.List.{flat_map, list_all, list_any}
 use Rattle.implib.specs.declared.error.Error.{Error}
 use Rattle.implib.specs.declared.library.Flavor.{Flavor}
-use Rattle.implib.specs.declared.library.Flavor.TheVariants.{Msvc}
+use Rattle.implib.specs.declared.library.Flavor.TheVariants.{Msvc, Gnu}
 use Rattle.implib.specs.declared.machine.MachineType.{MachineType}
 use Rattle.implib.specs.Definition.{DefinitionView, ExportView}
 use Rattle.implib.specs.Fault.{Cause, EmptyImportName, NulInImportName, EmptyName, NulInExport, EmptyAskedName, MemberTooLong, error_cause}
-use Rattle.implib.specs.Import.{address_symbol, holds, is_alias, is_empty_text, public_exports}
+use Rattle.implib.specs.Gnu.{export_listed, export_name, export_object, head_name, head_object, head_symbol, name_symbol, tail_name, tail_object, weak_address_name, weak_name}
+use Rattle.implib.specs.Import.{address_symbol, asked_name, holds, is_alias, is_empty_text, public_exports}
 use Rattle.implib.specs.Msvc.{record_of, record_size, record_bytes, record_listed, record_symbol, asked_by_record}
 use Rattle.implib.specs.MsvcObjects.{descriptor, descriptor_symbol, null_descriptor, null_descriptor_symbol, null_thunk, null_thunk_symbol, weak_object}
 use Rattle.implib.specs.Picture.{Picture, layout, layout_size}
 use Rattle.implib.specs.Record.{ShortRecord}
 use Rattle.implib.specs.Renaming.{renamed}
+use Rattle.implib.specs.Writer.{picture_of}
 
 -- what a member shows
 pub record MemberView : Type 0 where
@@ -88,14 +90,69 @@ member_count e = if is_alias e.alias_target (record_symbol e) then 3 else 1
 abbrev pub export_plans : MachineType → List ℕ → ExportView → List Plan
 export_plans machine dll e = weak_plans machine dll e ++ record_plan machine dll e ∷ []
 
+-- Members for GNU's linker have each a name of its own.
+
+-- the plan of the tail
+unfoldable pub tail_plan : MachineType → List ℕ → Plan
+tail_plan machine dll = record {
+  name = tail_name dll;
+  contents = AnObject (picture_of (tail_object machine dll));
+  listed = name_symbol machine dll ∷ [];
+}
+
+-- the plan of the head
+unfoldable pub head_plan : MachineType → List ℕ → Plan
+head_plan machine dll = record {
+  name = head_name dll;
+  contents = AnObject (picture_of (head_object machine dll));
+  listed = head_symbol machine dll ∷ [];
+}
+
+-- the plan of an export's member
+unfoldable pub export_plan : MachineType → List ℕ → ℕ → ExportView → Plan
+export_plan machine dll number e = record {
+  name = export_name dll number;
+  contents = AnObject (picture_of (export_object machine dll e));
+  listed = export_listed e;
+}
+
+-- the plan of a weak external, under this name
+abbrev pub alias_plan : MachineType → List ℕ → List ℕ → List ℕ → Plan
+alias_plan machine name weak target = record { name = name; contents = AnObject (weak_object machine weak target); listed = weak ∷ [] }
+
+-- the plans of the weak externals of an export: of its symbol, and of its address
+unfoldable pub alias_plans : MachineType → List ℕ → ℕ → ExportView → List Plan
+alias_plans machine dll number e =
+    if is_alias e.alias_target e.name then
+    alias_plan machine (weak_name dll number) e.name e.alias_target
+    ∷ alias_plan machine (weak_address_name dll number) (address_symbol e.name) (address_symbol e.alias_target)
+    ∷ []
+    else []
+
+-- the plans of the export of this number, in the order of building
+abbrev pub numbered_plans_of : MachineType → List ℕ → ℕ → ExportView → List Plan
+numbered_plans_of machine dll number e = alias_plans machine dll number e ++ export_plan machine dll number e ∷ []
+
+-- the plans of exports that are numbered from this number, in the order of building
+abbrev pub numbered_plans : MachineType → List ℕ → ℕ → List ExportView → List Plan
+numbered_plans machine dll number [] = []
+numbered_plans machine dll number (e ∷ exports) =
+    numbered_plans_of machine dll number e ++ numbered_plans machine dll (number + 1) exports
+
+-- the tail, the head, and what was built, from the last to the first
+abbrev pub gnu_plans : MachineType → List ℕ → List ExportView → List Plan
+gnu_plans machine dll exports = tail_plan machine dll ∷ head_plan machine dll ∷ reverse (numbered_plans machine dll 0 exports)
+
 -- the members of a definition whose exports are under their names to link by
 abbrev pub plans_of : DefinitionView → MachineType → Flavor → List Plan
 plans_of d machine Msvc =
     heading_plans machine d.import_name ++ flat_map (export_plans machine d.import_name) (public_exports d)
+plans_of d machine Gnu = gnu_plans machine d.import_name (public_exports d)
 
 -- the name that an export asks for in a flavour
 abbrev pub asked_in : Flavor → MachineType → ExportView → List ℕ
 asked_in Msvc machine e = asked_by_record machine e
+asked_in Gnu machine e = asked_name machine e.name
 
 -- whether one of an export's texts holds a NUL
 abbrev pub holds_nul : ExportView → Bool

@@ -4,6 +4,8 @@
 pub mod coff;
 pub mod def;
 mod error;
+pub mod gnu;
+mod import_tables;
 pub mod laws;
 mod library;
 mod machine;

@@ -11,6 +11,7 @@ ghost use Rattle.std.specs.Prelude.{◌≡◌, IfErr, IfOk, None, Some, map, tru
 
 use crate::def::{self, ModuleDef};
 use crate::error::Error;
+use crate::gnu;
 use crate::machine::MachineType;
 use crate::msvc;
 use crate::refusal::names_fault;
@@ -22,6 +23,8 @@ use std::marker::Model;
 pub enum Flavor {
     /// Microsoft's.
     Msvc,
+    /// GNU's.
+    Gnu,
 }
 
 /// One object or short record of an import library.
@@ -139,5 +142,6 @@ pub(crate) fn members_of(
     }
     match flavor {
         Flavor::Msvc => msvc::members(def, machine),
+        Flavor::Gnu => gnu::members(def, machine),
     }
 }

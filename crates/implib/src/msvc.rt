@@ -22,8 +22,9 @@ mod objects;
 mod record;
 
 use objects::{descriptor_member, null_descriptor_member, null_thunk_member, weak_member};
-pub(crate) use record::asked;
-use record::{address_symbol, record_member, record_symbol};
+pub(crate) use objects::weak_external;
+pub(crate) use record::{address_symbol, asked};
+use record::{record_member, record_symbol};
 
 /// The import library of a module definition for Microsoft's linker.
 #[derive(Drop)]

@@ -9,6 +9,7 @@ ghost use Rattle.std.specs.Prelude.{map, string_bytes, ◌≡◌};
 
 use crate::def::{ModuleDef, ShortExport};
 use crate::error::Fault;
+use crate::gnu;
 use crate::library::Flavor;
 use crate::machine::MachineType;
 use crate::msvc;
@@ -77,5 +78,6 @@ fn asked(export: &ShortExport, machine: MachineType, flavor: Flavor) -> &[u8]
 {
     match flavor {
         Flavor::Msvc => msvc::asked(export, machine),
+        Flavor::Gnu => gnu::asked(export, machine),
     }
 }

@@ -2,11 +2,12 @@
 
 ghost use Rattle.implib.specs.Fault.{Cause, IfInvalid};
 ghost use Rattle.implib.specs.Object.{object_in};
-ghost use Rattle.implib.specs.Picture.{HasNoNul, layout, layout_size};
+ghost use Rattle.implib.specs.Picture.{Fits, HasNoNul, layout, layout_size};
 ghost use Rattle.implib.specs.PictureView.{name_view, symbol_view};
 ghost use Rattle.implib.specs.Writer.{section_view};
 ghost use Rattle.implib.specs.Writer.{HasRoomFor, IsPlaceAmong, IsSymbolIndex, all_entries, entries_added, long_names, name_place, object_held, picture_of, section_number, section_numbered, symbol_written, with_long_name, with_relocation, with_section, with_symbol};
 ghost use Rattle.implib.specs.Writer.{added_view};
+ghost use Rattle.implib.specs.WriterView.{holding_view};
 ghost use Rattle.std.specs.Prelude.{◌+◌, ◌<◌, ◌^◌, ◌≡◌, ◌≤◌, Some, [], IfErr, IfOk, IsSomeAnd, OnErr, OnOk, alloc_error, length, map, string_bytes};
 
 use crate::coff::object::{Place, Relocation, Section, Symbol};
@@ -118,16 +119,34 @@ impl ObjectWriter {
             (cause ≡ Cause.MemberTooLong) × (2 ^ 32 ≤ layout_size (picture_of self.now))) }
     {
         let alloc = *self.symbols.allocator();
-        let names = names_of(alloc, &self.symbols)?;
-        let picture = Picture {
-            machine: self.machine.number(),
-            characteristics: 0,
-            sections: &self.sections,
-            symbols: &names.symbols,
-            strings: names.strings.as_slice(),
-        };
-        lay_out(alloc, &picture)
+        write_parts(alloc, self.machine, &self.sections, &self.symbols)
     }
+}
+
+/// The bytes of the object of these parts, laid out as by a writer that holds them.
+///
+/// Refuses with `MemberTooLong` where they are more than 2^32 - 1, before they grow.
+pub(crate) fn write_parts(
+    alloc: Global,
+    machine: MachineType,
+    sections: &[Section],
+    symbols: &[Symbol],
+) -> Result<Vec<u8>, Error>
+    requires { Fits (picture_of (holding_view machine sections.now symbols.now)) }
+    ensures bytes { IfOk result (λ bytes. bytes.items ≡ layout (picture_of (holding_view machine sections.now symbols.now))) }
+    ensures short { OnOk result (layout_size (picture_of (holding_view machine sections.now symbols.now)) < 2 ^ 32) }
+    ensures refused { IfInvalid result (λ cause. (cause ≡ Cause.MemberTooLong)
+        × (2 ^ 32 ≤ layout_size (picture_of (holding_view machine sections.now symbols.now)))) }
+{
+    let names = names_of(alloc, symbols)?;
+    let picture = Picture {
+        machine: machine.number(),
+        characteristics: 0,
+        sections,
+        symbols: &names.symbols,
+        strings: names.strings.as_slice(),
+    };
+    lay_out(alloc, &picture)
 }
 
 // Names each symbol: in its record, or, where the name has more than 8 bytes, in the string table.

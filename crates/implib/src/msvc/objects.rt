@@ -1,12 +1,11 @@
 //! The objects for Microsoft's linker: what begins the members, and weak externals.
 
-ghost use Rattle.implib.specs.Constants.{image_relative};
 ghost use Rattle.implib.specs.Fault.{IfInvalid, MemberTooLong};
 ghost use Rattle.implib.specs.File.{AnAlias, meaning_in};
 ghost use Rattle.implib.specs.Import.{holds};
 ghost use Rattle.implib.specs.Library.{member_view};
 ghost use Rattle.implib.specs.Made.{descriptor_plan, is_too_long, member_of, null_descriptor_plan, null_thunk_plan, weak_plan};
-ghost use Rattle.implib.specs.MsvcObjects.{descriptor_symbols, null_descriptor_section, relocation, symbol, weak_section, weak_symbols, base_name, descriptor, descriptor_characteristics, descriptor_symbol, null_descriptor, null_descriptor_symbol, null_thunk, null_thunk_section, null_thunk_symbol, thunk_width, weak_auxiliary, weak_object, zeros};
+ghost use Rattle.implib.specs.MsvcObjects.{descriptor_symbols, null_descriptor_section, symbol, weak_section, weak_symbols, base_name, descriptor, descriptor_characteristics, descriptor_symbol, null_descriptor, null_descriptor_symbol, null_thunk, null_thunk_section, null_thunk_symbol, weak_auxiliary, weak_object};
 ghost use Rattle.implib.specs.Picture.{InRecord, Listed, layout, layout_size};
 ghost use Rattle.implib.specs.PictureView.{symbol_view};
 ghost use Rattle.implib.specs.Writer.{section_view};
@@ -14,17 +13,15 @@ ghost use Rattle.std.specs.List.{ends_with};
 ghost use Rattle.std.specs.Prelude.{Some, [], false, map, nat_eq, string_bytes, true, ◌∷◌, ◌<◌, ◌^◌, ◌≡◌, ◌≤◌, IfOk, OnOk};
 
 use crate::coff::picture::{Picture, PictureSymbol, SymbolName, lay_out};
-use crate::coff::{Relocation, Section, characteristics, class, flags, relocation};
+use crate::coff::{Section, characteristics, class, flags};
 use crate::error::Error;
+use crate::import_tables::{DESCRIPTOR_SIZE, image_relocation, thunk_width, zeros};
 use crate::library::Member;
 use crate::machine::MachineType;
 use std::alloc::{AllocError, Global};
 
 /// The symbol of the descriptor that ends the import directory.
 pub(crate) const NULL_DESCRIPTOR_SYMBOL: &str = "__NULL_IMPORT_DESCRIPTOR";
-
-// The bytes of an import descriptor.
-const DESCRIPTOR_SIZE: usize = 20;
 
 // The number of the section that a symbol's record names where it is of another object, and where
 // its value is no address.
@@ -76,18 +73,6 @@ pub(crate) fn null_thunk_symbol(alloc: Global, dll: &str) -> Result<String, Allo
     Ok(symbol)
 }
 
-// The type of an image-relative relocation.
-fn image_relative(machine: MachineType) -> u16
-    ensures { result ≡ image_relative machine }
-{
-    match machine {
-        MachineType::I386 => relocation::I386_DIR32NB,
-        MachineType::ARMNT => relocation::ARM_ADDR32NB,
-        MachineType::AMD64 => relocation::AMD64_ADDR32NB,
-        MachineType::ARM64 => relocation::ARM64_ADDR32NB,
-    }
-}
-
 // What the first three members say of the machine.
 fn descriptor_characteristics(machine: MachineType) -> u16
     ensures { result ≡ descriptor_characteristics machine }
@@ -97,20 +82,6 @@ fn descriptor_characteristics(machine: MachineType) -> u16
     } else {
         0
     }
-}
-
-// The bytes of an entry of the address table and the lookup table.
-fn thunk_width(machine: MachineType) -> usize
-    ensures { result ≡ thunk_width machine }
-{
-    if machine.is_32bit() { 4 } else { 8 }
-}
-
-// So many zero bytes.
-fn zeros(alloc: Global, count: usize) -> Result<Vec<u8>, AllocError>
-    ensures { IfOk result (λ bytes. bytes.items ≡ zeros count) }
-{
-    Ok(vec![in alloc; 0; count]?)
 }
 
 // A member of one listed symbol.
@@ -161,17 +132,6 @@ fn listed<'a>(index: usize, section: u16, class: u8) -> PictureSymbol<'a>
     }
 }
 
-// An image-relative relocation.
-fn relocation(machine: MachineType, offset: u32, symbol: u32) -> Relocation
-    ensures { result ≡ relocation machine offset symbol }
-{
-    Relocation {
-        offset,
-        symbol,
-        kind: image_relative(machine),
-    }
-}
-
 // The sections of the import descriptor: the descriptor, and the DLL's name.
 #[tactic(auto, unfolding(crate::specs::MsvcObjects::descriptor))]
 fn descriptor_sections(
@@ -182,9 +142,9 @@ fn descriptor_sections(
     ensures { IfOk result (λ sections. map section_view sections ≡ (descriptor machine dll.now).sections) }
 {
     let relocations = vec![in alloc;
-        relocation(machine, 12, 2),
-        relocation(machine, 0, 3),
-        relocation(machine, 16, 4),
+        image_relocation(machine, 12, 2),
+        image_relocation(machine, 0, 3),
+        image_relocation(machine, 16, 4),
     ]?;
     let mut name = Vec::from_slice(alloc, dll.as_bytes())?;
     name.push(0)?;

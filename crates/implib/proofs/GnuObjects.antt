@@ -1,0 +1,274 @@
+-- The objects for GNU's linker fit what a file has room for.
+use Rattle.std.proofs.Common.{◌≡◌, ℕ, ◌<◌, ◌^◌, Bool, true, false, if◌then◌else◌, List, [], ◌∷◌, ◌++◌, length, refl, ◌∙◌, arith, codes, length-append}
+use Rattle.std.specs.Prelude.{nat_eq, ◌==◌}
+use Rattle.std.specs.List.{AllByRecursion}
+use Rattle.std.proofs.lemmas.Bool.{or_parts, or_from}
+use Rattle.std.proofs.lemmas.List.Folds.{list_any-append}
+use Rattle.implib.specs.declared.coff.object.Place.{Place}
+use Rattle.implib.specs.declared.coff.object.Place.TheVariants.{Undefined, Section}
+use Rattle.implib.specs.declared.machine.MachineType.{MachineType}
+use Rattle.implib.specs.declared.machine.MachineType.TheVariants.{I386, ARMNT, AMD64, ARM64}
+use Rattle.implib.specs.Constants.{external, static}
+use Rattle.implib.specs.Definition.{ExportView}
+use Rattle.implib.specs.Gnu.{added, empty_sections, export_object, export_symbols, file_symbol, head_object, head_symbol, head_symbols, hint_name, linkage_symbol, name_symbol, relocations_of_stub, relocations_of_thunk, section, stem, stub, stub_relocations, tail_object, tail_symbols, thunk, without_full_stop}
+use Rattle.implib.specs.Import.{address_symbol, holds, is_empty_text}
+use Rattle.implib.specs.MsvcObjects.{relocation}
+use Rattle.implib.specs.Object.{ObjectSection}
+use Rattle.implib.specs.Picture.{Fits, FitsAuxiliary}
+use Rattle.implib.specs.Writer.{AddedSymbol, IsPlaceAmong, all_entries, picture_of}
+use Rattle.implib.specs.WriterView.{IsSound, IsSoundSection, IsSoundSymbol}
+use Rattle.implib.proofs.MsvcObjects.{HasNoNul-from_holds, plain_section_fits, relocation_fits}
+use Rattle.implib.proofs.WriterPicture.{picture_of-fits}
+
+-- Names.
+
+stem_byte : (stops : Bool) (b : ℕ) → nat_eq b 0 ≡ false → nat_eq (if stops then 0x5F else b) 0 ≡ false
+stem_byte true b free = refl
+stem_byte false b free = free
+
+pub holds-stem : (dll : List ℕ) → holds 0 dll ≡ false → holds 0 (stem dll) ≡ false
+unfolding stem
+holds-stem [] free = refl
+holds-stem (b ∷ dll) free =
+    let parts = or_parts (nat_eq b 0) (holds 0 dll) free in
+    or_from (nat_eq (without_full_stop b) 0) (holds 0 (stem dll)) (stem_byte (b == 0x2E) b parts.0) (holds-stem dll parts.1)
+
+holds-linkage_symbol : (machine : MachineType) (name : List ℕ) → holds 0 name ≡ false → holds 0 (linkage_symbol machine name) ≡ false
+holds-linkage_symbol I386 name free = free
+holds-linkage_symbol ARMNT name free = free
+holds-linkage_symbol AMD64 name free = free
+holds-linkage_symbol ARM64 name free = free
+
+filled-linkage_symbol : (machine : MachineType) (name : List ℕ) → 0 < length name → 0 < length (linkage_symbol machine name)
+filled-linkage_symbol I386 name filled = omega arith
+filled-linkage_symbol ARMNT name filled = filled
+filled-linkage_symbol AMD64 name filled = filled
+filled-linkage_symbol ARM64 name filled = filled
+
+pub holds-head_symbol : (machine : MachineType) (dll : List ℕ) → holds 0 dll ≡ false → holds 0 (head_symbol machine dll) ≡ false
+unfolding head_symbol
+holds-head_symbol machine dll free = holds-linkage_symbol machine (codes "_head_" ++ stem dll) (holds-stem dll free)
+
+pub filled-head_symbol : (machine : MachineType) (dll : List ℕ) → 0 < length (head_symbol machine dll)
+unfolding head_symbol
+filled-head_symbol machine dll = filled-linkage_symbol machine (codes "_head_" ++ stem dll) (omega arith)
+
+pub holds-name_symbol : (machine : MachineType) (dll : List ℕ) → holds 0 dll ≡ false → holds 0 (name_symbol machine dll) ≡ false
+unfolding name_symbol
+holds-name_symbol machine dll free =
+    holds-linkage_symbol machine (stem dll ++ codes "_iname")
+    (list_any-append (λ b. nat_eq b 0) (stem dll) (codes "_iname") ∙ or_from (holds 0 (stem dll)) false (holds-stem dll free) refl)
+
+pub filled-name_symbol : (machine : MachineType) (dll : List ℕ) → 0 < length (name_symbol machine dll)
+unfolding name_symbol
+filled-name_symbol machine dll = filled-linkage_symbol machine (stem dll ++ codes "_iname") (omega (arith, length-append (stem dll) (codes "_iname")))
+
+pub filled_text : (text : List ℕ) → is_empty_text text ≡ false → 0 < length text
+filled_text [] filled = cc
+filled_text (b ∷ text) filled = omega arith
+
+-- Sections and symbols.
+
+plain_sound : (symbols : List AddedSymbol) (name contents : List ℕ) (flags : ℕ) → length name ≡ 8 → flags < 2 ^ 32 → IsSoundSection symbols (section name flags contents [])
+plain_sound symbols name contents flags eight flags_fit = record { fits = plain_section_fits name contents flags eight flags_fit; relocations = tt }
+
+symbol_sound : (count : ℕ) (name : List ℕ) (place : Place) (class : ℕ) → 0 < length name → holds 0 name ≡ false → IsPlaceAmong count place →
+    IsSoundSymbol count (added name place class)
+unfolding FitsAuxiliary
+symbol_sound count name place class filled free among =
+    record { named = filled; no_nul = HasNoNul-from_holds name free; value = omega arith; place = among; aux = tt }
+
+file_symbol_sound : (count : ℕ) → IsSoundSymbol count file_symbol
+unfolding FitsAuxiliary
+file_symbol_sound count = record { named = omega arith; no_nul = refl; value = omega arith; place = tt; aux = refl }
+
+-- the linkage's sections, where the last three are sound
+linkage_sound : (symbols : List AddedSymbol) (first second third : ObjectSection) → IsSoundSection symbols first → IsSoundSection symbols second → IsSoundSection symbols third →
+    AllByRecursion (IsSoundSection symbols) (empty_sections ++ first ∷ second ∷ third ∷ [])
+linkage_sound symbols first second third one two three = (
+  plain_sound symbols _ [] _ refl (omega arith),
+  (plain_sound symbols _ [] _ refl (omega arith), (plain_sound symbols _ [] _ refl (omega arith), (one, (two, (three, tt))))),
+)
+
+-- The head.
+
+pub IsSound-head_object : (machine : MachineType) (dll : List ℕ) → holds 0 dll ≡ false → IsSound (head_object machine dll) 6
+unfolding head_object
+IsSound-head_object machine dll free =
+    let head = head_symbol machine dll in
+    let name = name_symbol machine dll in
+    let symbols = head_symbols head name in
+    record {
+      few = omega arith;
+      records = refl;
+      sections = linkage_sound symbols _ _ _
+          (record {
+            fits = record {
+              name = refl;
+              flags = omega arith;
+              count = omega arith;
+              relocations = (
+                relocation_fits machine 0 3 (omega arith) (omega arith),
+                (relocation_fits machine 16 2 (omega arith) (omega arith), (relocation_fits machine 12 5 (omega arith) (omega arith), tt)),
+              );
+            };
+            relocations = (tt, (tt, (tt, tt)));
+          })
+          (plain_sound symbols (codes ".idata$5") [] _ refl (omega arith))
+          (plain_sound symbols (codes ".idata$4") [] _ refl (omega arith));
+      symbols = (
+        file_symbol_sound 6,
+        (
+          symbol_sound 6 (codes ".idata$5") (Section 5) static (omega arith) refl (omega arith, omega arith),
+          (
+            symbol_sound 6 (codes ".idata$4") (Section 6) static (omega arith) refl (omega arith, omega arith),
+            (
+              symbol_sound 6 head (Section 4) external (filled-head_symbol machine dll) (holds-head_symbol machine dll free) (omega arith, omega arith),
+              (symbol_sound 6 name Undefined external (filled-name_symbol machine dll) (holds-name_symbol machine dll free) tt, tt),
+            ),
+          ),
+        ),
+      );
+    }
+
+pub Fits-head_object : (machine : MachineType) (dll : List ℕ) → holds 0 dll ≡ false → Fits (picture_of (head_object machine dll))
+Fits-head_object machine dll free = picture_of-fits (head_object machine dll) 6 (IsSound-head_object machine dll free)
+
+-- The tail.
+
+pub IsSound-tail_object : (machine : MachineType) (dll : List ℕ) → holds 0 dll ≡ false → IsSound (tail_object machine dll) 3
+unfolding tail_object
+IsSound-tail_object machine dll free =
+    let name = name_symbol machine dll in
+    let symbols = tail_symbols name in
+    record {
+      few = omega arith;
+      records = refl;
+      sections = linkage_sound symbols _ _ _
+          (plain_sound symbols (codes ".idata$4") _ _ refl (omega arith))
+          (plain_sound symbols (codes ".idata$5") _ _ refl (omega arith))
+          (plain_sound symbols (codes ".idata$7") _ _ refl (omega arith));
+      symbols = (
+        file_symbol_sound 6,
+        (symbol_sound 6 name (Section 6) external (filled-name_symbol machine dll) (holds-name_symbol machine dll free) (omega arith, omega arith), tt),
+      );
+    }
+
+pub Fits-tail_object : (machine : MachineType) (dll : List ℕ) → holds 0 dll ≡ false → Fits (picture_of (tail_object machine dll))
+Fits-tail_object machine dll free = picture_of-fits (tail_object machine dll) 3 (IsSound-tail_object machine dll free)
+
+-- An export.
+
+-- the symbols of an export, by whether it is data
+abbrev symbols_by : Bool → List ℕ → List ℕ → List AddedSymbol
+symbols_by is_data head name =
+    added head Undefined external
+    ∷ ((if is_data then [] else added name (Section 1) external ∷ [])
+    ++ added (address_symbol name) (Section 5) external
+    ∷ added (codes ".idata$6") (Section 7) static
+    ∷ [])
+
+stub_sound : (machine : MachineType) (is_data : Bool) (head name : List ℕ) (contents : List ℕ) (flags : ℕ) → flags < 2 ^ 32 →
+    IsSoundSection (symbols_by is_data head name) (section (codes ".text" ++ 0 ∷ 0 ∷ 0 ∷ []) flags contents (if is_data then [] else stub_relocations machine 2))
+stub_sound machine true head name contents flags flags_fit = plain_sound (symbols_by true head name) _ contents flags refl flags_fit
+stub_sound I386 false head name contents flags flags_fit = record {
+  fits = record { name = refl; flags = flags_fit; count = omega arith; relocations = (record { offset = omega arith; symbol = omega arith; kind = omega arith }, tt) };
+  relocations = (tt, tt);
+}
+stub_sound ARMNT false head name contents flags flags_fit = record {
+  fits = record { name = refl; flags = flags_fit; count = omega arith; relocations = (record { offset = omega arith; symbol = omega arith; kind = omega arith }, tt) };
+  relocations = (tt, tt);
+}
+stub_sound AMD64 false head name contents flags flags_fit = record {
+  fits = record { name = refl; flags = flags_fit; count = omega arith; relocations = (record { offset = omega arith; symbol = omega arith; kind = omega arith }, tt) };
+  relocations = (tt, tt);
+}
+stub_sound ARM64 false head name contents flags flags_fit = record {
+  fits = record {
+    name = refl;
+    flags = flags_fit;
+    count = omega arith;
+    relocations = (
+      record { offset = omega arith; symbol = omega arith; kind = omega arith },
+      (record { offset = omega arith; symbol = omega arith; kind = omega arith }, tt),
+    );
+  };
+  relocations = (tt, (tt, tt));
+}
+
+entry_sound : (machine : MachineType) (is_data no_name : Bool) (head name section_name contents : List ℕ) (flags : ℕ) → length section_name ≡ 8 → flags < 2 ^ 32 →
+    IsSoundSection (symbols_by is_data head name)
+    (section section_name flags contents (if no_name then [] else relocation machine 0 (if is_data then 2 else 3) ∷ []))
+entry_sound machine is_data true head name section_name contents flags eight flags_fit = plain_sound (symbols_by is_data head name) section_name contents flags eight flags_fit
+entry_sound machine true false head name section_name contents flags eight flags_fit = record {
+  fits = record { name = eight; flags = flags_fit; count = omega arith; relocations = (relocation_fits machine 0 2 (omega arith) (omega arith), tt) };
+  relocations = (tt, tt);
+}
+entry_sound machine false false head name section_name contents flags eight flags_fit = record {
+  fits = record { name = eight; flags = flags_fit; count = omega arith; relocations = (relocation_fits machine 0 3 (omega arith) (omega arith), tt) };
+  relocations = (tt, tt);
+}
+
+-- the section that names the head
+head_entry_sound : (machine : MachineType) (is_data : Bool) (head name section_name contents : List ℕ) (flags : ℕ) → length section_name ≡ 8 → flags < 2 ^ 32 →
+    IsSoundSection (symbols_by is_data head name) (section section_name flags contents (relocation machine 0 0 ∷ []))
+head_entry_sound machine is_data head name section_name contents flags eight flags_fit = record {
+  fits = record { name = eight; flags = flags_fit; count = omega arith; relocations = (relocation_fits machine 0 0 (omega arith) (omega arith), tt) };
+  relocations = (tt, tt);
+}
+
+symbols_sound : (is_data : Bool) (head name : List ℕ) → 0 < length head → holds 0 head ≡ false → 0 < length name → holds 0 name ≡ false →
+    AllByRecursion (IsSoundSymbol 7) (symbols_by is_data head name)
+symbols_sound true head name head_filled head_free name_filled name_free = (
+  symbol_sound 7 head Undefined external head_filled head_free tt,
+  (
+    symbol_sound 7 (address_symbol name) (Section 5) external (omega arith) name_free (omega arith, omega arith),
+    (symbol_sound 7 (codes ".idata$6") (Section 7) static (omega arith) refl (omega arith, omega arith), tt),
+  ),
+)
+symbols_sound false head name head_filled head_free name_filled name_free = (
+  symbol_sound 7 head Undefined external head_filled head_free tt,
+  (
+    symbol_sound 7 name (Section 1) external name_filled name_free (omega arith, omega arith),
+    (
+      symbol_sound 7 (address_symbol name) (Section 5) external (omega arith) name_free (omega arith, omega arith),
+      (symbol_sound 7 (codes ".idata$6") (Section 7) static (omega arith) refl (omega arith, omega arith), tt),
+    ),
+  ),
+)
+
+pub IsSound-export_object : (machine : MachineType) (dll : List ℕ) (e : ExportView) → holds 0 dll ≡ false → holds 0 e.name ≡ false → is_empty_text e.name ≡ false →
+    IsSound (export_object machine dll e) (length (all_entries (export_symbols (head_symbol machine dll) e)))
+unfolding export_object stub relocations_of_stub thunk relocations_of_thunk hint_name
+IsSound-export_object machine dll e free name_free filled =
+    let head = head_symbol machine dll in
+    let symbols = symbols_by e.is_data head e.name in
+    record {
+      few = omega arith;
+      records = refl;
+      sections = (
+        stub_sound machine e.is_data head e.name _ _ (omega arith),
+        (
+          plain_sound symbols _ [] _ refl (omega arith),
+          (
+            plain_sound symbols _ [] _ refl (omega arith),
+            (
+              head_entry_sound machine e.is_data head e.name (codes ".idata$7") _ _ refl (omega arith),
+              (
+                entry_sound machine e.is_data e.no_name head e.name (codes ".idata$5") _ _ refl (omega arith),
+                (
+                  entry_sound machine e.is_data e.no_name head e.name (codes ".idata$4") _ _ refl (omega arith),
+                  (plain_sound symbols (codes ".idata$6") _ _ refl (omega arith), tt),
+                ),
+              ),
+            ),
+          ),
+        ),
+      );
+      symbols = symbols_sound e.is_data head e.name (filled-head_symbol machine dll) (holds-head_symbol machine dll free) (filled_text e.name filled) name_free;
+    }
+
+pub Fits-export_object : (machine : MachineType) (dll : List ℕ) (e : ExportView) → holds 0 dll ≡ false → holds 0 e.name ≡ false → is_empty_text e.name ≡ false →
+    Fits (picture_of (export_object machine dll e))
+Fits-export_object machine dll e free name_free filled =
+    picture_of-fits (export_object machine dll e) (length (all_entries (export_symbols (head_symbol machine dll) e))) (IsSound-export_object machine dll e free name_free filled)

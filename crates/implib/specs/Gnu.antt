@@ -1,0 +1,230 @@
+-- The objects for GNU's linker, as tables (docs/FORMATS.md, "Members for GNU's linker"): what is
+-- added to a writer of objects, in order.
+use Rattle.std.specs.Prelude.{ℕ, ◌+◌, ◌-◌, ◌==◌, List, [], ◌∷◌, ◌++◌, length, map, replicate, Some, None, codes, decimal, if◌then◌else◌}
+use Rattle.implib.specs.declared.coff.object.Place.{Place}
+use Rattle.implib.specs.declared.coff.object.Place.TheVariants.{Undefined, Section, Debug}
+use Rattle.implib.specs.declared.coff.object.Relocation.{Relocation}
+use Rattle.implib.specs.declared.machine.MachineType.{MachineType}
+use Rattle.implib.specs.declared.machine.MachineType.TheVariants.{I386, ARMNT, AMD64, ARM64}
+use Rattle.implib.specs.Bytes.{u16_bytes}
+use Rattle.implib.specs.Constants.{code, initialized_data, uninitialized_data, align_2, align_4, align_16, execute_read, read_write, external, static, file_class, i386_dir32, amd64_rel32, arm_rel32, arm64_pagebase_rel21, arm64_pageoffset_12l}
+use Rattle.implib.specs.Definition.{ExportView}
+use Rattle.implib.specs.Import.{address_symbol, asked_name, is_i386, underscore}
+use Rattle.implib.specs.MsvcObjects.{descriptor_size, relocation, thunk_width, zeros}
+use Rattle.implib.specs.Object.{ObjectSection}
+use Rattle.implib.specs.Writer.{AddedSymbol, Holding}
+
+abbrev pub full_stop : ℕ
+full_stop = 0x2E
+
+-- an underscore for a full stop
+abbrev pub without_full_stop : ℕ → ℕ
+without_full_stop byte = if byte == full_stop then underscore else byte
+
+-- what the names of a DLL's members and symbols are made of: its name with each `.` as `_`
+unfoldable pub stem : List ℕ → List ℕ
+stem dll = map without_full_stop dll
+
+-- a symbol of the linkage; on I386 with one more `_` in front
+abbrev pub linkage_symbol : MachineType → List ℕ → List ℕ
+linkage_symbol machine name = if is_i386 machine then underscore ∷ name else name
+
+-- the symbol of the import descriptor
+unfoldable pub head_symbol : MachineType → List ℕ → List ℕ
+head_symbol machine dll = linkage_symbol machine (codes "_head_" ++ stem dll)
+
+-- the symbol of the DLL's name
+unfoldable pub name_symbol : MachineType → List ℕ → List ℕ
+name_symbol machine dll = linkage_symbol machine (stem dll ++ codes "_iname")
+
+-- a number with at least five digits
+unfoldable pub five_digits : ℕ → List ℕ
+five_digits n = replicate (5 - length (decimal n)) 0x30 ++ decimal n
+
+-- the names of the members: of the head and the tail, of an export of a number, and of the weak
+-- externals of its symbol and of its address
+unfoldable pub head_name : List ℕ → List ℕ
+head_name dll = stem dll ++ codes "_a_h.o"
+
+unfoldable pub tail_name : List ℕ → List ℕ
+tail_name dll = stem dll ++ codes "_a_t.o"
+
+unfoldable pub numbered_name : List ℕ → List ℕ → ℕ → List ℕ
+numbered_name dll letter n = stem dll ++ (codes "_a_" ++ (letter ++ (five_digits n ++ codes ".o")))
+
+abbrev pub export_name : List ℕ → ℕ → List ℕ
+export_name dll n = numbered_name dll (codes "s") n
+
+abbrev pub weak_name : List ℕ → ℕ → List ℕ
+weak_name dll n = numbered_name dll (codes "w") n
+
+abbrev pub weak_address_name : List ℕ → ℕ → List ℕ
+weak_address_name dll n = numbered_name dll (codes "x") n
+
+-- a section whose name has 8 bytes
+abbrev pub section : List ℕ → ℕ → List ℕ → List Relocation → ObjectSection
+section name flags contents relocations = record { name = name; flags = flags; bytes = contents; relocations = relocations }
+
+abbrev pub text_name : List ℕ
+text_name = codes ".text" ++ zeros 3
+
+abbrev pub data_name : List ℕ
+data_name = codes ".data" ++ zeros 3
+
+abbrev pub bss_name : List ℕ
+bss_name = codes ".bss" ++ zeros 4
+
+-- a symbol without a value and without an auxiliary record
+abbrev pub added : List ℕ → Place → ℕ → AddedSymbol
+added name place class = record { name = name; value = 0; place = place; class = class; aux = None }
+
+-- the symbol of the file's name: its auxiliary record says `fake`
+abbrev pub file_symbol : AddedSymbol
+file_symbol = record { name = codes ".file"; value = 0; place = Debug; class = file_class; aux = Some (codes "fake" ++ zeros 14) }
+
+-- the sections of the head and of the tail that hold nothing
+abbrev pub empty_sections : List ObjectSection
+empty_sections =
+    section text_name (code + align_16 + execute_read) [] []
+    ∷ section data_name (initialized_data + align_16 + read_write) [] []
+    ∷ section bss_name (uninitialized_data + align_16 + read_write) [] []
+    ∷ []
+
+-- the flags of what the head and the tail put into the import tables
+abbrev pub table_flags : ℕ
+table_flags = initialized_data + align_4 + read_write
+
+-- the head: the import descriptor, with the lookup table's address at 0, the address table's at 16,
+-- the name's at 12
+abbrev pub head_sections : MachineType → List ObjectSection
+head_sections machine =
+    empty_sections
+    ++ section (codes ".idata$2") table_flags (zeros descriptor_size)
+    (relocation machine 0 3 ∷ relocation machine 16 2 ∷ relocation machine 12 5 ∷ [])
+    ∷ section (codes ".idata$5") table_flags [] []
+    ∷ section (codes ".idata$4") table_flags [] []
+    ∷ []
+
+-- the symbols of the head, by the descriptor's and the name's
+abbrev pub head_symbols : List ℕ → List ℕ → List AddedSymbol
+head_symbols head name =
+    file_symbol
+    ∷ added (codes ".idata$5") (Section 5) static
+    ∷ added (codes ".idata$4") (Section 6) static
+    ∷ added head (Section 4) external
+    ∷ added name Undefined external
+    ∷ []
+
+-- the head
+unfoldable pub head_object : MachineType → List ℕ → Holding
+head_object machine dll = record {
+  machine = machine;
+  sections = head_sections machine;
+  symbols = head_symbols (head_symbol machine dll) (name_symbol machine dll);
+}
+
+-- the tail: the thunks that end the lookup table and the address table, and the DLL's name
+abbrev pub tail_sections : MachineType → List ℕ → List ObjectSection
+tail_sections machine dll =
+    empty_sections
+    ++ section (codes ".idata$4") table_flags (zeros (thunk_width machine)) []
+    ∷ section (codes ".idata$5") table_flags (zeros (thunk_width machine)) []
+    ∷ section (codes ".idata$7") table_flags (dll ++ 0 ∷ []) []
+    ∷ []
+
+-- the symbols of the tail, by the name's
+abbrev pub tail_symbols : List ℕ → List AddedSymbol
+tail_symbols name = file_symbol ∷ added name (Section 6) external ∷ []
+
+-- the tail
+unfoldable pub tail_object : MachineType → List ℕ → Holding
+tail_object machine dll = record {
+  machine = machine;
+  sections = tail_sections machine dll;
+  symbols = tail_symbols (name_symbol machine dll);
+}
+
+-- the instructions that jump to the address of an import (this project's choice)
+abbrev pub stub_bytes : MachineType → List ℕ
+stub_bytes I386 = 0xFF ∷ 0x25 ∷ 0 ∷ 0 ∷ 0 ∷ 0 ∷ 0x90 ∷ 0x90 ∷ []
+stub_bytes ARMNT = 0 ∷ 0xC0 ∷ 0x9F ∷ 0xE5 ∷ 0 ∷ 0xF0 ∷ 0x9C ∷ 0xE5 ∷ 0 ∷ 0 ∷ 0 ∷ 0 ∷ []
+stub_bytes AMD64 = 0xFF ∷ 0x25 ∷ 0 ∷ 0 ∷ 0 ∷ 0 ∷ 0x90 ∷ 0x90 ∷ []
+stub_bytes ARM64 = 0x10 ∷ 0 ∷ 0 ∷ 0x90 ∷ 0x10 ∷ 2 ∷ 0x40 ∷ 0xF9 ∷ 0 ∷ 2 ∷ 0x1F ∷ 0xD6 ∷ []
+
+-- the relocations of these instructions, to the symbol of this index
+abbrev pub stub_relocations : MachineType → ℕ → List Relocation
+stub_relocations I386 index = record { offset = 2; symbol = index; kind = i386_dir32 } ∷ []
+stub_relocations ARMNT index = record { offset = 8; symbol = index; kind = arm_rel32 } ∷ []
+stub_relocations AMD64 index = record { offset = 2; symbol = index; kind = amd64_rel32 } ∷ []
+stub_relocations ARM64 index =
+    record { offset = 0; symbol = index; kind = arm64_pagebase_rel21 }
+    ∷ record { offset = 4; symbol = index; kind = arm64_pageoffset_12l }
+    ∷ []
+
+-- the code of an export: data has none
+unfoldable pub stub : MachineType → ExportView → List ℕ
+stub machine e = if e.is_data then [] else stub_bytes machine
+
+-- its relocations, to the export's address, symbol 2
+unfoldable pub relocations_of_stub : MachineType → ExportView → List Relocation
+relocations_of_stub machine e = if e.is_data then [] else stub_relocations machine 2
+
+-- the entry of an export in the lookup table and in the address table: an ordinal with the top bit
+-- set, or zeros for the address of a name
+unfoldable pub thunk : MachineType → ExportView → List ℕ
+thunk machine e =
+    if e.no_name then u16_bytes e.ordinal ++ (zeros (thunk_width machine - 3) ++ 0x80 ∷ [])
+    else zeros (thunk_width machine)
+
+-- the index of the symbol of the section of the name
+abbrev pub hint_name_symbol : ExportView → ℕ
+hint_name_symbol e = if e.is_data then 2 else 3
+
+-- the relocation of such an entry, where there is a name
+unfoldable pub relocations_of_thunk : MachineType → ExportView → List Relocation
+relocations_of_thunk machine e = if e.no_name then [] else relocation machine 0 (hint_name_symbol e) ∷ []
+
+-- the hint and the name that is asked for
+unfoldable pub hint_name : MachineType → ExportView → List ℕ
+hint_name machine e = if e.no_name then [] else u16_bytes e.ordinal ++ (asked_name machine e.name ++ 0 ∷ [])
+
+-- the flags of what an export puts into the import tables
+abbrev pub entry_flags : ℕ
+entry_flags = align_4 + read_write
+
+-- the sections of an export
+abbrev pub export_sections : MachineType → ExportView → List ObjectSection
+export_sections machine e =
+    section text_name (code + align_4 + execute_read) (stub machine e) (relocations_of_stub machine e)
+    ∷ section data_name (initialized_data + align_4 + read_write) [] []
+    ∷ section bss_name (uninitialized_data + align_4 + read_write) [] []
+    ∷ section (codes ".idata$7") entry_flags (zeros 4) (relocation machine 0 0 ∷ [])
+    ∷ section (codes ".idata$5") entry_flags (thunk machine e) (relocations_of_thunk machine e)
+    ∷ section (codes ".idata$4") entry_flags (thunk machine e) (relocations_of_thunk machine e)
+    ∷ section (codes ".idata$6") (align_2 + read_write) (hint_name machine e) []
+    ∷ []
+
+-- the symbol of an export's code: data has none
+abbrev pub code_symbol : ExportView → List AddedSymbol
+code_symbol e = if e.is_data then [] else added e.name (Section 1) external ∷ []
+
+-- the symbols of an export, by the descriptor's
+abbrev pub export_symbols : List ℕ → ExportView → List AddedSymbol
+export_symbols head e =
+    added head Undefined external
+    ∷ (code_symbol e
+    ++ added (address_symbol e.name) (Section 5) external
+    ∷ added (codes ".idata$6") (Section 7) static
+    ∷ [])
+
+-- an export
+unfoldable pub export_object : MachineType → List ℕ → ExportView → Holding
+export_object machine dll e = record {
+  machine = machine;
+  sections = export_sections machine e;
+  symbols = export_symbols (head_symbol machine dll) e;
+}
+
+-- the symbols that an export is listed for
+abbrev pub export_listed : ExportView → List (List ℕ)
+export_listed e = if e.is_data then address_symbol e.name ∷ [] else e.name ∷ address_symbol e.name ∷ []

@@ -1,0 +1,299 @@
+//! The members for GNU's linker.
+
+ghost use Rattle.implib.specs.Definition.{definition_view, export_view};
+ghost use Rattle.implib.specs.Fault.{IfInvalid, MemberTooLong};
+ghost use Rattle.implib.specs.Gnu.{export_listed};
+ghost use Rattle.implib.specs.Import.{address_symbol, holds, is_alias, is_empty_text, public_exports};
+ghost use Rattle.implib.specs.Library.{member_view};
+ghost use Rattle.implib.specs.Made.{Made, RefusesAlways, alias_plan, alias_plans, definition_names_refusal, export_plan, has_u16_ordinal, head_plan, holds_nul, is_too_long, member_of, numbered_plans_of, plans_of, refusal, tail_plan};
+ghost use Rattle.implib.specs.Reads.{Reads};
+ghost use Rattle.implib.specs.Renaming.{renamed};
+ghost use Rattle.implib.specs.declared.library.Flavor.TheVariants.{Gnu};
+ghost use Rattle.std.specs.List.{list_all, list_any};
+ghost use Rattle.std.specs.Prelude.{None, Some, [], false, map, string_bytes, true, ◌++◌, ◌∷◌, ◌≡◌, IfOk, OnOk};
+
+use crate::def::{self, ModuleDef, ShortExport};
+use crate::error::Error;
+use crate::library::{Flavor, Member, members_of};
+use crate::machine::MachineType;
+use crate::msvc::{address_symbol, weak_external};
+use std::alloc::{AllocError, Global};
+use std::marker::Model;
+
+mod names;
+mod objects;
+
+use names::{head_name, head_symbol, name_symbol, numbered_name, tail_name};
+pub(crate) use objects::asked;
+use objects::{export_object, head_object, tail_object};
+
+/// The import library of a module definition for GNU's linker.
+#[derive(Drop)]
+pub struct GnuImportLibrary {
+    def: ModuleDef,
+    machine: MachineType,
+}
+
+impl Model for GnuImportLibrary {
+    ghost use Rattle.implib.specs.Definition.{export_view};
+    ghost use Rattle.implib.specs.Library.{LibraryView, library_view};
+    ghost use Rattle.implib.specs.Renaming.{is_renamed};
+    ghost use Rattle.implib.specs.declared.library.Flavor.TheVariants.{Gnu};
+    ghost use Rattle.std.specs.Prelude.{map, true, ◌≡◌};
+
+    ghost Value = { LibraryView };
+
+    ghost view = { λ l. library_view l.def l.machine Gnu };
+
+    ghost invariant = { λ l. is_renamed (map export_view l.def.exports.items) ≡ true };
+}
+
+impl GnuImportLibrary {
+    /// Holds a definition: each `ext_name` that is given is moved into `name`.
+    pub fn new(def: ModuleDef, machine: MachineType) -> Self
+        ensures held { result ≡ record { definition = renamed (definition_view def); machine = machine; flavor = Gnu } }
+    {
+        GnuImportLibrary {
+            def: def::rename(def),
+            machine,
+        }
+    }
+
+    /// The members, in order; refuses as [`ImportLibrary::members`](crate::ImportLibrary::members).
+    pub fn members(&self) -> Result<Vec<Member>, Error>
+        ensures ok { IfOk result (λ members.
+            Made self.now.definition self.now.machine Gnu (map member_view members.items)) }
+        ensures reads { IfOk result (λ members.
+            Reads self.now.definition self.now.machine Gnu (map member_view members.items)) }
+        ensures refused { IfInvalid result (λ cause. refusal self.now.definition self.now.machine Gnu ≡ Some cause) }
+        ensures names_refused_always { RefusesAlways self.now.definition self.now.machine Gnu result }
+    {
+        members_of(&self.def, self.machine, Flavor::Gnu)
+    }
+}
+
+/// The members of a definition that breaks no rule on names, in order.
+pub(crate) fn members(def: &ModuleDef, machine: MachineType) -> Result<Vec<Member>, Error>
+    requires { definition_names_refusal (definition_view def.now) machine Gnu ≡ None }
+    ensures ok { IfOk result (λ members. map member_view members.items ≡ map member_of (plans_of (definition_view def.now) machine Gnu)) }
+    ensures fit { OnOk result (list_any is_too_long (plans_of (definition_view def.now) machine Gnu) ≡ false) }
+    ensures ordinals { OnOk result (list_all has_u16_ordinal (public_exports (definition_view def.now)) ≡ true) }
+    ensures too_long { IfInvalid result (λ cause. (cause ≡ MemberTooLong)
+        × (list_any is_too_long (plans_of (definition_view def.now) machine Gnu) ≡ true)) }
+{
+    let dll = def.import_name.as_str();
+    let mut members = Vec::with_capacity(*def.exports.allocator(), member_count(def))?;
+    let mut number = 0usize;
+    for export in def.exports.iter() {
+        if !export.private {
+            push_export(&mut members, export, number, machine, dll)?;
+            number += 1;
+        }
+    }
+    push_linkage(&mut members, machine, dll)?;
+    members.reverse();
+    Ok(members)
+}
+
+// How many members there are; at most 2^64 - 1 are counted.
+fn member_count(def: &ModuleDef) -> usize {
+    let mut count = 2usize;
+    for export in def.exports.iter() {
+        if !export.private {
+            count = count.saturating_add(if has_aliases(export) { 3 } else { 1 });
+        }
+    }
+    count
+}
+
+// Whether the export's name is weak for another.
+fn has_aliases(export: &ShortExport) -> bool
+    ensures { result ≡ is_alias (export_view export.now).alias_target (export_view export.now).name }
+{
+    let target = export.alias_target.as_str();
+    !target.is_empty() && target != export.name.as_str()
+}
+
+// Pushes the head and the tail.
+fn push_linkage(members: &mut Vec<Member>, machine: MachineType, dll: &str) -> Result<(), Error>
+    requires { holds 0 dll.now ≡ false }
+    ensures ok { OnOk result (map member_view members.new.items
+        ≡ map member_view members.old.items ++ map member_of (head_plan machine dll.now ∷ tail_plan machine dll.now ∷ [])) }
+    ensures fit { OnOk result (list_any is_too_long (head_plan machine dll.now ∷ tail_plan machine dll.now ∷ []) ≡ false) }
+    ensures too_long { IfInvalid result (λ cause. (cause ≡ MemberTooLong)
+        × (list_any is_too_long (head_plan machine dll.now ∷ tail_plan machine dll.now ∷ []) ≡ true)) }
+{
+    members.push(head_member(*members.allocator(), machine, dll)?)?;
+    members.push(tail_member(*members.allocator(), machine, dll)?)?;
+    Ok(())
+}
+
+// A member of one listed symbol.
+fn linkage_member(
+    alloc: Global,
+    name: String,
+    bytes: Vec<u8>,
+    symbol: String,
+) -> Result<Member, AllocError>
+    ensures { IfOk result (λ m. member_view m ≡ record {
+      name = string_bytes name;
+      bytes = bytes.items;
+      symbols = string_bytes symbol ∷ [];
+    }) }
+{
+    let symbols = vec![in alloc; symbol]?;
+    Ok(Member {
+        name,
+        bytes,
+        symbols,
+    })
+}
+
+// The head.
+#[tactic(auto, unfolding(crate::specs::Made::head_plan))]
+fn head_member(alloc: Global, machine: MachineType, dll: &str) -> Result<Member, Error>
+    requires { holds 0 dll.now ≡ false }
+    ensures ok { IfOk result (λ m. member_view m ≡ member_of (head_plan machine dll.now)) }
+    ensures fit { OnOk result (is_too_long (head_plan machine dll.now) ≡ false) }
+    ensures too_long { IfInvalid result (λ cause. (cause ≡ MemberTooLong) × (is_too_long (head_plan machine dll.now) ≡ true)) }
+{
+    let symbol = head_symbol(alloc, machine, dll)?;
+    let name = name_symbol(alloc, machine, dll)?;
+    let bytes = head_object(alloc, machine, dll, symbol.as_str(), name.as_str())?;
+    Ok(linkage_member(alloc, head_name(alloc, dll)?, bytes, symbol)?)
+}
+
+// The tail.
+#[tactic(auto, unfolding(crate::specs::Made::tail_plan))]
+fn tail_member(alloc: Global, machine: MachineType, dll: &str) -> Result<Member, Error>
+    requires { holds 0 dll.now ≡ false }
+    ensures ok { IfOk result (λ m. member_view m ≡ member_of (tail_plan machine dll.now)) }
+    ensures fit { OnOk result (is_too_long (tail_plan machine dll.now) ≡ false) }
+    ensures too_long { IfInvalid result (λ cause. (cause ≡ MemberTooLong) × (is_too_long (tail_plan machine dll.now) ≡ true)) }
+{
+    let symbol = name_symbol(alloc, machine, dll)?;
+    let bytes = tail_object(alloc, machine, dll, symbol.as_str())?;
+    Ok(linkage_member(alloc, tail_name(alloc, dll)?, bytes, symbol)?)
+}
+
+// Pushes the weak externals of an export, if any, and then the export; the number is the export's.
+#[tactic(auto, unfolding(crate::specs::Made::alias_plans))]
+fn push_export(
+    members: &mut Vec<Member>,
+    export: &ShortExport,
+    number: usize,
+    machine: MachineType,
+    dll: &str,
+) -> Result<(), Error>
+    requires dll_text { holds 0 dll.now ≡ false }
+    requires nul { holds_nul (export_view export.now) ≡ false }
+    requires filled { is_empty_text (export_view export.now).name ≡ false }
+    ensures ok { OnOk result (map member_view members.new.items
+        ≡ map member_view members.old.items ++ map member_of (numbered_plans_of machine dll.now number (export_view export.now))) }
+    ensures fit { OnOk result (list_any is_too_long (numbered_plans_of machine dll.now number (export_view export.now)) ≡ false) }
+    ensures ordinal { OnOk result (has_u16_ordinal (export_view export.now) ≡ true) }
+    ensures too_long { IfInvalid result (λ cause. (cause ≡ MemberTooLong)
+        × (list_any is_too_long (numbered_plans_of machine dll.now number (export_view export.now)) ≡ true)) }
+{
+    if has_aliases(export) {
+        push_weak_externals(members, export, number, machine, dll)?;
+    }
+    members.push(export_member(*members.allocator(), export, number, machine, dll)?)?;
+    Ok(())
+}
+
+// Pushes the weak externals of an export: of its name, and of its address.
+#[tactic(auto, unfolding(crate::specs::Made::alias_plans))]
+fn push_weak_externals(
+    members: &mut Vec<Member>,
+    export: &ShortExport,
+    number: usize,
+    machine: MachineType,
+    dll: &str,
+) -> Result<(), Error>
+    requires nul { holds_nul (export_view export.now) ≡ false }
+    requires aliases { is_alias (export_view export.now).alias_target (export_view export.now).name ≡ true }
+    ensures ok { OnOk result (map member_view members.new.items
+        ≡ map member_view members.old.items ++ map member_of (alias_plans machine dll.now number (export_view export.now))) }
+    ensures fit { OnOk result (list_any is_too_long (alias_plans machine dll.now number (export_view export.now)) ≡ false) }
+    ensures too_long { IfInvalid result (λ cause. (cause ≡ MemberTooLong)
+        × (list_any is_too_long (alias_plans machine dll.now number (export_view export.now)) ≡ true)) }
+{
+    let alloc = *members.allocator();
+    let weak = export.name.as_str();
+    let target = export.alias_target.as_str();
+    let name = numbered_name(alloc, dll, "w", number)?;
+    members.push(alias_member(alloc, machine, name, weak, target)?)?;
+    let weak = address_symbol(alloc, weak)?;
+    let target = address_symbol(alloc, target)?;
+    let name = numbered_name(alloc, dll, "x", number)?;
+    members.push(alias_member(alloc, machine, name, weak.as_str(), target.as_str())?)?;
+    Ok(())
+}
+
+// The member of a weak external, under this name; it is listed for the weak symbol.
+fn alias_member(
+    alloc: Global,
+    machine: MachineType,
+    name: String,
+    weak: &str,
+    target: &str,
+) -> Result<Member, Error>
+    requires weak_text { holds 0 weak.now ≡ false }
+    requires target_text { holds 0 target.now ≡ false }
+    ensures ok { IfOk result (λ m. member_view m ≡ member_of (alias_plan machine (string_bytes name) weak.now target.now)) }
+    ensures fit { OnOk result (is_too_long (alias_plan machine (string_bytes name) weak.now target.now) ≡ false) }
+    ensures too_long { IfInvalid result (λ cause. (cause ≡ MemberTooLong)
+        × (is_too_long (alias_plan machine (string_bytes name) weak.now target.now) ≡ true)) }
+{
+    let bytes = weak_external(alloc, machine, weak, target)?;
+    let symbol = String::from_str(alloc, weak)?;
+    Ok(linkage_member(alloc, name, bytes, symbol)?)
+}
+
+// The symbols that an export is listed for, its address given.
+fn export_listed(
+    alloc: Global,
+    export: &ShortExport,
+    address: String,
+) -> Result<Vec<String>, AllocError>
+    requires { string_bytes address ≡ address_symbol (export_view export.now).name }
+    ensures { IfOk result (λ symbols. map string_bytes symbols.items ≡ export_listed (export_view export.now)) }
+{
+    if export.is_data {
+        return Ok(vec![in alloc; address]?);
+    }
+    let name = String::from_str(alloc, export.name.as_str())?;
+    Ok(vec![in alloc; name, address]?)
+}
+
+// The member of the export of this number.
+#[tactic(auto, unfolding(crate::specs::Made::export_plan))]
+fn export_member(
+    alloc: Global,
+    export: &ShortExport,
+    number: usize,
+    machine: MachineType,
+    dll: &str,
+) -> Result<Member, Error>
+    requires dll_text { holds 0 dll.now ≡ false }
+    requires name_text { holds 0 (export_view export.now).name ≡ false }
+    requires filled { is_empty_text (export_view export.now).name ≡ false }
+    ensures ok { IfOk result (λ m. member_view m ≡ member_of (export_plan machine dll.now number (export_view export.now))) }
+    ensures fit { OnOk result (is_too_long (export_plan machine dll.now number (export_view export.now)) ≡ false) }
+    ensures ordinal { OnOk result (has_u16_ordinal (export_view export.now) ≡ true) }
+    ensures too_long { IfInvalid result (λ cause. (cause ≡ MemberTooLong)
+        × (is_too_long (export_plan machine dll.now number (export_view export.now)) ≡ true)) }
+{
+    let _ordinal = export.ordinal;
+    let head = head_symbol(alloc, machine, dll)?;
+    let address = address_symbol(alloc, export.name.as_str())?;
+    let bytes = export_object(alloc, export, machine, dll, head.as_str(), address.as_str())?;
+    let symbols = export_listed(alloc, export, address)?;
+    let name = numbered_name(alloc, dll, "s", number)?;
+    Ok(Member {
+        name,
+        bytes,
+        symbols,
+    })
+}

@@ -1,0 +1,115 @@
+//! The names of members and linkage symbols for GNU's linker.
+
+ghost use Rattle.implib.specs.Gnu.{five_digits, head_name, head_symbol, name_symbol, numbered_name, stem, tail_name};
+ghost use Rattle.std.specs.List.{position};
+ghost use Rattle.std.specs.Prelude.{string_bytes, ◌++◌, ◌==◌, ◌≡◌, IfOk, OnOk};
+
+use crate::machine::MachineType;
+use std::alloc::{AllocError, Global};
+use std::fmt::Write;
+
+// Where the first full stop of a text is.
+fn place_of_full_stop(text: &[u8]) -> Option<usize>
+    ensures { result ≡ position (λ byte. byte == 0x2E) text.now }
+{
+    text.iter().position(|byte| *byte == b'.')
+}
+
+// Appends the DLL's name with each full stop as an underscore.
+fn push_stem(out: &mut String, dll: &str) -> Result<(), AllocError>
+    ensures { OnOk result (string_bytes out.new ≡ string_bytes out.old ++ stem dll.now) }
+{
+    let mut rest = dll;
+    while let Some(place) = place_of_full_stop(rest.as_bytes()) {
+        out.push_str(&rest[..place])?;
+        out.push_str("_")?;
+        rest = &rest[place + 1..];
+    }
+    out.push_str(rest)
+}
+
+// The DLL's name with each full stop as an underscore, and then this text.
+fn stem_with(alloc: Global, dll: &str, end: &str) -> Result<String, AllocError>
+    ensures { IfOk result (λ name. string_bytes name ≡ stem dll.now ++ end.now) }
+{
+    let mut name = String::new(alloc);
+    push_stem(&mut name, dll)?;
+    name.push_str(end)?;
+    Ok(name)
+}
+
+/// The name of the head.
+#[tactic(auto, unfolding(crate::specs::Gnu::head_name))]
+pub(crate) fn head_name(alloc: Global, dll: &str) -> Result<String, AllocError>
+    ensures { IfOk result (λ name. string_bytes name ≡ head_name dll.now) }
+{
+    stem_with(alloc, dll, "_a_h.o")
+}
+
+/// The name of the tail.
+#[tactic(auto, unfolding(crate::specs::Gnu::tail_name))]
+pub(crate) fn tail_name(alloc: Global, dll: &str) -> Result<String, AllocError>
+    ensures { IfOk result (λ name. string_bytes name ≡ tail_name dll.now) }
+{
+    stem_with(alloc, dll, "_a_t.o")
+}
+
+// Appends a number with at least five digits.
+fn push_five_digits(out: &mut String, number: usize) -> Result<(), AllocError>
+    ensures { OnOk result (string_bytes out.new ≡ string_bytes out.old ++ five_digits number) }
+{
+    write!(out, "{number:05}")
+}
+
+/// The name of a member of the export of this number; the letter says of which.
+#[tactic(auto, unfolding(crate::specs::Gnu::numbered_name))]
+pub(crate) fn numbered_name(
+    alloc: Global,
+    dll: &str,
+    letter: &str,
+    number: usize,
+) -> Result<String, AllocError>
+    ensures { IfOk result (λ name. string_bytes name ≡ numbered_name dll.now letter.now number) }
+{
+    let mut name = stem_with(alloc, dll, "_a_")?;
+    name.push_str(letter)?;
+    push_five_digits(&mut name, number)?;
+    name.push_str(".o")?;
+    Ok(name)
+}
+
+/// The symbol of the import descriptor.
+#[tactic(auto, unfolding(crate::specs::Gnu::head_symbol))]
+pub(crate) fn head_symbol(
+    alloc: Global,
+    machine: MachineType,
+    dll: &str,
+) -> Result<String, AllocError>
+    ensures { IfOk result (λ symbol. string_bytes symbol ≡ head_symbol machine dll.now) }
+{
+    let mut symbol = String::new(alloc);
+    if machine == MachineType::I386 {
+        symbol.push_str("_")?;
+    }
+    symbol.push_str("_head_")?;
+    push_stem(&mut symbol, dll)?;
+    Ok(symbol)
+}
+
+/// The symbol of the DLL's name.
+#[tactic(auto, unfolding(crate::specs::Gnu::name_symbol))]
+pub(crate) fn name_symbol(
+    alloc: Global,
+    machine: MachineType,
+    dll: &str,
+) -> Result<String, AllocError>
+    ensures { IfOk result (λ symbol. string_bytes symbol ≡ name_symbol machine dll.now) }
+{
+    let mut symbol = String::new(alloc);
+    if machine == MachineType::I386 {
+        symbol.push_str("_")?;
+    }
+    push_stem(&mut symbol, dll)?;
+    symbol.push_str("_iname")?;
+    Ok(symbol)
+}
