@@ -57,3 +57,5 @@ pub mod Asked
 pub mod WorkedMembers
 pub mod WorkedGnu
 pub mod GnuObjects
+pub mod GnuNames
+pub mod GnuLoop
