@@ -59,3 +59,4 @@ pub mod WorkedGnu
 pub mod GnuObjects
 pub mod GnuNames
 pub mod GnuLoop
+pub mod GnuReadings

@@ -150,7 +150,7 @@ module _ (machine : MachineType) (dll : List ℕ) (dll_free : holds 0 dll ≡ fa
 
 -- What no refusal says.
 
-if_none : {X : Type 0} (test : Bool) (x : X) (otherwise : Option X) → (if test then Some x else otherwise) ≡ None → (test ≡ false) × (otherwise ≡ None)
+pub if_none : {X : Type 0} (test : Bool) (x : X) (otherwise : Option X) → (if test then Some x else otherwise) ≡ None → (test ≡ false) × (otherwise ≡ None)
 if_none true x otherwise none = cc
 if_none false x otherwise none = (refl, none)
 
@@ -158,7 +158,7 @@ pub first_none : (first second : Option Cause) → first_of_both first second �
 first_none (Some cause) second none = cc
 first_none None second none = (refl, none)
 
-import_name_free : (name : List ℕ) → import_name_refusal name ≡ None → holds 0 name ≡ false
+pub import_name_free : (name : List ℕ) → import_name_refusal name ≡ None → holds 0 name ≡ false
 import_name_free name none =
     let filled = if_none (is_empty_text name) EmptyImportName (if holds 0 name then Some NulInImportName else None) none in
     (if_none (holds 0 name) NulInImportName None filled.1).0
@@ -196,7 +196,7 @@ all_sound (e ∷ exports) names ordinals =
     let parts = and_parts (has_u16_ordinal e) (list_all has_u16_ordinal exports) ordinals in
     (record { name = names.0.name; symbol_name = names.0.symbol_name; alias_target = names.0.alias_target; ordinal = parts.0 }, all_sound exports names.1 parts.1)
 
-none_too_long : (plans : List Plan) → length_refusal plans ≡ None → list_any is_too_long plans ≡ false
+pub none_too_long : (plans : List Plan) → length_refusal plans ≡ None → list_any is_too_long plans ≡ false
 none_too_long plans none = (if_none (list_any is_too_long plans) MemberTooLong None none).0
 
 pub map_same : {X Y : Type 0} (f g : X → Y) (xs : List X) → AllByRecursion (λ x. f x ≡ g x) xs → map f xs ≡ map g xs
@@ -207,12 +207,12 @@ pub map_after : {X Y Z : Type 0} (f : Y → Z) (g : X → Y) (xs : List X) → m
 map_after f g [] = refl
 map_after f g (x ∷ xs) = ap (λ ys. f (g x) ∷ ys) (map_after f g xs)
 
-each_read : (plans : List Plan) → AllByRecursion (λ p. ReadsBack p.contents) plans →
+pub each_read : (plans : List Plan) → AllByRecursion (λ p. ReadsBack p.contents) plans →
     AllByRecursion (λ p. file_in (contents_bytes p.contents) ≡ Some (file_of p.contents)) plans
 each_read [] reads = tt
 each_read (p ∷ plans) reads = (reads.0.read, each_read plans reads.1)
 
-each_length : (plans : List Plan) → AllByRecursion (λ p. ReadsBack p.contents) plans →
+pub each_length : (plans : List Plan) → AllByRecursion (λ p. ReadsBack p.contents) plans →
     AllByRecursion (λ p. length (contents_bytes p.contents) ≡ contents_size p.contents) plans
 each_length [] reads = tt
 each_length (p ∷ plans) reads = (reads.0.length, each_length plans reads.1)

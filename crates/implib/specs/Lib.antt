@@ -33,3 +33,4 @@ pub mod WriterView
 pub mod Asked
 pub mod WorkedMembers
 pub mod Gnu
+pub mod GnuReading
