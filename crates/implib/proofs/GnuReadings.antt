@@ -8,6 +8,7 @@ use Rattle.std.proofs.lemmas.List.{append-nil, map-append, reverse-reverse}
 use Rattle.std.proofs.lemmas.List.Elements.{filter_map-append}
 use Rattle.std.proofs.lemmas.List.Folds.{list_any-append}
 use Rattle.std.proofs.lemmas.Nat.{from_le_bytes-to_le_bytes_2}
+use Rattle.std.proofs.lemmas.Slice.Eq.{bytes_eq-Decides}
 use Rattle.implib.specs.declared.coff.object.Relocation.{Relocation}
 use Rattle.implib.specs.declared.library.Flavor.TheVariants.{Gnu}
 use Rattle.implib.specs.declared.machine.MachineType.{MachineType}
@@ -88,3 +89,97 @@ module _ (machine : MachineType) (dll : List ℕ) (dll_free : holds 0 dll ≡ fa
       (sym (list_any-append is_too_long (numbered_plans_of machine dll number e) (numbered_plans machine dll (number + 1) exports)) ∙ short) in
       all_append (λ p. ReadsBack p.contents) (numbered_plans_of machine dll number e) (numbered_plans machine dll (number + 1) exports)
       (of_export_read number e sound.0 parts.0) (numbered_read (number + 1) exports sound.1 parts.1)
+
+-- What is declared.
+
+held_declares : (h : Holding) (listed : List (List ℕ)) → declared_by (ObjectFile (object_held h)) ≡ listed → declared_by (ObjectFile (object_of (picture_of h))) ≡ listed
+held_declares h listed declares = ap (λ o. declared_by (ObjectFile o)) (object_of-picture_of h) ∙ declares
+
+tail_declares : (machine : MachineType) (dll : List ℕ) → DeclaresListed (tail_plan machine dll)
+unfolding tail_plan tail_object
+tail_declares machine dll = held_declares (tail_object machine dll) (name_symbol machine dll ∷ []) refl
+
+head_declares : (machine : MachineType) (dll : List ℕ) → DeclaresListed (head_plan machine dll)
+unfolding head_plan head_object
+head_declares machine dll = held_declares (head_object machine dll) (head_symbol machine dll ∷ []) refl
+
+export_declares_by : (machine : MachineType) (dll : List ℕ) (e : ExportView) (is_data : Bool) →
+    declared_by (ObjectFile (object_held (export_object machine dll (record e { is_data = is_data })))) ≡ export_listed (record e { is_data = is_data })
+unfolding export_object
+export_declares_by machine dll e true = refl
+export_declares_by machine dll e false = refl
+
+export_declares : (machine : MachineType) (dll : List ℕ) (number : ℕ) (e : ExportView) → DeclaresListed (export_plan machine dll number e)
+unfolding export_plan
+export_declares machine dll number e = held_declares (export_object machine dll e) (export_listed e) (export_declares_by machine dll e e.is_data)
+
+chosen_declare : (machine : MachineType) (e : ExportView) (test : Bool) (first second : List ℕ) →
+    AllByRecursion DeclaresListed (if test then alias_plan machine first e.name e.alias_target ∷ alias_plan machine second (address_symbol e.name) (address_symbol e.alias_target) ∷ [] else [])
+chosen_declare machine e false first second = tt
+chosen_declare machine e true first second =
+    (weak_declares machine first e.name e.alias_target, (weak_declares machine second (address_symbol e.name) (address_symbol e.alias_target), tt))
+
+numbered_declare : (machine : MachineType) (dll : List ℕ) (number : ℕ) (exports : List ExportView) → AllByRecursion DeclaresListed (numbered_plans machine dll number exports)
+unfolding alias_plans
+numbered_declare machine dll number [] = tt
+numbered_declare machine dll number (e ∷ exports) =
+    all_append DeclaresListed (numbered_plans_of machine dll number e) (numbered_plans machine dll (number + 1) exports)
+    (all_append DeclaresListed (alias_plans machine dll number e) (export_plan machine dll number e ∷ [])
+    (chosen_declare machine e (is_alias e.alias_target e.name) _ _) (export_declares machine dll number e, tt))
+    (numbered_declare machine dll (number + 1) exports)
+
+-- What an export means.
+
+same_bytes : (text : List ℕ) → bytes_eq text text ≡ true
+same_bytes text = (bytes_eq-Decides text text).1 refl
+
+free_asked : (test : Bool) (name : List ℕ) → holds 0 name ≡ false → holds 0 (if test then without_first name else name) ≡ false
+free_asked false name free = free
+free_asked true [] free = refl
+free_asked true (b ∷ name) free = (or_parts (b == 0) (holds 0 name) free).1
+
+asks_by : (machine : MachineType) (dll : List ℕ) (e : ExportView) → e.ordinal < 2 ^ 16 → holds 0 (asked_name machine e.name) ≡ false → (is_data no_name : Bool) →
+    ask_of_export (object_held (export_object machine dll (record e { is_data = is_data; no_name = no_name }))) ≡ Some (ask_meant machine (record e { is_data = is_data; no_name = no_name }))
+unfolding export_object thunk relocations_of_thunk hint_name stub relocations_of_stub u16_at u16_bytes
+asks_by I386 dll e fits free true true = ap (λ n. Some (Ordinal n)) (from_le_bytes-to_le_bytes_2 e.ordinal fits)
+asks_by I386 dll e fits free false true = ap (λ n. Some (Ordinal n)) (from_le_bytes-to_le_bytes_2 e.ordinal fits)
+asks_by ARMNT dll e fits free true true = ap (λ n. Some (Ordinal n)) (from_le_bytes-to_le_bytes_2 e.ordinal fits)
+asks_by ARMNT dll e fits free false true = ap (λ n. Some (Ordinal n)) (from_le_bytes-to_le_bytes_2 e.ordinal fits)
+asks_by AMD64 dll e fits free true true = ap (λ n. Some (Ordinal n)) (from_le_bytes-to_le_bytes_2 e.ordinal fits)
+asks_by AMD64 dll e fits free false true = ap (λ n. Some (Ordinal n)) (from_le_bytes-to_le_bytes_2 e.ordinal fits)
+asks_by ARM64 dll e fits free true true = ap (λ n. Some (Ordinal n)) (from_le_bytes-to_le_bytes_2 e.ordinal fits)
+asks_by ARM64 dll e fits free false true = ap (λ n. Some (Ordinal n)) (from_le_bytes-to_le_bytes_2 e.ordinal fits)
+asks_by machine dll e fits free true false =
+    ap (λ x. option_map (λ name. Name name (u16_at (u16_bytes e.ordinal ++ (asked_name machine e.name ++ 0 ∷ [])) 0)) x)
+    (before_nul-ended (asked_name machine e.name) [] (HasNoNul-from_holds (asked_name machine e.name) free))
+    ∙ ap (λ n. Some (Name (asked_name machine e.name) n)) (from_le_bytes-to_le_bytes_2 e.ordinal fits)
+asks_by machine dll e fits free false false =
+    ap (λ x. option_map (λ name. Name name (u16_at (u16_bytes e.ordinal ++ (asked_name machine e.name ++ 0 ∷ [])) 0)) x)
+    (before_nul-ended (asked_name machine e.name) [] (HasNoNul-from_holds (asked_name machine e.name) free))
+    ∙ ap (λ n. Some (Name (asked_name machine e.name) n)) (from_le_bytes-to_le_bytes_2 e.ordinal fits)
+
+declared_by_import : (machine : MachineType) (dll : List ℕ) (e : ExportView) (is_data : Bool) →
+    (let o = object_held (export_object machine dll (record e { is_data = is_data })) in externals_in o (codes ".idata$5") ++ externals_in o text_section) ≡ import_symbols is_data e.name
+unfolding export_object
+declared_by_import machine dll e true = refl
+declared_by_import machine dll e false = refl
+
+no_alias : (machine : MachineType) (dll : List ℕ) (e : ExportView) (is_data : Bool) → alias_of_object (object_held (export_object machine dll (record e { is_data = is_data }))) ≡ None
+unfolding export_object
+no_alias machine dll e true = refl
+no_alias machine dll e false = refl
+
+dll_found : (machine : MachineType) (dll : List ℕ) (e : ExportView) → holds 0 dll ≡ false →
+    dll_by_names (object_held (export_object machine dll e)) (object_held (head_object machine dll)) (object_held (tail_object machine dll)) ≡ Some dll
+unfolding export_object head_object tail_object
+dll_found machine dll e free =
+    rw (same_bytes (head_symbol machine dll), same_bytes (name_symbol machine dll)) (before_nul-ended dll [] (HasNoNul-from_holds dll free))
+
+code_by : (machine : MachineType) (dll : List ℕ) (e : ExportView) (is_data : Bool) →
+    code_relocations (object_held (export_object machine dll (record e { is_data = is_data }))) ≡ Some (code_meant machine (record e { is_data = is_data }))
+unfolding export_object stub relocations_of_stub
+code_by machine dll e true = refl
+code_by I386 dll e false = refl
+code_by ARMNT dll e false = refl
+code_by AMD64 dll e false = refl
+code_by ARM64 dll e false = refl
