@@ -63,3 +63,6 @@ pub mod Tables
 pub mod Linked
 pub mod LinkedMembers
 pub mod GnuObjects
+pub mod GnuNames
+pub mod GnuLoop
+pub mod GnuReadings

@@ -19,7 +19,8 @@ use Rattle.implib.specs.Msvc.{record_of, record_symbol, symbol_or_name}
 use Rattle.implib.specs.MsvcObjects.{descriptor, null_descriptor, null_thunk, weak_object}
 use Rattle.implib.specs.Object.{u32_at}
 use Rattle.implib.specs.Picture.{entries_of, layout, layout_size, name_text, object_of}
-use Rattle.implib.specs.Reads.{ReadsForMsvc, MeansWhatIsMeant, Reads, file_of, has_no_symbol_names, import_among, alias_among, import_written, meanings_written}
+use Rattle.implib.specs.Reads.{ReadsForMsvc, MeansWhatIsMeant, ReadsAsMsvc, file_of, has_no_symbol_names, import_among, alias_among, import_written, meanings_written}
+use Rattle.implib.specs.Record.{import_data}
 use Rattle.implib.specs.Renaming.{renamed, renamed_export}
 use Rattle.implib.proofs.Import.{import_of_record-record_of, import_written-meant, kind_is_data}
 use Rattle.implib.proofs.MemberReadings.{ReadsBack, machine_number_nonzero, object_reads, all_append, files_read, import_name_is_free, lengths_read, map_after, map_same, of_members, plans_read_back}
@@ -29,14 +30,14 @@ use Rattle.implib.proofs.Symbols.{before_nul-ended}
 -- What is declared.
 
 -- the file of the plan declares what the plan lists
-abbrev DeclaresListed : Plan → Type 0
+abbrev pub DeclaresListed : Plan → Type 0
 DeclaresListed p = declared_by (file_of p.contents) ≡ p.listed
 
 heading_declares : (machine : MachineType) (dll : List ℕ) → AllByRecursion DeclaresListed (heading_plans machine dll)
 unfolding heading_plans descriptor_plan null_descriptor_plan null_thunk_plan descriptor null_descriptor null_thunk object_of entries_of name_text
 heading_declares machine dll = (refl, (refl, (refl, tt)))
 
-weak_declares : (machine : MachineType) (dll weak target : List ℕ) → DeclaresListed (weak_plan machine dll weak target)
+pub weak_declares : (machine : MachineType) (dll weak target : List ℕ) → DeclaresListed (weak_plan machine dll weak target)
 unfolding weak_object object_of entries_of name_text
 weak_declares machine dll weak target = refl
 
@@ -57,7 +58,7 @@ exports_declare machine dll (e ∷ exports) =
     (all_append DeclaresListed (weak_plans machine dll e) (record_plan machine dll e ∷ []) (chosen_declare machine dll e (is_alias e.alias_target (record_symbol e))) (record_declares machine dll e, tt))
     (exports_declare machine dll exports)
 
-read_declares : (plans : List Plan) → AllByRecursion (λ p. ReadsBack p.contents) plans → AllByRecursion DeclaresListed plans →
+pub read_declares : (plans : List Plan) → AllByRecursion (λ p. ReadsBack p.contents) plans → AllByRecursion DeclaresListed plans →
     AllByRecursion (λ p. option_map declared_by (file_in (contents_bytes p.contents)) ≡ Some p.listed) plans
 read_declares [] reads declares = tt
 read_declares (p ∷ plans) reads declares =
@@ -65,7 +66,7 @@ read_declares (p ∷ plans) reads declares =
 
 -- What is meant.
 
-weak_means : (machine : MachineType) (weak target : List ℕ) → meaning_of (file_of (AnObject (weak_object machine weak target))) ≡ Some (AnAlias (record { weak = weak; target = target }))
+pub weak_means : (machine : MachineType) (weak target : List ℕ) → meaning_of (file_of (AnObject (weak_object machine weak target))) ≡ Some (AnAlias (record { weak = weak; target = target }))
 unfolding weak_object object_of entries_of name_text u32_at u32_bytes
 weak_means machine weak target = refl
 
@@ -119,11 +120,11 @@ exports_mean machine dll (e ∷ exports) =
 
 -- Without symbol names.
 
-no_imports : (aliases : List Alias) → filter_map import_among (map AnAlias aliases) ≡ []
+pub no_imports : (aliases : List Alias) → filter_map import_among (map AnAlias aliases) ≡ []
 no_imports [] = refl
 no_imports (a ∷ aliases) = no_imports aliases
 
-all_aliases : (aliases : List Alias) → filter_map alias_among (map AnAlias aliases) ≡ aliases
+pub all_aliases : (aliases : List Alias) → filter_map alias_among (map AnAlias aliases) ≡ aliases
 all_aliases [] = refl
 all_aliases (a ∷ aliases) = ap (λ x. a ∷ x) (all_aliases aliases)
 
@@ -243,9 +244,5 @@ module _ (d : DefinitionView) (machine : MachineType) (members : List MemberView
         aliases = aliases_meant machine d.import_name (public_exports (renamed d)) exports;
       }
 
--- the members of a definition that is not refused are read as the definition means
-pub Reads-from_Made : (d : DefinitionView) (machine : MachineType) (flavor : Flavor) (members : List MemberView) → Made d machine flavor members → Reads d machine flavor members
-Reads-from_Made d machine Msvc members made = record {
-  files = reads_for_msvc d machine members made;
-  meant = means_what_is_meant d machine members made;
-}
+  pub reads_as_msvc : ReadsAsMsvc d machine members
+  reads_as_msvc = record { files = reads_for_msvc; meant = means_what_is_meant }

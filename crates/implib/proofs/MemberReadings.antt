@@ -207,12 +207,12 @@ pub map_after : {X Y Z : Type 0} (f : Y → Z) (g : X → Y) (xs : List X) → m
 map_after f g [] = refl
 map_after f g (x ∷ xs) = ap (λ ys. f (g x) ∷ ys) (map_after f g xs)
 
-each_read : (plans : List Plan) → AllByRecursion (λ p. ReadsBack p.contents) plans →
+pub each_read : (plans : List Plan) → AllByRecursion (λ p. ReadsBack p.contents) plans →
     AllByRecursion (λ p. file_in (contents_bytes p.contents) ≡ Some (file_of p.contents)) plans
 each_read [] reads = tt
 each_read (p ∷ plans) reads = (reads.0.read, each_read plans reads.1)
 
-each_length : (plans : List Plan) → AllByRecursion (λ p. ReadsBack p.contents) plans →
+pub each_length : (plans : List Plan) → AllByRecursion (λ p. ReadsBack p.contents) plans →
     AllByRecursion (λ p. length (contents_bytes p.contents) ≡ contents_size p.contents) plans
 each_length [] reads = tt
 each_length (p ∷ plans) reads = (reads.0.length, each_length plans reads.1)

@@ -38,3 +38,4 @@ pub mod WorkedMembers
 pub mod WorkedObjects
 pub mod Ascii
 pub mod Gnu
+pub mod GnuReading
