@@ -62,4 +62,5 @@ pub mod Definitions
 pub mod Tables
 pub mod Linked
 pub mod LinkedMembers
+pub mod WorkedLinks
 pub mod GnuObjects

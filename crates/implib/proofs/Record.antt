@@ -1,13 +1,15 @@
 -- A short record reads back as its fields.
-use Rattle.std.proofs.Common.{◌≡◌, ℕ, ◌+◌, ◌-◌, ◌*◌, ◌/◌, ◌%◌, ◌<◌, ◌≤◌, ◌^◌, true, false, if◌then◌else◌, nat_le, List, [], ◌∷◌, ◌++◌, length, drop, Some, None, refl, ap, ◌∙◌, arith, length-append, eq-eqb}
+use Rattle.std.proofs.Common.{◌≡◌, ℕ, ◌+◌, ◌-◌, ◌*◌, ◌/◌, ◌%◌, ◌<◌, ◌≤◌, ◌^◌, Bool, true, false, cond, if◌then◌else◌, ◌&&◌, ◌||◌, nat_le, nat_eq, List, [], ◌∷◌, ◌++◌, length, take, drop, Option, Some, None, refl, ap, sym, ◌∙◌, arith, length-append, append_assoc, rules, w16, w32, eq-eqb, subst}
 use Rattle.std.specs.Prelude.{◌==◌}
+use Rattle.std.specs.Int.{from_le_bytes, to_le_bytes}
+use Rattle.std.specs.List.{list_any}
 use Rattle.std.proofs.lemmas.Bool.{or_parts, le-leb}
 use Rattle.std.proofs.lemmas.Nat.{from_le_bytes-to_le_bytes_2, from_le_bytes-to_le_bytes_4}
 use Rattle.implib.specs.Bytes.{u16_bytes, u32_bytes}
 use Rattle.implib.specs.Import.{holds}
 use Rattle.implib.specs.Msvc.{record_bytes, record_header, record_data_size, record_size}
 use Rattle.implib.specs.Reads.{FitsRecord}
-use Rattle.implib.specs.Record.{ShortRecord, record_header_size, text_in, u16_at, u32_at, is_record, record_from, record_with, short_record_in}
+use Rattle.implib.specs.Record.{ShortRecord, record_header_size, text_in, text_longer, u16_at, u32_at, is_record, record_from, record_with, short_record_in}
 
 -- a text without NUL is read up to the NUL behind it
 pub text_in-append : (text rest : List ℕ) → holds 0 text ≡ false → text_in (text ++ 0 ∷ rest) ≡ Some (text, rest)

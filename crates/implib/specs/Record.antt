@@ -1,7 +1,7 @@
 -- Reading a short import record (PE/COFF specification, "Import Library Format"):
 -- a header of 20 bytes, then the symbol and the DLL's name, each ended by a NUL.
 -- The reader takes what it finds in the bytes, and knows nothing of who wrote them.
-use Rattle.std.specs.Prelude.{ℕ, ◌-◌, ◌/◌, ◌%◌, Bool, ◌&&◌, ◌==◌, nat_le, List, [], ◌∷◌, length, take, drop, Option, Some, None, if◌then◌else◌}
+use Rattle.std.specs.Prelude.{ℕ, ◌+◌, ◌-◌, ◌*◌, ◌/◌, ◌%◌, Bool, ◌&&◌, ◌==◌, nat_le, List, [], ◌∷◌, ◌++◌, length, take, drop, Option, Some, None, if◌then◌else◌}
 use Rattle.std.specs.Int.{from_le_bytes, w16, w32}
 use Rattle.std.specs.List.{before_first}
 use Rattle.implib.specs.Import.{Ask, Ordinal, Name, Import, import_symbols, without_first, begins_with, underscore, at_sign}

@@ -9,6 +9,7 @@ ghost use Rattle.implib.specs.Made.{Made};
 ghost use Rattle.implib.specs.Object.{object_in};
 ghost use Rattle.implib.specs.Renaming.{renamed};
 ghost use Rattle.implib.specs.Theorem.{AllRise, Links, bases_of, chosen_exports, linked_members, objects_in};
+ghost use Rattle.implib.specs.WorkedLinks.{WorkedLinks};
 ghost use Rattle.implib.specs.declared.library.Flavor.TheVariants.{Gnu};
 ghost use Rattle.std.specs.List.{AllByRecursion, Contains, IsDistinct, flat_map};
 ghost use Rattle.std.specs.Prelude.{◌≡◌, ◌<◌, ◌++◌, ◌∷◌, [], Some, bytes_eq, length, map};
@@ -49,3 +50,8 @@ pub fn gnu_links(def: &ModuleDef, machine: MachineType, members: &[Member], chos
     let _bases = bases;
     let _machine = machine;
 }
+
+/// Members that were linked by hand have these tables and addresses.
+pub fn worked_links()
+    ensures { WorkedLinks }
+{}
