@@ -62,5 +62,6 @@ pub mod Definitions
 pub mod Tables
 pub mod Linked
 pub mod LinkedMembers
+pub mod Loading
 pub mod WorkedLinks
 pub mod GnuObjects

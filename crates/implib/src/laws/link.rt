@@ -2,9 +2,10 @@
 
 ghost use Rattle.implib.specs.Definition.{definition_view};
 ghost use Rattle.implib.specs.Gnu.{export_name, head_name, tail_name};
-ghost use Rattle.implib.specs.Import.{public_exports};
+ghost use Rattle.implib.specs.Import.{Ask, public_exports};
 ghost use Rattle.implib.specs.Library.{member_view};
-ghost use Rattle.implib.specs.Link.{IsAdmissible};
+ghost use Rattle.implib.specs.Link.{IsAdmissible, Range};
+ghost use Rattle.implib.specs.Load.{Loads};
 ghost use Rattle.implib.specs.Made.{Made};
 ghost use Rattle.implib.specs.Object.{object_in};
 ghost use Rattle.implib.specs.Renaming.{renamed};
@@ -12,7 +13,7 @@ ghost use Rattle.implib.specs.Theorem.{AllRise, Links, bases_of, chosen_exports,
 ghost use Rattle.implib.specs.WorkedLinks.{WorkedLinks};
 ghost use Rattle.implib.specs.declared.library.Flavor.TheVariants.{Gnu};
 ghost use Rattle.std.specs.List.{AllByRecursion, Contains, IsDistinct, flat_map};
-ghost use Rattle.std.specs.Prelude.{◌≡◌, ◌<◌, ◌++◌, ◌∷◌, [], Some, bytes_eq, length, map};
+ghost use Rattle.std.specs.Prelude.{◌≡◌, ◌<◌, ◌++◌, ◌∷◌, ℕ, List, [], Some, bytes_eq, length, map};
 
 use crate::def::ModuleDef;
 use crate::library::Member;
@@ -50,6 +51,14 @@ pub fn gnu_links(def: &ModuleDef, machine: MachineType, members: &[Member], chos
     let _bases = bases;
     let _machine = machine;
 }
+
+/// A descriptor of an image leads to one DLL and one list of what is asked of it.
+pub fn loads_once()
+    ensures dll { (image : List Range) (width descriptor : ℕ) (dll other : List ℕ) (asks others : List Ask) →
+        Loads image width descriptor dll asks → Loads image width descriptor other others → dll ≡ other }
+    ensures asks { (image : List Range) (width descriptor : ℕ) (dll other : List ℕ) (asks others : List Ask) →
+        Loads image width descriptor dll asks → Loads image width descriptor other others → asks ≡ others }
+{}
 
 /// Members that were linked by hand have these tables and addresses.
 pub fn worked_links()
