@@ -24,7 +24,13 @@ use crate::machine::MachineType;
 ///
 /// `chosen` has the numbers of the exports, which count those that are not private from 0, in the
 /// order of their members' names. `bases` are the addresses of `.idata$2`, `$4`, `$5`, `$6`, `$7`.
-pub fn gnu_links(def: &ModuleDef, machine: MachineType, members: &[Member], chosen: &[usize], bases: [u32; 5])
+pub fn gnu_links(
+    def: &ModuleDef,
+    machine: MachineType,
+    members: &[Member],
+    chosen: &[usize],
+    bases: [u32; 5],
+)
     requires made { Made (definition_view def.now) machine Gnu (map member_view members.now) }
     requires numbers { AllByRecursion (λ n. n < length (public_exports (renamed (definition_view def.now)))) chosen.now }
     requires in_order { AllRise (map (export_name (definition_view def.now).import_name) chosen.now) }
