@@ -32,7 +32,7 @@ unfolding Among IsDistinct
 only_definition d [] m distinct = absurd m
 only_definition d (x ∷ ds) (inl e) distinct =
     let none : filter (λ (other : SymbolDefinition). bytes_eq d.name other.name) ds ≡ [] =
-        none_of d.name ds (subst (λ (y : SymbolDefinition). AllByRecursion (λ other. bytes_eq y.name other ≡ false) (map (λ (d : SymbolDefinition). d.name) ds)) (sym e) distinct.0) in
+    none_of d.name ds (subst (λ (y : SymbolDefinition). AllByRecursion (λ other. bytes_eq y.name other ≡ false) (map (λ (d : SymbolDefinition). d.name) ds)) (sym e) distinct.0) in
     let same : bytes_eq d.name x.name ≡ true = subst (λ (y : SymbolDefinition). bytes_eq d.name y.name ≡ true) e (same_text d.name) in
     rw (same, none) (ap (λ y. y ∷ []) (sym e))
 only_definition d (x ∷ ds) (inr m) distinct =

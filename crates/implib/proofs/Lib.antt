@@ -62,6 +62,8 @@ pub mod Definitions
 pub mod Tables
 pub mod Linked
 pub mod LinkedMembers
+pub mod Loading
+pub mod WorkedLinks
 pub mod GnuObjects
 pub mod GnuNames
 pub mod GnuLoop

@@ -76,7 +76,7 @@ module _ (machine : MachineType) (dll : List ℕ) (linked : List Placed) where
   unfolding ends_of_exports tail_object export_object with_address u32_bytes u32_at
   name_stands image [] b even stands =
       let here : BytesAt image b.dll_names (filled b.dll_names (record { address = next_multiple 4 b.dll_names; bytes = dll ++ 0 ∷ [] } ∷ [])) =
-          subst (λ ps. BytesAt image b.dll_names (filled b.dll_names (pieces machine linked DllNames ps))) (placed-tail machine dll b even) stands in
+      subst (λ ps. BytesAt image b.dll_names (filled b.dll_names (pieces machine linked DllNames ps))) (placed-tail machine dll b even) stands in
       (piece_stands image b.dll_names (record { address = next_multiple 4 b.dll_names; bytes = dll ++ 0 ∷ [] }) [] (at_least 4 b.dll_names) here).0
   name_stands image (e ∷ es) b even stands =
       let later : Bases = ends_of_export machine dll b e in
@@ -84,7 +84,7 @@ module _ (machine : MachineType) (dll : List ℕ) (linked : List Placed) where
       let bytes : List ℕ = relocated machine linked (placed_export machine dll b e) (relocation machine 0 0 ∷ []) (zeros 4) in
       let four : length bytes ≡ 4 = rw (same_number machine) refl in
       let here : BytesAt image b.dll_names (filled b.dll_names (record { address = next_multiple 4 b.dll_names; bytes = bytes } ∷ rest)) =
-          subst (λ ps. BytesAt image b.dll_names (filled b.dll_names (pieces machine linked DllNames ps))) (placed-export machine dll b e (after_head machine dll es) even) stands in
+      subst (λ ps. BytesAt image b.dll_names (filled b.dll_names (pieces machine linked DllNames ps))) (placed-export machine dll b e (after_head machine dll es) even) stands in
       let after = (piece_stands image b.dll_names (record { address = next_multiple 4 b.dll_names; bytes = bytes }) rest (at_least 4 b.dll_names) here).1 in
       name_stands image es later (aligned_after machine dll b e even)
       (subst (λ n. BytesAt image (next_multiple 4 b.dll_names + n) (filled (next_multiple 4 b.dll_names + n) rest)) four after)
@@ -106,9 +106,9 @@ module _ (machine : MachineType) (dll : List ℕ) (linked : List Placed) where
       let own : SymbolDefinition = address_definition machine dll b e in
       let plain : b.addresses + 0 ≡ b.addresses = omega arith in (
         subst (λ n. definitions_of (address_symbol e.name) linked ≡ record { name = address_symbol e.name; address = Some n } ∷ []) plain
-        (only own (among_back own (code_definition machine dll e) _ (among_first own _))),
+            (only own (among_back own (code_definition machine dll e) _ (among_first own _))),
         entries_at es (ends_of_export machine dll b e)
-        (λ d m. only d (among_back d (code_definition machine dll e) _ (among_later d own _ m))),
+            (λ d m. only d (among_back d (code_definition machine dll e) _ (among_later d own _ m))),
       )
 
   -- each export needs the head's symbol alone, and the tail none
@@ -124,7 +124,7 @@ module _ (machine : MachineType) (dll : List ℕ) (linked : List Placed) where
   undefined_after (e ∷ es) b even once =
       let later : Bases = ends_of_export machine dll b e in
       let same : undefined_names (placed_from b (after_head machine dll (e ∷ es))) ≡ head_symbol machine dll ∷ undefined_names (placed_from later (after_head machine dll es)) =
-          ap undefined_names (placed-export machine dll b e (after_head machine dll es) even) ∙ undefined_by_export b e (placed_from later (after_head machine dll es)) in
+      ap undefined_names (placed-export machine dll b e (after_head machine dll es) even) ∙ undefined_by_export b e (placed_from later (after_head machine dll es)) in
       subst (AllByRecursion (IsDefinedOnce linked)) (sym same) (once, undefined_after es later (aligned_after machine dll b e even) once)
 
 -- the objects that are linked
@@ -166,7 +166,7 @@ module _ (machine : MachineType) (dll : List ℕ) (es : List ExportView) (b : Ba
   only d m =
       let first : SymbolDefinition = record { name = head_symbol machine dll; address = Some (next_multiple 4 b.descriptors + 0) } in
       let names : linked_symbols machine dll es ≡ map (λ (d : SymbolDefinition). d.name) (first ∷ defined_after machine dll (ends_of_head machine dll b) es) =
-          ap (λ rest. head_symbol machine dll ∷ rest) (sym (names-after machine dll (ends_of_head machine dll b) es)) in
+      ap (λ rest. head_symbol machine dll ∷ rest) (sym (names-after machine dll (ends_of_head machine dll b) es)) in
       ap (λ ds. filter (λ (other : SymbolDefinition). bytes_eq d.name other.name) ds) definitions_are
       ∙ only_definition d (first ∷ defined_after machine dll (ends_of_head machine dll b) es) m (subst (IsDistinct bytes_eq) names distinct)
 
@@ -303,7 +303,7 @@ module _ (machine : MachineType) (dll : List ℕ) (es : List ExportView) (b : Ba
       let second : List ℕ = u32_bytes ((0 + (name_place + 0)) % 2 ^ 32) in
       let third : List ℕ = u32_bytes ((0 + (b.addresses + 0)) % 2 ^ 32) in
       let whole : BytesAt image descriptor (first ++ (zeros 8 ++ (second ++ third))) =
-          subst (BytesAt image descriptor) (descriptor_is machine dll placed b name_place name_address) descriptor_stands in
+      subst (BytesAt image descriptor) (descriptor_is machine dll placed b name_place name_address) descriptor_stands in
       let parts = stands_parts image first (zeros 8 ++ (second ++ third)) descriptor whole in
       let gap = stands_parts image (zeros 8) (second ++ third) (descriptor + length first) parts.1 in
       let last = stands_parts image second third (descriptor + length first + 8) gap.1 in

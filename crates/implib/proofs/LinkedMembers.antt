@@ -204,7 +204,7 @@ module _ (machine : MachineType) (dll : List ℕ) (exports : List ExportView) (d
   chosen_read [] = ap (λ o. o ∷ []) tail_reads
   chosen_read (n ∷ ns) =
       by_place (λ o. map (λ (p : Plan). object_in (member_of p).bytes) (cons_option (option_map (export_plan machine dll n) o) (filter_map (plan_numbered machine dll exports) ns) ++ tail_plan machine dll ∷ [])
-        ≡ map Some (map (export machine dll) (cons_option o (chosen_of ns)) ++ tail machine dll ∷ [])) n (slice_get exports n) refl
+      ≡ map Some (map (export machine dll) (cons_option o (chosen_of ns)) ++ tail machine dll ∷ [])) n (slice_get exports n) refl
       (λ is. chosen_read ns)
       (λ e is. ap (λ o. o ∷ map (λ (p : Plan). object_in (member_of p).bytes) (plans_after ns)) (export_reads n e is) ∙ ap (λ rest. Some (export machine dll e) ∷ rest) (chosen_read ns))
 
@@ -213,7 +213,7 @@ module _ (machine : MachineType) (dll : List ℕ) (exports : List ExportView) (d
   chosen_listed [] = refl
   chosen_listed (n ∷ ns) =
       by_place (λ o. flat_map (λ (p : Plan). p.listed) (cons_option (option_map (export_plan machine dll n) o) (filter_map (plan_numbered machine dll exports) ns) ++ tail_plan machine dll ∷ [])
-        ≡ flat_map export_listed (cons_option o (chosen_of ns)) ++ name_symbol machine dll ∷ []) n (slice_get exports n) refl
+      ≡ flat_map export_listed (cons_option o (chosen_of ns)) ++ name_symbol machine dll ∷ []) n (slice_get exports n) refl
       (λ is. chosen_listed ns)
       (λ e is. ap (λ rest. export_listed e ++ rest) (chosen_listed ns) ∙ sym (append_assoc (export_listed e) (flat_map export_listed (chosen_of ns)) (name_symbol machine dll ∷ [])))
 
@@ -223,7 +223,7 @@ module _ (machine : MachineType) (dll : List ℕ) (exports : List ExportView) (d
   chosen_names (n ∷ ns) within =
       let first : n < length exports = within.0 in
       by_place (λ o. map (λ (p : Plan). p.name) (cons_option (option_map (export_plan machine dll n) o) (filter_map (plan_numbered machine dll exports) ns) ++ tail_plan machine dll ∷ [])
-        ≡ export_name dll n ∷ (map (export_name dll) ns ++ tail_name dll ∷ [])) n (slice_get exports n) refl
+      ≡ export_name dll n ∷ (map (export_name dll) ns ++ tail_name dll ∷ [])) n (slice_get exports n) refl
       (λ is. let past : length exports ≤ n = past_end exports n is in absurd (omega arith))
       (λ e is. ap (λ rest. export_name dll n ∷ rest) (chosen_names ns within.1))
 

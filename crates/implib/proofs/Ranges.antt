@@ -67,8 +67,7 @@ rest_stands r ranges m apart (b ∷ bytes) front a is at =
     let long : length r.bytes ≡ length front + (length bytes + 1) = ap length is ∙ length-append front (b ∷ bytes) ∙ omega arith in
     let within : is_in a r ≡ true = is_in_from a r (omega arith) (omega arith) in
     let place : a - r.start ≡ length front = omega arith in
-    let first : slice_index r.bytes (a - r.start) ≡ b = rw (place, is) (get_or_at front b bytes 0 (length front) refl) in
-    (
+    let first : slice_index r.bytes (a - r.start) ≡ b = rw (place, is) (get_or_at front b bytes 0 (length front) refl) in (
       byte_of r ranges a m apart within ∙ ap Some first,
       rest_stands r ranges m apart bytes (front ++ b ∷ []) (a + 1) (is ∙ sym (append_assoc front (b ∷ []) bytes)) (rw (length-append front (b ∷ [])) (omega arith)),
     )

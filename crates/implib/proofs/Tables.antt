@@ -220,10 +220,10 @@ module _ (machine : MachineType) (dll : List ℕ) (linked : List Placed) where
         let small = bounds.1 in
         let parts = stands_parts image (u16_bytes e.ordinal) (asked_name machine e.name ++ 0 ∷ []) place hint in
         let thunk_is : thunk_linked b e ≡ u32_bytes place ++ zeros (thunk_width machine - 4) =
-            thunk_of_name b e is ∙ ap (λ n. u32_bytes n ++ zeros (thunk_width machine - 4)) (small_mod place small) in
+        thunk_of_name b e is ∙ ap (λ n. u32_bytes n ++ zeros (thunk_width machine - 4)) (small_mod place small) in
         let low : place ≡ place % 2 ^ 31 = omega arith in
         let text : BytesAt image (place + 2) (asked_name machine e.name ++ 0 ∷ []) =
-            subst (λ n. BytesAt image (place + n) (asked_name machine e.name ++ 0 ∷ [])) (length-u16 e.ordinal) parts.1 in
+        subst (λ n. BytesAt image (place + n) (asked_name machine e.name ++ 0 ∷ [])) (length-u16 e.ordinal) parts.1 in
         record {
           thunk = place;
           stands = record {
@@ -262,10 +262,9 @@ module _ (machine : MachineType) (dll : List ℕ) (linked : List Placed) where
         let below : b.hint_names ≤ next_multiple 2 b.hint_names = at_least 2 b.hint_names in
         let place : b.hint_names + length padding ≡ next_multiple 2 b.hint_names = rw (length-replicate {A = ℕ} (next_multiple 2 b.hint_names - b.hint_names) 0) (omega arith) in
         let hint_parts = stands_parts image (hint_name machine e) (hint_bytes later es) (next_multiple 2 b.hint_names)
-            (subst (λ n. BytesAt image n (hint_name machine e ++ hint_bytes later es)) place behind.1) in
-        (
+        (subst (λ n. BytesAt image n (hint_name machine e ++ hint_bytes later es)) place behind.1) in (
           thunk_at b e a fit.0 parts.0 hint_parts.0,
           table_at es later (a + thunk_width machine) fit.1
-          (subst (λ n. BytesAt image (a + n) (thunk_bytes later es)) (length-thunk_linked b e) parts.1)
-          hint_parts.1,
+              (subst (λ n. BytesAt image (a + n) (thunk_bytes later es)) (length-thunk_linked b e) parts.1)
+              hint_parts.1,
         )

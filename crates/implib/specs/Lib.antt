@@ -33,6 +33,7 @@ pub mod WriterView
 pub mod Link
 pub mod Load
 pub mod Theorem
+pub mod WorkedLinks
 pub mod Asked
 pub mod WorkedMembers
 pub mod WorkedObjects

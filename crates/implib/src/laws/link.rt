@@ -2,16 +2,18 @@
 
 ghost use Rattle.implib.specs.Definition.{definition_view};
 ghost use Rattle.implib.specs.Gnu.{export_name, head_name, tail_name};
-ghost use Rattle.implib.specs.Import.{public_exports};
+ghost use Rattle.implib.specs.Import.{Ask, public_exports};
 ghost use Rattle.implib.specs.Library.{member_view};
-ghost use Rattle.implib.specs.Link.{IsAdmissible};
+ghost use Rattle.implib.specs.Link.{IsAdmissible, Range};
+ghost use Rattle.implib.specs.Load.{Loads};
 ghost use Rattle.implib.specs.Made.{Made};
 ghost use Rattle.implib.specs.Object.{object_in};
 ghost use Rattle.implib.specs.Renaming.{renamed};
 ghost use Rattle.implib.specs.Theorem.{AllRise, Links, bases_of, chosen_exports, linked_members, objects_in};
+ghost use Rattle.implib.specs.WorkedLinks.{WorkedLinks};
 ghost use Rattle.implib.specs.declared.library.Flavor.TheVariants.{Gnu};
 ghost use Rattle.std.specs.List.{AllByRecursion, Contains, IsDistinct, flat_map};
-ghost use Rattle.std.specs.Prelude.{◌≡◌, ◌<◌, ◌++◌, ◌∷◌, [], Some, bytes_eq, length, map};
+ghost use Rattle.std.specs.Prelude.{◌≡◌, ◌<◌, ◌++◌, ◌∷◌, ℕ, List, [], Some, bytes_eq, length, map};
 
 use crate::def::ModuleDef;
 use crate::library::Member;
@@ -22,7 +24,13 @@ use crate::machine::MachineType;
 ///
 /// `chosen` has the numbers of the exports, which count those that are not private from 0, in the
 /// order of their members' names. `bases` are the addresses of `.idata$2`, `$4`, `$5`, `$6`, `$7`.
-pub fn gnu_links(def: &ModuleDef, machine: MachineType, members: &[Member], chosen: &[usize], bases: [u32; 5])
+pub fn gnu_links(
+    def: &ModuleDef,
+    machine: MachineType,
+    members: &[Member],
+    chosen: &[usize],
+    bases: [u32; 5],
+)
     requires made { Made (definition_view def.now) machine Gnu (map member_view members.now) }
     requires numbers { AllByRecursion (λ n. n < length (public_exports (renamed (definition_view def.now)))) chosen.now }
     requires in_order { AllRise (map (export_name (definition_view def.now).import_name) chosen.now) }
@@ -49,3 +57,16 @@ pub fn gnu_links(def: &ModuleDef, machine: MachineType, members: &[Member], chos
     let _bases = bases;
     let _machine = machine;
 }
+
+/// A descriptor of an image leads to one DLL and one list of what is asked of it.
+pub fn loads_once()
+    ensures dll { (image : List Range) (width descriptor : ℕ) (dll other : List ℕ) (asks others : List Ask) →
+        Loads image width descriptor dll asks → Loads image width descriptor other others → dll ≡ other }
+    ensures asks { (image : List Range) (width descriptor : ℕ) (dll other : List ℕ) (asks others : List Ask) →
+        Loads image width descriptor dll asks → Loads image width descriptor other others → asks ≡ others }
+{}
+
+/// Members that were linked by hand have these tables and addresses.
+pub fn worked_links()
+    ensures { WorkedLinks }
+{}
