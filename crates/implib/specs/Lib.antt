@@ -34,3 +34,4 @@ pub mod Asked
 pub mod WorkedMembers
 pub mod Gnu
 pub mod GnuReading
+pub mod WorkedGnu
