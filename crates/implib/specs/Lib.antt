@@ -40,3 +40,4 @@ pub mod WorkedObjects
 pub mod Ascii
 pub mod Gnu
 pub mod GnuReading
+pub mod WorkedGnu

@@ -21,8 +21,8 @@ use std::marker::Model;
 mod objects;
 mod record;
 
-use objects::{descriptor_member, null_descriptor_member, null_thunk_member, weak_member};
 pub(crate) use objects::weak_external;
+use objects::{descriptor_member, null_descriptor_member, null_thunk_member, weak_member};
 pub(crate) use record::{address_symbol, asked};
 use record::{record_member, record_symbol};
 
