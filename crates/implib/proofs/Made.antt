@@ -1,13 +1,13 @@
 -- The members of a definition whose exports are under their names to link by.
-use Rattle.std.proofs.Common.{◌≡◌, true, false, List, map, Option, Some, None, Result, Ok, Err, refl, ap, sym, ◌∙◌, if◌then◌else◌}
-use Rattle.std.specs.Prelude.{IfOk, OnOk, IsErrAnd}
+use Rattle.std.proofs.Common.{◌≡◌, true, false, List, map, Option, Some, None, Result, Ok, Err, ap, sym, ◌∙◌, if◌then◌else◌}
+use Rattle.std.specs.Prelude.{IfOk, OnOk}
 use Rattle.std.specs.List.{list_all, list_any}
 use Rattle.implib.specs.declared.error.Error.{Error}
 use Rattle.implib.specs.declared.error.Error.TheVariants.{Invalid, OutOfMemory}
 use Rattle.implib.specs.declared.library.Flavor.{Flavor}
 use Rattle.implib.specs.declared.machine.MachineType.{MachineType}
 use Rattle.implib.specs.Definition.{DefinitionView}
-use Rattle.implib.specs.Fault.{Cause, MemberTooLong, IfInvalid, error_cause, cause_of}
+use Rattle.implib.specs.Fault.{Cause, MemberTooLong, IfInvalid}
 use Rattle.implib.specs.Import.{public_exports}
 use Rattle.implib.specs.Made.{Made, MemberView, member_of, plans_of, is_too_long, has_u16_ordinal, length_refusal, first_of_both, definition_names_refusal, renamed_refusal, refusal, RefusesAlways}
 use Rattle.implib.specs.Reads.{Reads}

@@ -1,26 +1,24 @@
 -- What the members for Microsoft's linker declare and mean.
-use Rattle.std.proofs.Common.{◌≡◌, ℕ, Bool, true, false, if◌then◌else◌, ◌&&◌, ◌||◌, List, [], ◌∷◌, ◌++◌, drop, map, Option, Some, None, refl, ap, sym, ◌∙◌, codes, Result, Ok, Err, Global, arith, ◌<◌, ◌^◌}
+use Rattle.std.proofs.Common.{◌≡◌, ℕ, Bool, true, false, if◌then◌else◌, List, [], ◌∷◌, ◌++◌, drop, map, Some, refl, ap, sym, ◌∙◌, Result, Ok, Err, Global, arith, ◌<◌, ◌^◌}
 use Rattle.std.specs.Prelude.{IfOk, OnOk, Vec}
-use Rattle.std.specs.Prelude.{◌==◌, not, slice_get}
+use Rattle.std.specs.Prelude.{not, slice_get}
 use Rattle.std.specs.List.{AllByRecursion, filter, filter_map, flat_map, list_all}
 use Rattle.std.specs.Option.{option_and_then, option_map}
 use Rattle.std.proofs.lemmas.Bool.{and_parts}
 use Rattle.std.proofs.lemmas.List.{append-nil, map-append}
 use Rattle.std.proofs.lemmas.List.Elements.{filter_map-append}
-use Rattle.implib.specs.declared.library.Flavor.{Flavor}
 use Rattle.implib.specs.declared.library.Flavor.TheVariants.{Msvc}
 use Rattle.implib.specs.declared.machine.MachineType.{MachineType}
 use Rattle.implib.specs.Bytes.{u32_bytes}
 use Rattle.implib.specs.Definition.{DefinitionView, ExportView}
-use Rattle.implib.specs.File.{File, RecordFile, ObjectFile, Meaning, AnImport, AnAlias, alias_of_object, declared_by, dll_in, dll_of, file_in, meaning_in, meaning_of}
-use Rattle.implib.specs.Import.{Alias, Import, address_symbol, aliases_for, aliases_of, holds, import_meant, import_symbols, imports_of, is_alias, is_empty_text, public_exports}
-use Rattle.implib.specs.Made.{Contents, ARecord, AnObject, Plan, MemberView, Made, member_of, plans_of, descriptor_plan, null_descriptor_plan, null_thunk_plan, heading_plans, weak_plan, weak_plans, export_plans, record_plan, contents_bytes}
-use Rattle.implib.specs.Msvc.{record_listed, record_of, record_symbol, symbol_or_name, kind_of}
-use Rattle.implib.specs.MsvcObjects.{descriptor, descriptor_symbol, null_descriptor, null_thunk, weak_object}
-use Rattle.implib.specs.Object.{before_nul, u32_at}
+use Rattle.implib.specs.File.{ObjectFile, AnImport, AnAlias, declared_by, dll_in, dll_of, file_in, meaning_in, meaning_of}
+use Rattle.implib.specs.Import.{Alias, address_symbol, aliases_for, holds, import_meant, import_symbols, is_alias, is_empty_text, public_exports}
+use Rattle.implib.specs.Made.{ARecord, AnObject, Plan, MemberView, Made, member_of, plans_of, descriptor_plan, null_descriptor_plan, null_thunk_plan, heading_plans, weak_plan, weak_plans, export_plans, record_plan, contents_bytes}
+use Rattle.implib.specs.Msvc.{record_of, record_symbol, symbol_or_name}
+use Rattle.implib.specs.MsvcObjects.{descriptor, null_descriptor, null_thunk, weak_object}
+use Rattle.implib.specs.Object.{u32_at}
 use Rattle.implib.specs.Picture.{entries_of, layout, layout_size, name_text, object_of}
 use Rattle.implib.specs.Reads.{ReadsForMsvc, MeansWhatIsMeant, ReadsAsMsvc, file_of, has_no_symbol_names, import_among, alias_among, import_written, meanings_written}
-use Rattle.implib.specs.Record.{import_data}
 use Rattle.implib.specs.Renaming.{renamed, renamed_export}
 use Rattle.implib.proofs.Import.{import_of_record-record_of, import_written-meant, kind_is_data}
 use Rattle.implib.proofs.MemberReadings.{ReadsBack, machine_number_nonzero, object_reads, all_append, files_read, import_name_is_free, lengths_read, map_after, map_same, of_members, plans_read_back}

@@ -4,9 +4,8 @@ use Rattle.std.specs.List.{list_any}
 use Rattle.implib.specs.declared.library.Flavor.{Flavor}
 use Rattle.implib.specs.Fault.{IfInvalid, MemberTooLong}
 use Rattle.implib.specs.Made.{Made, is_too_long, member_of, plans_of}
-use Rattle.implib.specs.Definition.{DefinitionView, definition_view}
+use Rattle.implib.specs.Definition.{definition_view}
 use Rattle.implib.specs.Library.{member_view}
-use Rattle.implib.specs.Renaming.{renamed}
 use Rattle.implib.proofs.Made.{made_of, read_of, no_refusal_by_names, refused_by_length, refused_by_names, same_refusal_by_names}
 use Rattle.implib.proofs.Renaming.{renamed_same}
 use Rattle.implib.proofs.library.members_of.Goals as goal
