@@ -1,5 +1,5 @@
 -- The names of members for GNU's linker.
-use Rattle.std.proofs.Common.{◌≡◌, ℕ, zero, suc, ◌+◌, ◌-◌, ◌<◌, ◌≤◌, ◌^◌, Bool, true, false, cond, if◌then◌else◌, List, [], ◌∷◌, ◌++◌, length, take, drop, get_or, Option, Some, None, refl, ap, sym, ◌∙◌, arith, append_assoc, add-one, one-add, subst}
+use Rattle.std.proofs.Common.{◌≡◌, ℕ, suc, ◌+◌, ◌-◌, ◌<◌, ◌≤◌, Bool, true, false, cond, if◌then◌else◌, List, [], ◌∷◌, ◌++◌, length, take, drop, get_or, Some, None, refl, ap, sym, ◌∙◌, arith, append_assoc, add-one, one-add, subst}
 use Rattle.std.specs.Prelude.{◌==◌, not, nat_lt, decimal, replicate, slice_range}
 use Rattle.std.specs.Fmt.{char_count, format_spec, padded_integral, styled_decimal}
 use Rattle.std.specs.List.{position, position_or_len}

@@ -1,7 +1,7 @@
 -- What the members for GNU's linker are read as.
-use Rattle.std.proofs.Common.{◌≡◌, ℕ, suc, ◌+◌, ◌-◌, ◌<◌, ◌≤◌, ◌^◌, Bool, true, false, if◌then◌else◌, ◌&&◌, ◌||◌, List, [], ◌∷◌, ◌++◌, length, drop, map, reverse, Option, Some, None, refl, ap, sym, ◌∙◌, arith, codes, subst, w16}
-use Rattle.std.specs.Prelude.{◌==◌, nat_lt, not, slice_get, bytes_eq}
-use Rattle.std.specs.List.{AllByRecursion, filter, filter_map, find, flat_map, list_all, list_any}
+use Rattle.std.proofs.Common.{◌≡◌, ℕ, ◌+◌, ◌<◌, ◌≤◌, ◌^◌, Bool, true, false, if◌then◌else◌, ◌||◌, List, [], ◌∷◌, ◌++◌, length, drop, map, reverse, Option, Some, None, refl, ap, sym, ◌∙◌, codes, subst}
+use Rattle.std.specs.Prelude.{◌==◌, nat_lt, not, bytes_eq}
+use Rattle.std.specs.List.{AllByRecursion, filter, filter_map, flat_map, list_all, list_any}
 use Rattle.std.specs.Option.{option_and_then, option_map}
 use Rattle.std.proofs.lemmas.Bool.{and_parts, ltb-false, ltb-true, or_parts}
 use Rattle.std.proofs.lemmas.List.{append-nil, map-append, reverse-append, reverse-reverse}
@@ -9,28 +9,26 @@ use Rattle.std.proofs.lemmas.List.Elements.{filter_map-append}
 use Rattle.std.proofs.lemmas.List.Folds.{list_any-append}
 use Rattle.std.proofs.lemmas.Nat.{from_le_bytes-to_le_bytes_2}
 use Rattle.std.proofs.lemmas.Slice.Eq.{bytes_eq-Decides}
-use Rattle.implib.specs.declared.coff.object.Relocation.{Relocation}
 use Rattle.implib.specs.declared.library.Flavor.TheVariants.{Gnu}
 use Rattle.implib.specs.declared.machine.MachineType.{MachineType}
 use Rattle.implib.specs.declared.machine.MachineType.TheVariants.{I386, ARMNT, AMD64, ARM64}
 use Rattle.implib.specs.Bytes.{u16_bytes, u32_bytes}
 use Rattle.implib.specs.Definition.{DefinitionView, ExportView}
-use Rattle.implib.specs.Fault.{Cause, EmptyName, NulInExport}
+use Rattle.implib.specs.Fault.{EmptyName, NulInExport}
 use Rattle.implib.specs.File.{File, ObjectFile, Meaning, AnImport, AnAlias, alias_of_object, declared_by, file_in}
-use Rattle.implib.specs.Gnu.{export_object, export_listed, head_object, head_symbol, hint_name, name_symbol, relocations_of_stub, relocations_of_thunk, stub, stub_relocations, tail_object, thunk}
+use Rattle.implib.specs.Gnu.{export_object, export_listed, head_object, head_symbol, hint_name, name_symbol, relocations_of_stub, relocations_of_thunk, stub, tail_object, thunk}
 use Rattle.implib.specs.GnuReading.{CodeRelocation, alias_or_import, ask_of_export, code_of_export, code_relocations, dll_by_names, externals_in, import_of, meaning_with, text_section}
-use Rattle.implib.specs.Import.{Alias, Import, Ordinal, Name, address_symbol, aliases_for, aliases_of, ask_meant, asked_name, begins_with, has_underscore, holds, import_meant, import_symbols, imports_of, is_alias, is_empty_text, public_exports, without_first}
-use Rattle.implib.specs.Machine.{machine_number}
-use Rattle.implib.specs.Made.{Contents, AnObject, Plan, MemberView, Made, alias_plan, alias_plans, contents_bytes, contents_size, definition_names_refusal, export_plan, gnu_plans, has_u16_ordinal, head_plan, import_name_refusal, is_too_long, length_refusal, member_of, name_refusal, names_refusal, numbered_plans, numbered_plans_of, plans_of, refusal, renamed_refusal, tail_plan}
+use Rattle.implib.specs.Import.{Ordinal, Name, address_symbol, aliases_for, ask_meant, asked_name, has_underscore, holds, import_meant, import_symbols, is_alias, is_empty_text, public_exports, without_first}
+use Rattle.implib.specs.Made.{AnObject, Plan, MemberView, Made, alias_plan, alias_plans, contents_bytes, contents_size, definition_names_refusal, export_plan, has_u16_ordinal, head_plan, import_name_refusal, is_too_long, length_refusal, member_of, name_refusal, names_refusal, numbered_plans, numbered_plans_of, plans_of, refusal, renamed_refusal, tail_plan}
 use Rattle.implib.specs.MsvcObjects.{weak_object}
-use Rattle.implib.specs.Object.{Object, before_nul, u16_at, u32_at}
+use Rattle.implib.specs.Object.{u16_at, u32_at}
 use Rattle.implib.specs.Picture.{Fits, entries_of, layout_size, name_text, object_of}
 use Rattle.implib.specs.Reads.{ReadsForGnu, alias_among, code_meant, file_at, file_of, import_among, meanings_meant}
 use Rattle.implib.specs.Renaming.{renamed, renamed_export}
 use Rattle.implib.specs.Writer.{Holding, object_held, picture_of}
 use Rattle.implib.proofs.GnuLoop.{list_any-reverse, map-reverse}
 use Rattle.implib.proofs.GnuObjects.{Fits-export_object, Fits-head_object, Fits-tail_object}
-use Rattle.implib.proofs.MemberMeanings.{DeclaresListed, all_aliases, no_imports, read_declares, weak_declares, weak_means}
+use Rattle.implib.proofs.MemberMeanings.{DeclaresListed, all_aliases, no_imports, read_declares, weak_declares}
 use Rattle.implib.proofs.MemberReadings.{ReadsBack, all_append, each_length, each_read, first_none, if_none, import_name_free, machine_number_nonzero, map_after, map_same, none_too_long, object_reads}
 use Rattle.implib.proofs.MsvcObjects.{Fits-weak_object, HasNoNul-from_holds}
 use Rattle.implib.proofs.Symbols.{before_nul-ended}

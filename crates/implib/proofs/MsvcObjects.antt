@@ -8,7 +8,7 @@ use Rattle.implib.specs.declared.machine.MachineType.TheVariants.{I386, ARMNT, A
 use Rattle.implib.specs.Import.{holds}
 use Rattle.implib.specs.Machine.{is_32bit, machine_number}
 use Rattle.implib.specs.Bytes.{u32_bytes}
-use Rattle.implib.specs.Constants.{initialized_data, info, remove, align_2, align_4, align_8, read_write, external, static, section_class, undefined, absolute, image_relative}
+use Rattle.implib.specs.Constants.{initialized_data, align_4, align_8, read_write, external, static, section_class, undefined, absolute, image_relative}
 use Rattle.implib.specs.MsvcObjects.{symbol, relocation, descriptor_characteristics, weak_auxiliary, base_name, descriptor, descriptor_symbol, null_descriptor, null_descriptor_symbol, null_thunk, null_thunk_symbol, weak_object}
 use Rattle.implib.specs.Object.{ObjectSection}
 use Rattle.implib.specs.Picture.{Picture, PictureSymbol, Fits, FitsAuxiliary, FitsName, FitsRelocation, FitsSection, FitsSymbol, HasNoNul, InRecord, Listed}

@@ -1,5 +1,5 @@
 -- What the members of a definition are, and which definitions are refused.
-use Rattle.std.specs.Prelude.{◌≡◌, ℕ, ◌+◌, ◌^◌, ◌<◌, Bool, true, false, ◌&&◌, ◌||◌, not, nat_lt, List, [], ◌∷◌, ◌++◌, map, reverse, All, Option, Some, None, Result, IsErrAnd, if◌then◌else◌}
+use Rattle.std.specs.Prelude.{◌≡◌, ℕ, ◌+◌, Bool, true, ◌&&◌, ◌||◌, not, nat_lt, List, [], ◌∷◌, ◌++◌, map, reverse, Option, Some, None, Result, IsErrAnd, if◌then◌else◌}
 use Rattle.std.specs.List.{flat_map, list_all, list_any}
 use Rattle.implib.specs.declared.error.Error.{Error}
 use Rattle.implib.specs.declared.library.Flavor.{Flavor}

@@ -4,7 +4,7 @@ use Rattle.std.specs.Option.{option_map}
 use Rattle.implib.specs.declared.library.Flavor.TheVariants.{Gnu}
 use Rattle.implib.specs.declared.machine.MachineType.{MachineType}
 use Rattle.implib.specs.declared.machine.MachineType.TheVariants.{I386, ARMNT, AMD64, ARM64}
-use Rattle.implib.specs.Definition.{DefinitionView, ExportView, empty_export}
+use Rattle.implib.specs.Definition.{DefinitionView, empty_export}
 use Rattle.implib.specs.Fault.{Cause, EmptyName, NulInExport, EmptyAskedName}
 use Rattle.implib.specs.Made.{Plan, contents_bytes, plans_of, refusal}
 use Rattle.implib.specs.Renaming.{renamed}

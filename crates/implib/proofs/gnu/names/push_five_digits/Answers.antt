@@ -1,4 +1,3 @@
-use Rattle.std.proofs.Common.{◌≡◌}
 use Rattle.implib.proofs.GnuNames.{five_digits_printed}
 use Rattle.implib.proofs.gnu.names.push_five_digits.Goals as goal
 

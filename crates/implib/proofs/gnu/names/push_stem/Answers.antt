@@ -1,7 +1,5 @@
-use Rattle.std.proofs.Common.{◌≡◌, ◌++◌, ◌+◌, ◌<◌, ◌∷◌, [], List, ℕ, OnOk, refl, ap, sym, ◌∙◌, arith, subst, append_assoc, drop, take, string_bytes, get_or}
-use Rattle.std.proofs.lemmas.List.Quantifiers.{position-Some}
+use Rattle.std.proofs.Common.{sym, ◌∙◌, string_bytes}
 use Rattle.std.proofs.lemmas.Str.{IsCharBoundary-before_ascii, IsCharBoundary-after_ascii}
-use Rattle.implib.specs.Gnu.{stem}
 use Rattle.implib.proofs.GnuNames.{stem_none, stem_step, stop_stands}
 use Rattle.implib.proofs.gnu.names.push_stem.Goals as goal
 
