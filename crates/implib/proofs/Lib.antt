@@ -61,6 +61,7 @@ pub mod Placement
 pub mod Definitions
 pub mod Tables
 pub mod Linked
+pub mod LinkedBlocks
 pub mod LinkedMembers
 pub mod Loading
 pub mod WorkedLinks

@@ -22,7 +22,7 @@ use Rattle.implib.specs.Renaming.{renamed, renamed_export}
 use Rattle.implib.specs.Theorem.{AllRise, ComesBefore, Links, chosen_exports, linked_members, linked_plans, objects_in, plan_numbered}
 use Rattle.implib.specs.Writer.{Holding, object_held, picture_of}
 use Rattle.implib.proofs.GnuObjects.{Fits-export_object, Fits-head_object, Fits-tail_object}
-use Rattle.implib.proofs.Linked.{linked_objects, linked_symbols, objects_link}
+use Rattle.implib.proofs.LinkedBlocks.{linked_objects, linked_symbols, objects_link}
 use Rattle.implib.proofs.MemberReadings.{first_none, if_none, import_name_free, none_too_long}
 use Rattle.implib.proofs.MsvcObjects.{HasNoNul-from_holds}
 use Rattle.implib.proofs.ObjectReading.{object_in-layout}

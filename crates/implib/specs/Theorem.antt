@@ -8,24 +8,14 @@ use Rattle.std.specs.Ordering.{nat_cmp}
 use Rattle.std.specs.declared.cmp.Ordering.TheVariants.{Less}
 use Rattle.implib.specs.declared.machine.MachineType.{MachineType}
 use Rattle.implib.specs.Definition.{DefinitionView, ExportView}
+use Rattle.implib.specs.Gnu.{head_symbol}
 use Rattle.implib.specs.Import.{address_symbol, ask_meant, public_exports}
-use Rattle.implib.specs.Link.{At, Bases, Descriptors, Kind, Nowhere, Place, Placed, SymbolDefinition, definitions_of, image_of, is_undefined_external, placed_from, same_kind}
+use Rattle.implib.specs.Link.{Bases, Placed, Range, SymbolDefinition, definitions_of, image_of, is_undefined_external, placed_from}
 use Rattle.implib.specs.Load.{Loads}
 use Rattle.implib.specs.Made.{MemberView, Plan, export_plan, head_plan, member_of, tail_plan}
 use Rattle.implib.specs.MsvcObjects.{thunk_width}
 use Rattle.implib.specs.Object.{ASymbol, Auxiliary, Entry, Object, object_in}
 use Rattle.implib.specs.Renaming.{renamed}
-
--- the first place of a kind
-abbrev pub first_place : Kind → List Place → Option ℕ
-first_place kind [] = None
-first_place kind (Nowhere ∷ places) = first_place kind places
-first_place kind (At other address ∷ places) = if same_kind kind other then Some address else first_place kind places
-
--- where the descriptor of the first object stands
-abbrev pub descriptor_place : List Placed → Option ℕ
-descriptor_place [] = None
-descriptor_place (p ∷ others) = first_place Descriptors p.places
 
 -- the symbols of each export's address are at entries of so many bytes, one after another from an
 -- address on, and nowhere else
@@ -48,14 +38,19 @@ undefined_names linked = flat_map (λ p. filter_map undefined_name p.object.entr
 abbrev pub IsDefinedOnce : List Placed → List ℕ → Type 0
 IsDefinedOnce linked name = (d : SymbolDefinition) × (definitions_of name linked ≡ d ∷ [])
 
--- Objects that are placed at bases, the head first, link to an import of these exports from the DLL:
--- a loader finds the DLL's name and twice what the exports ask for, in their order; each export's
--- address is its own entry of the address table; no symbol stays undefined or is ambiguous.
-pub record Links (machine : MachineType) (bases : Bases) (dll : List ℕ) (exports : List ExportView) (objects : List Object) : Type 0 where
+-- Objects of a DLL among those that are linked import these exports from it: at the address of the
+-- head's symbol stands a descriptor, by which a loader finds the DLL's name and twice what the
+-- exports ask for, in their order; each export's address is its own entry of the address table.
+pub record LinksAt (machine : MachineType) (image : List Range) (linked : List Placed) (dll : List ℕ) (exports : List ExportView) : Type 0 where
   pub descriptor : ℕ
-  pub place : descriptor_place (placed_from bases objects) ≡ Some descriptor
-  pub loads : Loads (image_of machine bases (placed_from bases objects)) (thunk_width machine) descriptor dll (map (ask_meant machine) exports)
-  pub entries : EntriesAt (placed_from bases objects) (thunk_width machine) loads.addresses exports
+  pub head : definitions_of (head_symbol machine dll) linked ≡ record { name = head_symbol machine dll; address = Some descriptor } ∷ []
+  pub loads : Loads image (thunk_width machine) descriptor dll (map (ask_meant machine) exports)
+  pub entries : EntriesAt linked (thunk_width machine) loads.addresses exports
+
+-- Objects that are placed at bases link to an import of these exports from the DLL, and no symbol
+-- stays undefined or is ambiguous.
+pub record Links (machine : MachineType) (bases : Bases) (dll : List ℕ) (exports : List ExportView) (objects : List Object) : Type 0 where
+  pub imports : LinksAt machine (image_of machine bases (placed_from bases objects)) (placed_from bases objects) dll exports
   pub defined : AllByRecursion (IsDefinedOnce (placed_from bases objects)) (undefined_names (placed_from bases objects))
 
 -- the exports of these numbers, which count the exports that are not private from 0
