@@ -63,6 +63,7 @@ pub mod Tables
 pub mod Linked
 pub mod LinkedBlocks
 pub mod LinkedMembers
+pub mod LinkedParts
 pub mod Loading
 pub mod WorkedLinks
 pub mod GnuObjects
