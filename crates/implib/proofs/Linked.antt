@@ -1,24 +1,22 @@
 -- The objects for GNU's linker link to what their definition means.
 use Rattle.std.proofs.Common.{◌≡◌, ℕ, ◌+◌, ◌-◌, ◌%◌, ◌<◌, ◌≤◌, ◌^◌, List, [], ◌∷◌, ◌++◌, length, map, Some, refl, ap, sym, ◌∙◌, arith, subst, inl, inr}
-use Rattle.std.specs.Prelude.{bytes_eq}
-use Rattle.std.specs.List.{AllByRecursion, IsDistinct, filter, flat_map}
+use Rattle.std.specs.List.{AllByRecursion}
 use Rattle.std.proofs.lemmas.Bool.{cases_Bool}
 use Rattle.std.proofs.lemmas.List.{length-append, length-replicate}
 use Rattle.implib.specs.declared.machine.MachineType.{MachineType}
 use Rattle.implib.specs.declared.machine.MachineType.TheVariants.{I386, ARMNT, AMD64, ARM64}
 use Rattle.implib.specs.Bytes.{u32_bytes}
 use Rattle.implib.specs.Definition.{ExportView}
-use Rattle.implib.specs.Gnu.{export_listed, export_object, head_object, head_symbol, name_symbol, tail_object}
+use Rattle.implib.specs.Gnu.{export_object, head_object, head_symbol, name_symbol, tail_object}
 use Rattle.implib.specs.Import.{Ask, address_symbol, ask_meant}
-use Rattle.implib.specs.Link.{AllApart, Addresses, Bases, Descriptors, DllNames, HintNames, IsAdmissible, Kind, Lookups, Piece, Placed, Range, SymbolDefinition, base_of, definitions, definitions_of, filled, first_address, image_of, kinds, next_multiple, pieces, placed_from, range_end, range_of, relocated, with_address}
+use Rattle.implib.specs.Link.{Addresses, Bases, Descriptors, DllNames, HintNames, Lookups, Piece, Placed, Range, SymbolDefinition, definitions, definitions_of, filled, first_address, next_multiple, pieces, placed_from, range_end, range_of, relocated, with_address}
 use Rattle.implib.specs.Load.{BytesAt, Loads, NumberAt, TableAt, TextAt, number_in}
 use Rattle.implib.specs.MsvcObjects.{relocation, thunk_width, zeros}
 use Rattle.implib.specs.Object.{Object, u32_at}
 use Rattle.implib.specs.Picture.{HasNoNul}
 use Rattle.implib.specs.Theorem.{EntriesAt, IsDefinedOnce, LinksAt, undefined_names}
-use Rattle.implib.proofs.Ranges.{Among, address_bounds, among_back, among_first, among_flat, among_later, filled_stands, stands_parts}
-use Rattle.implib.proofs.Placement.{AreAligned, descriptors_end, address_definition, after_head, aligned_after, aligned_all, at_least, code_definition, defined_after, definitions-after, ends_of_all, ends_of_export, ends_of_exports, ends_of_head, ends_of_tail, head, names-after, placed-export, placed-head, placed-tail, placed_export, placed_head, tail, export}
-use Rattle.implib.proofs.Definitions.{only_definition}
+use Rattle.implib.proofs.Ranges.{Among, address_bounds, among_back, among_first, among_later, stands_parts}
+use Rattle.implib.proofs.Placement.{AreAligned, descriptors_end, address_definition, after_head, aligned_after, aligned_all, at_least, code_definition, defined_after, definitions-after, ends_of_all, ends_of_export, ends_of_exports, ends_of_head, ends_of_tail, head, placed-export, placed-head, placed-tail, placed_export, placed_head}
 use Rattle.implib.proofs.Tables.{CanBeAsked, addresses_end, addresses_filled, descriptors_filled, filled_first, hint_bytes, hint_names_end, hint_names_filled, lookups_end, lookups_filled, same_number, table_at, thunk_bytes}
 
 -- the first piece stands at its place, and the others after it
@@ -79,7 +77,7 @@ module _ (machine : MachineType) (dll : List ℕ) (linked : List Placed) where
       let others : List Piece = pieces machine linked DllNames (placed_from (ends_of_tail machine dll b) rest) in
       let own : Piece = record { address = next_multiple 4 b.dll_names; bytes = dll ++ 0 ∷ [] } in
       let here : BytesAt image b.dll_names (filled b.dll_names (own ∷ others)) =
-          subst (λ ps. BytesAt image b.dll_names (filled b.dll_names (pieces machine linked DllNames ps))) (placed-tail machine dll b rest even) stands in
+      subst (λ ps. BytesAt image b.dll_names (filled b.dll_names (pieces machine linked DllNames ps))) (placed-tail machine dll b rest even) stands in
       piece_stands image b.dll_names own others (at_least 4 b.dll_names) here
   name_stands image (e ∷ es) b rest even stands =
       let later : Bases = ends_of_export machine dll b e in
@@ -87,7 +85,7 @@ module _ (machine : MachineType) (dll : List ℕ) (linked : List Placed) where
       let bytes : List ℕ = relocated machine linked (placed_export machine dll b e) (relocation machine 0 0 ∷ []) (zeros 4) in
       let four : length bytes ≡ 4 = rw (same_number machine) refl in
       let here : BytesAt image b.dll_names (filled b.dll_names (record { address = next_multiple 4 b.dll_names; bytes = bytes } ∷ others)) =
-          subst (λ ps. BytesAt image b.dll_names (filled b.dll_names (pieces machine linked DllNames ps))) (placed-export machine dll b e (after_head machine dll es rest) even) stands in
+      subst (λ ps. BytesAt image b.dll_names (filled b.dll_names (pieces machine linked DllNames ps))) (placed-export machine dll b e (after_head machine dll es rest) even) stands in
       let after = (piece_stands image b.dll_names (record { address = next_multiple 4 b.dll_names; bytes = bytes }) others (at_least 4 b.dll_names) here).1 in
       name_stands image es later rest (aligned_after machine dll b e even)
       (subst (λ n. BytesAt image (next_multiple 4 b.dll_names + n) (filled (next_multiple 4 b.dll_names + n) others)) four after)
@@ -128,7 +126,7 @@ module _ (machine : MachineType) (dll : List ℕ) (linked : List Placed) where
   undefined_after (e ∷ es) b rest even once others =
       let later : Bases = ends_of_export machine dll b e in
       let same : undefined_names (placed_from b (after_head machine dll (e ∷ es) rest)) ≡ head_symbol machine dll ∷ undefined_names (placed_from later (after_head machine dll es rest)) =
-          ap undefined_names (placed-export machine dll b e (after_head machine dll es rest) even) ∙ undefined_by_export b e (placed_from later (after_head machine dll es rest)) in
+      ap undefined_names (placed-export machine dll b e (after_head machine dll es rest) even) ∙ undefined_by_export b e (placed_from later (after_head machine dll es rest)) in
       subst (AllByRecursion (IsDefinedOnce linked)) (sym same) (once, undefined_after es later rest (aligned_after machine dll b e even) once others)
 
 -- what is filled in from ends on stands in an image
@@ -187,12 +185,12 @@ module _ (machine : MachineType) (dll : List ℕ) (es : List ExportView) (b : Ba
       let after : List ℕ = filled last.lookups (pieces machine linked Lookups (placed_from last rest)) in
       let plain : b.lookups + 0 ≡ b.lookups = omega arith in
       let parts = stands_parts image (thunk_bytes machine dll linked later es) after b.lookups
-          (subst (BytesAt image b.lookups)
-          (ap (λ ps. filled b.lookups (pieces machine linked Lookups ps)) placed_is
-          ∙ filled_first b.lookups 0 [] others refl
-          ∙ ap (λ n. filled n others) plain
-          ∙ lookups_filled machine dll linked later es rest later_even)
-          stands.lookups) in
+      (subst (BytesAt image b.lookups)
+      (ap (λ ps. filled b.lookups (pieces machine linked Lookups ps)) placed_is
+      ∙ filled_first b.lookups 0 [] others refl
+      ∙ ap (λ n. filled n others) plain
+      ∙ lookups_filled machine dll linked later es rest later_even)
+      stands.lookups) in
       (parts.0, subst (λ n. BytesAt image n after) (lookups_end machine dll linked later es) parts.1)
 
   addresses_parts : BytesAt image b.addresses (thunk_bytes machine dll linked later es)
@@ -203,12 +201,12 @@ module _ (machine : MachineType) (dll : List ℕ) (es : List ExportView) (b : Ba
       let after : List ℕ = filled last.addresses (pieces machine linked Addresses (placed_from last rest)) in
       let plain : b.addresses + 0 ≡ b.addresses = omega arith in
       let parts = stands_parts image (thunk_bytes machine dll linked later es) after b.addresses
-          (subst (BytesAt image b.addresses)
-          (ap (λ ps. filled b.addresses (pieces machine linked Addresses ps)) placed_is
-          ∙ filled_first b.addresses 0 [] others refl
-          ∙ ap (λ n. filled n others) plain
-          ∙ addresses_filled machine dll linked later es rest later_even)
-          stands.addresses) in
+      (subst (BytesAt image b.addresses)
+      (ap (λ ps. filled b.addresses (pieces machine linked Addresses ps)) placed_is
+      ∙ filled_first b.addresses 0 [] others refl
+      ∙ ap (λ n. filled n others) plain
+      ∙ addresses_filled machine dll linked later es rest later_even)
+      stands.addresses) in
       (parts.0, subst (λ n. BytesAt image n after) (addresses_end machine dll linked later es) parts.1)
 
   hints_parts : BytesAt image b.hint_names (hint_bytes machine dll linked later es)
@@ -217,10 +215,10 @@ module _ (machine : MachineType) (dll : List ℕ) (es : List ExportView) (b : Ba
   hints_parts =
       let after : List ℕ = filled last.hint_names (pieces machine linked HintNames (placed_from last rest)) in
       let parts = stands_parts image (hint_bytes machine dll linked later es) after b.hint_names
-          (subst (BytesAt image b.hint_names)
-          (ap (λ ps. filled b.hint_names (pieces machine linked HintNames ps)) placed_is
-          ∙ hint_names_filled machine dll linked later es rest later_even)
-          stands.hint_names) in
+      (subst (BytesAt image b.hint_names)
+      (ap (λ ps. filled b.hint_names (pieces machine linked HintNames ps)) placed_is
+      ∙ hint_names_filled machine dll linked later es rest later_even)
+      stands.hint_names) in
       (parts.0, subst (λ n. BytesAt image n after) (hint_names_end machine dll linked later es) parts.1)
 
   name_place : ℕ
@@ -248,14 +246,13 @@ module _ (machine : MachineType) (dll : List ℕ) (es : List ExportView) (b : Ba
       let others : List Piece = pieces machine linked Descriptors (placed_from later (after_head machine dll es rest)) in
       let own : Piece = record { address = next_multiple 4 b.descriptors; bytes = descriptor_linked machine dll linked b } in
       let parts = piece_stands image b.descriptors own others (at_least 4 b.descriptors)
-          (subst (BytesAt image b.descriptors) (ap (λ ps. filled b.descriptors (pieces machine linked Descriptors ps)) placed_is) stands.descriptors) in
+      (subst (BytesAt image b.descriptors) (ap (λ ps. filled b.descriptors (pieces machine linked Descriptors ps)) placed_is) stands.descriptors) in
       let behind : BytesAt image later.descriptors (filled later.descriptors others) =
-          subst (λ n. BytesAt image (next_multiple 4 b.descriptors + n) (filled (next_multiple 4 b.descriptors + n) others)) length-descriptor parts.1 in
-      let same : later.descriptors ≡ last.descriptors = descriptors_end machine dll later es in
-      (
+      subst (λ n. BytesAt image (next_multiple 4 b.descriptors + n) (filled (next_multiple 4 b.descriptors + n) others)) length-descriptor parts.1 in
+      let same : later.descriptors ≡ last.descriptors = descriptors_end machine dll later es in (
         parts.0,
         subst (λ n. BytesAt image n (filled last.descriptors (pieces machine linked Descriptors (placed_from last rest)))) same
-        (subst (BytesAt image later.descriptors) (descriptors_filled machine dll linked later es rest later_even) behind),
+            (subst (BytesAt image later.descriptors) (descriptors_filled machine dll linked later es rest later_even) behind),
       )
 
   pub rest_stands : StandsFrom machine linked image last rest
@@ -317,7 +314,7 @@ module _ (machine : MachineType) (dll : List ℕ) (es : List ExportView) (b : Ba
       let second : List ℕ = u32_bytes ((0 + (name_place + 0)) % 2 ^ 32) in
       let third : List ℕ = u32_bytes ((0 + (b.addresses + 0)) % 2 ^ 32) in
       let whole : BytesAt image descriptor (first ++ (zeros 8 ++ (second ++ third))) =
-          subst (BytesAt image descriptor) (descriptor_is machine dll linked b name_place name_address) descriptor_parts.0 in
+      subst (BytesAt image descriptor) (descriptor_is machine dll linked b name_place name_address) descriptor_parts.0 in
       let parts = stands_parts image first (zeros 8 ++ (second ++ third)) descriptor whole in
       let gap = stands_parts image (zeros 8) (second ++ third) (descriptor + length first) parts.1 in
       let last = stands_parts image second third (descriptor + length first + 8) gap.1 in

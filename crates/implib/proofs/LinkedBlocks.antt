@@ -1,19 +1,18 @@
 -- The objects for GNU's linker of one DLL, or of several, link to what their definitions mean.
-use Rattle.std.proofs.Common.{◌≡◌, ℕ, ◌+◌, ◌%◌, ◌<◌, ◌^◌, List, [], ◌∷◌, ◌++◌, length, map, Option, Some, None, refl, ap, sym, ◌∙◌, arith, subst, inl, inr}
+use Rattle.std.proofs.Common.{◌≡◌, ℕ, ◌<◌, ◌^◌, List, [], ◌∷◌, ◌++◌, map, refl, ap, sym, ◌∙◌, subst, inl, inr}
 use Rattle.std.specs.Prelude.{bytes_eq}
 use Rattle.std.specs.List.{AllByRecursion, IsDistinct, filter, flat_map}
-use Rattle.std.proofs.lemmas.List.{append-nil, append_assoc, map-append}
+use Rattle.std.proofs.lemmas.List.{append-nil, map-append}
 use Rattle.implib.specs.declared.machine.MachineType.{MachineType}
 use Rattle.implib.specs.Definition.{ExportView}
 use Rattle.implib.specs.Gnu.{export_listed, head_symbol, name_symbol}
-use Rattle.implib.specs.Link.{AllApart, Addresses, Bases, Descriptors, DllNames, HintNames, IsAdmissible, Kind, Lookups, Piece, Placed, Range, SymbolDefinition, base_of, definitions, definitions_of, filled, image_of, kinds, next_multiple, pieces, placed_from, range_end, range_of}
+use Rattle.implib.specs.Link.{AllApart, Addresses, Bases, Descriptors, DllNames, HintNames, IsAdmissible, Kind, Lookups, Placed, Range, SymbolDefinition, base_of, definitions, definitions_of, filled, image_of, kinds, pieces, placed_from, range_end, range_of}
 use Rattle.implib.specs.Load.{BytesAt}
-use Rattle.implib.specs.MsvcObjects.{thunk_width}
 use Rattle.implib.specs.Object.{Object}
 use Rattle.implib.specs.Picture.{HasNoNul}
 use Rattle.implib.specs.Theorem.{IsDefinedOnce, Links, LinksAt, undefined_names}
-use Rattle.implib.proofs.Ranges.{Among, among_back, among_first, among_flat, among_front, filled_stands}
-use Rattle.implib.proofs.Placement.{AreAligned, after_head, head, names-after, placed-head}
+use Rattle.implib.proofs.Ranges.{Among, among_back, among_flat, among_front, filled_stands}
+use Rattle.implib.proofs.Placement.{AreAligned, after_head, head, names-after}
 use Rattle.implib.proofs.Definitions.{only_definition}
 use Rattle.implib.proofs.Tables.{CanBeAsked}
 use Rattle.implib.proofs.Linked.{StandsFrom, aligned_block, all_append, bases_of_ranges, block_defined, block_definitions, block_links, definitions-block, ends_of_block, head_definition, rest_stands}
@@ -79,9 +78,8 @@ module _ (machine : MachineType) (linked : List Placed) (image : List Range)
       let later : Bases = ends_of_block machine k.dll b k.exports in
       let own_only = λ (d : SymbolDefinition) (m : Among d (block_definitions machine k.dll b k.exports)). only d (among_front d (block_definitions machine k.dll b k.exports) (blocks_definitions machine later blocks) m) in
       let others = each_links blocks later fit.1 (aligned_block machine k.dll b k.exports even)
-          (λ d m. only d (among_back d (block_definitions machine k.dll b k.exports) (blocks_definitions machine later blocks) m))
-          (rest_stands machine k.dll k.exports b rest linked image starts ends fit.0.dll fit.0.exports even own_only stands) in
-      (
+      (λ d m. only d (among_back d (block_definitions machine k.dll b k.exports) (blocks_definitions machine later blocks) m))
+      (rest_stands machine k.dll k.exports b rest linked image starts ends fit.0.dll fit.0.exports even own_only stands) in (
         (block_links machine k.dll k.exports b rest linked image starts ends fit.0.dll fit.0.exports even own_only stands, others.0),
         block_defined machine k.dll k.exports b rest linked image starts ends fit.0.dll fit.0.exports even own_only stands others.1,
       )

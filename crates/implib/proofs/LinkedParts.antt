@@ -1,7 +1,7 @@
 -- The members for GNU's linker of several DLLs link to what their definitions mean.
-use Rattle.std.proofs.Common.{◌≡◌, ℕ, ◌<◌, List, [], ◌∷◌, ◌++◌, length, map, false, refl, ap, sym, ◌∙◌, arith, codes, subst, inl, inr}
+use Rattle.std.proofs.Common.{◌≡◌, ℕ, ◌<◌, List, [], ◌∷◌, ◌++◌, map, false, refl, ap, sym, ◌∙◌, arith, codes, subst, inl, inr}
 use Rattle.std.specs.Prelude.{bytes_eq}
-use Rattle.std.specs.List.{AllByRecursion, IsDistinct, filter_map, flat_map}
+use Rattle.std.specs.List.{AllByRecursion, IsDistinct, flat_map}
 use Rattle.std.specs.Cmp.Lexicographic.{slice_cmp}
 use Rattle.std.specs.Ordering.{nat_cmp, ordering_then}
 use Rattle.std.specs.declared.cmp.Ordering.{Ordering}
@@ -16,7 +16,7 @@ use Rattle.implib.specs.Definition.{DefinitionView}
 use Rattle.implib.specs.Gnu.{export_name, head_name, stem, tail_name}
 use Rattle.implib.specs.Link.{Bases, IsAdmissible, image_of, placed_from}
 use Rattle.implib.specs.Made.{MemberView, head_plan}
-use Rattle.implib.specs.Object.{Object, object_in}
+use Rattle.implib.specs.Object.{object_in}
 use Rattle.implib.specs.Theorem.{AllLink, AllRise, Begins, ComesBefore, IsPart, LinksAt, NoneBegins, Part, beginning, all_linked, chosen_exports, linked_members, objects_in}
 use Rattle.implib.proofs.LinkedBlocks.{Block, CanBeLinked, blocks_link, blocks_objects, linked_objects, linked_symbols}
 use Rattle.implib.proofs.LinkedMembers.{members_named, members_rise, same_cmp, dll_free, exports_fit, objects_are, symbols_are}
@@ -66,7 +66,7 @@ pub parts_link : (machine : MachineType) (bases : Bases) (ps : List Part) → Al
 parts_link machine bases ps are distinct admissible =
     let blocks : List Block = map block_of ps in
     let linked = blocks_link machine bases blocks (parts_fit machine ps are) (subst (IsDistinct bytes_eq) (parts_symbols machine ps are) distinct)
-        (subst (IsAdmissible machine bases) (parts_objects machine ps are) admissible) in
+    (subst (IsAdmissible machine bases) (parts_objects machine ps are) admissible) in
     subst (AllLink machine bases ps) (sym (parts_objects machine ps are)) (record {
       imports = all_of_map block_of
           (λ (k : Block). LinksAt machine (image_of machine bases (placed_from bases (blocks_objects machine blocks))) (placed_from bases (blocks_objects machine blocks)) k.dll k.exports)
@@ -110,7 +110,7 @@ tail_before_head : (first second : DefinitionView) → ComesBefore (beginning fi
 unfolding tail_name head_name
 tail_before_head first second before apart =
     let joined : ComesBefore (beginning first ++ codes "t.o") (beginning second ++ codes "h.o") =
-        cmp_apart (beginning first) (beginning second) (codes "t.o") (codes "h.o") before apart in
+    cmp_apart (beginning first) (beginning second) (codes "t.o") (codes "h.o") before apart in
     subst (λ name. ComesBefore name (head_name second.import_name)) (append_assoc (stem first.import_name) (codes "_a_") (codes "t.o"))
     (subst (λ name. ComesBefore (beginning first ++ codes "t.o") name) (append_assoc (stem second.import_name) (codes "_a_") (codes "h.o")) joined)
 
@@ -134,12 +134,12 @@ parts_rise machine (p ∷ q ∷ ps) are rise apart =
     let dll : List ℕ = p.definition.import_name in
     let own : List (List ℕ) = head_name dll ∷ map (export_name dll) p.chosen in
     let named : names_of (linked_members p.definition machine p.chosen) ≡ own ++ tail_name dll ∷ [] =
-        members_named p.definition machine p.members p.chosen are.0.made are.0.numbers in
+    members_named p.definition machine p.members p.chosen are.0.made are.0.numbers in
     let own_rise : AllRise (own ++ tail_name dll ∷ []) =
-        subst AllRise named (members_rise p.definition machine p.members p.chosen are.0.made are.0.numbers are.0.in_order) in
+    subst AllRise named (members_rise p.definition machine p.members p.chosen are.0.made are.0.numbers are.0.in_order) in
     let behind = parts_rise machine (q ∷ ps) are.1 rise.1 apart.1 in
     let joined : names_of (all_linked machine (p ∷ q ∷ ps)) ≡ (own ++ tail_name dll ∷ []) ++ names_of (all_linked machine (q ∷ ps)) =
-        map-append (λ (m : MemberView). m.name) (linked_members p.definition machine p.chosen) (all_linked machine (q ∷ ps))
-        ∙ ap (λ names. names ++ names_of (all_linked machine (q ∷ ps))) named in
+    map-append (λ (m : MemberView). m.name) (linked_members p.definition machine p.chosen) (all_linked machine (q ∷ ps))
+    ∙ ap (λ names. names ++ names_of (all_linked machine (q ∷ ps))) named in
     subst AllRise (sym joined)
     (rise_on own (tail_name dll) (head_name q.definition.import_name) _ own_rise (tail_before_head p.definition q.definition rise.0 apart.0.0.0) behind)

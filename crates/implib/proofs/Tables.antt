@@ -204,7 +204,7 @@ module _ (machine : MachineType) (dll : List ℕ) (linked : List Placed) where
   lookups_end b (e ∷ es) =
       let later : Bases = ends_of_export machine dll b e in
       let long : length (thunk_linked b e ++ thunk_bytes later es) ≡ thunk_width machine + length (thunk_bytes later es) =
-          length-append (thunk_linked b e) (thunk_bytes later es) ∙ ap (λ n. n + length (thunk_bytes later es)) (length-thunk_linked b e) in
+      length-append (thunk_linked b e) (thunk_bytes later es) ∙ ap (λ n. n + length (thunk_bytes later es)) (length-thunk_linked b e) in
       let sum : b.lookups + (thunk_width machine + length (thunk_bytes later es)) ≡ b.lookups + thunk_width machine + length (thunk_bytes later es) = omega arith in
       ap (λ n. b.lookups + n) long ∙ sum ∙ lookups_end later es
 
@@ -214,7 +214,7 @@ module _ (machine : MachineType) (dll : List ℕ) (linked : List Placed) where
   addresses_end b (e ∷ es) =
       let later : Bases = ends_of_export machine dll b e in
       let long : length (thunk_linked b e ++ thunk_bytes later es) ≡ thunk_width machine + length (thunk_bytes later es) =
-          length-append (thunk_linked b e) (thunk_bytes later es) ∙ ap (λ n. n + length (thunk_bytes later es)) (length-thunk_linked b e) in
+      length-append (thunk_linked b e) (thunk_bytes later es) ∙ ap (λ n. n + length (thunk_bytes later es)) (length-thunk_linked b e) in
       let sum : b.addresses + (thunk_width machine + length (thunk_bytes later es)) ≡ b.addresses + thunk_width machine + length (thunk_bytes later es) = omega arith in
       ap (λ n. b.addresses + n) long ∙ sum ∙ addresses_end later es
 
@@ -227,9 +227,9 @@ module _ (machine : MachineType) (dll : List ℕ) (linked : List Placed) where
       let below : b.hint_names ≤ next_multiple 2 b.hint_names = at_least 2 b.hint_names in
       let padded : length padding ≡ next_multiple 2 b.hint_names - b.hint_names = length-replicate {A = ℕ} (next_multiple 2 b.hint_names - b.hint_names) 0 in
       let long : length (padding ++ (hint_name machine e ++ hint_bytes later es)) ≡ length padding + length (hint_name machine e ++ hint_bytes later es) =
-          length-append padding (hint_name machine e ++ hint_bytes later es) in
+      length-append padding (hint_name machine e ++ hint_bytes later es) in
       let longer : length (hint_name machine e ++ hint_bytes later es) ≡ length (hint_name machine e) + length (hint_bytes later es) =
-          length-append (hint_name machine e) (hint_bytes later es) in
+      length-append (hint_name machine e) (hint_bytes later es) in
       let sum : b.hint_names + length (padding ++ (hint_name machine e ++ hint_bytes later es)) ≡ next_multiple 2 b.hint_names + length (hint_name machine e) + length (hint_bytes later es) = omega arith in
       sum ∙ hint_names_end later es
 

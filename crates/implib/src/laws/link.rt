@@ -63,7 +63,13 @@ pub fn gnu_links(
 ///
 /// `members` and `chosen` have for each definition its members and the numbers of the chosen exports,
 /// as `gnu_links` takes them.
-pub fn gnu_links_many(defs: &[ModuleDef], machine: MachineType, members: &[Vec<Member>], chosen: &[Vec<usize>], bases: [u32; 5])
+pub fn gnu_links_many(
+    defs: &[ModuleDef],
+    machine: MachineType,
+    members: &[Vec<Member>],
+    chosen: &[Vec<usize>],
+    bases: [u32; 5],
+)
     requires same_count { length members.now ≡ length defs.now }
     requires same_choices { length chosen.now ≡ length defs.now }
     requires parts { AllByRecursion (IsPart machine) (parts_of (map definition_view defs.now)
