@@ -18,10 +18,10 @@ use Rattle.implib.specs.Machine.{machine_number}
 use Rattle.implib.specs.Made.{Contents, ARecord, AnObject, Plan, MemberView, Made, member_of, plans_of, descriptor_plan, null_descriptor_plan, null_thunk_plan, heading_plans, weak_plan, weak_plans, export_plans, record_plan, is_too_long, contents_bytes, contents_size, has_u16_ordinal, first_of_both, import_name_refusal, name_refusal, names_refusal, definition_names_refusal, length_refusal, renamed_refusal, refusal}
 use Rattle.implib.specs.Msvc.{record_bytes, record_of, record_size, record_symbol}
 use Rattle.implib.specs.MsvcObjects.{descriptor, null_descriptor, null_thunk, weak_object}
-use Rattle.implib.specs.Object.{object_in}
+use Rattle.implib.specs.Object.{object_in, u16_at, u32_at}
 use Rattle.implib.specs.Picture.{Picture, Fits, layout, layout_size, header_bytes}
 use Rattle.implib.specs.Reads.{FitsRecord, file_of}
-use Rattle.implib.specs.Record.{ShortRecord, is_record, record_from, record_header_size, short_record_in, text_in, u16_at as record_u16_at, u32_at as record_u32_at}
+use Rattle.implib.specs.Record.{ShortRecord, is_record, record_from, record_header_size, short_record_in, text_in}
 use Rattle.implib.specs.Renaming.{renamed, renamed_export}
 use Rattle.implib.specs.Fault.{Cause, EmptyImportName, NulInImportName, EmptyName, NulInExport, MemberTooLong}
 use Rattle.implib.proofs.Import.{FitsRecord-record_of, symbol_without_nul}
@@ -56,11 +56,11 @@ no_record bytes is = ap (λ test. if test then record_from bytes (text_in (drop 
 
 -- an object for a machine is no record: its first number is the machine's
 object_is_no_record : (p : Picture) → p.machine < 2 ^ 16 → (p.machine == 0) ≡ false → is_record (layout p) ≡ false
-unfolding layout header_bytes u16_bytes
+unfolding layout header_bytes u16_at u16_bytes
 object_is_no_record p fits nonzero =
-    let first : (record_u16_at 0 (layout p) == 0) ≡ false = ap (λ n. n == 0) (from_le_bytes-to_le_bytes_2 p.machine fits) ∙ nonzero in
-    not_record (nat_le record_header_size (length (layout p))) (record_u16_at 0 (layout p) == 0) (record_u16_at 2 (layout p) == 0xFFFF)
-    (record_u32_at 12 (layout p) == length (layout p) - record_header_size) first
+    let first : (u16_at (layout p) 0 == 0) ≡ false = ap (λ n. n == 0) (from_le_bytes-to_le_bytes_2 p.machine fits) ∙ nonzero in
+    not_record (nat_le record_header_size (length (layout p))) (u16_at (layout p) 0 == 0) (u16_at (layout p) 2 == 0xFFFF)
+    (u32_at (layout p) 12 == length (layout p) - record_header_size) first
 
 pub object_reads : (p : Picture) → Fits p → (p.machine == 0) ≡ false → layout_size p ≤ 0xFFFF_FFFF → ReadsBack (AnObject p)
 object_reads p fits nonzero short =

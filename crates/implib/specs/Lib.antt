@@ -35,3 +35,5 @@ pub mod WorkedMembers
 pub mod Gnu
 pub mod GnuReading
 pub mod WorkedGnu
+pub mod WorkedObjects
+pub mod Ascii

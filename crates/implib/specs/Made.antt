@@ -82,6 +82,10 @@ weak_plans machine dll e =
 abbrev pub record_plan : MachineType → List ℕ → ExportView → Plan
 record_plan machine dll e = record { name = dll; contents = ARecord (record_of machine dll e); listed = record_listed e }
 
+-- the number of an export's members: its weak externals, and its record
+abbrev pub member_count : ExportView → ℕ
+member_count e = if is_alias e.alias_target (record_symbol e) then 3 else 1
+
 -- the plans of an export
 abbrev pub export_plans : MachineType → List ℕ → ExportView → List Plan
 export_plans machine dll e = weak_plans machine dll e ++ record_plan machine dll e ∷ []
