@@ -2,6 +2,8 @@
 use Rattle.std.proofs.Common.{◌≡◌, ℕ, Bool, true, false, ◌||◌, ◌&&◌, if◌then◌else◌, ◌⊎◌, inl, inr, List, [], ◌∷◌, map, Option, Some, None, refl, ap, subst, ◌∙◌}
 use Rattle.std.specs.Prelude.{◌==◌, not, slice_index, option_map, unwrap_or}
 use Rattle.std.proofs.lemmas.Bool.{eqb-true}
+use Rattle.implib.specs.declared.library.Flavor.{Flavor}
+use Rattle.implib.specs.declared.library.Flavor.TheVariants.{Msvc, Gnu}
 use Rattle.implib.specs.declared.machine.MachineType.{MachineType}
 use Rattle.implib.specs.declared.machine.MachineType.TheVariants.{I386, ARMNT, AMD64, ARM64}
 use Rattle.implib.specs.Asked.{AsksFor, AsksForWords, EachAsksForItsWord, external_word, exports_of_text}
@@ -9,6 +11,7 @@ use Rattle.implib.specs.Definition.{DefinitionView, ExportView}
 use Rattle.implib.specs.Grammar.{Export}
 use Rattle.implib.specs.Import.{asked_name, Name, Ordinal, holds, begins_with, at_sign, without_first, underscore}
 use Rattle.implib.specs.Meaning.{decorated, export_meaning, question_mark}
+use Rattle.implib.specs.Made.{asked_in}
 use Rattle.implib.specs.Msvc.{asked_by_record}
 use Rattle.implib.specs.Parses.{Parses}
 use Rattle.implib.specs.Renaming.{renamed, renamed_export, name_to_link}
@@ -59,11 +62,14 @@ asked_by_record-meant : (machine : MachineType) (e : ExportView) → e.symbol_na
 asked_by_record-meant machine e plain by_name =
     name_asked_in e.no_name e.ordinal (asked_by_record machine e) (asked_name machine e.name) by_name (ask_written-meant machine e plain)
 
+-- in either flavour
+asked_in_each : (machine : MachineType) (e : Export) (flavor : Flavor) → (renamed_export (export_meaning machine e)).no_name ≡ false →
+    asked_in flavor machine (renamed_export (export_meaning machine e)) ≡ external_word e
+asked_in_each machine e Msvc by_name = asked_by_record-meant machine (renamed_export (export_meaning machine e)) refl by_name ∙ meant_word machine e
+asked_in_each machine e Gnu by_name = meant_word machine e
+
 asks_for_word : (machine : MachineType) (e : Export) → AsksFor machine (renamed_export (export_meaning machine e)) (external_word e)
-asks_for_word machine e = record {
-  meant = λ by_name. meant_word machine e;
-  by_record = λ by_name. asked_by_record-meant machine (renamed_export (export_meaning machine e)) refl by_name ∙ meant_word machine e;
-}
+asks_for_word machine e = record { meant = λ by_name. meant_word machine e; in_each_flavor = asked_in_each machine e }
 
 each_asks : (machine : MachineType) (exports : List Export) → EachAsksForItsWord machine (map renamed_export (map (export_meaning machine) exports)) exports
 each_asks machine [] = tt

@@ -1,22 +1,21 @@
 -- The objects for GNU's linker fit what a file has room for.
-use Rattle.std.proofs.Common.{◌≡◌, ℕ, ◌+◌, ◌-◌, ◌<◌, ◌≤◌, ◌^◌, Bool, true, false, if◌then◌else◌, List, [], ◌∷◌, ◌++◌, length, refl, ap, ◌∙◌, arith, codes, length-append}
+use Rattle.std.proofs.Common.{◌≡◌, ℕ, ◌<◌, ◌^◌, Bool, true, false, if◌then◌else◌, List, [], ◌∷◌, ◌++◌, length, refl, ◌∙◌, arith, codes, length-append}
 use Rattle.std.specs.Prelude.{nat_eq, ◌==◌}
 use Rattle.std.specs.List.{AllByRecursion}
 use Rattle.std.proofs.lemmas.Bool.{or_parts, or_from}
 use Rattle.std.proofs.lemmas.List.Folds.{list_any-append}
 use Rattle.implib.specs.declared.coff.object.Place.{Place}
-use Rattle.implib.specs.declared.coff.object.Place.TheVariants.{Undefined, Section, Debug}
-use Rattle.implib.specs.declared.coff.object.Relocation.{Relocation}
+use Rattle.implib.specs.declared.coff.object.Place.TheVariants.{Undefined, Section}
 use Rattle.implib.specs.declared.machine.MachineType.{MachineType}
 use Rattle.implib.specs.declared.machine.MachineType.TheVariants.{I386, ARMNT, AMD64, ARM64}
 use Rattle.implib.specs.Constants.{external, static}
 use Rattle.implib.specs.Definition.{ExportView}
-use Rattle.implib.specs.Gnu.{added, code_symbol, empty_sections, export_object, export_sections, export_symbols, file_symbol, head_object, head_sections, head_symbol, head_symbols, hint_name, hint_name_symbol, linkage_symbol, name_symbol, relocations_of_stub, relocations_of_thunk, section, stem, stub, stub_relocations, tail_object, tail_sections, tail_symbols, thunk, without_full_stop}
+use Rattle.implib.specs.Gnu.{added, empty_sections, export_object, export_symbols, file_symbol, head_object, head_symbol, head_symbols, hint_name, linkage_symbol, name_symbol, relocations_of_stub, relocations_of_thunk, section, stem, stub, stub_relocations, tail_object, tail_symbols, thunk, without_full_stop}
 use Rattle.implib.specs.Import.{address_symbol, holds, is_empty_text}
 use Rattle.implib.specs.MsvcObjects.{relocation}
 use Rattle.implib.specs.Object.{ObjectSection}
-use Rattle.implib.specs.Picture.{Fits, FitsAuxiliary, FitsRelocation, FitsSection, HasNoNul}
-use Rattle.implib.specs.Writer.{AddedSymbol, Holding, IsPlaceAmong, IsSymbolIndex, all_entries, picture_of}
+use Rattle.implib.specs.Picture.{Fits, FitsAuxiliary}
+use Rattle.implib.specs.Writer.{AddedSymbol, IsPlaceAmong, all_entries, picture_of}
 use Rattle.implib.specs.WriterView.{IsSound, IsSoundSection, IsSoundSymbol}
 use Rattle.implib.proofs.MsvcObjects.{HasNoNul-from_holds, plain_section_fits, relocation_fits}
 use Rattle.implib.proofs.WriterPicture.{picture_of-fits}

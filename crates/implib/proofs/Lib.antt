@@ -67,3 +67,6 @@ pub mod LinkedParts
 pub mod Loading
 pub mod WorkedLinks
 pub mod GnuObjects
+pub mod GnuNames
+pub mod GnuLoop
+pub mod GnuReadings

@@ -1,18 +1,20 @@
 -- The members of a definition whose exports are under their names to link by.
-use Rattle.std.proofs.Common.{◌≡◌, true, false, List, map, Option, Some, None, Result, Ok, Err, refl, ap, sym, ◌∙◌, if◌then◌else◌}
-use Rattle.std.specs.Prelude.{IfOk, OnOk, IsErrAnd}
+use Rattle.std.proofs.Common.{◌≡◌, true, false, List, map, Option, Some, None, Result, Ok, Err, ap, sym, ◌∙◌, if◌then◌else◌}
+use Rattle.std.specs.Prelude.{IfOk, OnOk}
 use Rattle.std.specs.List.{list_all, list_any}
 use Rattle.implib.specs.declared.error.Error.{Error}
 use Rattle.implib.specs.declared.error.Error.TheVariants.{Invalid, OutOfMemory}
 use Rattle.implib.specs.declared.library.Flavor.{Flavor}
 use Rattle.implib.specs.declared.machine.MachineType.{MachineType}
 use Rattle.implib.specs.Definition.{DefinitionView}
-use Rattle.implib.specs.Fault.{Cause, MemberTooLong, IfInvalid, error_cause, cause_of}
+use Rattle.implib.specs.Fault.{Cause, MemberTooLong, IfInvalid}
 use Rattle.implib.specs.Import.{public_exports}
 use Rattle.implib.specs.Made.{Made, MemberView, member_of, plans_of, is_too_long, has_u16_ordinal, length_refusal, first_of_both, definition_names_refusal, renamed_refusal, refusal, RefusesAlways}
 use Rattle.implib.specs.Reads.{Reads}
 use Rattle.implib.specs.Renaming.{renamed}
-use Rattle.implib.proofs.MemberMeanings.{Reads-from_Made}
+use Rattle.implib.proofs.GnuReadings.{reads_for_gnu}
+use Rattle.implib.proofs.MemberMeanings.{reads_as_msvc}
+use Rattle.implib.specs.declared.library.Flavor.TheVariants.{Msvc, Gnu}
 
 -- the refusal by names comes first
 pub refused_by_names : (d : DefinitionView) (machine : MachineType) (flavor : Flavor) (cause : Cause) → renamed d ≡ d →
@@ -66,6 +68,11 @@ pub no_refusal_by_names : {T : Type 0} (d : DefinitionView) (machine : MachineTy
 no_refusal_by_names d machine flavor result same names = λ cause refused.
     let none : definition_names_refusal (renamed d) machine flavor ≡ None = ap (λ (x : DefinitionView). definition_names_refusal x machine flavor) same ∙ sym names in
     cc
+
+-- the members of a definition that is not refused are read as the definition means
+Reads-from_Made : (d : DefinitionView) (machine : MachineType) (flavor : Flavor) (members : List MemberView) → Made d machine flavor members → Reads d machine flavor members
+Reads-from_Made d machine Msvc members made = reads_as_msvc d machine members made
+Reads-from_Made d machine Gnu members made = reads_for_gnu d machine members made
 
 -- and they are read as the definition means
 pub read_of : {T : Type 0} (shown : T → List MemberView) (d : DefinitionView) (machine : MachineType) (flavor : Flavor) (result : Result T Error) →

@@ -1,26 +1,24 @@
 -- What the members for Microsoft's linker declare and mean.
-use Rattle.std.proofs.Common.{◌≡◌, ℕ, Bool, true, false, if◌then◌else◌, ◌&&◌, ◌||◌, List, [], ◌∷◌, ◌++◌, drop, map, Option, Some, None, refl, ap, sym, ◌∙◌, codes, Result, Ok, Err, Global, arith, ◌<◌, ◌^◌}
+use Rattle.std.proofs.Common.{◌≡◌, ℕ, Bool, true, false, if◌then◌else◌, List, [], ◌∷◌, ◌++◌, drop, map, Some, refl, ap, sym, ◌∙◌, Result, Ok, Err, Global, arith, ◌<◌, ◌^◌}
 use Rattle.std.specs.Prelude.{IfOk, OnOk, Vec}
-use Rattle.std.specs.Prelude.{◌==◌, not, slice_get}
+use Rattle.std.specs.Prelude.{not, slice_get}
 use Rattle.std.specs.List.{AllByRecursion, filter, filter_map, flat_map, list_all}
 use Rattle.std.specs.Option.{option_and_then, option_map}
 use Rattle.std.proofs.lemmas.Bool.{and_parts}
 use Rattle.std.proofs.lemmas.List.{append-nil, map-append}
 use Rattle.std.proofs.lemmas.List.Elements.{filter_map-append}
-use Rattle.implib.specs.declared.library.Flavor.{Flavor}
 use Rattle.implib.specs.declared.library.Flavor.TheVariants.{Msvc}
 use Rattle.implib.specs.declared.machine.MachineType.{MachineType}
 use Rattle.implib.specs.Bytes.{u32_bytes}
 use Rattle.implib.specs.Definition.{DefinitionView, ExportView}
-use Rattle.implib.specs.File.{File, RecordFile, ObjectFile, Meaning, AnImport, AnAlias, alias_of_object, declared_by, dll_in, dll_of, file_in, meaning_in, meaning_of}
-use Rattle.implib.specs.Import.{Alias, Import, address_symbol, aliases_for, aliases_of, holds, import_meant, import_symbols, imports_of, is_alias, is_empty_text, public_exports}
-use Rattle.implib.specs.Made.{Contents, ARecord, AnObject, Plan, MemberView, Made, member_of, plans_of, descriptor_plan, null_descriptor_plan, null_thunk_plan, heading_plans, weak_plan, weak_plans, export_plans, record_plan, contents_bytes}
-use Rattle.implib.specs.Msvc.{record_listed, record_of, record_symbol, symbol_or_name, kind_of}
-use Rattle.implib.specs.MsvcObjects.{descriptor, descriptor_symbol, null_descriptor, null_thunk, weak_object}
-use Rattle.implib.specs.Object.{before_nul, u32_at}
+use Rattle.implib.specs.File.{ObjectFile, AnImport, AnAlias, declared_by, dll_in, dll_of, file_in, meaning_in, meaning_of}
+use Rattle.implib.specs.Import.{Alias, address_symbol, aliases_for, holds, import_meant, import_symbols, is_alias, is_empty_text, public_exports}
+use Rattle.implib.specs.Made.{ARecord, AnObject, Plan, MemberView, Made, member_of, plans_of, descriptor_plan, null_descriptor_plan, null_thunk_plan, heading_plans, weak_plan, weak_plans, export_plans, record_plan, contents_bytes}
+use Rattle.implib.specs.Msvc.{record_of, record_symbol, symbol_or_name}
+use Rattle.implib.specs.MsvcObjects.{descriptor, null_descriptor, null_thunk, weak_object}
+use Rattle.implib.specs.Object.{u32_at}
 use Rattle.implib.specs.Picture.{entries_of, layout, layout_size, name_text, object_of}
-use Rattle.implib.specs.Reads.{ReadsForMsvc, MeansWhatIsMeant, Reads, file_of, has_no_symbol_names, import_among, alias_among, import_written, meanings_written}
-use Rattle.implib.specs.Record.{import_data}
+use Rattle.implib.specs.Reads.{ReadsForMsvc, MeansWhatIsMeant, ReadsAsMsvc, file_of, has_no_symbol_names, import_among, alias_among, import_written, meanings_written}
 use Rattle.implib.specs.Renaming.{renamed, renamed_export}
 use Rattle.implib.proofs.Import.{import_of_record-record_of, import_written-meant, kind_is_data}
 use Rattle.implib.proofs.MemberReadings.{ReadsBack, machine_number_nonzero, object_reads, all_append, files_read, import_name_is_free, lengths_read, map_after, map_same, of_members, plans_read_back}
@@ -30,14 +28,14 @@ use Rattle.implib.proofs.Symbols.{before_nul-ended}
 -- What is declared.
 
 -- the file of the plan declares what the plan lists
-abbrev DeclaresListed : Plan → Type 0
+abbrev pub DeclaresListed : Plan → Type 0
 DeclaresListed p = declared_by (file_of p.contents) ≡ p.listed
 
 heading_declares : (machine : MachineType) (dll : List ℕ) → AllByRecursion DeclaresListed (heading_plans machine dll)
 unfolding heading_plans descriptor_plan null_descriptor_plan null_thunk_plan descriptor null_descriptor null_thunk object_of entries_of name_text
 heading_declares machine dll = (refl, (refl, (refl, tt)))
 
-weak_declares : (machine : MachineType) (dll weak target : List ℕ) → DeclaresListed (weak_plan machine dll weak target)
+pub weak_declares : (machine : MachineType) (dll weak target : List ℕ) → DeclaresListed (weak_plan machine dll weak target)
 unfolding weak_object object_of entries_of name_text
 weak_declares machine dll weak target = refl
 
@@ -58,7 +56,7 @@ exports_declare machine dll (e ∷ exports) =
     (all_append DeclaresListed (weak_plans machine dll e) (record_plan machine dll e ∷ []) (chosen_declare machine dll e (is_alias e.alias_target (record_symbol e))) (record_declares machine dll e, tt))
     (exports_declare machine dll exports)
 
-read_declares : (plans : List Plan) → AllByRecursion (λ p. ReadsBack p.contents) plans → AllByRecursion DeclaresListed plans →
+pub read_declares : (plans : List Plan) → AllByRecursion (λ p. ReadsBack p.contents) plans → AllByRecursion DeclaresListed plans →
     AllByRecursion (λ p. option_map declared_by (file_in (contents_bytes p.contents)) ≡ Some p.listed) plans
 read_declares [] reads declares = tt
 read_declares (p ∷ plans) reads declares =
@@ -66,7 +64,7 @@ read_declares (p ∷ plans) reads declares =
 
 -- What is meant.
 
-weak_means : (machine : MachineType) (weak target : List ℕ) → meaning_of (file_of (AnObject (weak_object machine weak target))) ≡ Some (AnAlias (record { weak = weak; target = target }))
+pub weak_means : (machine : MachineType) (weak target : List ℕ) → meaning_of (file_of (AnObject (weak_object machine weak target))) ≡ Some (AnAlias (record { weak = weak; target = target }))
 unfolding weak_object object_of entries_of name_text u32_at u32_bytes
 weak_means machine weak target = refl
 
@@ -120,11 +118,11 @@ exports_mean machine dll (e ∷ exports) =
 
 -- Without symbol names.
 
-no_imports : (aliases : List Alias) → filter_map import_among (map AnAlias aliases) ≡ []
+pub no_imports : (aliases : List Alias) → filter_map import_among (map AnAlias aliases) ≡ []
 no_imports [] = refl
 no_imports (a ∷ aliases) = no_imports aliases
 
-all_aliases : (aliases : List Alias) → filter_map alias_among (map AnAlias aliases) ≡ aliases
+pub all_aliases : (aliases : List Alias) → filter_map alias_among (map AnAlias aliases) ≡ aliases
 all_aliases [] = refl
 all_aliases (a ∷ aliases) = ap (λ x. a ∷ x) (all_aliases aliases)
 
@@ -244,9 +242,5 @@ module _ (d : DefinitionView) (machine : MachineType) (members : List MemberView
         aliases = aliases_meant machine d.import_name (public_exports (renamed d)) exports;
       }
 
--- the members of a definition that is not refused are read as the definition means
-pub Reads-from_Made : (d : DefinitionView) (machine : MachineType) (flavor : Flavor) (members : List MemberView) → Made d machine flavor members → Reads d machine flavor members
-Reads-from_Made d machine Msvc members made = record {
-  files = reads_for_msvc d machine members made;
-  meant = means_what_is_meant d machine members made;
-}
+  pub reads_as_msvc : ReadsAsMsvc d machine members
+  reads_as_msvc = record { files = reads_for_msvc; meant = means_what_is_meant }

@@ -1,9 +1,9 @@
 -- What the members for Microsoft's linker are read as.
-use Rattle.std.proofs.Common.{◌≡◌, ℕ, ◌+◌, ◌-◌, ◌<◌, ◌≤◌, ◌^◌, Bool, true, false, if◌then◌else◌, ◌&&◌, ◌||◌, List, [], ◌∷◌, ◌++◌, length, take, drop, map, Option, Some, None, refl, ap, sym, ◌∙◌, arith, w16, subst}
+use Rattle.std.proofs.Common.{◌≡◌, ℕ, ◌+◌, ◌-◌, ◌<◌, ◌≤◌, ◌^◌, Bool, true, false, if◌then◌else◌, ◌&&◌, ◌||◌, List, [], ◌∷◌, ◌++◌, length, drop, map, Option, Some, None, refl, ap, sym, ◌∙◌, arith}
 use Rattle.std.specs.Prelude.{◌==◌, nat_le, nat_lt, not}
-use Rattle.std.specs.List.{AllByRecursion, filter, filter_map, flat_map, list_all, list_any}
-use Rattle.std.specs.Option.{option_and_then, option_map}
-use Rattle.std.proofs.lemmas.Bool.{and_parts, cases_Bool, ltb-false, or_parts}
+use Rattle.std.specs.List.{AllByRecursion, filter, flat_map, list_all, list_any}
+use Rattle.std.specs.Option.{option_map}
+use Rattle.std.proofs.lemmas.Bool.{and_parts, ltb-false, or_parts}
 use Rattle.std.proofs.lemmas.List.Folds.{list_any-append}
 use Rattle.std.proofs.lemmas.Nat.{from_le_bytes-to_le_bytes_2}
 use Rattle.implib.specs.declared.library.Flavor.{Flavor}
@@ -12,19 +12,19 @@ use Rattle.implib.specs.declared.machine.MachineType.{MachineType}
 use Rattle.implib.specs.declared.machine.MachineType.TheVariants.{I386, ARMNT, AMD64, ARM64}
 use Rattle.implib.specs.Bytes.{u16_bytes}
 use Rattle.implib.specs.Definition.{DefinitionView, ExportView}
-use Rattle.implib.specs.File.{File, RecordFile, ObjectFile, Meaning, AnImport, AnAlias, declared_by, dll_in, file_in, meaning_in, meaning_of, record_or_object}
-use Rattle.implib.specs.Import.{Alias, Import, address_symbol, aliases_for, aliases_of, holds, imports_of, is_alias, is_empty_text, public_exports}
+use Rattle.implib.specs.File.{ObjectFile, file_in, record_or_object}
+use Rattle.implib.specs.Import.{address_symbol, holds, is_alias, is_empty_text, public_exports}
 use Rattle.implib.specs.Machine.{machine_number}
 use Rattle.implib.specs.Made.{Contents, ARecord, AnObject, Plan, MemberView, Made, member_of, plans_of, descriptor_plan, null_descriptor_plan, null_thunk_plan, heading_plans, weak_plan, weak_plans, export_plans, record_plan, is_too_long, contents_bytes, contents_size, has_u16_ordinal, first_of_both, import_name_refusal, name_refusal, names_refusal, definition_names_refusal, length_refusal, renamed_refusal, refusal}
-use Rattle.implib.specs.Msvc.{record_bytes, record_listed, record_of, record_size, record_symbol}
+use Rattle.implib.specs.Msvc.{record_bytes, record_of, record_size, record_symbol}
 use Rattle.implib.specs.MsvcObjects.{descriptor, null_descriptor, null_thunk, weak_object}
-use Rattle.implib.specs.Object.{object_in}
-use Rattle.implib.specs.Picture.{Picture, Fits, layout, layout_size, header_bytes, object_of}
-use Rattle.implib.specs.Reads.{FitsRecord, file_of, import_written, meanings_written}
-use Rattle.implib.specs.Record.{ShortRecord, is_record, record_from, record_header_size, short_record_in, text_in, u16_at as record_u16_at, u32_at as record_u32_at, import_of_record}
+use Rattle.implib.specs.Object.{object_in, u16_at, u32_at}
+use Rattle.implib.specs.Picture.{Picture, Fits, layout, layout_size, header_bytes}
+use Rattle.implib.specs.Reads.{FitsRecord, file_of}
+use Rattle.implib.specs.Record.{ShortRecord, is_record, record_from, record_header_size, short_record_in, text_in}
 use Rattle.implib.specs.Renaming.{renamed, renamed_export}
-use Rattle.implib.specs.Fault.{Cause, EmptyImportName, NulInImportName, EmptyName, NulInExport, EmptyAskedName, MemberTooLong}
-use Rattle.implib.proofs.Import.{FitsRecord-record_of, import_of_record-record_of, import_written-meant, symbol_without_nul}
+use Rattle.implib.specs.Fault.{Cause, EmptyImportName, NulInImportName, EmptyName, NulInExport, MemberTooLong}
+use Rattle.implib.proofs.Import.{FitsRecord-record_of, symbol_without_nul}
 use Rattle.implib.proofs.MsvcObjects.{Fits-descriptor, Fits-null_descriptor, Fits-null_thunk, Fits-weak_object}
 use Rattle.implib.proofs.ObjectReading.{length-layout, object_in-layout}
 use Rattle.implib.proofs.Record.{length-record_bytes, short_record_in-record_bytes}
@@ -56,11 +56,11 @@ no_record bytes is = ap (λ test. if test then record_from bytes (text_in (drop 
 
 -- an object for a machine is no record: its first number is the machine's
 object_is_no_record : (p : Picture) → p.machine < 2 ^ 16 → (p.machine == 0) ≡ false → is_record (layout p) ≡ false
-unfolding layout header_bytes u16_bytes
+unfolding layout header_bytes u16_at u16_bytes
 object_is_no_record p fits nonzero =
-    let first : (record_u16_at 0 (layout p) == 0) ≡ false = ap (λ n. n == 0) (from_le_bytes-to_le_bytes_2 p.machine fits) ∙ nonzero in
-    not_record (nat_le record_header_size (length (layout p))) (record_u16_at 0 (layout p) == 0) (record_u16_at 2 (layout p) == 0xFFFF)
-    (record_u32_at 12 (layout p) == length (layout p) - record_header_size) first
+    let first : (u16_at (layout p) 0 == 0) ≡ false = ap (λ n. n == 0) (from_le_bytes-to_le_bytes_2 p.machine fits) ∙ nonzero in
+    not_record (nat_le record_header_size (length (layout p))) (u16_at (layout p) 0 == 0) (u16_at (layout p) 2 == 0xFFFF)
+    (u32_at (layout p) 12 == length (layout p) - record_header_size) first
 
 pub object_reads : (p : Picture) → Fits p → (p.machine == 0) ≡ false → layout_size p ≤ 0xFFFF_FFFF → ReadsBack (AnObject p)
 object_reads p fits nonzero short =
@@ -207,12 +207,12 @@ pub map_after : {X Y Z : Type 0} (f : Y → Z) (g : X → Y) (xs : List X) → m
 map_after f g [] = refl
 map_after f g (x ∷ xs) = ap (λ ys. f (g x) ∷ ys) (map_after f g xs)
 
-each_read : (plans : List Plan) → AllByRecursion (λ p. ReadsBack p.contents) plans →
+pub each_read : (plans : List Plan) → AllByRecursion (λ p. ReadsBack p.contents) plans →
     AllByRecursion (λ p. file_in (contents_bytes p.contents) ≡ Some (file_of p.contents)) plans
 each_read [] reads = tt
 each_read (p ∷ plans) reads = (reads.0.read, each_read plans reads.1)
 
-each_length : (plans : List Plan) → AllByRecursion (λ p. ReadsBack p.contents) plans →
+pub each_length : (plans : List Plan) → AllByRecursion (λ p. ReadsBack p.contents) plans →
     AllByRecursion (λ p. length (contents_bytes p.contents) ≡ contents_size p.contents) plans
 each_length [] reads = tt
 each_length (p ∷ plans) reads = (reads.0.length, each_length plans reads.1)

@@ -1,15 +1,14 @@
 -- The objects for Microsoft's linker fit what a file has room for.
-use Rattle.std.proofs.Common.{◌≡◌, ℕ, ◌+◌, ◌-◌, ◌*◌, ◌<◌, ◌≤◌, ◌^◌, Bool, true, false, if◌then◌else◌, ◌||◌, List, [], ◌∷◌, ◌++◌, length, take, refl, ap, sym, ◌∙◌, arith, get_or, codes, zero, suc, subst}
-use Rattle.std.specs.Prelude.{Contains, nat_eq, nat_lt}
-use Rattle.std.specs.List.{AllByRecursion, list_any}
-use Rattle.std.proofs.lemmas.Bool.{eq-eqb, le-ltb, lt-ltb, or_parts, or_from}
-use Rattle.std.proofs.lemmas.List.Folds.{list_any-append, list_any_at}
+use Rattle.std.proofs.Common.{◌≡◌, ℕ, ◌+◌, ◌-◌, ◌<◌, ◌≤◌, ◌^◌, Bool, true, false, if◌then◌else◌, List, [], ◌∷◌, ◌++◌, length, take, refl, ◌∙◌, arith, codes, zero, suc}
+use Rattle.std.specs.Prelude.{nat_eq}
+use Rattle.std.proofs.lemmas.Bool.{or_parts, or_from}
+use Rattle.std.proofs.lemmas.List.Folds.{list_any-append}
 use Rattle.implib.specs.declared.machine.MachineType.{MachineType}
 use Rattle.implib.specs.declared.machine.MachineType.TheVariants.{I386, ARMNT, AMD64, ARM64}
 use Rattle.implib.specs.Import.{holds}
 use Rattle.implib.specs.Machine.{is_32bit, machine_number}
 use Rattle.implib.specs.Bytes.{u32_bytes}
-use Rattle.implib.specs.Constants.{initialized_data, info, remove, align_2, align_4, align_8, read_write, external, static, section_class, undefined, absolute, image_relative}
+use Rattle.implib.specs.Constants.{initialized_data, align_4, align_8, read_write, external, static, section_class, undefined, absolute, image_relative}
 use Rattle.implib.specs.MsvcObjects.{symbol, relocation, descriptor_characteristics, weak_auxiliary, base_name, descriptor, descriptor_symbol, null_descriptor, null_descriptor_symbol, null_thunk, null_thunk_symbol, weak_object}
 use Rattle.implib.specs.Object.{ObjectSection}
 use Rattle.implib.specs.Picture.{Picture, PictureSymbol, Fits, FitsAuxiliary, FitsName, FitsRelocation, FitsSection, FitsSymbol, HasNoNul, InRecord, Listed}
@@ -205,10 +204,3 @@ pub same_picture : (q : Picture) (machine characteristics : ℕ) (sections : Lis
     q ≡ record { machine = machine; characteristics = characteristics; sections = sections; symbols = symbols; strings = strings }
 same_picture q machine characteristics sections symbols strings same_machine same_characteristics same_sections same_symbols same_strings =
     rw (same_machine, same_characteristics, same_sections, same_symbols, same_strings) refl
-
--- a length below 2 ^ 32 is not too long, and another is
-pub not_too_long : (length : ℕ) → length < 2 ^ 32 → nat_lt 0xFFFF_FFFF length ≡ false
-not_too_long length short = le-ltb 0xFFFF_FFFF length (omega arith)
-
-pub too_long : (length : ℕ) → 2 ^ 32 ≤ length → nat_lt 0xFFFF_FFFF length ≡ true
-too_long length long = lt-ltb 0xFFFF_FFFF length (omega arith)

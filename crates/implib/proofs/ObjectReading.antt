@@ -48,7 +48,7 @@ one_symbol : (bytes : List ℕ) (place : ℕ) (strings : List (List ℕ)) (name 
     → entries_at bytes (string_table strings) (place + 18 * record_count (record { name = name; value = value; section = section; class = class; aux = aux })) 0 count ≡ Some rest
     → entries_at bytes (string_table strings) place 0 (record_count (record { name = name; value = value; section = section; class = class; aux = aux }) + count)
     ≡ Some (entries_of strings (record { name = name; value = value; section = section; class = class; aux = aux }) ++ rest)
-unfolding record_count auxiliary_count entries_of shown auxiliary_bytes FitsAuxiliary
+unfolding record_count auxiliary_count entries_of shown auxiliary_bytes
 one_symbol bytes place strings name value section class None count rest fits all below stands others =
     rw (one-add count)
     (plain_symbol bytes place strings (record { name = name; value = value; section = section; class = class; aux = None }) fits count rest all below refl
@@ -63,7 +63,7 @@ one_symbol bytes place strings name value section class (Some aux) count rest fi
     (rw further at others))
 
 pub auxiliary_counted : (aux : Option (List ℕ)) → FitsAuxiliary aux → 18 + length (auxiliary_bytes aux) ≡ 18 * (1 + auxiliary_count aux)
-unfolding FitsAuxiliary auxiliary_bytes auxiliary_count
+unfolding auxiliary_bytes auxiliary_count
 auxiliary_counted None fits = refl
 auxiliary_counted (Some aux) fits = ap (λ n. 18 + n) fits
 

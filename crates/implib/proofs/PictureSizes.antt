@@ -61,7 +61,6 @@ unfolding string_offsets
 length-string_offsets strings = length-offsets_from 4 strings
 
 fits_field : (strings : List (List ℕ)) (name : SymbolName) → FitsName strings name → FitsField (length (string_offsets strings)) name
-unfolding FitsName
 fits_field strings (InRecord text) fits = fits.1
 fits_field strings (Listed index) fits = omega (arith, fits, length-string_offsets strings)
 

@@ -1,15 +1,14 @@
 -- A short record reads back as its fields.
-use Rattle.std.proofs.Common.{◌≡◌, ℕ, ◌+◌, ◌-◌, ◌*◌, ◌/◌, ◌%◌, ◌<◌, ◌≤◌, ◌^◌, Bool, true, false, cond, if◌then◌else◌, ◌&&◌, ◌||◌, nat_le, nat_eq, List, [], ◌∷◌, ◌++◌, length, take, drop, Option, Some, None, refl, ap, sym, ◌∙◌, arith, length-append, append_assoc, rules, w16, w32, eq-eqb, subst}
+use Rattle.std.proofs.Common.{◌≡◌, ℕ, ◌+◌, ◌-◌, ◌*◌, ◌/◌, ◌%◌, ◌<◌, ◌≤◌, ◌^◌, true, false, if◌then◌else◌, nat_le, List, [], ◌∷◌, ◌++◌, length, drop, Some, None, refl, ap, ◌∙◌, arith, length-append, eq-eqb}
 use Rattle.std.specs.Prelude.{◌==◌}
-use Rattle.std.specs.Int.{from_le_bytes, to_le_bytes}
-use Rattle.std.specs.List.{list_any}
 use Rattle.std.proofs.lemmas.Bool.{or_parts, le-leb}
 use Rattle.std.proofs.lemmas.Nat.{from_le_bytes-to_le_bytes_2, from_le_bytes-to_le_bytes_4}
 use Rattle.implib.specs.Bytes.{u16_bytes, u32_bytes}
 use Rattle.implib.specs.Import.{holds}
 use Rattle.implib.specs.Msvc.{record_bytes, record_header, record_data_size, record_size}
 use Rattle.implib.specs.Reads.{FitsRecord}
-use Rattle.implib.specs.Record.{ShortRecord, record_header_size, text_in, text_longer, u16_at, u32_at, is_record, record_from, record_with, short_record_in}
+use Rattle.implib.specs.Object.{u16_at, u32_at}
+use Rattle.implib.specs.Record.{ShortRecord, record_header_size, text_in, is_record, record_from, record_with, short_record_in}
 
 -- a text without NUL is read up to the NUL behind it
 pub text_in-append : (text rest : List ℕ) → holds 0 text ≡ false → text_in (text ++ 0 ∷ rest) ≡ Some (text, rest)
@@ -17,10 +16,6 @@ text_in-append [] rest none = refl
 text_in-append (b ∷ text) rest none =
     let parts = or_parts (b == 0) (holds 0 text) none in
     rw (parts.0, text_in-append text rest parts.1) refl
-
--- the two texts of a record
-record_texts : ShortRecord → List ℕ
-record_texts r = r.symbol ++ 0 ∷ (r.dll ++ 0 ∷ [])
 
 length-record_header : (r : ShortRecord) → length (record_header r) ≡ 20
 unfolding u16_bytes u32_bytes
@@ -34,16 +29,16 @@ length-record_bytes r =
     let last = length-append r.dll (0 ∷ []) in
     omega (arith, whole, texts, last, length-record_header r)
 
-data_size_fits : (r : ShortRecord) → record_size r ≤ 0xFFFF_FFFF → u32_at 12 (record_bytes r) ≡ record_data_size r
-unfolding u16_bytes u32_bytes
+data_size_fits : (r : ShortRecord) → record_size r ≤ 0xFFFF_FFFF → u32_at (record_bytes r) 12 ≡ record_data_size r
+unfolding u32_at u16_bytes u32_bytes
 data_size_fits r fits = from_le_bytes-to_le_bytes_4 (record_data_size r) (omega arith)
 
 is_record-record_bytes : (r : ShortRecord) → record_size r ≤ 0xFFFF_FFFF → is_record (record_bytes r) ≡ true
-unfolding u16_bytes u32_bytes
+unfolding u16_at u16_bytes u32_bytes
 is_record-record_bytes r fits =
     let long : nat_le 20 (length (record_bytes r)) ≡ true = le-leb 20 (length (record_bytes r)) (omega (arith, length-record_bytes r)) in
-    let size : (u32_at 12 (record_bytes r) == length (record_bytes r) - record_header_size) ≡ true =
-    eq-eqb (u32_at 12 (record_bytes r)) (length (record_bytes r) - record_header_size) (omega (arith, data_size_fits r fits, length-record_bytes r)) in
+    let size : (u32_at (record_bytes r) 12 == length (record_bytes r) - record_header_size) ≡ true =
+    eq-eqb (u32_at (record_bytes r) 12) (length (record_bytes r) - record_header_size) (omega (arith, data_size_fits r fits, length-record_bytes r)) in
     rw (long, size) refl
 
 same_record : (r : ShortRecord) (version machine time ordinal kind name_type : ℕ) →
@@ -53,14 +48,14 @@ same_record r version machine time ordinal kind name_type v m t o k n = rw (v, m
 
 -- the fields of a record, read at their places
 fields_read : (r : ShortRecord) → FitsRecord r → record_with (record_bytes r) r.symbol (Some (r.dll, [])) ≡ Some r
-unfolding u16_bytes u32_bytes
+unfolding u16_at u32_at u16_bytes u32_bytes
 fields_read r fits =
     let small : r.kind + 4 * r.name_type < 2 ^ 16 = omega (arith, fits.kind, fits.name_type) in
-    let types : u16_at 18 (record_bytes r) ≡ r.kind + 4 * r.name_type = from_le_bytes-to_le_bytes_2 (r.kind + 4 * r.name_type) small in
+    let types : u16_at (record_bytes r) 18 ≡ r.kind + 4 * r.name_type = from_le_bytes-to_le_bytes_2 (r.kind + 4 * r.name_type) small in
     let kind : (r.kind + 4 * r.name_type) % 4 ≡ r.kind = omega (arith, fits.kind) in
     let name_type : (r.kind + 4 * r.name_type) / 4 % 8 ≡ r.name_type = omega (arith, fits.kind, fits.name_type) in
-    same_record r (u16_at 4 (record_bytes r)) (u16_at 6 (record_bytes r)) (u32_at 8 (record_bytes r)) (u16_at 16 (record_bytes r))
-    (u16_at 18 (record_bytes r) % 4) (u16_at 18 (record_bytes r) / 4 % 8)
+    same_record r (u16_at (record_bytes r) 4) (u16_at (record_bytes r) 6) (u32_at (record_bytes r) 8) (u16_at (record_bytes r) 16)
+    (u16_at (record_bytes r) 18 % 4) (u16_at (record_bytes r) 18 / 4 % 8)
     (from_le_bytes-to_le_bytes_2 r.version fits.version) (from_le_bytes-to_le_bytes_2 r.machine fits.machine)
     (from_le_bytes-to_le_bytes_4 r.time fits.time) (from_le_bytes-to_le_bytes_2 r.ordinal fits.ordinal)
     (ap (λ n. n % 4) types ∙ kind) (ap (λ n. n / 4 % 8) types ∙ name_type)

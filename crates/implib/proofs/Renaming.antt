@@ -1,7 +1,6 @@
 -- Exports under their names to link by.
-use Rattle.std.proofs.Common.{◌≡◌, ℕ, true, List, [], ◌∷◌, map, Option, Some, None, refl, ap, subst, sym, ◌∙◌, Bool, ◌&&◌}
+use Rattle.std.proofs.Common.{◌≡◌, ℕ, true, List, [], ◌∷◌, map, Option, Some, None, refl, ap, ◌∙◌}
 use Rattle.std.specs.Prelude.{is_none}
-use Rattle.std.specs.List.{list_all}
 use Rattle.std.proofs.lemmas.Bool.{and_parts}
 use Rattle.implib.specs.declared.def.ModuleDef.{ModuleDef}
 use Rattle.implib.specs.Definition.{DefinitionView, ExportView, definition_view, export_view}

@@ -140,7 +140,7 @@ string_at_offset strings index within =
 -- names
 
 pub length-name_field : (strings : List (List ℕ)) (name : SymbolName) → FitsName strings name → length (name_field (string_offsets strings) name) ≡ 8
-unfolding name_field FitsName u32_bytes
+unfolding name_field u32_bytes
 length-name_field strings (InRecord text) fits = omega (arith, length-append text (replicate (8 - length text) 0), length-replicate {A = ℕ} (8 - length text) 0)
 length-name_field strings (Listed index) fits = refl
 
@@ -166,7 +166,7 @@ in_record_read table (zero ∷ text) count some none = absurd (false≢true none
 in_record_read table (suc n ∷ text) count some none = ap Some (up_to_nul-padded (suc n ∷ text) count none)
 
 pub name_of-field : (strings : List (List ℕ)) (name : SymbolName) → FitsName strings name → AllByRecursion HasNoNul strings → strings_size strings < 2 ^ 32 → name_of (string_table strings) (name_field (string_offsets strings) name) ≡ Some (name_text strings name)
-unfolding name_field name_text FitsName
+unfolding name_field name_text
 name_of-field strings (InRecord text) fits all below = in_record_read (string_table strings) text (8 - length text) fits.0 fits.2
 name_of-field strings (Listed index) fits all below =
     rw (string_offsets-index strings index fits)

@@ -47,7 +47,7 @@ name_text-place names s known = elim (cases_Bool (is_long s.name)) [
 ]
 
 name_place-fits : (names : List (List ℕ)) (s : AddedSymbol) → IsListed names s → 0 < length s.name → HasNoNul s.name → FitsName names (name_place names s.name)
-unfolding name_place FitsName
+unfolding name_place
 name_place-fits names s known named none = elim (cases_Bool (is_long s.name)) [
   | inl long ↦ rw long (position-below (bytes_eq s.name) names (known.listed long))
   | inr short ↦ rw short (named, ltb-false 8 (length s.name) short, none)

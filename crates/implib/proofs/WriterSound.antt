@@ -82,14 +82,12 @@ sound_symbol h n m s sound here count = record {
 -- a relocation more
 
 length-relocated : (ss : List ObjectSection) (number : ℕ) (r : Relocation) → length (relocated ss number r) ≡ length ss
-unfolding relocated
 length-relocated [] number r = refl
 length-relocated (s ∷ ss) zero r = refl
 length-relocated (s ∷ ss) (suc zero) r = refl
 length-relocated (s ∷ ss) (suc (suc number)) r = ap suc (length-relocated ss (suc number) r)
 
 relocated_sound : (symbols : List AddedSymbol) (ss : List ObjectSection) (number : ℕ) (r : Relocation) → AllByRecursion (IsSoundSection symbols) ss → IsSomeAnd (section_numbered ss number) (HasRoomFor r) → IsSymbolIndex symbols r.symbol → FitsRelocation r → AllByRecursion (IsSoundSection symbols) (relocated ss number r)
-unfolding relocated
 relocated_sound symbols [] number r all there index fits = tt
 relocated_sound symbols (s ∷ ss) zero r all there index fits = all
 relocated_sound symbols (s ∷ ss) (suc zero) r all there index fits = (
@@ -127,7 +125,6 @@ sections-same (y ∷ ss) (suc i) s x here e = ap (λ t. section_view y ∷ t) (s
 relocated-set : (ss : List Held) (i : ℕ) (r : Relocation) (s x : Held) → s ≡ get_or ss i s
     → section_view x ≡ record (section_view s) { relocations = (section_view s).relocations ++ r ∷ [] }
     → map section_view (set ss i x) ≡ relocated (map section_view ss) (suc i) r
-unfolding relocated
 relocated-set [] i r s x here e = refl
 relocated-set (y ∷ ss) zero r s x here e =
     ap (λ t. t ∷ map section_view ss) (e ∙ ap (λ (t : Held). record (section_view t) { relocations = (section_view t).relocations ++ r ∷ [] }) here)

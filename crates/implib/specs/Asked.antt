@@ -1,12 +1,13 @@
 -- What the exports of a text ask their DLL for: the words of the text.
 use Rattle.std.specs.Prelude.{◌≡◌, ℕ, false, List, [], ◌∷◌}
 use Rattle.std.specs.List.{flat_map}
+use Rattle.implib.specs.declared.library.Flavor.{Flavor}
 use Rattle.implib.specs.declared.machine.MachineType.{MachineType}
 use Rattle.implib.specs.Definition.{DefinitionView, ExportView}
 use Rattle.implib.specs.Grammar.{Export, Statement}
 use Rattle.implib.specs.Import.{asked_name}
 use Rattle.implib.specs.Meaning.{exports_in}
-use Rattle.implib.specs.Msvc.{asked_by_record}
+use Rattle.implib.specs.Made.{asked_in}
 use Rattle.implib.specs.Parses.{Parses}
 use Rattle.implib.specs.Renaming.{renamed}
 
@@ -18,10 +19,11 @@ external_word e = e.word
 abbrev pub exports_of_text : List Statement → List Export
 exports_of_text statements = flat_map exports_in statements
 
--- where an export asks by name, it asks for this word: by what is meant, and by its record
+-- where an export asks by name, it asks for this word: by what is meant, and in either flavour, by its
+-- record for Microsoft's linker and by its object for GNU's
 pub record AsksFor (machine : MachineType) (e : ExportView) (word : List ℕ) : Type 0 where
   pub meant : e.no_name ≡ false → asked_name machine e.name ≡ word
-  pub by_record : e.no_name ≡ false → asked_by_record machine e ≡ word
+  pub in_each_flavor : (flavor : Flavor) → e.no_name ≡ false → asked_in flavor machine e ≡ word
 
 -- there are as many exports as there are in the text, and each asks for the word of its own
 abbrev pub EachAsksForItsWord : MachineType → List ExportView → List Export → Type 0

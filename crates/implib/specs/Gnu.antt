@@ -1,6 +1,6 @@
 -- The objects for GNU's linker, as tables (docs/FORMATS.md, "Members for GNU's linker"): what is
 -- added to a writer of objects, in order.
-use Rattle.std.specs.Prelude.{ℕ, ◌+◌, ◌-◌, ◌==◌, List, [], ◌∷◌, ◌++◌, length, map, replicate, Option, Some, None, codes, decimal, if◌then◌else◌}
+use Rattle.std.specs.Prelude.{ℕ, ◌+◌, ◌-◌, ◌==◌, List, [], ◌∷◌, ◌++◌, length, map, replicate, Some, None, codes, decimal, if◌then◌else◌}
 use Rattle.implib.specs.declared.coff.object.Place.{Place}
 use Rattle.implib.specs.declared.coff.object.Place.TheVariants.{Undefined, Section, Debug}
 use Rattle.implib.specs.declared.coff.object.Relocation.{Relocation}

@@ -3,15 +3,9 @@ use Rattle.std.specs.Prelude.{◌≡◌, ◌≢◌, ℕ, ◌⊎◌, Bool, true, 
 use Rattle.std.specs.List.{flat_map}
 use Rattle.implib.specs.declared.def.lexer.TokenKind.{TokenKind}
 use Rattle.implib.specs.declared.def.lexer.TokenKind.TheVariants.{Eof, Identifier, Comma, Equal, EqualEqual, KwBase, KwConstant, KwData, KwExports, KwHeapsize, KwLibrary, KwName, KwNoname, KwPrivate, KwStacksize, KwVersion}
+pub use Rattle.implib.specs.Ascii.{at_sign, full_stop}
 use Rattle.implib.specs.Number.{IsNumber, u16_limit, u32_limit, u64_limit}
 use Rattle.implib.specs.Token.{Seen}
-
--- `@` and `.` in ASCII
-abbrev pub at_sign : ℕ
-at_sign = 64
-
-abbrev pub full_stop : ℕ
-full_stop = 46
 
 -- the value is `@` alone
 abbrev pub IsLoneAt : List ℕ → Type 0

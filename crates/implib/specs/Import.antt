@@ -4,6 +4,7 @@ use Rattle.std.specs.Prelude.{ℕ, Bool, true, false, ◌&&◌, ◌==◌, not, L
 use Rattle.std.specs.List.{filter, flat_map, list_any}
 use Rattle.implib.specs.declared.machine.MachineType.{MachineType}
 use Rattle.implib.specs.declared.machine.MachineType.TheVariants.{I386, ARMNT, AMD64, ARM64}
+pub use Rattle.implib.specs.Ascii.{at_sign, underscore}
 use Rattle.implib.specs.Definition.{DefinitionView, ExportView}
 use Rattle.implib.specs.Renaming.{renamed}
 
@@ -39,12 +40,6 @@ holds byte name = list_any (λ b. b == byte) name
 abbrev pub without_first : List ℕ → List ℕ
 without_first [] = []
 without_first (first ∷ rest) = rest
-
-abbrev pub underscore : ℕ
-underscore = 0x5F
-
-abbrev pub at_sign : ℕ
-at_sign = 0x40
 
 -- whether a name has the underscore that I386 puts before an undecorated name
 abbrev pub has_underscore : MachineType → List ℕ → Bool

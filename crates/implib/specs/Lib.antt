@@ -37,3 +37,7 @@ pub mod WorkedLinks
 pub mod Asked
 pub mod WorkedMembers
 pub mod Gnu
+pub mod GnuReading
+pub mod WorkedGnu
+pub mod WorkedObjects
+pub mod Ascii

@@ -1,5 +1,5 @@
 -- What the members of a definition are, and which definitions are refused.
-use Rattle.std.specs.Prelude.{◌≡◌, ℕ, ◌+◌, ◌^◌, ◌<◌, Bool, true, false, ◌&&◌, ◌||◌, not, nat_lt, List, [], ◌∷◌, ◌++◌, map, reverse, All, Option, Some, None, Result, IsErrAnd, if◌then◌else◌}
+use Rattle.std.specs.Prelude.{◌≡◌, ℕ, ◌+◌, Bool, true, ◌&&◌, ◌||◌, not, nat_lt, List, [], ◌∷◌, ◌++◌, map, reverse, Option, Some, None, Result, IsErrAnd, if◌then◌else◌}
 use Rattle.std.specs.List.{flat_map, list_all, list_any}
 use Rattle.implib.specs.declared.error.Error.{Error}
 use Rattle.implib.specs.declared.library.Flavor.{Flavor}
@@ -81,6 +81,10 @@ weak_plans machine dll e =
 -- the plan of an export's short record
 abbrev pub record_plan : MachineType → List ℕ → ExportView → Plan
 record_plan machine dll e = record { name = dll; contents = ARecord (record_of machine dll e); listed = record_listed e }
+
+-- the number of an export's members: its weak externals, and its record
+abbrev pub member_count : ExportView → ℕ
+member_count e = if is_alias e.alias_target (record_symbol e) then 3 else 1
 
 -- the plans of an export
 abbrev pub export_plans : MachineType → List ℕ → ExportView → List Plan

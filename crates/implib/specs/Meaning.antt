@@ -3,6 +3,7 @@ use Rattle.std.specs.Prelude.{ℕ, Bool, true, false, ◌||◌, ◌==◌, List, 
 use Rattle.std.specs.List.{flat_map, list_any}
 use Rattle.implib.specs.declared.machine.MachineType.{MachineType}
 use Rattle.implib.specs.declared.machine.MachineType.TheVariants.{I386, ARMNT, AMD64, ARM64}
+pub use Rattle.implib.specs.Ascii.{question_mark, underscore}
 use Rattle.implib.specs.Definition.{DefinitionView, ExportView}
 use Rattle.implib.specs.Grammar.{Attribute, Joined, Apart, Data, Constant, Private, Alias, Export, Heap, Stack, Statement, Exports, Sizes, Nameless, Named, Version, at_sign}
 
@@ -10,14 +11,6 @@ use Rattle.implib.specs.Grammar.{Attribute, Joined, Apart, Data, Constant, Priva
 abbrev pub last_or : {A B : Type 0} → B → (A → Option B) → List A → B
 last_or old set [] = old
 last_or old set (item ∷ items) = last_or (unwrap_or (set item) old) set items
-
--- `?` in ASCII
-abbrev pub question_mark : ℕ
-question_mark = 63
-
--- `_` in ASCII
-abbrev pub underscore : ℕ
-underscore = 95
 
 -- a name that begins with `?` or holds `@` is decorated
 abbrev pub is_decorated : List ℕ → Bool

@@ -198,12 +198,12 @@ pub record FitsSection (s : ObjectSection) : Type 0 where
   pub relocations : AllByRecursion FitsRelocation s.relocations
 
 -- a name in its record is a text of 1 to 8 bytes, and one in the string table is listed there
-unfoldable pub FitsName : List (List ℕ) → SymbolName → Type 0
+abbrev pub FitsName : List (List ℕ) → SymbolName → Type 0
 FitsName strings (InRecord text) = (0 < length text) × (length text ≤ 8) × HasNoNul text
 FitsName strings (Listed index) = index < length strings
 
 -- an auxiliary record has 18 bytes
-unfoldable pub FitsAuxiliary : Option (List ℕ) → Type 0
+abbrev pub FitsAuxiliary : Option (List ℕ) → Type 0
 FitsAuxiliary None = Unit {0}
 FitsAuxiliary (Some aux) = length aux ≡ 18
 

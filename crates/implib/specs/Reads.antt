@@ -1,13 +1,15 @@
 -- What the members' bytes are read as.
-use Rattle.std.specs.Prelude.{◌≡◌, ℕ, ◌<◌, ◌^◌, Bool, true, false, List, [], ◌∷◌, ◌++◌, map, drop, length, slice_get, Option, Some, None, if◌then◌else◌}
+use Rattle.std.specs.Prelude.{◌≡◌, ℕ, ◌<◌, ◌^◌, Bool, true, false, List, [], ◌∷◌, ◌++◌, map, reverse, drop, length, slice_get, Option, Some, None, if◌then◌else◌}
 use Rattle.std.specs.List.{filter_map, flat_map, list_all}
 use Rattle.std.specs.Option.{option_and_then, option_map}
 use Rattle.implib.specs.declared.library.Flavor.{Flavor}
-use Rattle.implib.specs.declared.library.Flavor.TheVariants.{Msvc}
+use Rattle.implib.specs.declared.library.Flavor.TheVariants.{Msvc, Gnu}
 use Rattle.implib.specs.declared.machine.MachineType.{MachineType}
 use Rattle.implib.specs.Definition.{DefinitionView, ExportView}
 use Rattle.implib.specs.File.{File, RecordFile, ObjectFile, Meaning, AnImport, AnAlias, declared_by, dll_in, file_in, meaning_in}
-use Rattle.implib.specs.Import.{Alias, Ask, Ordinal, Name, Import, aliases_for, aliases_of, holds, imports_of, is_empty_text, public_exports}
+use Rattle.implib.specs.Gnu.{stub_relocations}
+use Rattle.implib.specs.GnuReading.{CodeRelocation, code_of_export, meaning_with}
+use Rattle.implib.specs.Import.{Alias, address_symbol, import_meant, Ask, Ordinal, Name, Import, aliases_for, aliases_of, holds, imports_of, is_empty_text, public_exports}
 use Rattle.implib.specs.Made.{Contents, ARecord, AnObject, MemberView, contents_size, plans_of}
 use Rattle.implib.specs.Msvc.{asked_by_record, record_listed, record_symbol}
 use Rattle.implib.specs.Picture.{object_of}
@@ -81,7 +83,51 @@ pub record MeansWhatIsMeant (d : DefinitionView) (machine : MachineType) (member
   -- the aliases are those that are meant, in order
   pub aliases : filter_map alias_among meanings ≡ aliases_of d
 
--- what the members of a flavour are read as
-pub record Reads (d : DefinitionView) (machine : MachineType) (flavor : Flavor) (members : List MemberView) : Type 0 where
+-- what the members for Microsoft's linker are read as, and mean
+pub record ReadsAsMsvc (d : DefinitionView) (machine : MachineType) (members : List MemberView) : Type 0 where
   pub files : ReadsForMsvc d machine members
   pub meant : has_no_symbol_names d ≡ true → MeansWhatIsMeant d machine members
+
+-- what an export's members for GNU's linker mean: its aliases, then its import
+abbrev pub meanings_meant : MachineType → List ℕ → ExportView → List Meaning
+meanings_meant machine dll e = map AnAlias (aliases_for e.name e.alias_target) ++ AnImport (import_meant machine dll e) ∷ []
+
+-- the relocations that an export's code is to have: those of its machine, to the export's address
+abbrev pub code_meant : MachineType → ExportView → List CodeRelocation
+code_meant machine e =
+    if e.is_data then []
+    else map (λ r. record { offset = r.offset; kind = r.kind; target = Some (address_symbol e.name) }) (stub_relocations machine 0)
+
+-- the file of the member of an index
+abbrev pub file_at : List MemberView → ℕ → Option File
+file_at members index = option_and_then (λ m. file_in m.bytes) (slice_get members index)
+
+-- What the members for GNU's linker are read as; the first is the tail, the second the head.
+pub record ReadsForGnu (d : DefinitionView) (machine : MachineType) (members : List MemberView) : Type 0 where
+  -- each file reads as what was planned
+  pub files : map (λ m. file_in m.bytes) members ≡ map (λ p. Some (file_of p.contents)) (plans_of (renamed d) machine Gnu)
+  -- each file has the length of what was planned
+  pub lengths : map (λ m. length m.bytes) members ≡ map (λ p. contents_size p.contents) (plans_of (renamed d) machine Gnu)
+  -- each member declares exactly the symbols that it is listed for
+  pub declared : map (λ m. option_map declared_by (file_in m.bytes)) members ≡ map (λ m. Some m.symbols) members
+  pub tail : File
+  pub head : File
+  pub tail_read : file_at members 0 ≡ Some tail
+  pub head_read : file_at members 1 ≡ Some head
+  -- what the members after these two mean with them, read backwards
+  pub meanings : List Meaning
+  pub meanings_read : map (λ m. option_and_then (meaning_with head tail) (file_in m.bytes)) (reverse (drop 2 members)) ≡ map Some meanings
+  -- export by export, its aliases and its import
+  pub by_export : meanings ≡ flat_map (meanings_meant machine d.import_name) (public_exports (renamed d))
+  -- the imports are those that are meant, in order
+  pub imports : filter_map import_among meanings ≡ imports_of machine d
+  -- the aliases are those that are meant, in order
+  pub aliases : filter_map alias_among meanings ≡ aliases_of d
+  -- the code of each export is relocated as its machine's stub, to the address of that export
+  pub code : filter_map (λ m. option_and_then code_of_export (file_in m.bytes)) (reverse (drop 2 members))
+      ≡ map (code_meant machine) (public_exports (renamed d))
+
+-- what the members of a flavour are read as
+abbrev pub Reads : DefinitionView → MachineType → Flavor → List MemberView → Type 0
+Reads d machine Msvc members = ReadsAsMsvc d machine members
+Reads d machine Gnu members = ReadsForGnu d machine members

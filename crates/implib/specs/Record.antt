@@ -1,10 +1,11 @@
 -- Reading a short import record (PE/COFF specification, "Import Library Format"):
 -- a header of 20 bytes, then the symbol and the DLL's name, each ended by a NUL.
 -- The reader takes what it finds in the bytes, and knows nothing of who wrote them.
-use Rattle.std.specs.Prelude.{ℕ, ◌+◌, ◌-◌, ◌*◌, ◌/◌, ◌%◌, Bool, ◌&&◌, ◌==◌, nat_le, List, [], ◌∷◌, ◌++◌, length, take, drop, Option, Some, None, if◌then◌else◌}
-use Rattle.std.specs.Int.{from_le_bytes, w16, w32}
+use Rattle.std.specs.Prelude.{ℕ, ◌-◌, ◌/◌, ◌%◌, Bool, ◌&&◌, ◌==◌, nat_le, List, [], ◌∷◌, length, drop, Option, Some, None, if◌then◌else◌}
 use Rattle.std.specs.List.{before_first}
+use Rattle.implib.specs.Ascii.{question_mark}
 use Rattle.implib.specs.Import.{Ask, Ordinal, Name, Import, import_symbols, without_first, begins_with, underscore, at_sign}
+use Rattle.implib.specs.Object.{u16_at, u32_at}
 
 -- the fields of a record
 pub record ShortRecord : Type 0 where
@@ -44,13 +45,6 @@ import_name_noprefix = 2
 abbrev pub import_name_undecorate : ℕ
 import_name_undecorate = 3
 
--- the u16 and the u32 that stand at a place, the low byte first
-abbrev pub u16_at : ℕ → List ℕ → ℕ
-u16_at place bytes = from_le_bytes w16 (take 2 (drop place bytes))
-
-abbrev pub u32_at : ℕ → List ℕ → ℕ
-u32_at place bytes = from_le_bytes w32 (take 4 (drop place bytes))
-
 -- one more byte at the front of the text that was found
 abbrev pub text_longer : ℕ → Option (List ℕ × List ℕ) → Option (List ℕ × List ℕ)
 text_longer byte None = None
@@ -64,20 +58,20 @@ text_in (byte ∷ rest) = if byte == 0 then Some ([], rest) else text_longer byt
 -- whether a header stands at the front, and its size is that of all that follows it
 abbrev pub is_record : List ℕ → Bool
 is_record bytes =
-    nat_le record_header_size (length bytes) && (u16_at 0 bytes == 0) && (u16_at 2 bytes == 0xFFFF)
-    && (u32_at 12 bytes == length bytes - record_header_size)
+    nat_le record_header_size (length bytes) && (u16_at bytes 0 == 0) && (u16_at bytes 2 == 0xFFFF)
+    && (u32_at bytes 12 == length bytes - record_header_size)
 
 -- the record, where nothing follows the second text
 abbrev pub record_with : List ℕ → List ℕ → Option (List ℕ × List ℕ) → Option ShortRecord
 record_with bytes symbol None = None
 record_with bytes symbol (Some (dll, byte ∷ rest)) = None
 record_with bytes symbol (Some (dll, [])) = Some record {
-  version = u16_at 4 bytes;
-  machine = u16_at 6 bytes;
-  time = u32_at 8 bytes;
-  ordinal = u16_at 16 bytes;
-  kind = u16_at 18 bytes % 4;
-  name_type = u16_at 18 bytes / 4 % 8;
+  version = u16_at bytes 4;
+  machine = u16_at bytes 6;
+  time = u32_at bytes 8;
+  ordinal = u16_at bytes 16;
+  kind = u16_at bytes 18 % 4;
+  name_type = u16_at bytes 18 / 4 % 8;
   symbol = symbol;
   dll = dll;
 }
@@ -94,7 +88,7 @@ short_record_in bytes = if is_record bytes then record_from bytes (text_in (drop
 -- a symbol without one leading `?`, `@` or `_`
 abbrev pub without_prefix : List ℕ → List ℕ
 without_prefix symbol =
-    if begins_with 0x3F symbol then without_first symbol
+    if begins_with question_mark symbol then without_first symbol
     else if begins_with at_sign symbol then without_first symbol
     else if begins_with underscore symbol then without_first symbol
     else symbol

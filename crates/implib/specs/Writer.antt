@@ -113,7 +113,7 @@ pub record HasRoomFor (r : Relocation) (s : ObjectSection) : Type 0 where
   pub within : r.offset + 4 ≤ length s.bytes
 
 -- one relocation more, in the section of a number
-unfoldable pub relocated : List ObjectSection → ℕ → Relocation → List ObjectSection
+abbrev pub relocated : List ObjectSection → ℕ → Relocation → List ObjectSection
 relocated [] number r = []
 relocated (s ∷ rest) zero r = s ∷ rest
 relocated (s ∷ rest) (suc zero) r = record s { relocations = s.relocations ++ r ∷ [] } ∷ rest

@@ -5,7 +5,7 @@ ghost use Rattle.implib.specs.Fault.{IfInvalid, MemberTooLong};
 ghost use Rattle.implib.specs.Gnu.{export_listed};
 ghost use Rattle.implib.specs.Import.{address_symbol, holds, is_alias, is_empty_text, public_exports};
 ghost use Rattle.implib.specs.Library.{member_view};
-ghost use Rattle.implib.specs.Made.{Made, RefusesAlways, alias_plan, alias_plans, definition_names_refusal, export_plan, has_u16_ordinal, head_plan, holds_nul, is_too_long, member_of, numbered_plans_of, plans_of, refusal, tail_plan};
+ghost use Rattle.implib.specs.Made.{Made, RefusesAlways, alias_plan, alias_plans, definition_names_refusal, export_plan, has_u16_ordinal, head_plan, holds_nul, is_too_long, member_of, numbered_plans, numbered_plans_of, plans_of, refusal, tail_plan};
 ghost use Rattle.implib.specs.Reads.{Reads};
 ghost use Rattle.implib.specs.Renaming.{renamed};
 ghost use Rattle.implib.specs.declared.library.Flavor.TheVariants.{Gnu};
@@ -73,6 +73,7 @@ impl GnuImportLibrary {
 }
 
 /// The members of a definition that breaks no rule on names, in order.
+#[tactic(auto, using(crate::proofs::GnuLoop::long_built))]
 pub(crate) fn members(def: &ModuleDef, machine: MachineType) -> Result<Vec<Member>, Error>
     requires { definition_names_refusal (definition_view def.now) machine Gnu ≡ None }
     ensures ok { IfOk result (λ members. map member_view members.items ≡ map member_of (plans_of (definition_view def.now) machine Gnu)) }
@@ -80,6 +81,23 @@ pub(crate) fn members(def: &ModuleDef, machine: MachineType) -> Result<Vec<Membe
     ensures ordinals { OnOk result (list_all has_u16_ordinal (public_exports (definition_view def.now)) ≡ true) }
     ensures too_long { IfInvalid result (λ cause. (cause ≡ MemberTooLong)
         × (list_any is_too_long (plans_of (definition_view def.now) machine Gnu) ≡ true)) }
+{
+    let mut members = build(def, machine)?;
+    push_linkage(&mut members, machine, def.import_name.as_str())?;
+    members.reverse();
+    Ok(members)
+}
+
+// The members of the exports, in the order of building, with room for the head and the tail.
+fn build(def: &ModuleDef, machine: MachineType) -> Result<Vec<Member>, Error>
+    requires { definition_names_refusal (definition_view def.now) machine Gnu ≡ None }
+    ensures ok { IfOk result (λ members. map member_view members.items
+        ≡ map member_of (numbered_plans machine (definition_view def.now).import_name 0 (public_exports (definition_view def.now)))) }
+    ensures fit { OnOk result (list_any is_too_long
+        (numbered_plans machine (definition_view def.now).import_name 0 (public_exports (definition_view def.now))) ≡ false) }
+    ensures ordinals { OnOk result (list_all has_u16_ordinal (public_exports (definition_view def.now)) ≡ true) }
+    ensures too_long { IfInvalid result (λ cause. (cause ≡ MemberTooLong) × (list_any is_too_long
+        (numbered_plans machine (definition_view def.now).import_name 0 (public_exports (definition_view def.now))) ≡ true)) }
 {
     let dll = def.import_name.as_str();
     let mut members = Vec::with_capacity(*def.exports.allocator(), member_count(def))?;
@@ -90,8 +108,6 @@ pub(crate) fn members(def: &ModuleDef, machine: MachineType) -> Result<Vec<Membe
             number += 1;
         }
     }
-    push_linkage(&mut members, machine, dll)?;
-    members.reverse();
     Ok(members)
 }
 

@@ -11,10 +11,9 @@ ghost use Rattle.std.specs.Prelude.{◌≡◌, IfErr, IfOk, None, Some, map, tru
 
 use crate::def::{self, ModuleDef};
 use crate::error::Error;
-use crate::gnu;
 use crate::machine::MachineType;
-use crate::msvc;
 use crate::refusal::names_fault;
+use crate::{gnu, msvc};
 use std::alloc::Global;
 use std::marker::Model;
 

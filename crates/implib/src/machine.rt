@@ -3,6 +3,8 @@
 ghost use Rattle.implib.specs.Machine.{is_32bit, machine_number};
 ghost use Rattle.std.specs.Prelude.{◌≡◌};
 
+use crate::coff::machine;
+
 /// A machine by its name in the PE/COFF specification, "Machine Types".
 #[derive(Clone, Copy, Debug, PartialEq, Eq)]
 pub enum MachineType {
@@ -22,10 +24,10 @@ impl MachineType {
         ensures { result ≡ machine_number self }
     {
         match self {
-            MachineType::I386 => 0x14C,
-            MachineType::ARMNT => 0x1C4,
-            MachineType::AMD64 => 0x8664,
-            MachineType::ARM64 => 0xAA64,
+            MachineType::I386 => machine::I386,
+            MachineType::ARMNT => machine::ARMNT,
+            MachineType::AMD64 => machine::AMD64,
+            MachineType::ARM64 => machine::ARM64,
         }
     }
 

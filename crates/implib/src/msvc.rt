@@ -4,13 +4,13 @@ ghost use Rattle.implib.specs.Definition.{definition_view, export_view};
 ghost use Rattle.implib.specs.Fault.{IfInvalid, MemberTooLong};
 ghost use Rattle.implib.specs.Import.{holds, is_alias, public_exports};
 ghost use Rattle.implib.specs.Library.{member_view};
-ghost use Rattle.implib.specs.Made.{Made, RefusesAlways, definition_names_refusal, export_plans, has_u16_ordinal, heading_plans, holds_nul, is_too_long, member_of, plans_of, refusal, weak_plans};
+ghost use Rattle.implib.specs.Made.{Made, RefusesAlways, definition_names_refusal, export_plans, has_u16_ordinal, heading_plans, holds_nul, is_too_long, member_count, member_of, plans_of, refusal, weak_plans};
 ghost use Rattle.implib.specs.Reads.{Reads};
 ghost use Rattle.implib.specs.Renaming.{renamed};
 ghost use Rattle.implib.specs.Msvc.{record_symbol};
 ghost use Rattle.implib.specs.declared.library.Flavor.TheVariants.{Msvc};
-ghost use Rattle.std.specs.List.{list_all, list_any};
-ghost use Rattle.std.specs.Prelude.{None, Some, false, map, true, ◌++◌, ◌≡◌, IfOk, OnOk};
+ghost use Rattle.std.specs.List.{list_all, list_any, sum_by};
+ghost use Rattle.std.specs.Prelude.{None, Some, false, map, true, ◌+◌, ◌++◌, ◌≡◌, IfOk, OnOk, min};
 
 use crate::def::{self, ModuleDef, ShortExport};
 use crate::error::Error;
@@ -21,8 +21,8 @@ use std::marker::Model;
 mod objects;
 mod record;
 
-use objects::{descriptor_member, null_descriptor_member, null_thunk_member, weak_member};
 pub(crate) use objects::weak_external;
+use objects::{descriptor_member, null_descriptor_member, null_thunk_member, weak_member};
 pub(crate) use record::{address_symbol, asked};
 use record::{record_member, record_symbol};
 
@@ -92,8 +92,10 @@ pub(crate) fn members(def: &ModuleDef, machine: MachineType) -> Result<Vec<Membe
     Ok(members)
 }
 
-// How many members there are; at most 2^64 - 1 are counted.
-fn member_count(def: &ModuleDef) -> usize {
+// How many members there are, as far as 64 bits can count.
+fn member_count(def: &ModuleDef) -> usize
+    ensures { result ≡ min u64.MAX (3 + sum_by member_count (public_exports (definition_view def.now))) }
+{
     let mut count = 3usize;
     for export in def.exports.iter() {
         if !export.private {

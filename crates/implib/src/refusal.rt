@@ -9,10 +9,9 @@ ghost use Rattle.std.specs.Prelude.{map, string_bytes, ◌≡◌};
 
 use crate::def::{ModuleDef, ShortExport};
 use crate::error::Fault;
-use crate::gnu;
 use crate::library::Flavor;
 use crate::machine::MachineType;
-use crate::msvc;
+use crate::{gnu, msvc};
 
 /// The first rule on names that the definition breaks: of the import name, then of each export that
 /// is not private, in order.

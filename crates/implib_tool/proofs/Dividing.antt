@@ -5,6 +5,8 @@ use Rattle.std.proofs.lemmas.Bool.Decides.{Decides-or, eqb_tells, leb_tells, not
 use Rattle.std.proofs.lemmas.Slice.Eq.{bytes_eq-Decides}
 use Rattle.std.proofs.lemmas.Str.{IsCharBoundary-end, IsCharBoundary-after_ascii}
 use Rattle.std.proofs.Math.Arith.{lt_of_le-ne}
+use Rattle.std.specs.Bool.{Decides}
+use Rattle.std.specs.Prelude.{codes}
 use Rattle.std.specs.Str.{IsCharBoundary, IsUtf8, bytes_eq}
 use Rattle.implib_tool.specs.Parts.{IsSeparator, LineBeginsAfter, LineEndsBefore, Separates, IsUndivided, Follows, Divides, HasOneParting, Parts}
 use Rattle.implib_tool.specs.Views.{IsLineAt}
@@ -347,17 +349,20 @@ line_from text (suc fuel) start h =
 
 -- whether a line separates
 separator_or_not : (line : List ℕ) → IsSeparator line ⊎ ¬ (IsSeparator line)
-separator_or_not line = by (bytes_eq line a || bytes_eq line b) refl
+separator_or_not line = by (bytes_eq line plain || bytes_eq line returned) refl
   where
-    a : List ℕ
-    a = 45 ∷ 45 ∷ 45 ∷ []
+    plain : List ℕ
+    plain = codes "---"
 
-    b : List ℕ
-    b = 45 ∷ 45 ∷ 45 ∷ 13 ∷ []
+    returned : List ℕ
+    returned = codes "---\r"
 
-    by : (r : Bool) → (bytes_eq line a || bytes_eq line b) ≡ r → IsSeparator line ⊎ ¬ (IsSeparator line)
-    by true is = inl ((Decides-or (bytes_eq line a) (bytes_eq line b) (bytes_eq-Decides line a) (bytes_eq-Decides line b)).0 is)
-    by false is = inr (not_from_Decides (bytes_eq line a || bytes_eq line b) (Decides-or (bytes_eq line a) (bytes_eq line b) (bytes_eq-Decides line a) (bytes_eq-Decides line b)) is)
+    decides : Decides (bytes_eq line plain || bytes_eq line returned) (IsSeparator line)
+    decides = Decides-or (bytes_eq line plain) (bytes_eq line returned) (bytes_eq-Decides line plain) (bytes_eq-Decides line returned)
+
+    by : (r : Bool) → (bytes_eq line plain || bytes_eq line returned) ≡ r → IsSeparator line ⊎ ¬ (IsSeparator line)
+    by true is = inl (decides.0 is)
+    by false is = inr (not_from_Decides (bytes_eq line plain || bytes_eq line returned) decides is)
 
 next_beyond : (text : List ℕ) (start end next : ℕ) → start < length text → IsLineAt text start end next → start < next
 next_beyond text start end next h at = elim at.ends [ inl last ↦ omega arith | inr more ↦ omega (arith, at.after) ]

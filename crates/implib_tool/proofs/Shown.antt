@@ -1,8 +1,11 @@
 -- Lemmas on the listing.
-use Rattle.std.proofs.Common.{◌≡◌, ℕ, ◌+◌, ◌-◌, ◌*◌, ◌/◌, ◌%◌, ◌<◌, ◌≤◌, true, cond, List, [], ◌∷◌, ◌++◌, length, take, drop, set, get_or, flat_map, refl, sym, ap, subst, ◌∙◌, append_assoc, append-nil, take-append-drop, arith, length-set, length-drop, slice_range, get_or-drop}
-use Rattle.std.proofs.lemmas.Bool.{and_parts}
+use Rattle.std.proofs.Common.{◌≡◌, ℕ, ◌+◌, ◌-◌, ◌*◌, ◌/◌, ◌%◌, ◌<◌, ◌≤◌, true, cond, List, [], ◌∷◌, ◌++◌, length, take, drop, set, get_or, flat_map, refl, sym, ap, subst, ◌∙◌, append_assoc, append-nil, take-append-drop, arith, length-set, length-drop, slice_range, get_or-drop, inl, inr, min}
+use Rattle.std.specs.Prelude.{◌==◌, ◌⊎◌, ◌||◌}
+use Rattle.std.proofs.Math.Bool.{or-true}
+use Rattle.std.proofs.Math.Seq.{take-append-add}
+use Rattle.std.proofs.lemmas.Bool.{and_parts, cases_lt, eq-eqb, ne_eqb}
 use Rattle.std.proofs.lemmas.Grind.{flat_map-append}
-use Rattle.std.proofs.lemmas.List.{take_more, take_more_set, length-take-le, drop-drop}
+use Rattle.std.proofs.lemmas.List.{take_more, take_more_set, take-append-le, length-take-le, drop-drop}
 use Rattle.std.specs.List.{enumerate_from, list_all}
 use Rattle.implib_tool.specs.Listing.{after_byte, byte_listing, escaped, escaped_byte, hex_byte, hex_digit, is_plain}
 
@@ -66,22 +69,113 @@ lines_more f start end bytes order within =
     ∙ flat_map-append f (enumerate_from start line) (enumerate_from (start + length line) (drop end bytes))
     ∙ ap (λ n. flat_map f (enumerate_from start line) ++ flat_map f (enumerate_from n (drop end bytes))) count
 
--- one more byte on the line of those from start on
-pub byte_more : (bytes line : List ℕ) (start index x y z : ℕ) → start ≤ index → index < length bytes → 3 * (index - start) + 3 ≤ length line
-    → x ≡ hex_digit (get_or bytes index 0 / 16) → y ≡ hex_digit (get_or bytes index 0 % 16) → z ≡ after_byte (length bytes) index
-    → take (3 * (index - start)) line ≡ flat_map (byte_listing (length bytes)) (enumerate_from start (take (index - start) (drop start bytes)))
-    → take (3 * (index + 1 - start)) (set (set (set line (3 * (index - start)) x) (3 * (index - start) + 1) y) (3 * (index - start) + 2) z)
-    ≡ flat_map (byte_listing (length bytes)) (enumerate_from start (take (index + 1 - start) (drop start bytes)))
-byte_more bytes line start index x y z order within room is_x is_y is_z before =
+-- a byte and a space
+abbrev pub spaced_byte : ℕ × ℕ → List ℕ
+spaced_byte place = hex_byte place.1 ++ 32 ∷ []
+
+-- one more byte and its space on the line of those from start on
+pub byte_more : (bytes line : List ℕ) (start index x y : ℕ) → start ≤ index → index < length bytes → 3 * (index - start) + 3 ≤ length line
+    → x ≡ hex_digit (get_or bytes index 0 / 16) → y ≡ hex_digit (get_or bytes index 0 % 16)
+    → take (3 * (index - start)) line ≡ flat_map spaced_byte (enumerate_from start (take (index - start) (drop start bytes)))
+    → take (3 * (index + 1 - start)) (set (set (set line (3 * (index - start)) x) (3 * (index - start) + 1) y) (3 * (index - start) + 2) 32)
+    ≡ flat_map spaced_byte (enumerate_from start (take (index + 1 - start) (drop start bytes)))
+byte_more bytes line start index x y order within room is_x is_y before =
     let n = index - start in
     let place : start + n ≡ index = omega arith in
     let next : index + 1 - start ≡ n + 1 = omega arith in
     let byte_is : get_or (drop start bytes) n 0 ≡ get_or bytes index 0 = get_or-drop start bytes n 0 ∙ ap (λ k. get_or bytes k 0) place in
-    let shown : byte_listing (length bytes) (start + n, get_or (drop start bytes) n 0) ≡ x ∷ y ∷ z ∷ [] =
-    ap (λ k. byte_listing (length bytes) (k, get_or (drop start bytes) n 0)) place ∙ ap (λ b. byte_listing (length bytes) (index, b)) byte_is
-    ∙ ap (λ a. a ∷ hex_digit (get_or bytes index 0 % 16) ∷ after_byte (length bytes) index ∷ []) (sym is_x)
-    ∙ ap (λ b. x ∷ b ∷ after_byte (length bytes) index ∷ []) (sym is_y)
-    ∙ ap (λ c. x ∷ y ∷ c ∷ []) (sym is_z)
+    let shown : spaced_byte (start + n, get_or (drop start bytes) n 0) ≡ x ∷ y ∷ 32 ∷ [] =
+    ap (λ b. hex_byte b ++ 32 ∷ []) byte_is
+    ∙ ap (λ a. a ∷ hex_digit (get_or bytes index 0 % 16) ∷ 32 ∷ []) (sym is_x)
+    ∙ ap (λ b. x ∷ b ∷ 32 ∷ []) (sym is_y)
     in
-    subst (λ m. take (3 * m) (set (set (set line (3 * n) x) (3 * n + 1) y) (3 * n + 2) z) ≡ flat_map (byte_listing (length bytes)) (enumerate_from start (take m (drop start bytes)))) (sym next)
-    (line_more (byte_listing (length bytes)) start n (drop start bytes) line x y z (omega (arith, length-drop start bytes)) room shown before)
+    subst (λ m. take (3 * m) (set (set (set line (3 * n) x) (3 * n + 1) y) (3 * n + 2) 32) ≡ flat_map spaced_byte (enumerate_from start (take m (drop start bytes)))) (sym next)
+    (line_more spaced_byte start n (drop start bytes) line x y 32 (omega (arith, length-drop start bytes)) room shown before)
+
+-- a space stands after a byte that ends no line
+space_after : (count index : ℕ) → index % 16 < 15 → index + 1 < count → after_byte count index ≡ 32
+space_after count index inside more =
+    let not_fifteen : index % 16 ≡ 15 → ⊥ = λ same. omega arith in
+    let not_last : index + 1 ≡ count → ⊥ = λ same. omega arith in
+    rw (ne_eqb (index % 16) 15 not_fifteen, ne_eqb (index + 1) count not_last) refl
+
+-- so the bytes before the last of a line are shown with spaces
+front_shown : (count index : ℕ) (front : List ℕ) → index % 16 + length front ≤ 15 → index + length front < count
+    → flat_map (byte_listing count) (enumerate_from index front) ≡ flat_map spaced_byte (enumerate_from index front)
+front_shown count index [] short more = refl
+front_shown count index (byte ∷ front) short more =
+    let here : after_byte count index ≡ 32 = space_after count index (omega arith) (omega arith) in
+    let others = front_shown count (index + 1) front (omega arith) (omega arith) in
+    ap (λ c. (hex_byte byte ++ c ∷ []) ++ flat_map (byte_listing count) (enumerate_from (index + 1) front)) here
+    ∙ ap (λ t. (hex_byte byte ++ 32 ∷ []) ++ t) others
+
+-- a line end stands after the last byte of a line
+line_end_after : (count index : ℕ) → (index % 16 ≡ 15) ⊎ (index + 1 ≡ count) → after_byte count index ≡ 10
+line_end_after count index (inl fifteen) = rw (eq-eqb (index % 16) 15 fifteen) refl
+line_end_after count index (inr last) =
+    ap (λ test. cond (index % 16 == 15 || test) 10 32) (eq-eqb (index + 1) count last) ∙ ap (λ test. cond test 10 32) (or-true (index % 16 == 15))
+
+last_of_line : (start n count : ℕ) → start % 16 ≡ 0 → (n ≡ 15) ⊎ (start + n + 1 ≡ count) → ((start + n) % 16 ≡ 15) ⊎ (start + n + 1 ≡ count)
+last_of_line start n count first (inl fifteen) = inl (omega arith)
+last_of_line start n count first (inr last) = inr last
+
+length-spaced : (start : ℕ) (bytes : List ℕ) → length (flat_map spaced_byte (enumerate_from start bytes)) ≡ 3 * length bytes
+length-spaced start [] = refl
+length-spaced start (byte ∷ bytes) = omega (arith, length-spaced (start + 1) bytes)
+
+-- what one more byte adds
+one_added : (f : ℕ × ℕ → List ℕ) (start n last : ℕ) (front : List ℕ) → length front ≡ n
+    → flat_map f (enumerate_from start (front ++ last ∷ [])) ≡ flat_map f (enumerate_from start front) ++ f (start + n, last)
+one_added f start n last front long =
+    ap (flat_map f) (enumerate_from-append start front (last ∷ []) ∙ ap (λ k. enumerate_from start front ++ (start + k, last) ∷ []) long)
+    ∙ flat_map-append f (enumerate_from start front) ((start + n, last) ∷ [])
+    ∙ ap (λ t. flat_map f (enumerate_from start front) ++ t) (append-nil (f (start + n, last)))
+
+-- a line with a space after each byte, its last space made a line end, shows its bytes
+pub line_ended : (count start n last : ℕ) (front line : List ℕ) → start % 16 ≡ 0 → length front ≡ n → n < 16 → start + n < count → (n ≡ 15) ⊎ (start + n + 1 ≡ count)
+    → 3 * n + 3 ≤ length line → take (3 * n + 3) line ≡ flat_map spaced_byte (enumerate_from start (front ++ last ∷ []))
+    → take (3 * n + 3) (set line (3 * n + 2) 10) ≡ flat_map (byte_listing count) (enumerate_from start (front ++ last ∷ []))
+line_ended count start n last front line first long few more end room shown =
+    let shown_front = flat_map spaced_byte (enumerate_from start front) in
+    let size : length shown_front ≡ 3 * n = length-spaced start front ∙ ap (λ k. 3 * k) long in
+    let whole : take (3 * n + 3) line ≡ shown_front ++ (hex_byte last ++ 32 ∷ []) = shown ∙ one_added spaced_byte start n last front long in
+    let two_less : take (3 * n + 2) line ≡ take (3 * n + 2) (take (3 * n + 3) line) =
+    ap (take (3 * n + 2)) (sym (take-append-drop (3 * n + 3) line))
+    ∙ take-append-le (3 * n + 2) (take (3 * n + 3) line) (drop (3 * n + 3) line) (omega (arith, length-take-le (3 * n + 3) line room)) in
+    let cut : take (3 * n + 2) (shown_front ++ (hex_byte last ++ 32 ∷ [])) ≡ shown_front ++ hex_byte last =
+    ap (λ k. take (k + 2) (shown_front ++ (hex_byte last ++ 32 ∷ []))) (sym size) ∙ take-append-add shown_front (hex_byte last ++ 32 ∷ []) 2 in
+    let written : take (3 * n + 2 + 1) (set line (3 * n + 2) 10) ≡ take (3 * n + 2) line ++ 10 ∷ [] = take_more_set line (3 * n + 2) 10 (omega arith) in
+    let three : 3 * n + 3 ≡ 3 * n + 2 + 1 = omega arith in
+    let ending : after_byte count (start + n) ≡ 10 = line_end_after count (start + n) (last_of_line start n count first end) in
+    ap (λ k. take k (set line (3 * n + 2) 10)) three ∙ written
+    ∙ ap (λ t. t ++ 10 ∷ []) (two_less ∙ ap (take (3 * n + 2)) whole ∙ cut)
+    ∙ append_assoc shown_front (hex_byte last) (10 ∷ [])
+    ∙ ap (λ c. shown_front ++ (hex_byte last ++ c ∷ [])) (sym ending)
+    ∙ ap (λ t. t ++ (hex_byte last ++ after_byte count (start + n) ∷ [])) (sym (front_shown count start front (omega arith) (omega arith)))
+    ∙ sym (one_added (byte_listing count) start n last front long)
+
+line_is_whole : (start end count : ℕ) → start < end → end ≡ min (start + 16) count → (end - start - 1 ≡ 15) ⊎ (start + (end - start - 1) + 1 ≡ count)
+line_is_whole start end count some whole = elim (cases_lt (start + 16) count) [
+  | inl below ↦ inl (omega arith)
+  | inr above ↦ inr (omega arith)
+]
+
+-- the line of the bytes from start to end
+pub line_shown : (bytes line : List ℕ) (start end : ℕ) → start < end → end ≡ min (start + 16) (length bytes) → start % 16 ≡ 0 → length line ≡ 48
+    → take (3 * (end - start)) line ≡ flat_map spaced_byte (enumerate_from start (take (end - start) (drop start bytes)))
+    → take (3 * (end - start)) (set line (3 * (end - start) - 1) 10) ≡ flat_map (byte_listing (length bytes)) (enumerate_from start (slice_range bytes start end))
+line_shown bytes line start end some whole first room shown =
+    let part = drop start bytes in
+    let n = end - start - 1 in
+    let width : end - start ≡ n + 1 = omega arith in
+    let long : n < length part = omega (arith, length-drop start bytes) in
+    let parted : take (end - start) part ≡ take n part ++ get_or part n 0 ∷ [] = ap (λ k. take k part) width ∙ take_more part n 0 long in
+    let size : 3 * (end - start) ≡ 3 * n + 3 = omega arith in
+    let place : 3 * (end - start) - 1 ≡ 3 * n + 2 = omega arith in
+    let ended = line_ended (length bytes) start n (get_or part n 0) (take n part) line first (length-take-le n part (omega arith)) (omega arith) (omega (arith, length-drop start bytes))
+    (line_is_whole start end (length bytes) some whole) (omega arith)
+    (ap (λ k. take k line) (sym size) ∙ shown ∙ ap (λ t. flat_map spaced_byte (enumerate_from start t)) parted) in
+    ap (λ k. take k (set line (3 * (end - start) - 1) 10)) size
+    ∙ ap (λ k. take (3 * n + 3) (set line k 10)) place
+    ∙ ended
+    ∙ ap (λ t. flat_map (byte_listing (length bytes)) (enumerate_from start t)) (sym parted)

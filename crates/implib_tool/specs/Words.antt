@@ -2,7 +2,7 @@
 use Rattle.std.specs.Prelude.{◌≡◌, ℕ, List, [], ◌∷◌, Option, None, Some, Result, Ok, Err, codes, if◌then◌else◌}
 use Rattle.std.specs.Str.{bytes_eq}
 use Rattle.implib.specs.declared.library.Flavor.{Flavor}
-use Rattle.implib.specs.declared.library.Flavor.TheVariants.{Msvc}
+use Rattle.implib.specs.declared.library.Flavor.TheVariants.{Msvc, Gnu}
 use Rattle.implib.specs.declared.machine.MachineType.{MachineType}
 use Rattle.implib.specs.declared.machine.MachineType.TheVariants.{I386, ARMNT, AMD64, ARM64}
 use Rattle.implib_tool.specs.declared.run.RunError.{RunError}
@@ -19,7 +19,9 @@ machine_named word =
 
 -- the flavour with a name
 abbrev pub flavor_named : List ℕ → Option Flavor
-flavor_named word = if bytes_eq word (codes "msvc") then Some Msvc else None
+flavor_named word =
+    if bytes_eq word (codes "msvc") then Some Msvc else
+    (if bytes_eq word (codes "gnu") then Some Gnu else None)
 
 -- a machine and a flavour, where there are both
 abbrev pub both : Option MachineType → Option Flavor → Option (MachineType × Flavor)

@@ -42,6 +42,7 @@ fn flavor_of(word: &str) -> Option<Flavor>
 {
     match word {
         "msvc" => Some(Flavor::Msvc),
+        "gnu" => Some(Flavor::Gnu),
         _ => None,
     }
 }

@@ -1,9 +1,9 @@
 //! The text that shows members.
 
 ghost use Rattle.implib.specs.Library.{member_view};
-ghost use Rattle.implib_tool.specs.Listing.{after_byte, bytes_listing, byte_listing, escaped, escaped_byte, hex_digit, is_plain, listing_of, member_listing, symbol_listing};
+ghost use Rattle.implib_tool.specs.Listing.{bytes_listing, byte_listing, escaped, escaped_byte, hex_digit, is_plain, listing_of, member_listing, symbol_listing};
 ghost use Rattle.std.specs.List.{enumerate_from, list_all};
-ghost use Rattle.std.specs.Prelude.{◌≡◌, ◌+◌, ◌<◌, ◌≤◌, [], ◌∷◌, ◌++◌, OnOk, decimal, flat_map, length, map, slice_range};
+ghost use Rattle.std.specs.Prelude.{◌≡◌, ◌%◌, ◌+◌, ◌<◌, ◌≤◌, [], ◌∷◌, ◌++◌, OnOk, decimal, flat_map, length, map, min, slice_range};
 ghost use Rattle.std.specs.String.{string_bytes};
 
 use crate::blocks::TextBlocks;
@@ -30,11 +30,15 @@ fn stands_plain(byte: u8) -> bool
     byte >= 0x21 && byte <= 0x7E && byte != b'\\'
 }
 
-/// Whether each byte of a name stands as it is.
+/// Whether each byte of a name stands as it is. It looks at all of them, many at a time.
 fn stand_plain(name: &[u8]) -> bool
     ensures { result ≡ list_all is_plain name.now }
 {
-    name.iter().all(|byte| stands_plain(*byte))
+    let mut plain = true;
+    for byte in name {
+        plain = plain & stands_plain(*byte);
+    }
+    plain
 }
 
 /// Appends a byte of a name.
@@ -87,38 +91,27 @@ fn list_symbols(listing: &mut TextBlocks, symbols: &[String]) -> Result<(), Allo
     Ok(())
 }
 
-/// What stands after the byte with an index, of this many.
-fn end_of_byte(count: usize, index: usize) -> u8
-    requires { index < count }
-    ensures { result ≡ after_byte count index }
-{
-    if index % 16 == 15 || index + 1 == count {
-        b'\n'
-    } else {
-        b' '
-    }
-}
-
-/// Appends the bytes from `start` to `end`, which have room on one line.
+/// Appends the bytes from `start` to `end`, which make a line.
 fn list_line(
     listing: &mut TextBlocks,
     bytes: &[u8],
     start: usize,
     end: usize,
 ) -> Result<(), AllocError>
-    requires order { start ≤ end }
-    requires within { end ≤ length bytes.now }
-    requires short { end ≤ start + 16 }
+    requires some { start < end }
+    requires whole { end ≡ min (start + 16) (length bytes.now) }
+    requires first { start % 16 ≡ 0 }
     ensures { OnOk result (listing.new ≡ listing.old
         ++ flat_map (byte_listing (length bytes.now)) (enumerate_from start (slice_range bytes.now start end))) }
 {
-    let mut line = [0u8; 48];
+    let mut line = [b' '; 48];
     for index in start..end {
         let at = 3 * (index - start);
         line[at] = hex_digit_of(bytes[index] / 16);
         line[at + 1] = hex_digit_of(bytes[index] % 16);
-        line[at + 2] = end_of_byte(bytes.len(), index);
+        line[at + 2] = b' ';
     }
+    line[3 * (end - start) - 1] = b'\n';
     listing.push(&line[..3 * (end - start)])
 }
 

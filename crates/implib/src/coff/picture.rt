@@ -144,7 +144,7 @@ fn records_of(symbols: &[PictureSymbol]) -> u64
 }
 
 // The auxiliary records of a symbol.
-#[tactic(auto, unfolding(crate::specs::Picture::auxiliary_count, crate::specs::Picture::FitsAuxiliary))]
+#[tactic(auto, unfolding(crate::specs::Picture::auxiliary_count))]
 pub(crate) fn auxiliary_count(aux: Option<[u8; 18]>) -> u32
     ensures count { result ≡ auxiliary_count aux }
     ensures whole { FitsAuxiliary aux }
@@ -293,7 +293,7 @@ fn put_symbols(pass: &mut Pass, symbols: &[PictureSymbol], offsets: &[u32])
 }
 
 // Puts a symbol's record, whose type is 0, and its auxiliary record.
-#[tactic(auto, unfolding(crate::specs::Picture::auxiliary_bytes, crate::specs::Picture::FitsAuxiliary))]
+#[tactic(auto, unfolding(crate::specs::Picture::auxiliary_bytes))]
 fn put_symbol(pass: &mut Pass, symbol: &PictureSymbol, offsets: &[u32])
     requires room { 18 + length (auxiliary_bytes symbol.now.aux) ≤ pass.old.left }
     requires fits { FitsField (length offsets.now) (name_view symbol.now.name) }
@@ -353,3 +353,6 @@ fn put_string(pass: &mut Pass, text: &str)
     pass.put_bytes(text.as_bytes());
     pass.put_bytes(&[0]);
 }
+
+#[cfg(test)]
+mod tests;

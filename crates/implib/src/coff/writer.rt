@@ -27,6 +27,9 @@ pub struct ObjectWriter {
     records: u32,
 }
 
+// The most bytes of a name that stands in its record.
+const LONGEST_IN_RECORD: usize = 8;
+
 // The names of an object's string table, and the symbols that name them by their index.
 #[derive(Drop)]
 struct Names<'a> {
@@ -176,7 +179,7 @@ fn name_of<'a>(strings: &mut IndexSet<&'a str>, text: &'a str) -> Result<SymbolN
         ≡ with_long_name (map (λ t. t.now) strings.old.keys) text.now) }
     ensures name { IfOk result (λ name. name_view name ≡ name_place (map (λ t. t.now) strings.new.keys) text.now) }
 {
-    if text.len() > 8 {
+    if text.len() > LONGEST_IN_RECORD {
         let (index, _) = strings.insert_full(text)?;
         Ok(SymbolName::Listed(index))
     } else {

@@ -25,7 +25,8 @@ fn push_stem(out: &mut String, dll: &str) -> Result<(), AllocError>
         out.push_str("_")?;
         rest = &rest[place + 1..];
     }
-    out.push_str(rest)
+    out.push_str(rest)?;
+    Ok(())
 }
 
 // The DLL's name with each full stop as an underscore, and then this text.

@@ -64,10 +64,7 @@ fn linkage_sections(alloc: Global, first: Section, second: Section, third: Secti
         empty_section(
             alloc,
             *b".data\0\0\0",
-            flags::CNT_INITIALIZED_DATA
-                | flags::ALIGN_16BYTES
-                | flags::MEM_READ
-                | flags::MEM_WRITE,
+            flags::CNT_INITIALIZED_DATA | flags::ALIGN_16BYTES | flags::MEM_READ | flags::MEM_WRITE,
         ),
         empty_section(
             alloc,
@@ -162,11 +159,7 @@ pub(crate) fn head_object(
 }
 
 // The sections of the tail.
-fn tail_sections(
-    alloc: Global,
-    machine: MachineType,
-    dll: &str,
-) -> Result<[Section; 6], AllocError>
+fn tail_sections(alloc: Global, machine: MachineType, dll: &str) -> Result<[Section; 6], AllocError>
     ensures { IfOk result (λ sections. map section_view sections ≡ tail_sections machine dll.now) }
 {
     let lookup = zeros(alloc, thunk_width(machine))?;
@@ -368,10 +361,7 @@ fn export_sections(
         empty_section(
             alloc,
             *b".data\0\0\0",
-            flags::CNT_INITIALIZED_DATA
-                | flags::ALIGN_4BYTES
-                | flags::MEM_READ
-                | flags::MEM_WRITE,
+            flags::CNT_INITIALIZED_DATA | flags::ALIGN_4BYTES | flags::MEM_READ | flags::MEM_WRITE,
         ),
         empty_section(
             alloc,

@@ -1,6 +1,7 @@
 //! Members that were worked by hand.
 
 ghost use Rattle.implib.specs.WorkedMembers.{WorkedBytes, WorkedFields, WorkedMeanings, WorkedOutlines, WorkedRefusals};
+ghost use Rattle.implib.specs.WorkedGnu.{WorkedGnuBytes, WorkedGnuOutlines, WorkedGnuRefusals};
 
 /// Definitions that were worked by hand have these members for Microsoft's linker, or are refused
 /// for these causes.
@@ -10,4 +11,12 @@ pub fn worked_members()
     ensures meanings { WorkedMeanings }
     ensures bytes { WorkedBytes }
     ensures fields { WorkedFields }
+{}
+
+/// Definitions that were worked by hand have these members for GNU's linker, or are refused for these
+/// causes.
+pub fn worked_gnu_members()
+    ensures outlines { WorkedGnuOutlines }
+    ensures refusals { WorkedGnuRefusals }
+    ensures bytes { WorkedGnuBytes }
 {}

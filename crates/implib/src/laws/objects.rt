@@ -2,6 +2,7 @@
 
 ghost use Rattle.implib.specs.Object.{Object, object_in};
 ghost use Rattle.implib.specs.Picture.{Fits, Picture, layout, layout_size, object_of};
+ghost use Rattle.implib.specs.WorkedObjects.{WorkedObjects};
 ghost use Rattle.std.specs.Prelude.{◌<◌, ◌^◌, ◌≡◌, ℕ, List, Some, length};
 
 /// A picture whose fields have their ranges and whose bytes are fewer than 2^32 reads back from its
@@ -18,4 +19,9 @@ pub fn picture_has_its_size()
 /// Bytes are read as one object at most.
 pub fn object_is_one()
     ensures { (bytes : List ℕ) (a b : Object) → object_in bytes ≡ Some a → object_in bytes ≡ Some b → a ≡ b }
+{}
+
+/// Objects that were worked by hand have their sizes and places.
+pub fn worked_objects()
+    ensures { WorkedObjects }
 {}

@@ -8,6 +8,8 @@ use super::*;
 use crate::coff::{class, relocation};
 use std::test::Fail;
 
+mod memory;
+
 // A symbol of value 0.
 fn symbol(
     alloc: Global,
@@ -133,5 +135,81 @@ fn auxiliary_record_has_an_index(rt: HostRuntime) -> Result<(), Fail> {
         \x04\0\0\0"
             .as_slice()
     );
+    Ok(())
+}
+
+// The sections of the export member of `bar` of `foo.dll` for AMD64.
+const STUB: [u8; 8] = [0xFF, 0x25, 0, 0, 0, 0, 0x90, 0x90];
+
+#[test]
+fn export_member_has_its_places(rt: HostRuntime) -> Result<(), Fail> {
+    let alloc = rt.alloc();
+    let mut writer = ObjectWriter::new(alloc, MachineType::AMD64);
+    writer.add_section(section(alloc, *b".text\0\0\0", 0x6030_0020, STUB.as_slice())?)?;
+    writer.add_section(section(alloc, *b".data\0\0\0", 0xC030_0040, &[])?)?;
+    writer.add_section(section(alloc, *b".bss\0\0\0\0", 0xC030_0080, &[])?)?;
+    writer.add_section(section(alloc, *b".idata$7", 0xC030_0000, &[0; 4])?)?;
+    writer.add_section(section(alloc, *b".idata$5", 0xC030_0000, &[0; 8])?)?;
+    writer.add_section(section(alloc, *b".idata$4", 0xC030_0000, &[0; 8])?)?;
+    writer.add_section(section(alloc, *b".idata$6", 0xC020_0000, b"\0\0bar\0")?)?;
+    writer.add_symbol(symbol(
+        alloc,
+        "_head_foo_dll",
+        Place::Undefined,
+        class::EXTERNAL,
+        None,
+    )?)?;
+    writer.add_symbol(symbol(alloc, "bar", Place::Section(1), class::EXTERNAL, None)?)?;
+    writer.add_symbol(symbol(alloc, "__imp_bar", Place::Section(5), class::EXTERNAL, None)?)?;
+    writer.add_symbol(symbol(alloc, ".idata$6", Place::Section(7), class::STATIC, None)?)?;
+    writer.add_relocation(
+        1,
+        Relocation {
+            offset: 2,
+            symbol: 2,
+            kind: relocation::AMD64_REL32,
+        },
+    )?;
+    writer.add_relocation(
+        4,
+        Relocation {
+            offset: 0,
+            symbol: 0,
+            kind: relocation::AMD64_ADDR32NB,
+        },
+    )?;
+    writer.add_relocation(
+        5,
+        Relocation {
+            offset: 0,
+            symbol: 3,
+            kind: relocation::AMD64_ADDR32NB,
+        },
+    )?;
+    writer.add_relocation(
+        6,
+        Relocation {
+            offset: 0,
+            symbol: 3,
+            kind: relocation::AMD64_ADDR32NB,
+        },
+    )?;
+    let bytes = writer.write()?;
+    assert_eq!(rt; bytes.len(), 474);
+    let pieces: [(usize, &[u8]); 9] = [
+        (0, b"\x64\x86\x07\0\0\0\0\0\x76\x01\0\0\x04\0\0\0\0\0\0\0"),
+        (300, b"\xff\x25\0\0\0\0\x90\x90"),
+        (308, b"\x02\0\0\0\x02\0\0\0\x04\0"),
+        (318, b"\0\0\0\0\0\0\0\0\0\0\0\0\x03\0"),
+        (340, b"\0\0\0\0\x03\0\0\0\x03\0"),
+        (358, b"\0\0\0\0\x03\0\0\0\x03\0"),
+        (368, b"\0\0bar\0"),
+        (374, b"\0\0\0\0\x04\0\0\0"),
+        (446, b"\x1c\0\0\0_head_foo_dll\0__imp_bar\0"),
+    ];
+    for (place, piece) in pieces {
+        let rest = bytes.get(place..).ok_or("past the end")?;
+        assert!(rt; rest.starts_with(piece), "at {place}");
+    }
     Ok(())
 }

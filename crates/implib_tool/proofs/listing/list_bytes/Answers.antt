@@ -1,4 +1,4 @@
-use Rattle.std.proofs.Common.{rules, ◌+◌, ◌∙◌, ◌++◌, drop, length, flat_map, slice_range, ap, sym, append_assoc}
+use Rattle.std.proofs.Common.{arith, rules, ◌+◌, ◌∙◌, ◌++◌, drop, length, flat_map, slice_range, ap, sym, append_assoc}
 use Rattle.std.specs.List.{enumerate_from}
 use Rattle.implib_tool.specs.Listing.{byte_listing}
 use Rattle.implib_tool.proofs.Shown.{lines_more}
@@ -7,6 +7,7 @@ use Rattle.implib_tool.proofs.listing.list_bytes.Goals as goal
 pub loop-start-preserved : goal.loop-start-preserved
 loop-start-preserved c = record {
   within = search rules;
+  first = λ more. omega (arith, c.loop-start.invariant.first c.loop-start-test.true, c.min.ensures);
   listed =
       let bytes = c.args.bytes.now in
       let start = c.loop-start.start in

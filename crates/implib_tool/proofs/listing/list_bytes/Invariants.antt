@@ -1,4 +1,4 @@
-use Rattle.std.proofs.Common.{◌≡◌, ◌++◌, ◌-◌, ◌≤◌, drop, length, flat_map}
+use Rattle.std.proofs.Common.{◌≡◌, ◌++◌, ◌-◌, ◌%◌, ◌<◌, ◌≤◌, drop, length, flat_map}
 use Rattle.std.specs.List.{enumerate_from}
 use Rattle.implib_tool.specs.Listing.{byte_listing, bytes_listing}
 use Rattle.implib_tool.proofs.listing.list_bytes.Given as goal
@@ -7,6 +7,7 @@ use Rattle.implib_tool.proofs.listing.list_bytes.Given as goal
 abbrev pub invariant-loop-start : goal.invariant-loop-start
 invariant-loop-start l = record {
   within : l.start ≤ length l.bytes;
+  first : l.start < length l.bytes → l.start % 16 ≡ 0;
   listed : l.listing ++ flat_map (byte_listing (length l.bytes)) (enumerate_from l.start (drop l.start l.bytes))
       ≡ l.fn.listing ++ bytes_listing l.bytes;
 }

@@ -1,7 +1,5 @@
 use Rattle.std.proofs.Common.{rules}
-use Rattle.implib.specs.Picture.{FitsAuxiliary}
 use Rattle.implib.proofs.coff.picture.auxiliary_count.Goals as goal
 
 pub returns-in-Some-clause-whole : goal.returns-in-Some-clause-whole
-unfolding FitsAuxiliary
 returns-in-Some-clause-whole c = rw c.in-Some.is (search rules)

@@ -6,14 +6,14 @@ use Rattle.implib.proofs.coff.writer.name_of.Goals as goal
 
 pub returns-in_ok-index-clause-strings : goal.returns-in_ok-index-clause-strings
 returns-in_ok-index-clause-strings c =
-    let long : nat_lt 8 (length c.args.text.now) ≡ true = lt-ltb 8 (length c.args.text.now) c.if-text-gt8.true in
+    let long : nat_lt 8 (length c.args.text.now) ≡ true = lt-ltb 8 (length c.args.text.now) c.if-text-gt-LONGEST_IN_RECORD.true in
     ap (map (λ t. t.now)) c.in_ok-index.ensures.keys
     ∙ (insert_key_text c.args.text _ (λ x. refl) c.args.strings.now.keys
     ∙ sym (with_long_name-long (map (λ t. t.now) c.args.strings.now.keys) c.args.text.now long))
 
 pub returns-in_ok-index-clause-name : goal.returns-in_ok-index-clause-name
 returns-in_ok-index-clause-name c =
-    let long : nat_lt 8 (length c.args.text.now) ≡ true = lt-ltb 8 (length c.args.text.now) c.if-text-gt8.true in
+    let long : nat_lt 8 (length c.args.text.now) ≡ true = lt-ltb 8 (length c.args.text.now) c.if-text-gt-LONGEST_IN_RECORD.true in
     rw (
       ap (map (λ t. t.now)) c.in_ok-index.ensures.keys,
       insert_key_text c.args.text _ (λ x. refl) c.args.strings.now.keys,
@@ -22,12 +22,12 @@ returns-in_ok-index-clause-name c =
     )
     (ap Listed (c.in_ok-index.ensures.index ∙ position_key c.args.text _ (λ x. refl) c.args.strings.now.keys))
 
-pub returns-else-text-gt8-clause-strings : goal.returns-else-text-gt8-clause-strings
-returns-else-text-gt8-clause-strings c =
-    let short : nat_lt 8 (length c.args.text.now) ≡ false = le-ltb 8 (length c.args.text.now) c.if-text-gt8.false in
+pub returns-else-text-gt-LONGEST_IN_RECORD-clause-strings : goal.returns-else-text-gt-LONGEST_IN_RECORD-clause-strings
+returns-else-text-gt-LONGEST_IN_RECORD-clause-strings c =
+    let short : nat_lt 8 (length c.args.text.now) ≡ false = le-ltb 8 (length c.args.text.now) c.if-text-gt-LONGEST_IN_RECORD.false in
     sym (with_long_name-short (map (λ t. t.now) c.args.strings.now.keys) c.args.text.now short)
 
-pub returns-else-text-gt8-clause-name : goal.returns-else-text-gt8-clause-name
-returns-else-text-gt8-clause-name c =
-    let short : nat_lt 8 (length c.args.text.now) ≡ false = le-ltb 8 (length c.args.text.now) c.if-text-gt8.false in
+pub returns-else-text-gt-LONGEST_IN_RECORD-clause-name : goal.returns-else-text-gt-LONGEST_IN_RECORD-clause-name
+returns-else-text-gt-LONGEST_IN_RECORD-clause-name c =
+    let short : nat_lt 8 (length c.args.text.now) ≡ false = le-ltb 8 (length c.args.text.now) c.if-text-gt-LONGEST_IN_RECORD.false in
     sym (name_place-short (map (λ t. t.now) c.args.strings.now.keys) c.args.text.now short)

@@ -1,7 +1,6 @@
 use Rattle.std.proofs.Common.{◌≡◌, ◌∙◌, ap, map, refl}
-use Rattle.implib.specs.Picture.{Fits}
 use Rattle.implib.specs.PictureView.{picture_view, symbol_view}
-use Rattle.implib.specs.Writer.{added_view, picture_of, section_view}
+use Rattle.implib.specs.Writer.{added_view, picture_of}
 use Rattle.implib.specs.WriterView.{holding_view}
 use Rattle.implib.proofs.Written.{picture_same}
 use Rattle.implib.proofs.coff.writer.write_parts.Goals as goal

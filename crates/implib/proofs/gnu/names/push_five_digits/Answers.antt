@@ -1,4 +1,5 @@
+use Rattle.implib.proofs.GnuNames.{five_digits_printed}
 use Rattle.implib.proofs.gnu.names.push_five_digits.Goals as goal
 
 pub returns : goal.returns
-returns c = ?
+returns c = rw (c.laid_out.ensures, five_digits_printed c.args.number) at c.write.ensures.bytes

@@ -2,7 +2,7 @@ use Rattle.std.proofs.Common.{◌≡◌, ◌<◌, ◌≤◌, ◌^◌, ◌∙◌,
 use Rattle.std.specs.Prelude.{IfOk, OnOk}
 use Rattle.implib.specs.Definition.{export_view}
 use Rattle.implib.specs.Fault.{IfInvalid, MemberTooLong}
-use Rattle.implib.specs.Gnu.{export_object, export_symbols, head_symbols, tail_symbols}
+use Rattle.implib.specs.Gnu.{export_object, export_symbols}
 use Rattle.implib.specs.Picture.{Fits, layout, layout_size}
 use Rattle.implib.specs.Writer.{Holding, added_view, picture_of}
 use Rattle.implib.proofs.GnuObjects.{Fits-export_object}

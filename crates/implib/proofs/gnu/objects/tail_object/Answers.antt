@@ -1,10 +1,9 @@
-use Rattle.std.proofs.Common.{◌≡◌, ◌<◌, ◌≤◌, ◌^◌, ◌∙◌, refl, ap, sym, subst, map, List, ℕ}
+use Rattle.std.proofs.Common.{◌≡◌, ◌<◌, ◌≤◌, ◌^◌, ◌∙◌, refl, ap, sym, subst}
 use Rattle.std.specs.Prelude.{IfOk, OnOk}
-use Rattle.implib.specs.Definition.{export_view}
 use Rattle.implib.specs.Fault.{IfInvalid, MemberTooLong}
-use Rattle.implib.specs.Gnu.{tail_object, export_symbols, head_symbols, tail_symbols}
+use Rattle.implib.specs.Gnu.{tail_object, tail_symbols}
 use Rattle.implib.specs.Picture.{Fits, layout, layout_size}
-use Rattle.implib.specs.Writer.{Holding, added_view, picture_of}
+use Rattle.implib.specs.Writer.{Holding, picture_of}
 use Rattle.implib.proofs.GnuObjects.{Fits-tail_object}
 use Rattle.implib.proofs.Written.{same_holding}
 use Rattle.implib.proofs.gnu.objects.tail_object.Goals as goal

@@ -1,4 +1,4 @@
-use Rattle.std.proofs.Common.{◌≡◌, ◌<◌, ◌≤◌, ◌^◌, refl, ap, sym, ◌∙◌, subst, true, [], ◌∷◌}
+use Rattle.std.proofs.Common.{◌≡◌, ◌<◌, ◌≤◌, ◌^◌, refl, ap, sym, subst, [], ◌∷◌}
 use Rattle.std.specs.Prelude.{IfOk, OnOk}
 use Rattle.implib.specs.Fault.{IfInvalid, MemberTooLong}
 use Rattle.implib.specs.MsvcObjects.{null_descriptor, null_descriptor_symbol}

@@ -1,0 +1,49 @@
+use Rattle.std.proofs.Common.{◌≡◌, ◌+◌, ◌++◌, List, ℕ, map, drop, sym, subst, arith, false}
+use Rattle.std.specs.List.{list_all, list_any}
+use Rattle.std.specs.String.{string_bytes}
+use Rattle.implib.specs.Definition.{ExportView, definition_view, export_view}
+use Rattle.implib.specs.Import.{public_exports}
+use Rattle.implib.specs.Library.{member_view}
+use Rattle.implib.specs.Made.{has_u16_ordinal, is_too_long, member_of, numbered_plans, numbered_plans_of}
+use Rattle.implib.proofs.GnuLoop.{Left, left_private, left_public}
+use Rattle.implib.proofs.MembersLoop.{exports_from}
+use Rattle.implib.proofs.gnu.build.Goals as goal
+use Rattle.implib.proofs.gnu.build.Goals.{then-not-export+in_ok-push_export, else-not-export}
+
+pub loop-export-preserved : goal.loop-export-preserved
+loop-export-preserved c =
+    let machine = c.args.machine in
+    let dll = string_bytes c.args.def.now.import_name in
+    let plans = numbered_plans machine dll 0 (public_exports (definition_view c.args.def.now)) in
+    let all = map member_of plans in
+    let long = list_any is_too_long plans in
+    let sound = list_all has_u16_ordinal (public_exports (definition_view c.args.def.now)) in
+    let index = c.loop-export.export-index in
+    let number = c.loop-export.number in
+    let items = c.args.def.now.exports.items in
+    let others = map export_view (drop (index + 1) items) in
+    let e = export_view c.export-item.result in
+    let members = map member_view c.loop-export.members.items in
+    let here = exports_from items index c.export-item.result
+    (rw c.deref-export-items.ensures.value at c.loop-export-test.true) (rw c.deref-export-items.ensures.value at c.export-item.is) in
+    let before = subst (λ (exports : List ExportView). Left machine dll all long sound index number members exports) here
+    (record { named = c.loop-export.invariant.named; made = c.loop-export.invariant.made; fit = c.loop-export.invariant.fit; ordinals = c.loop-export.invariant.ordinals }) in
+    elim c.if-not-export.branch [
+      | then-not-export+in_ok-push_export w ↦
+          let grown : map member_view w.push_export.new.members.items ≡ members ++ map member_of (numbered_plans_of machine dll number e) =
+          rw c.as_str-dll.ensures.value at (w.in_ok-push_export.ensures {u = tt}).ok in
+          let short : list_any is_too_long (numbered_plans_of machine dll number e) ≡ false =
+          rw c.as_str-dll.ensures.value at (w.in_ok-push_export.ensures {u = tt}).fit in
+          let after : Left machine dll all long sound (index + 1) c.if-not-export.number (map member_view c.if-not-export.members.items) others =
+          subst (λ (n : ℕ). Left machine dll all long sound (index + 1) n (map member_view c.if-not-export.members.items) others) (sym w.number-is)
+          (subst (λ x. Left machine dll all long sound (index + 1) (number + 1) (map member_view x.items) others) (sym w.members-is)
+          (left_public machine dll all long sound index number members e others (map member_view w.push_export.new.members.items)
+          w.if-not-export.true before grown short (w.in_ok-push_export.ensures {u = tt}).ordinal)) in
+          record { counted = omega (arith, c.loop-export.invariant.counted, w.number-is); named = after.named; made = after.made; fit = after.fit; ordinals = after.ordinals }
+      | else-not-export w ↦
+          let after : Left machine dll all long sound (index + 1) c.if-not-export.number (map member_view c.if-not-export.members.items) others =
+          subst (λ (n : ℕ). Left machine dll all long sound (index + 1) n (map member_view c.if-not-export.members.items) others) (sym w.number-is)
+          (subst (λ x. Left machine dll all long sound (index + 1) number (map member_view x.items) others) (sym w.members-is)
+          (left_private machine dll all long sound index number members e others w.if-not-export.false before)) in
+          record { counted = omega (arith, c.loop-export.invariant.counted, w.number-is); named = after.named; made = after.made; fit = after.fit; ordinals = after.ordinals }
+    ]

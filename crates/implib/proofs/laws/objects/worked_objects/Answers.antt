@@ -1,0 +1,5 @@
+use Rattle.implib.proofs.WorkedObjects.{worked_objects}
+use Rattle.implib.proofs.laws.objects.worked_objects.Goals as goal
+
+pub returns : goal.returns
+returns c = worked_objects
