@@ -61,7 +61,9 @@ pub mod Placement
 pub mod Definitions
 pub mod Tables
 pub mod Linked
+pub mod LinkedBlocks
 pub mod LinkedMembers
+pub mod LinkedParts
 pub mod Loading
 pub mod WorkedLinks
 pub mod GnuObjects

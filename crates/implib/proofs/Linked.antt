@@ -1,25 +1,23 @@
 -- The objects for GNU's linker link to what their definition means.
 use Rattle.std.proofs.Common.{◌≡◌, ℕ, ◌+◌, ◌-◌, ◌%◌, ◌<◌, ◌≤◌, ◌^◌, List, [], ◌∷◌, ◌++◌, length, map, Some, refl, ap, sym, ◌∙◌, arith, subst, inl, inr}
-use Rattle.std.specs.Prelude.{bytes_eq}
-use Rattle.std.specs.List.{AllByRecursion, IsDistinct, filter, flat_map}
+use Rattle.std.specs.List.{AllByRecursion}
 use Rattle.std.proofs.lemmas.Bool.{cases_Bool}
 use Rattle.std.proofs.lemmas.List.{length-append, length-replicate}
 use Rattle.implib.specs.declared.machine.MachineType.{MachineType}
 use Rattle.implib.specs.declared.machine.MachineType.TheVariants.{I386, ARMNT, AMD64, ARM64}
 use Rattle.implib.specs.Bytes.{u32_bytes}
 use Rattle.implib.specs.Definition.{ExportView}
-use Rattle.implib.specs.Gnu.{export_listed, export_object, head_object, head_symbol, name_symbol, tail_object}
+use Rattle.implib.specs.Gnu.{export_object, head_object, head_symbol, name_symbol, tail_object}
 use Rattle.implib.specs.Import.{Ask, address_symbol, ask_meant}
-use Rattle.implib.specs.Link.{AllApart, Addresses, Bases, Descriptors, DllNames, HintNames, IsAdmissible, Kind, Lookups, Piece, Placed, Range, SymbolDefinition, base_of, definitions, definitions_of, filled, first_address, image_of, kinds, next_multiple, pieces, placed_from, range_end, range_of, relocated, with_address}
+use Rattle.implib.specs.Link.{Addresses, Bases, Descriptors, DllNames, HintNames, Lookups, Piece, Placed, Range, SymbolDefinition, definitions, definitions_of, filled, first_address, next_multiple, pieces, placed_from, range_end, range_of, relocated, with_address}
 use Rattle.implib.specs.Load.{BytesAt, Loads, NumberAt, TableAt, TextAt, number_in}
 use Rattle.implib.specs.MsvcObjects.{relocation, thunk_width, zeros}
 use Rattle.implib.specs.Object.{Object, u32_at}
 use Rattle.implib.specs.Picture.{HasNoNul}
-use Rattle.implib.specs.Theorem.{EntriesAt, IsDefinedOnce, descriptor_place, Links, undefined_names}
-use Rattle.implib.proofs.Ranges.{Among, address_bounds, among_back, among_first, among_flat, among_later, filled_stands, stands_parts}
-use Rattle.implib.proofs.Placement.{AreAligned, address_definition, after_head, aligned_after, at_least, code_definition, defined_after, definitions-after, ends_of_export, ends_of_exports, ends_of_head, head, names-after, placed-export, placed-head, placed-tail, placed_export, placed_head}
-use Rattle.implib.proofs.Definitions.{only_definition}
-use Rattle.implib.proofs.Tables.{CanBeAsked, addresses_filled, filled_first, hint_bytes, hint_names_filled, lookups_filled, same_number, table_at, thunk_bytes}
+use Rattle.implib.specs.Theorem.{EntriesAt, IsDefinedOnce, LinksAt, undefined_names}
+use Rattle.implib.proofs.Ranges.{Among, address_bounds, among_back, among_first, among_later, stands_parts}
+use Rattle.implib.proofs.Placement.{AreAligned, descriptors_end, address_definition, after_head, aligned_after, aligned_all, at_least, code_definition, defined_after, definitions-after, ends_of_all, ends_of_export, ends_of_exports, ends_of_head, ends_of_tail, head, placed-export, placed-head, placed-tail, placed_export, placed_head}
+use Rattle.implib.proofs.Tables.{CanBeAsked, addresses_end, addresses_filled, descriptors_filled, filled_first, hint_bytes, hint_names_end, hint_names_filled, lookups_end, lookups_filled, same_number, table_at, thunk_bytes}
 
 -- the first piece stands at its place, and the others after it
 piece_stands : (image : List Range) (a : ℕ) (p : Piece) (rest : List Piece) → a ≤ p.address → BytesAt image a (filled a (p ∷ rest)) →
@@ -32,11 +30,11 @@ piece_stands image a p rest low stands =
     (subst (λ n. BytesAt image n (p.bytes ++ filled (p.address + length p.bytes) rest)) place behind.1)
 
 -- the ranges of pieces are in the image, and begin at their bases
-bases_of_ranges : (base : ℕ) (ps : List Piece) → 0 < base → AllByRecursion (λ r. 0 < r.start) (range_of base ps)
+pub bases_of_ranges : (base : ℕ) (ps : List Piece) → 0 < base → AllByRecursion (λ r. 0 < r.start) (range_of base ps)
 bases_of_ranges base [] low = tt
 bases_of_ranges base (p ∷ ps) low = (low, tt)
 
-all_append : {X : Type 0} (P : X → Type 0) (xs ys : List X) → AllByRecursion P xs → AllByRecursion P ys → AllByRecursion P (xs ++ ys)
+pub all_append : {X : Type 0} (P : X → Type 0) (xs ys : List X) → AllByRecursion P xs → AllByRecursion P ys → AllByRecursion P (xs ++ ys)
 all_append P [] ys first second = second
 all_append P (x ∷ xs) ys first second = (first.0, all_append P xs ys first.1 second)
 
@@ -69,25 +67,28 @@ module _ (machine : MachineType) (dll : List ℕ) (linked : List Placed) where
   unfolding descriptor_linked head_object with_address u32_bytes u32_at
   descriptor_is b n is = rw (same_number machine, is) refl
 
-  -- where the DLL's name stands
-  name_stands : (image : List Range) (es : List ExportView) (b : Bases) → AreAligned b →
-      BytesAt image b.dll_names (filled b.dll_names (pieces machine linked DllNames (placed_from b (after_head machine dll es)))) →
+  -- where the DLL's name stands, and what is filled in after it
+  name_stands : (image : List Range) (es : List ExportView) (b : Bases) (rest : List Object) → AreAligned b →
+      BytesAt image b.dll_names (filled b.dll_names (pieces machine linked DllNames (placed_from b (after_head machine dll es rest)))) →
       BytesAt image (next_multiple 4 (ends_of_exports machine dll b es).dll_names) (dll ++ 0 ∷ [])
+      × BytesAt image (ends_of_all machine dll b es).dll_names (filled (ends_of_all machine dll b es).dll_names (pieces machine linked DllNames (placed_from (ends_of_all machine dll b es) rest)))
   unfolding ends_of_exports tail_object export_object with_address u32_bytes u32_at
-  name_stands image [] b even stands =
-      let here : BytesAt image b.dll_names (filled b.dll_names (record { address = next_multiple 4 b.dll_names; bytes = dll ++ 0 ∷ [] } ∷ [])) =
-      subst (λ ps. BytesAt image b.dll_names (filled b.dll_names (pieces machine linked DllNames ps))) (placed-tail machine dll b even) stands in
-      (piece_stands image b.dll_names (record { address = next_multiple 4 b.dll_names; bytes = dll ++ 0 ∷ [] }) [] (at_least 4 b.dll_names) here).0
-  name_stands image (e ∷ es) b even stands =
+  name_stands image [] b rest even stands =
+      let others : List Piece = pieces machine linked DllNames (placed_from (ends_of_tail machine dll b) rest) in
+      let own : Piece = record { address = next_multiple 4 b.dll_names; bytes = dll ++ 0 ∷ [] } in
+      let here : BytesAt image b.dll_names (filled b.dll_names (own ∷ others)) =
+      subst (λ ps. BytesAt image b.dll_names (filled b.dll_names (pieces machine linked DllNames ps))) (placed-tail machine dll b rest even) stands in
+      piece_stands image b.dll_names own others (at_least 4 b.dll_names) here
+  name_stands image (e ∷ es) b rest even stands =
       let later : Bases = ends_of_export machine dll b e in
-      let rest : List Piece = pieces machine linked DllNames (placed_from later (after_head machine dll es)) in
+      let others : List Piece = pieces machine linked DllNames (placed_from later (after_head machine dll es rest)) in
       let bytes : List ℕ = relocated machine linked (placed_export machine dll b e) (relocation machine 0 0 ∷ []) (zeros 4) in
       let four : length bytes ≡ 4 = rw (same_number machine) refl in
-      let here : BytesAt image b.dll_names (filled b.dll_names (record { address = next_multiple 4 b.dll_names; bytes = bytes } ∷ rest)) =
-      subst (λ ps. BytesAt image b.dll_names (filled b.dll_names (pieces machine linked DllNames ps))) (placed-export machine dll b e (after_head machine dll es) even) stands in
-      let after = (piece_stands image b.dll_names (record { address = next_multiple 4 b.dll_names; bytes = bytes }) rest (at_least 4 b.dll_names) here).1 in
-      name_stands image es later (aligned_after machine dll b e even)
-      (subst (λ n. BytesAt image (next_multiple 4 b.dll_names + n) (filled (next_multiple 4 b.dll_names + n) rest)) four after)
+      let here : BytesAt image b.dll_names (filled b.dll_names (record { address = next_multiple 4 b.dll_names; bytes = bytes } ∷ others)) =
+      subst (λ ps. BytesAt image b.dll_names (filled b.dll_names (pieces machine linked DllNames ps))) (placed-export machine dll b e (after_head machine dll es rest) even) stands in
+      let after = (piece_stands image b.dll_names (record { address = next_multiple 4 b.dll_names; bytes = bytes }) others (at_least 4 b.dll_names) here).1 in
+      name_stands image es later rest (aligned_after machine dll b e even)
+      (subst (λ n. BytesAt image (next_multiple 4 b.dll_names + n) (filled (next_multiple 4 b.dll_names + n) others)) four after)
 
   -- the name's definition is the last one
   name_defined : (es : List ExportView) (b : Bases) →
@@ -117,146 +118,156 @@ module _ (machine : MachineType) (dll : List ℕ) (linked : List Placed) where
   unfolding export_object
   undefined_by_export b e others = elim (cases_Bool e.is_data) [ inl is ↦ rw is refl | inr is ↦ rw is refl ]
 
-  undefined_after : (es : List ExportView) (b : Bases) → AreAligned b → IsDefinedOnce linked (head_symbol machine dll) →
-      AllByRecursion (IsDefinedOnce linked) (undefined_names (placed_from b (after_head machine dll es)))
-  unfolding tail_object
-  undefined_after [] b even once = tt
-  undefined_after (e ∷ es) b even once =
+  undefined_after : (es : List ExportView) (b : Bases) (rest : List Object) → AreAligned b → IsDefinedOnce linked (head_symbol machine dll) →
+      AllByRecursion (IsDefinedOnce linked) (undefined_names (placed_from (ends_of_all machine dll b es) rest)) →
+      AllByRecursion (IsDefinedOnce linked) (undefined_names (placed_from b (after_head machine dll es rest)))
+  unfolding tail_object ends_of_exports
+  undefined_after [] b rest even once others = subst (AllByRecursion (IsDefinedOnce linked)) (sym (ap undefined_names (placed-tail machine dll b rest even))) others
+  undefined_after (e ∷ es) b rest even once others =
       let later : Bases = ends_of_export machine dll b e in
-      let same : undefined_names (placed_from b (after_head machine dll (e ∷ es))) ≡ head_symbol machine dll ∷ undefined_names (placed_from later (after_head machine dll es)) =
-      ap undefined_names (placed-export machine dll b e (after_head machine dll es) even) ∙ undefined_by_export b e (placed_from later (after_head machine dll es)) in
-      subst (AllByRecursion (IsDefinedOnce linked)) (sym same) (once, undefined_after es later (aligned_after machine dll b e even) once)
+      let same : undefined_names (placed_from b (after_head machine dll (e ∷ es) rest)) ≡ head_symbol machine dll ∷ undefined_names (placed_from later (after_head machine dll es rest)) =
+      ap undefined_names (placed-export machine dll b e (after_head machine dll es rest) even) ∙ undefined_by_export b e (placed_from later (after_head machine dll es rest)) in
+      subst (AllByRecursion (IsDefinedOnce linked)) (sym same) (once, undefined_after es later rest (aligned_after machine dll b e even) once others)
 
--- the objects that are linked
-abbrev pub linked_objects : MachineType → List ℕ → List ExportView → List Object
-linked_objects machine dll es = head machine dll ∷ after_head machine dll es
+-- what is filled in from ends on stands in an image
+pub record StandsFrom (machine : MachineType) (linked : List Placed) (image : List Range) (b : Bases) (objects : List Object) : Type 0 where
+  pub descriptors : BytesAt image b.descriptors (filled b.descriptors (pieces machine linked Descriptors (placed_from b objects)))
+  pub lookups : BytesAt image b.lookups (filled b.lookups (pieces machine linked Lookups (placed_from b objects)))
+  pub addresses : BytesAt image b.addresses (filled b.addresses (pieces machine linked Addresses (placed_from b objects)))
+  pub hint_names : BytesAt image b.hint_names (filled b.hint_names (pieces machine linked HintNames (placed_from b objects)))
+  pub dll_names : BytesAt image b.dll_names (filled b.dll_names (pieces machine linked DllNames (placed_from b objects)))
 
--- the symbols that they are listed for
-abbrev pub linked_symbols : MachineType → List ℕ → List ExportView → List (List ℕ)
-linked_symbols machine dll es = head_symbol machine dll ∷ (flat_map export_listed es ++ name_symbol machine dll ∷ [])
+-- what the objects of one DLL define
+unfoldable pub head_definition : MachineType → List ℕ → Bases → SymbolDefinition
+head_definition machine dll b = record { name = head_symbol machine dll; address = Some (next_multiple 4 b.descriptors + 0) }
 
-module _ (machine : MachineType) (dll : List ℕ) (es : List ExportView) (b : Bases) (dll_text : HasNoNul dll) (fit : AllByRecursion (CanBeAsked machine) es)
-    (distinct : IsDistinct bytes_eq (linked_symbols machine dll es)) (admissible : IsAdmissible machine b (linked_objects machine dll es)) where
-  placed : List Placed
-  placed = placed_from b (linked_objects machine dll es)
+unfoldable pub block_definitions : MachineType → List ℕ → Bases → List ExportView → List SymbolDefinition
+block_definitions machine dll b es = head_definition machine dll b ∷ defined_after machine dll (ends_of_head machine dll b) es
 
+-- the ends after the objects of one DLL
+abbrev pub ends_of_block : MachineType → List ℕ → Bases → List ExportView → Bases
+ends_of_block machine dll b es = ends_of_all machine dll (ends_of_head machine dll b) es
+
+pub aligned_block : (machine : MachineType) (dll : List ℕ) (b : Bases) (es : List ExportView) → AreAligned b → AreAligned (ends_of_block machine dll b es)
+aligned_block machine dll b es even = aligned_all machine dll (ends_of_head machine dll b) es (record { lookups = even.lookups; addresses = even.addresses })
+
+pub definitions-block : (machine : MachineType) (dll : List ℕ) (b : Bases) (es : List ExportView) (rest : List Object) → AreAligned b →
+    definitions (placed_from b (head machine dll ∷ after_head machine dll es rest)) ≡ block_definitions machine dll b es ++ definitions (placed_from (ends_of_block machine dll b es) rest)
+unfolding head_object head_definition block_definitions
+definitions-block machine dll b es rest even =
+    ap definitions (placed-head machine dll b (after_head machine dll es rest) even)
+    ∙ ap (λ others. head_definition machine dll b ∷ others) (definitions-after machine dll (ends_of_head machine dll b) es rest (record { lookups = even.lookups; addresses = even.addresses }))
+
+-- the objects of one DLL among others: they are placed after what ends at b
+module _ (machine : MachineType) (dll : List ℕ) (es : List ExportView) (b : Bases) (rest : List Object) (linked : List Placed) (image : List Range)
+    (starts : AllByRecursion (λ r. 0 < r.start) image) (ends : AllByRecursion (λ r. range_end r < 2 ^ 31) image)
+    (dll_text : HasNoNul dll) (fit : AllByRecursion (CanBeAsked machine) es) (even : AreAligned b)
+    (only : (d : SymbolDefinition) → Among d (block_definitions machine dll b es) → definitions_of d.name linked ≡ d ∷ [])
+    (stands : StandsFrom machine linked image b (head machine dll ∷ after_head machine dll es rest)) where
   abbrev later : Bases
   later = ends_of_head machine dll b
 
-  image : List Range
-  image = image_of machine b placed
-
-  even : AreAligned b
-  even = record { lookups = admissible.lookups.1; addresses = admissible.addresses.1 }
+  abbrev last : Bases
+  last = ends_of_all machine dll later es
 
   later_even : AreAligned (ends_of_head machine dll b)
-  later_even = record { lookups = admissible.lookups.1; addresses = admissible.addresses.1 }
+  later_even = record { lookups = even.lookups; addresses = even.addresses }
 
-  placed_is : placed ≡ placed_head machine dll b ∷ placed_from (ends_of_head machine dll b) (after_head machine dll es)
-  unfolding placed
-  placed_is = placed-head machine dll b (after_head machine dll es) even
+  placed_is : placed_from b (head machine dll ∷ after_head machine dll es rest) ≡ placed_head machine dll b ∷ placed_from later (after_head machine dll es rest)
+  placed_is = placed-head machine dll b (after_head machine dll es rest) even
 
-  definitions_are : definitions placed ≡ record { name = head_symbol machine dll; address = Some (next_multiple 4 b.descriptors + 0) } ∷ defined_after machine dll (ends_of_head machine dll b) es
+  -- a table, and what is filled in after it
+  lookups_parts : BytesAt image b.lookups (thunk_bytes machine dll linked later es)
+      × BytesAt image last.lookups (filled last.lookups (pieces machine linked Lookups (placed_from last rest)))
   unfolding head_object
-  definitions_are = ap definitions placed_is ∙ ap (λ rest. record { name = head_symbol machine dll; address = Some (next_multiple 4 b.descriptors + 0) } ∷ rest) (definitions-after machine dll (ends_of_head machine dll b) es later_even)
-
-  -- each definition is the only one of its name
-  only : (d : SymbolDefinition) → Among d (record { name = head_symbol machine dll; address = Some (next_multiple 4 b.descriptors + 0) } ∷ defined_after machine dll (ends_of_head machine dll b) es) →
-      definitions_of d.name placed ≡ d ∷ []
-  only d m =
-      let first : SymbolDefinition = record { name = head_symbol machine dll; address = Some (next_multiple 4 b.descriptors + 0) } in
-      let names : linked_symbols machine dll es ≡ map (λ (d : SymbolDefinition). d.name) (first ∷ defined_after machine dll (ends_of_head machine dll b) es) =
-      ap (λ rest. head_symbol machine dll ∷ rest) (sym (names-after machine dll (ends_of_head machine dll b) es)) in
-      ap (λ ds. filter (λ (other : SymbolDefinition). bytes_eq d.name other.name) ds) definitions_are
-      ∙ only_definition d (first ∷ defined_after machine dll (ends_of_head machine dll b) es) m (subst (IsDistinct bytes_eq) names distinct)
-
-  starts_of : (ks : List Kind) → AllByRecursion (λ k. 0 < base_of k b) ks → AllByRecursion (λ r. 0 < r.start) (flat_map (λ k. range_of (base_of k b) (pieces machine placed k placed)) ks)
-  starts_of [] low = tt
-  starts_of (k ∷ ks) low =
-      all_append (λ r. 0 < r.start) (range_of (base_of k b) (pieces machine placed k placed)) (flat_map (λ k. range_of (base_of k b) (pieces machine placed k placed)) ks)
-      (bases_of_ranges (base_of k b) (pieces machine placed k placed) low.0) (starts_of ks low.1)
-
-  starts : AllByRecursion (λ r. 0 < r.start) image
-  unfolding image
-  starts = starts_of kinds (admissible.descriptors.0, (admissible.lookups.0, (admissible.addresses.0, (admissible.hint_names.0, (admissible.dll_names.0, tt)))))
-
-  ends : AllByRecursion (λ r. range_end r < 2 ^ 31) image
-  unfolding image placed
-  ends = admissible.ends
-
-  apart : AllApart image
-  unfolding image placed
-  apart = admissible.apart
-
-  -- what each kind is filled with stands at its base
-  kind_stands : (k : Kind) → Among k kinds → BytesAt image (base_of k b) (filled (base_of k b) (pieces machine placed k placed))
-  unfolding image
-  kind_stands k m =
-      filled_stands (base_of k b) (pieces machine placed k placed) (image_of machine b placed)
-      (λ r held. among_flat (λ k. range_of (base_of k b) (pieces machine placed k placed)) k kinds r m held) apart
-
-  after : List Placed
-  after = placed_from later (after_head machine dll es)
-
-  lookups_stand : BytesAt image b.lookups (thunk_bytes machine dll placed later es)
-  unfolding head_object Among
-  lookups_stand =
-      let rest : List Piece = pieces machine placed Lookups (placed_from later (after_head machine dll es)) in
+  lookups_parts =
+      let others : List Piece = pieces machine linked Lookups (placed_from later (after_head machine dll es rest)) in
+      let after : List ℕ = filled last.lookups (pieces machine linked Lookups (placed_from last rest)) in
       let plain : b.lookups + 0 ≡ b.lookups = omega arith in
-      subst (BytesAt image b.lookups)
-      (ap (λ ps. filled b.lookups (pieces machine placed Lookups ps)) placed_is
-      ∙ filled_first b.lookups 0 [] rest refl
-      ∙ ap (λ n. filled n rest) plain
-      ∙ lookups_filled machine dll placed later es later_even)
-      (kind_stands Lookups (inr (inl refl)))
+      let parts = stands_parts image (thunk_bytes machine dll linked later es) after b.lookups
+      (subst (BytesAt image b.lookups)
+      (ap (λ ps. filled b.lookups (pieces machine linked Lookups ps)) placed_is
+      ∙ filled_first b.lookups 0 [] others refl
+      ∙ ap (λ n. filled n others) plain
+      ∙ lookups_filled machine dll linked later es rest later_even)
+      stands.lookups) in
+      (parts.0, subst (λ n. BytesAt image n after) (lookups_end machine dll linked later es) parts.1)
 
-  addresses_stand : BytesAt image b.addresses (thunk_bytes machine dll placed later es)
-  unfolding head_object Among
-  addresses_stand =
-      let rest : List Piece = pieces machine placed Addresses (placed_from later (after_head machine dll es)) in
+  addresses_parts : BytesAt image b.addresses (thunk_bytes machine dll linked later es)
+      × BytesAt image last.addresses (filled last.addresses (pieces machine linked Addresses (placed_from last rest)))
+  unfolding head_object
+  addresses_parts =
+      let others : List Piece = pieces machine linked Addresses (placed_from later (after_head machine dll es rest)) in
+      let after : List ℕ = filled last.addresses (pieces machine linked Addresses (placed_from last rest)) in
       let plain : b.addresses + 0 ≡ b.addresses = omega arith in
-      subst (BytesAt image b.addresses)
-      (ap (λ ps. filled b.addresses (pieces machine placed Addresses ps)) placed_is
-      ∙ filled_first b.addresses 0 [] rest refl
-      ∙ ap (λ n. filled n rest) plain
-      ∙ addresses_filled machine dll placed later es later_even)
-      (kind_stands Addresses (inr (inr (inl refl))))
+      let parts = stands_parts image (thunk_bytes machine dll linked later es) after b.addresses
+      (subst (BytesAt image b.addresses)
+      (ap (λ ps. filled b.addresses (pieces machine linked Addresses ps)) placed_is
+      ∙ filled_first b.addresses 0 [] others refl
+      ∙ ap (λ n. filled n others) plain
+      ∙ addresses_filled machine dll linked later es rest later_even)
+      stands.addresses) in
+      (parts.0, subst (λ n. BytesAt image n after) (addresses_end machine dll linked later es) parts.1)
 
-  hints_stand : BytesAt image b.hint_names (hint_bytes machine dll placed later es)
-  unfolding head_object Among
-  hints_stand =
-      subst (BytesAt image b.hint_names)
-      (ap (λ ps. filled b.hint_names (pieces machine placed HintNames ps)) placed_is
-      ∙ hint_names_filled machine dll placed later es later_even)
-      (kind_stands HintNames (inr (inr (inr (inl refl)))))
+  hints_parts : BytesAt image b.hint_names (hint_bytes machine dll linked later es)
+      × BytesAt image last.hint_names (filled last.hint_names (pieces machine linked HintNames (placed_from last rest)))
+  unfolding head_object
+  hints_parts =
+      let after : List ℕ = filled last.hint_names (pieces machine linked HintNames (placed_from last rest)) in
+      let parts = stands_parts image (hint_bytes machine dll linked later es) after b.hint_names
+      (subst (BytesAt image b.hint_names)
+      (ap (λ ps. filled b.hint_names (pieces machine linked HintNames ps)) placed_is
+      ∙ hint_names_filled machine dll linked later es rest later_even)
+      stands.hint_names) in
+      (parts.0, subst (λ n. BytesAt image n after) (hint_names_end machine dll linked later es) parts.1)
 
   name_place : ℕ
   name_place = next_multiple 4 (ends_of_exports machine dll later es).dll_names
 
-  dll_stands : BytesAt image name_place (dll ++ 0 ∷ [])
-  unfolding head_object Among name_place
-  dll_stands =
-      name_stands machine dll placed image es later later_even
-      (subst (BytesAt image b.dll_names) (ap (λ ps. filled b.dll_names (pieces machine placed DllNames ps)) placed_is)
-      (kind_stands DllNames (inr (inr (inr (inr (inl refl)))))))
+  name_parts : BytesAt image name_place (dll ++ 0 ∷ [])
+      × BytesAt image last.dll_names (filled last.dll_names (pieces machine linked DllNames (placed_from last rest)))
+  unfolding head_object name_place
+  name_parts =
+      name_stands machine dll linked image es later rest later_even
+      (subst (BytesAt image b.dll_names) (ap (λ ps. filled b.dll_names (pieces machine linked DllNames ps)) placed_is) stands.dll_names)
 
-  name_address : first_address (definitions_of (name_symbol machine dll) placed) ≡ Some (name_place + 0)
-  unfolding name_place
-  name_address = ap first_address (only _ (among_later _ _ _ (name_defined machine dll placed es later)))
+  name_address : first_address (definitions_of (name_symbol machine dll) linked) ≡ Some (name_place + 0)
+  unfolding name_place block_definitions
+  name_address = ap first_address (only _ (among_later _ _ _ (name_defined machine dll linked es later)))
 
-  descriptor_stands : BytesAt image (next_multiple 4 b.descriptors) (descriptor_linked machine dll placed b)
-  unfolding head_object Among descriptor_linked
-  descriptor_stands =
-      let rest : List Piece = pieces machine placed Descriptors (placed_from later (after_head machine dll es)) in
-      let own : Piece = record { address = next_multiple 4 b.descriptors; bytes = descriptor_linked machine dll placed b } in
-      (piece_stands image b.descriptors own rest (at_least 4 b.descriptors)
-      (subst (BytesAt image b.descriptors) (ap (λ ps. filled b.descriptors (pieces machine placed Descriptors ps)) placed_is)
-      (kind_stands Descriptors (inl refl)))).0
+  length-descriptor : length (descriptor_linked machine dll linked b) ≡ 20
+  unfolding u32_bytes
+  length-descriptor = ap length (descriptor_is machine dll linked b name_place name_address)
+
+  descriptor_parts : BytesAt image (next_multiple 4 b.descriptors) (descriptor_linked machine dll linked b)
+      × BytesAt image last.descriptors (filled last.descriptors (pieces machine linked Descriptors (placed_from last rest)))
+  unfolding head_object descriptor_linked
+  descriptor_parts =
+      let others : List Piece = pieces machine linked Descriptors (placed_from later (after_head machine dll es rest)) in
+      let own : Piece = record { address = next_multiple 4 b.descriptors; bytes = descriptor_linked machine dll linked b } in
+      let parts = piece_stands image b.descriptors own others (at_least 4 b.descriptors)
+      (subst (BytesAt image b.descriptors) (ap (λ ps. filled b.descriptors (pieces machine linked Descriptors ps)) placed_is) stands.descriptors) in
+      let behind : BytesAt image later.descriptors (filled later.descriptors others) =
+      subst (λ n. BytesAt image (next_multiple 4 b.descriptors + n) (filled (next_multiple 4 b.descriptors + n) others)) length-descriptor parts.1 in
+      let same : later.descriptors ≡ last.descriptors = descriptors_end machine dll later es in (
+        parts.0,
+        subst (λ n. BytesAt image n (filled last.descriptors (pieces machine linked Descriptors (placed_from last rest)))) same
+            (subst (BytesAt image later.descriptors) (descriptors_filled machine dll linked later es rest later_even) behind),
+      )
+
+  pub rest_stands : StandsFrom machine linked image last rest
+  rest_stands = record {
+    descriptors = descriptor_parts.1;
+    lookups = lookups_parts.1;
+    addresses = addresses_parts.1;
+    hint_names = hints_parts.1;
+    dll_names = name_parts.1;
+  }
 
   bytes_bounds : (a : ℕ) (bytes : List ℕ) → 0 < length bytes → BytesAt image a bytes → a < 2 ^ 31
   unfolding BytesAt
-  bytes_bounds a [] long stands = absurd (omega arith)
-  bytes_bounds a (byte ∷ bytes) long stands = (address_bounds image a byte starts ends stands.0).1
+  bytes_bounds a [] long held = absurd (omega arith)
+  bytes_bounds a (byte ∷ bytes) long held = (address_bounds image a byte starts ends held.0).1
 
   number_bounds : (a width number : ℕ) → 0 < width → NumberAt image width a number → a < 2 ^ 31
   number_bounds a width number wide n =
@@ -275,18 +286,18 @@ module _ (machine : MachineType) (dll : List ℕ) (es : List ExportView) (b : Ba
   table_bounds a (ask ∷ asks) table = number_bounds a (thunk_width machine) table.0.thunk (wide machine) table.0.stands
 
   lookup_table : TableAt image (thunk_width machine) b.lookups (map (ask_meant machine) es)
-  lookup_table = table_at machine dll placed image starts ends es later b.lookups fit lookups_stand hints_stand
+  lookup_table = table_at machine dll linked image starts ends es later b.lookups fit lookups_parts.0 hints_parts.0
 
   address_table : TableAt image (thunk_width machine) b.addresses (map (ask_meant machine) es)
-  address_table = table_at machine dll placed image starts ends es later b.addresses fit addresses_stand hints_stand
+  address_table = table_at machine dll linked image starts ends es later b.addresses fit addresses_parts.0 hints_parts.0
 
   name_text : TextAt image name_place dll
-  name_text = record { no_nul = dll_text; stands = dll_stands }
+  name_text = record { no_nul = dll_text; stands = name_parts.0 }
 
   name_bounds : name_place < 2 ^ 31
   name_bounds =
       let long : 0 < length (dll ++ 0 ∷ []) = rw (length-append dll (0 ∷ [])) (omega arith) in
-      bytes_bounds name_place (dll ++ 0 ∷ []) long dll_stands
+      bytes_bounds name_place (dll ++ 0 ∷ []) long name_parts.0
 
   abbrev descriptor : ℕ
   descriptor = next_multiple 4 b.descriptors
@@ -303,7 +314,7 @@ module _ (machine : MachineType) (dll : List ℕ) (es : List ExportView) (b : Ba
       let second : List ℕ = u32_bytes ((0 + (name_place + 0)) % 2 ^ 32) in
       let third : List ℕ = u32_bytes ((0 + (b.addresses + 0)) % 2 ^ 32) in
       let whole : BytesAt image descriptor (first ++ (zeros 8 ++ (second ++ third))) =
-      subst (BytesAt image descriptor) (descriptor_is machine dll placed b name_place name_address) descriptor_stands in
+      subst (BytesAt image descriptor) (descriptor_is machine dll linked b name_place name_address) descriptor_parts.0 in
       let parts = stands_parts image first (zeros 8 ++ (second ++ third)) descriptor whole in
       let gap = stands_parts image (zeros 8) (second ++ third) (descriptor + length first) parts.1 in
       let last = stands_parts image second third (descriptor + length first + 8) gap.1 in
@@ -318,8 +329,8 @@ module _ (machine : MachineType) (dll : List ℕ) (es : List ExportView) (b : Ba
             (subst (λ n. BytesAt image n third) at_addresses last.1);
       }
 
-  loaded : Loads image (thunk_width machine) descriptor dll (map (ask_meant machine) es)
-  loaded = record {
+  block_loads : Loads image (thunk_width machine) (next_multiple 4 b.descriptors) dll (map (ask_meant machine) es)
+  block_loads = record {
     lookups = b.lookups;
     lookups_field = fields.lookups;
     lookup_table = lookup_table;
@@ -331,24 +342,31 @@ module _ (machine : MachineType) (dll : List ℕ) (es : List ExportView) (b : Ba
     address_table = address_table;
   }
 
-  none_undefined : AllByRecursion (IsDefinedOnce placed) (undefined_names placed)
-  unfolding head_object
-  none_undefined =
-      let own : SymbolDefinition = record { name = head_symbol machine dll; address = Some (next_multiple 4 b.descriptors + 0) } in
-      subst (AllByRecursion (IsDefinedOnce placed)) (sym (ap undefined_names placed_is)) (
-        (_, only _ (among_later _ own _ (name_defined machine dll placed es later))),
-        undefined_after machine dll placed es later later_even (own, only own (among_first own _)),
+  block_entries : EntriesAt linked (thunk_width machine) b.addresses es
+  unfolding block_definitions
+  block_entries = entries_at machine dll linked es later (λ d m. only d (among_later d _ _ m))
+
+  block_head : definitions_of (head_symbol machine dll) linked ≡ head_definition machine dll b ∷ []
+  unfolding block_definitions head_definition
+  block_head = only _ (among_first _ _)
+
+  pub block_links : LinksAt machine image linked dll es
+  unfolding block_loads head_definition
+  block_links =
+      let plain : next_multiple 4 b.descriptors + 0 ≡ next_multiple 4 b.descriptors = omega arith in
+      record {
+        descriptor = next_multiple 4 b.descriptors;
+        head = block_head ∙ ap (λ n. record { name = head_symbol machine dll; address = Some n } ∷ []) plain;
+        loads = block_loads;
+        entries = block_entries;
+      }
+
+  -- what the block needs is defined, if what the others need is
+  pub block_defined : AllByRecursion (IsDefinedOnce linked) (undefined_names (placed_from last rest)) →
+      AllByRecursion (IsDefinedOnce linked) (undefined_names (placed_from b (head machine dll ∷ after_head machine dll es rest)))
+  unfolding head_object block_definitions
+  block_defined others =
+      subst (AllByRecursion (IsDefinedOnce linked)) (sym (ap undefined_names placed_is)) (
+        (_, only _ (among_later _ _ _ (name_defined machine dll linked es later))),
+        undefined_after machine dll linked es later rest later_even (head_definition machine dll b, block_head) others,
       )
-
-  descriptor_placed : descriptor_place placed ≡ Some descriptor
-  descriptor_placed = ap descriptor_place placed_is
-
-  pub objects_link : Links machine b dll es (linked_objects machine dll es)
-  unfolding placed image loaded
-  objects_link = record {
-    descriptor = descriptor;
-    place = descriptor_placed;
-    loads = loaded;
-    entries = entries_at machine dll placed es later (λ d m. only d (among_later d _ _ m));
-    defined = none_undefined;
-  }

@@ -22,7 +22,7 @@ use Rattle.implib.specs.Renaming.{renamed, renamed_export}
 use Rattle.implib.specs.Theorem.{AllRise, ComesBefore, Links, chosen_exports, linked_members, linked_plans, objects_in, plan_numbered}
 use Rattle.implib.specs.Writer.{Holding, object_held, picture_of}
 use Rattle.implib.proofs.GnuObjects.{Fits-export_object, Fits-head_object, Fits-tail_object}
-use Rattle.implib.proofs.Linked.{linked_objects, linked_symbols, objects_link}
+use Rattle.implib.proofs.LinkedBlocks.{linked_objects, linked_symbols, objects_link}
 use Rattle.implib.proofs.MemberReadings.{first_none, if_none, import_name_free, none_too_long}
 use Rattle.implib.proofs.MsvcObjects.{HasNoNul-from_holds}
 use Rattle.implib.proofs.ObjectReading.{object_in-layout}
@@ -236,7 +236,7 @@ module _ (machine : MachineType) (dll : List ℕ) (exports : List ExportView) (d
 
 -- The order of the names.
 
-same_cmp : (n : ℕ) → nat_cmp n n ≡ Equal
+pub same_cmp : (n : ℕ) → nat_cmp n n ≡ Equal
 same_cmp n = rw (le-ltb n n (omega arith), eq-eqb n n refl) refl
 
 -- names that begin alike are in the order of their rests
@@ -288,7 +288,7 @@ module _ (d : DefinitionView) (machine : MachineType) (members : List MemberView
   name_refusals : (import_name_refusal d.import_name ≡ None) × (names_refusal Gnu machine 0 (map renamed_export d.exports) ≡ None)
   name_refusals = first_none (import_name_refusal d.import_name) (names_refusal Gnu machine 0 (map renamed_export d.exports)) refusals.0
 
-  dll_free : holds 0 d.import_name ≡ false
+  pub dll_free : holds 0 d.import_name ≡ false
   dll_free = import_name_free d.import_name name_refusals.0
 
   all_good : AllByRecursion IsNamed (public_exports (renamed d))
@@ -323,7 +323,7 @@ module _ (d : DefinitionView) (machine : MachineType) (members : List MemberView
       (head_reads machine d.import_name public dll_free all_good made.ordinals none_long)
       ∙ ap (λ rest. Some (head machine d.import_name) ∷ rest) (chosen_read machine d.import_name public dll_free all_good made.ordinals none_long chosen)
 
-  objects_are : objects_in (linked_members d machine chosen) ≡ linked_objects machine d.import_name (chosen_exports d chosen)
+  pub objects_are : objects_in (linked_members d machine chosen) ≡ linked_objects machine d.import_name (chosen_exports d chosen)
   objects_are =
       filter_map-present (λ (m : MemberView). object_in m.bytes) (linked_members d machine chosen)
       ∙ ap present read_as
@@ -332,11 +332,14 @@ module _ (d : DefinitionView) (machine : MachineType) (members : List MemberView
   pub members_read : map (λ (m : MemberView). object_in m.bytes) (linked_members d machine chosen) ≡ map Some (objects_in (linked_members d machine chosen))
   members_read = read_as ∙ ap (map Some) (sym objects_are)
 
-  symbols_are : flat_map (λ (m : MemberView). m.symbols) (linked_members d machine chosen) ≡ linked_symbols machine d.import_name (chosen_exports d chosen)
+  pub symbols_are : flat_map (λ (m : MemberView). m.symbols) (linked_members d machine chosen) ≡ linked_symbols machine d.import_name (chosen_exports d chosen)
   unfolding head_plan
   symbols_are =
       flat_map_map (λ (m : MemberView). m.symbols) member_of (linked_plans d machine chosen)
       ∙ ap (λ rest. head_symbol machine d.import_name ∷ rest) (chosen_listed machine d.import_name public dll_free all_good made.ordinals none_long chosen)
+
+  pub exports_fit : AllByRecursion (CanBeAsked machine) (chosen_exports d chosen)
+  exports_fit = chosen_fit machine d.import_name public dll_free all_good made.ordinals none_long chosen
 
   pub members_link : (bases : Bases) → IsDistinct bytes_eq (flat_map (λ (m : MemberView). m.symbols) (linked_members d machine chosen)) →
       IsAdmissible machine bases (objects_in (linked_members d machine chosen)) →

@@ -1,7 +1,8 @@
 -- Where the sections of the objects for GNU's linker are placed, and what these objects define.
-use Rattle.std.proofs.Common.{◌≡◌, ℕ, ◌+◌, ◌-◌, ◌%◌, ◌≤◌, Bool, true, false, List, [], ◌∷◌, ◌++◌, length, map, Some, None, refl, ap, ◌∙◌, arith, inl, inr, if◌then◌else◌}
+use Rattle.std.proofs.Common.{◌≡◌, ℕ, ◌+◌, ◌-◌, ◌%◌, ◌≤◌, Bool, true, false, List, [], ◌∷◌, ◌++◌, length, map, Some, None, refl, ap, ◌∙◌, arith, inl, inr, if◌then◌else◌, sym}
 use Rattle.std.specs.List.{flat_map}
 use Rattle.std.proofs.lemmas.Bool.{cases_Bool}
+use Rattle.std.proofs.lemmas.List.{append_assoc, length-replicate}
 use Rattle.implib.specs.declared.machine.MachineType.{MachineType}
 use Rattle.implib.specs.declared.machine.MachineType.TheVariants.{I386, ARMNT, AMD64, ARM64}
 use Rattle.implib.specs.Bytes.{u16_bytes}
@@ -58,9 +59,9 @@ module _ (machine : MachineType) (dll : List ℕ) where
   abbrev pub export : ExportView → Object
   export e = object_held (export_object machine dll e)
 
-  -- exports, and the tail after them
-  abbrev pub after_head : List ExportView → List Object
-  after_head es = map export es ++ tail ∷ []
+  -- exports, the tail after them, and other objects
+  abbrev pub after_head : List ExportView → List Object → List Object
+  after_head es rest = map export es ++ tail ∷ rest
 
   abbrev pub placed_head : Bases → Placed
   placed_head b = record {
@@ -92,6 +93,15 @@ module _ (machine : MachineType) (dll : List ℕ) where
     places = Nowhere ∷ Nowhere ∷ Nowhere ∷ At Lookups b.lookups ∷ At Addresses b.addresses ∷ At DllNames (next_multiple 4 b.dll_names) ∷ [];
   }
 
+  abbrev pub ends_of_tail : Bases → Bases
+  ends_of_tail b = record {
+    descriptors = b.descriptors;
+    lookups = b.lookups + thunk_width machine;
+    addresses = b.addresses + thunk_width machine;
+    hint_names = b.hint_names;
+    dll_names = next_multiple 4 b.dll_names + length (dll ++ 0 ∷ []);
+  }
+
   pub aligned_after : (b : Bases) (e : ExportView) → AreAligned b → AreAligned (ends_of_export b e)
   aligned_after b e even = record { lookups = aligned_thunk machine b.lookups even.lookups; addresses = aligned_thunk machine b.addresses even.addresses }
 
@@ -108,14 +118,28 @@ module _ (machine : MachineType) (dll : List ℕ) where
   unfolding export_object
   placed-export b e objects even = rw (aligned b.lookups even.lookups, aligned b.addresses even.addresses, length-thunk machine e) refl
 
-  pub placed-tail : (b : Bases) → AreAligned b → placed_from b (tail ∷ []) ≡ placed_tail b ∷ []
+  pub placed-tail : (b : Bases) (objects : List Object) → AreAligned b → placed_from b (tail ∷ objects) ≡ placed_tail b ∷ placed_from (ends_of_tail b) objects
   unfolding tail_object
-  placed-tail b even = rw (aligned b.lookups even.lookups, aligned b.addresses even.addresses) refl
+  placed-tail b objects even = rw (aligned b.lookups even.lookups, aligned b.addresses even.addresses, length-replicate {A = ℕ} (thunk_width machine) 0) refl
 
   -- the ends after exports
   unfoldable pub ends_of_exports : Bases → List ExportView → Bases
   ends_of_exports b [] = b
   ends_of_exports b (e ∷ es) = ends_of_exports (ends_of_export b e) es
+
+  -- the ends after exports and the tail
+  abbrev pub ends_of_all : Bases → List ExportView → Bases
+  ends_of_all b es = ends_of_tail (ends_of_exports b es)
+
+  pub aligned_all : (b : Bases) (es : List ExportView) → AreAligned b → AreAligned (ends_of_all b es)
+  unfolding ends_of_exports
+  aligned_all b [] even = record { lookups = aligned_thunk machine b.lookups even.lookups; addresses = aligned_thunk machine b.addresses even.addresses }
+  aligned_all b (e ∷ es) even = aligned_all (ends_of_export b e) es (aligned_after b e even)
+
+  pub descriptors_end : (b : Bases) (es : List ExportView) → b.descriptors ≡ (ends_of_all b es).descriptors
+  unfolding ends_of_exports
+  descriptors_end b [] = refl
+  descriptors_end b (e ∷ es) = descriptors_end (ends_of_export b e) es
 
   -- what the objects define
 
@@ -135,13 +159,15 @@ module _ (machine : MachineType) (dll : List ℕ) where
   defined_by_export b e rest =
       elim (cases_Bool e.is_data) [ inl is ↦ rw is refl | inr is ↦ rw is refl ]
 
-  pub definitions-after : (b : Bases) (es : List ExportView) → AreAligned b → definitions (placed_from b (after_head es)) ≡ defined_after b es
-  unfolding defined_after tail_object
-  definitions-after b [] even = ap definitions (placed-tail b even)
-  definitions-after b (e ∷ es) even =
-      ap definitions (placed-export b e (after_head es) even)
-      ∙ defined_by_export b e (definitions (placed_from (ends_of_export b e) (after_head es)))
-      ∙ ap (λ rest. code_definition e ++ address_definition b e ∷ rest) (definitions-after (ends_of_export b e) es (aligned_after b e even))
+  pub definitions-after : (b : Bases) (es : List ExportView) (rest : List Object) → AreAligned b →
+      definitions (placed_from b (after_head es rest)) ≡ defined_after b es ++ definitions (placed_from (ends_of_all b es) rest)
+  unfolding defined_after tail_object ends_of_exports
+  definitions-after b [] rest even = ap definitions (placed-tail b rest even)
+  definitions-after b (e ∷ es) rest even =
+      ap definitions (placed-export b e (after_head es rest) even)
+      ∙ defined_by_export b e (definitions (placed_from (ends_of_export b e) (after_head es rest)))
+      ∙ ap (λ others. code_definition e ++ address_definition b e ∷ others) (definitions-after (ends_of_export b e) es rest (aligned_after b e even))
+      ∙ sym (append_assoc (code_definition e) (address_definition b e ∷ defined_after (ends_of_export b e) es) (definitions (placed_from (ends_of_all (ends_of_export b e) es) rest)))
 
   pub names-after : (b : Bases) (es : List ExportView) → map (λ (d : SymbolDefinition). d.name) (defined_after b es) ≡ flat_map export_listed es ++ name_symbol machine dll ∷ []
   unfolding defined_after hint_name

@@ -3,7 +3,7 @@ use Rattle.std.proofs.Common.{◌≡◌, ℕ, ◌+◌, ◌-◌, ◌*◌, ◌%◌
 use Rattle.std.specs.Prelude.{◌==◌}
 use Rattle.std.specs.List.{AllByRecursion}
 use Rattle.std.proofs.lemmas.Bool.{cases_Bool}
-use Rattle.std.proofs.lemmas.List.{append-nil, length-replicate}
+use Rattle.std.proofs.lemmas.List.{append_assoc, length-append, length-replicate}
 use Rattle.implib.specs.declared.machine.MachineType.{MachineType}
 use Rattle.implib.specs.declared.machine.MachineType.TheVariants.{I386, ARMNT, AMD64, ARM64}
 use Rattle.implib.specs.Bytes.{u16_bytes, u32_bytes}
@@ -11,13 +11,13 @@ use Rattle.implib.specs.Constants.{image_relative}
 use Rattle.implib.specs.Definition.{ExportView}
 use Rattle.implib.specs.Gnu.{export_object, hint_name, hint_name_symbol, relocations_of_thunk, tail_object, thunk}
 use Rattle.implib.specs.Import.{Name, Ordinal, ask_meant, asked_name}
-use Rattle.implib.specs.Link.{Addresses, Bases, HintNames, Lookups, Piece, Placed, Range, filled, next_multiple, pieces, placed_from, range_end, relocated, target_address, with_address}
+use Rattle.implib.specs.Link.{Addresses, Bases, Descriptors, HintNames, Lookups, Piece, Placed, Range, filled, next_multiple, pieces, placed_from, range_end, relocated, target_address, with_address}
 use Rattle.implib.specs.Load.{AsksFor, BytesAt, NumberAt, TableAt, TextAt, ThunkAt, number_in}
 use Rattle.implib.specs.MsvcObjects.{thunk_width, zeros}
-use Rattle.implib.specs.Object.{u32_at}
+use Rattle.implib.specs.Object.{Object, u32_at}
 use Rattle.implib.specs.Picture.{HasNoNul}
 use Rattle.implib.proofs.Ranges.{address_bounds, stands_parts}
-use Rattle.implib.proofs.Placement.{AreAligned, after_head, aligned_after, at_least, ends_of_export, length-thunk_of, placed-export, placed-tail, placed_export}
+use Rattle.implib.proofs.Placement.{AreAligned, after_head, aligned_after, at_least, ends_of_all, ends_of_export, ends_of_exports, ends_of_tail, length-thunk_of, placed-export, placed-tail, placed_export}
 
 -- an export whose ordinal is a 16-bit number and whose asked name has no NUL
 pub record CanBeAsked (machine : MachineType) (e : ExportView) : Type 0 where
@@ -145,34 +145,93 @@ module _ (machine : MachineType) (dll : List ℕ) (linked : List Placed) where
   hint_bytes b (e ∷ es) =
       zeros (next_multiple 2 b.hint_names - b.hint_names) ++ (hint_name machine e ++ hint_bytes (ends_of_export machine dll b e) es)
 
-  last_filled : (a : ℕ) → filled a (record { address = a; bytes = zeros (thunk_width machine) } ∷ []) ≡ zeros (thunk_width machine)
-  last_filled a = filled_first a (thunk_width machine) (zeros (thunk_width machine)) [] (length-replicate {A = ℕ} (thunk_width machine) 0) ∙ append-nil (zeros (thunk_width machine))
+  pub lookups_filled : (b : Bases) (es : List ExportView) (rest : List Object) → AreAligned b →
+      filled b.lookups (pieces machine linked Lookups (placed_from b (after_head machine dll es rest)))
+      ≡ thunk_bytes b es ++ filled (ends_of_all machine dll b es).lookups (pieces machine linked Lookups (placed_from (ends_of_all machine dll b es) rest))
+  unfolding thunk_bytes tail_object export_object thunk_linked ends_of_exports
+  lookups_filled b [] rest even =
+      ap (λ ps. filled b.lookups (pieces machine linked Lookups ps)) (placed-tail machine dll b rest even)
+      ∙ filled_first b.lookups (thunk_width machine) (zeros (thunk_width machine)) (pieces machine linked Lookups (placed_from (ends_of_tail machine dll b) rest)) (length-replicate {A = ℕ} (thunk_width machine) 0)
+  lookups_filled b (e ∷ es) rest even =
+      let later : Bases = ends_of_export machine dll b e in
+      ap (λ ps. filled b.lookups (pieces machine linked Lookups ps)) (placed-export machine dll b e (after_head machine dll es rest) even)
+      ∙ filled_first b.lookups (thunk_width machine) (thunk_linked b e) (pieces machine linked Lookups (placed_from later (after_head machine dll es rest))) (length-thunk_linked b e)
+      ∙ ap (λ others. thunk_linked b e ++ others) (lookups_filled later es rest (aligned_after machine dll b e even))
+      ∙ sym (append_assoc (thunk_linked b e) (thunk_bytes later es) (filled (ends_of_all machine dll later es).lookups (pieces machine linked Lookups (placed_from (ends_of_all machine dll later es) rest))))
 
-  pub lookups_filled : (b : Bases) (es : List ExportView) → AreAligned b →
-      filled b.lookups (pieces machine linked Lookups (placed_from b (after_head machine dll es))) ≡ thunk_bytes b es
-  unfolding thunk_bytes tail_object export_object thunk_linked
-  lookups_filled b [] even = ap (λ ps. filled b.lookups (pieces machine linked Lookups ps)) (placed-tail machine dll b even) ∙ last_filled b.lookups
-  lookups_filled b (e ∷ es) even =
-      ap (λ ps. filled b.lookups (pieces machine linked Lookups ps)) (placed-export machine dll b e (after_head machine dll es) even)
-      ∙ filled_first b.lookups (thunk_width machine) (thunk_linked b e) (pieces machine linked Lookups (placed_from (ends_of_export machine dll b e) (after_head machine dll es))) (length-thunk_linked b e)
-      ∙ ap (λ rest. thunk_linked b e ++ rest) (lookups_filled (ends_of_export machine dll b e) es (aligned_after machine dll b e even))
+  pub addresses_filled : (b : Bases) (es : List ExportView) (rest : List Object) → AreAligned b →
+      filled b.addresses (pieces machine linked Addresses (placed_from b (after_head machine dll es rest)))
+      ≡ thunk_bytes b es ++ filled (ends_of_all machine dll b es).addresses (pieces machine linked Addresses (placed_from (ends_of_all machine dll b es) rest))
+  unfolding thunk_bytes tail_object export_object thunk_linked ends_of_exports
+  addresses_filled b [] rest even =
+      ap (λ ps. filled b.addresses (pieces machine linked Addresses ps)) (placed-tail machine dll b rest even)
+      ∙ filled_first b.addresses (thunk_width machine) (zeros (thunk_width machine)) (pieces machine linked Addresses (placed_from (ends_of_tail machine dll b) rest)) (length-replicate {A = ℕ} (thunk_width machine) 0)
+  addresses_filled b (e ∷ es) rest even =
+      let later : Bases = ends_of_export machine dll b e in
+      ap (λ ps. filled b.addresses (pieces machine linked Addresses ps)) (placed-export machine dll b e (after_head machine dll es rest) even)
+      ∙ filled_first b.addresses (thunk_width machine) (thunk_linked b e) (pieces machine linked Addresses (placed_from later (after_head machine dll es rest))) (length-thunk_linked b e)
+      ∙ ap (λ others. thunk_linked b e ++ others) (addresses_filled later es rest (aligned_after machine dll b e even))
+      ∙ sym (append_assoc (thunk_linked b e) (thunk_bytes later es) (filled (ends_of_all machine dll later es).addresses (pieces machine linked Addresses (placed_from (ends_of_all machine dll later es) rest))))
 
-  pub addresses_filled : (b : Bases) (es : List ExportView) → AreAligned b →
-      filled b.addresses (pieces machine linked Addresses (placed_from b (after_head machine dll es))) ≡ thunk_bytes b es
-  unfolding thunk_bytes tail_object export_object thunk_linked
-  addresses_filled b [] even = ap (λ ps. filled b.addresses (pieces machine linked Addresses ps)) (placed-tail machine dll b even) ∙ last_filled b.addresses
-  addresses_filled b (e ∷ es) even =
-      ap (λ ps. filled b.addresses (pieces machine linked Addresses ps)) (placed-export machine dll b e (after_head machine dll es) even)
-      ∙ filled_first b.addresses (thunk_width machine) (thunk_linked b e) (pieces machine linked Addresses (placed_from (ends_of_export machine dll b e) (after_head machine dll es))) (length-thunk_linked b e)
-      ∙ ap (λ rest. thunk_linked b e ++ rest) (addresses_filled (ends_of_export machine dll b e) es (aligned_after machine dll b e even))
+  pub hint_names_filled : (b : Bases) (es : List ExportView) (rest : List Object) → AreAligned b →
+      filled b.hint_names (pieces machine linked HintNames (placed_from b (after_head machine dll es rest)))
+      ≡ hint_bytes b es ++ filled (ends_of_all machine dll b es).hint_names (pieces machine linked HintNames (placed_from (ends_of_all machine dll b es) rest))
+  unfolding hint_bytes tail_object export_object ends_of_exports
+  hint_names_filled b [] rest even = ap (λ ps. filled b.hint_names (pieces machine linked HintNames ps)) (placed-tail machine dll b rest even)
+  hint_names_filled b (e ∷ es) rest even =
+      let later : Bases = ends_of_export machine dll b e in
+      let padding : List ℕ = zeros (next_multiple 2 b.hint_names - b.hint_names) in
+      let others : List ℕ = filled (ends_of_all machine dll later es).hint_names (pieces machine linked HintNames (placed_from (ends_of_all machine dll later es) rest)) in
+      ap (λ ps. filled b.hint_names (pieces machine linked HintNames ps)) (placed-export machine dll b e (after_head machine dll es rest) even)
+      ∙ ap (λ others. padding ++ (hint_name machine e ++ others)) (hint_names_filled later es rest (aligned_after machine dll b e even))
+      ∙ ap (λ others. padding ++ others) (sym (append_assoc (hint_name machine e) (hint_bytes later es) others))
+      ∙ sym (append_assoc padding (hint_name machine e ++ hint_bytes later es) others)
 
-  pub hint_names_filled : (b : Bases) (es : List ExportView) → AreAligned b →
-      filled b.hint_names (pieces machine linked HintNames (placed_from b (after_head machine dll es))) ≡ hint_bytes b es
-  unfolding hint_bytes tail_object export_object
-  hint_names_filled b [] even = ap (λ ps. filled b.hint_names (pieces machine linked HintNames ps)) (placed-tail machine dll b even)
-  hint_names_filled b (e ∷ es) even =
-      ap (λ ps. filled b.hint_names (pieces machine linked HintNames ps)) (placed-export machine dll b e (after_head machine dll es) even)
-      ∙ ap (λ rest. zeros (next_multiple 2 b.hint_names - b.hint_names) ++ (hint_name machine e ++ rest)) (hint_names_filled (ends_of_export machine dll b e) es (aligned_after machine dll b e even))
+  -- exports and the tail have no descriptor
+  pub descriptors_filled : (b : Bases) (es : List ExportView) (rest : List Object) → AreAligned b →
+      filled b.descriptors (pieces machine linked Descriptors (placed_from b (after_head machine dll es rest)))
+      ≡ filled (ends_of_all machine dll b es).descriptors (pieces machine linked Descriptors (placed_from (ends_of_all machine dll b es) rest))
+  unfolding tail_object export_object ends_of_exports
+  descriptors_filled b [] rest even = ap (λ ps. filled b.descriptors (pieces machine linked Descriptors ps)) (placed-tail machine dll b rest even)
+  descriptors_filled b (e ∷ es) rest even =
+      ap (λ ps. filled b.descriptors (pieces machine linked Descriptors ps)) (placed-export machine dll b e (after_head machine dll es rest) even)
+      ∙ descriptors_filled (ends_of_export machine dll b e) es rest (aligned_after machine dll b e even)
+
+  -- the ends after these bytes
+  pub lookups_end : (b : Bases) (es : List ExportView) → b.lookups + length (thunk_bytes b es) ≡ (ends_of_all machine dll b es).lookups
+  unfolding thunk_bytes ends_of_exports
+  lookups_end b [] = rw (length-replicate {A = ℕ} (thunk_width machine) 0) refl
+  lookups_end b (e ∷ es) =
+      let later : Bases = ends_of_export machine dll b e in
+      let long : length (thunk_linked b e ++ thunk_bytes later es) ≡ thunk_width machine + length (thunk_bytes later es) =
+      length-append (thunk_linked b e) (thunk_bytes later es) ∙ ap (λ n. n + length (thunk_bytes later es)) (length-thunk_linked b e) in
+      let sum : b.lookups + (thunk_width machine + length (thunk_bytes later es)) ≡ b.lookups + thunk_width machine + length (thunk_bytes later es) = omega arith in
+      ap (λ n. b.lookups + n) long ∙ sum ∙ lookups_end later es
+
+  pub addresses_end : (b : Bases) (es : List ExportView) → b.addresses + length (thunk_bytes b es) ≡ (ends_of_all machine dll b es).addresses
+  unfolding thunk_bytes ends_of_exports
+  addresses_end b [] = rw (length-replicate {A = ℕ} (thunk_width machine) 0) refl
+  addresses_end b (e ∷ es) =
+      let later : Bases = ends_of_export machine dll b e in
+      let long : length (thunk_linked b e ++ thunk_bytes later es) ≡ thunk_width machine + length (thunk_bytes later es) =
+      length-append (thunk_linked b e) (thunk_bytes later es) ∙ ap (λ n. n + length (thunk_bytes later es)) (length-thunk_linked b e) in
+      let sum : b.addresses + (thunk_width machine + length (thunk_bytes later es)) ≡ b.addresses + thunk_width machine + length (thunk_bytes later es) = omega arith in
+      ap (λ n. b.addresses + n) long ∙ sum ∙ addresses_end later es
+
+  pub hint_names_end : (b : Bases) (es : List ExportView) → b.hint_names + length (hint_bytes b es) ≡ (ends_of_all machine dll b es).hint_names
+  unfolding hint_bytes ends_of_exports
+  hint_names_end b [] = omega arith
+  hint_names_end b (e ∷ es) =
+      let later : Bases = ends_of_export machine dll b e in
+      let padding : List ℕ = zeros (next_multiple 2 b.hint_names - b.hint_names) in
+      let below : b.hint_names ≤ next_multiple 2 b.hint_names = at_least 2 b.hint_names in
+      let padded : length padding ≡ next_multiple 2 b.hint_names - b.hint_names = length-replicate {A = ℕ} (next_multiple 2 b.hint_names - b.hint_names) 0 in
+      let long : length (padding ++ (hint_name machine e ++ hint_bytes later es)) ≡ length padding + length (hint_name machine e ++ hint_bytes later es) =
+      length-append padding (hint_name machine e ++ hint_bytes later es) in
+      let longer : length (hint_name machine e ++ hint_bytes later es) ≡ length (hint_name machine e) + length (hint_bytes later es) =
+      length-append (hint_name machine e) (hint_bytes later es) in
+      let sum : b.hint_names + length (padding ++ (hint_name machine e ++ hint_bytes later es)) ≡ next_multiple 2 b.hint_names + length (hint_name machine e) + length (hint_bytes later es) = omega arith in
+      sum ∙ hint_names_end later es
 
   module _ (image : List Range) (starts : AllByRecursion (λ r. 0 < r.start) image) (ends : AllByRecursion (λ r. range_end r < 2 ^ 31) image) where
     -- an export's thunk asks for what is meant

@@ -36,8 +36,8 @@ pub mod Theorem
 pub mod WorkedLinks
 pub mod Asked
 pub mod WorkedMembers
-pub mod WorkedObjects
-pub mod Ascii
 pub mod Gnu
 pub mod GnuReading
 pub mod WorkedGnu
+pub mod WorkedObjects
+pub mod Ascii

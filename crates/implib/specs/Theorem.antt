@@ -1,31 +1,22 @@
 -- What linking the members of a definition for GNU's linker gives: a loader finds in the image the
 -- DLL and what the chosen exports ask for, and no more.
-use Rattle.std.specs.Prelude.{◌≡◌, ℕ, ◌+◌, List, [], ◌∷◌, ◌++◌, map, slice_get, slice_index, Option, Some, None, if◌then◌else◌}
+use Rattle.std.specs.Prelude.{◌≡◌, ℕ, ◌+◌, List, [], ◌∷◌, ◌++◌, map, slice_get, slice_index, Option, Some, None, if◌then◌else◌, ◌<◌, codes, length}
 use Rattle.std.specs.Cmp.Lexicographic.{slice_cmp}
 use Rattle.std.specs.List.{AllByRecursion, filter_map, flat_map}
 use Rattle.std.specs.Option.{option_map}
 use Rattle.std.specs.Ordering.{nat_cmp}
 use Rattle.std.specs.declared.cmp.Ordering.TheVariants.{Less}
+use Rattle.implib.specs.declared.library.Flavor.TheVariants.{Gnu}
 use Rattle.implib.specs.declared.machine.MachineType.{MachineType}
 use Rattle.implib.specs.Definition.{DefinitionView, ExportView}
+use Rattle.implib.specs.Gnu.{export_name, head_symbol, stem}
 use Rattle.implib.specs.Import.{address_symbol, ask_meant, public_exports}
-use Rattle.implib.specs.Link.{At, Bases, Descriptors, Kind, Nowhere, Place, Placed, SymbolDefinition, definitions_of, image_of, is_undefined_external, placed_from, same_kind}
+use Rattle.implib.specs.Link.{Bases, Placed, Range, SymbolDefinition, definitions_of, image_of, is_undefined_external, placed_from}
 use Rattle.implib.specs.Load.{Loads}
-use Rattle.implib.specs.Made.{MemberView, Plan, export_plan, head_plan, member_of, tail_plan}
+use Rattle.implib.specs.Made.{Made, MemberView, Plan, export_plan, head_plan, member_of, tail_plan}
 use Rattle.implib.specs.MsvcObjects.{thunk_width}
 use Rattle.implib.specs.Object.{ASymbol, Auxiliary, Entry, Object, object_in}
 use Rattle.implib.specs.Renaming.{renamed}
-
--- the first place of a kind
-abbrev pub first_place : Kind → List Place → Option ℕ
-first_place kind [] = None
-first_place kind (Nowhere ∷ places) = first_place kind places
-first_place kind (At other address ∷ places) = if same_kind kind other then Some address else first_place kind places
-
--- where the descriptor of the first object stands
-abbrev pub descriptor_place : List Placed → Option ℕ
-descriptor_place [] = None
-descriptor_place (p ∷ others) = first_place Descriptors p.places
 
 -- the symbols of each export's address are at entries of so many bytes, one after another from an
 -- address on, and nowhere else
@@ -48,14 +39,19 @@ undefined_names linked = flat_map (λ p. filter_map undefined_name p.object.entr
 abbrev pub IsDefinedOnce : List Placed → List ℕ → Type 0
 IsDefinedOnce linked name = (d : SymbolDefinition) × (definitions_of name linked ≡ d ∷ [])
 
--- Objects that are placed at bases, the head first, link to an import of these exports from the DLL:
--- a loader finds the DLL's name and twice what the exports ask for, in their order; each export's
--- address is its own entry of the address table; no symbol stays undefined or is ambiguous.
-pub record Links (machine : MachineType) (bases : Bases) (dll : List ℕ) (exports : List ExportView) (objects : List Object) : Type 0 where
+-- Objects of a DLL among those that are linked import these exports from it: at the address of the
+-- head's symbol stands a descriptor, by which a loader finds the DLL's name and twice what the
+-- exports ask for, in their order; each export's address is its own entry of the address table.
+pub record LinksAt (machine : MachineType) (image : List Range) (linked : List Placed) (dll : List ℕ) (exports : List ExportView) : Type 0 where
   pub descriptor : ℕ
-  pub place : descriptor_place (placed_from bases objects) ≡ Some descriptor
-  pub loads : Loads (image_of machine bases (placed_from bases objects)) (thunk_width machine) descriptor dll (map (ask_meant machine) exports)
-  pub entries : EntriesAt (placed_from bases objects) (thunk_width machine) loads.addresses exports
+  pub head : definitions_of (head_symbol machine dll) linked ≡ record { name = head_symbol machine dll; address = Some descriptor } ∷ []
+  pub loads : Loads image (thunk_width machine) descriptor dll (map (ask_meant machine) exports)
+  pub entries : EntriesAt linked (thunk_width machine) loads.addresses exports
+
+-- Objects that are placed at bases link to an import of these exports from the DLL, and no symbol
+-- stays undefined or is ambiguous.
+pub record Links (machine : MachineType) (bases : Bases) (dll : List ℕ) (exports : List ExportView) (objects : List Object) : Type 0 where
+  pub imports : LinksAt machine (image_of machine bases (placed_from bases objects)) (placed_from bases objects) dll exports
   pub defined : AllByRecursion (IsDefinedOnce (placed_from bases objects)) (undefined_names (placed_from bases objects))
 
 -- the exports of these numbers, which count the exports that are not private from 0
@@ -98,3 +94,47 @@ bases_of bases = record {
   hint_names = slice_index bases 3;
   dll_names = slice_index bases 4;
 }
+
+-- a definition, its members, and the numbers of the exports that are chosen
+pub record Part : Type 0 where
+  pub definition : DefinitionView
+  pub members : List MemberView
+  pub chosen : List ℕ
+
+-- the parts of definitions, members and choices that stand at one place
+abbrev pub parts_of : List DefinitionView → List (List MemberView) → List (List ℕ) → List Part
+parts_of [] members chosen = []
+parts_of (d ∷ definitions) [] chosen = []
+parts_of (d ∷ definitions) (m ∷ members) [] = []
+parts_of (d ∷ definitions) (m ∷ members) (c ∷ chosen) =
+    record { definition = d; members = m; chosen = c } ∷ parts_of definitions members chosen
+
+-- the members are those of the definition, and the numbers are of exports in the order of their
+-- members' names
+pub record IsPart (machine : MachineType) (p : Part) : Type 0 where
+  pub made : Made p.definition machine Gnu p.members
+  pub numbers : AllByRecursion (λ n. n < length (public_exports (renamed p.definition))) p.chosen
+  pub in_order : AllRise (map (export_name p.definition.import_name) p.chosen)
+
+-- what the names of a definition's members begin with
+abbrev pub beginning : DefinitionView → List ℕ
+beginning d = stem d.import_name ++ codes "_a_"
+
+-- a text is the beginning of another
+abbrev pub Begins : List ℕ → List ℕ → Type 0
+Begins first second = (rest : List ℕ) × (second ≡ first ++ rest)
+
+-- no text is the beginning of another
+abbrev pub NoneBegins : List (List ℕ) → Type 0
+NoneBegins [] = Unit {0}
+NoneBegins (text ∷ others) = AllByRecursion (λ other. (Begins text other → ⊥) × (Begins other text → ⊥)) others × NoneBegins others
+
+-- what is linked of all parts, one after another
+abbrev pub all_linked : MachineType → List Part → List MemberView
+all_linked machine parts = flat_map (λ p. linked_members p.definition machine p.chosen) parts
+
+-- each part links among the others, and no symbol stays undefined or is ambiguous
+pub record AllLink (machine : MachineType) (bases : Bases) (parts : List Part) (objects : List Object) : Type 0 where
+  pub imports : AllByRecursion
+      (λ p. LinksAt machine (image_of machine bases (placed_from bases objects)) (placed_from bases objects) p.definition.import_name (chosen_exports p.definition p.chosen)) parts
+  pub defined : AllByRecursion (IsDefinedOnce (placed_from bases objects)) (undefined_names (placed_from bases objects))

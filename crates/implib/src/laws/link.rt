@@ -9,7 +9,7 @@ ghost use Rattle.implib.specs.Load.{Loads};
 ghost use Rattle.implib.specs.Made.{Made};
 ghost use Rattle.implib.specs.Object.{object_in};
 ghost use Rattle.implib.specs.Renaming.{renamed};
-ghost use Rattle.implib.specs.Theorem.{AllRise, Links, bases_of, chosen_exports, linked_members, objects_in};
+ghost use Rattle.implib.specs.Theorem.{AllLink, AllRise, IsPart, Links, NoneBegins, all_linked, bases_of, beginning, chosen_exports, linked_members, objects_in, parts_of};
 ghost use Rattle.implib.specs.WorkedLinks.{WorkedLinks};
 ghost use Rattle.implib.specs.declared.library.Flavor.TheVariants.{Gnu};
 ghost use Rattle.std.specs.List.{AllByRecursion, Contains, IsDistinct, flat_map};
@@ -52,6 +52,46 @@ pub fn gnu_links(
         (objects_in (linked_members (definition_view def.now) machine chosen.now)) }
 {
     let _definition = def;
+    let _members = members;
+    let _chosen = chosen;
+    let _bases = bases;
+    let _machine = machine;
+}
+
+/// The head, the tail and the members of any chosen exports, of several DLLs one after another,
+/// link at any admissible bases, for each DLL to an import of just these exports from it.
+///
+/// `members` and `chosen` have for each definition its members and the numbers of the chosen exports,
+/// as `gnu_links` takes them.
+pub fn gnu_links_many(
+    defs: &[ModuleDef],
+    machine: MachineType,
+    members: &[Vec<Member>],
+    chosen: &[Vec<usize>],
+    bases: [u32; 5],
+)
+    requires same_count { length members.now ≡ length defs.now }
+    requires same_choices { length chosen.now ≡ length defs.now }
+    requires parts { AllByRecursion (IsPart machine) (parts_of (map definition_view defs.now)
+        (map (λ list. map member_view list.items) members.now) (map (λ list. list.items) chosen.now)) }
+    requires rising { AllRise (map (λ p. beginning p.definition) (parts_of (map definition_view defs.now)
+        (map (λ list. map member_view list.items) members.now) (map (λ list. list.items) chosen.now))) }
+    requires apart { NoneBegins (map (λ p. beginning p.definition) (parts_of (map definition_view defs.now)
+        (map (λ list. map member_view list.items) members.now) (map (λ list. list.items) chosen.now))) }
+    requires distinct { IsDistinct bytes_eq (flat_map (λ m. m.symbols)
+        (all_linked machine (parts_of (map definition_view defs.now)
+        (map (λ list. map member_view list.items) members.now) (map (λ list. list.items) chosen.now)))) }
+    requires admissible { IsAdmissible machine (bases_of bases)
+        (objects_in (all_linked machine (parts_of (map definition_view defs.now)
+        (map (λ list. map member_view list.items) members.now) (map (λ list. list.items) chosen.now)))) }
+    ensures links { AllLink machine (bases_of bases) (parts_of (map definition_view defs.now)
+        (map (λ list. map member_view list.items) members.now) (map (λ list. list.items) chosen.now))
+        (objects_in (all_linked machine (parts_of (map definition_view defs.now)
+        (map (λ list. map member_view list.items) members.now) (map (λ list. list.items) chosen.now)))) }
+    ensures names_rise { AllRise (map (λ m. m.name) (all_linked machine (parts_of (map definition_view defs.now)
+        (map (λ list. map member_view list.items) members.now) (map (λ list. list.items) chosen.now)))) }
+{
+    let _definitions = defs;
     let _members = members;
     let _chosen = chosen;
     let _bases = bases;

@@ -1,0 +1,159 @@
+-- The objects for GNU's linker of one DLL, or of several, link to what their definitions mean.
+use Rattle.std.proofs.Common.{◌≡◌, ℕ, ◌<◌, ◌^◌, List, [], ◌∷◌, ◌++◌, map, refl, ap, sym, ◌∙◌, subst, inl, inr}
+use Rattle.std.specs.Prelude.{bytes_eq}
+use Rattle.std.specs.List.{AllByRecursion, IsDistinct, filter, flat_map}
+use Rattle.std.proofs.lemmas.List.{append-nil, map-append}
+use Rattle.implib.specs.declared.machine.MachineType.{MachineType}
+use Rattle.implib.specs.Definition.{ExportView}
+use Rattle.implib.specs.Gnu.{export_listed, head_symbol, name_symbol}
+use Rattle.implib.specs.Link.{AllApart, Addresses, Bases, Descriptors, DllNames, HintNames, IsAdmissible, Kind, Lookups, Placed, Range, SymbolDefinition, base_of, definitions, definitions_of, filled, image_of, kinds, pieces, placed_from, range_end, range_of}
+use Rattle.implib.specs.Load.{BytesAt}
+use Rattle.implib.specs.Object.{Object}
+use Rattle.implib.specs.Picture.{HasNoNul}
+use Rattle.implib.specs.Theorem.{IsDefinedOnce, Links, LinksAt, undefined_names}
+use Rattle.implib.proofs.Ranges.{Among, among_back, among_flat, among_front, filled_stands}
+use Rattle.implib.proofs.Placement.{AreAligned, after_head, head, names-after}
+use Rattle.implib.proofs.Definitions.{only_definition}
+use Rattle.implib.proofs.Tables.{CanBeAsked}
+use Rattle.implib.proofs.Linked.{StandsFrom, aligned_block, all_append, bases_of_ranges, block_defined, block_definitions, block_links, definitions-block, ends_of_block, head_definition, rest_stands}
+
+-- what a DLL's objects are made of
+pub record Block : Type 0 where
+  pub dll : List ℕ
+  pub exports : List ExportView
+
+-- the symbols that a DLL's members are listed for
+abbrev pub linked_symbols : MachineType → List ℕ → List ExportView → List (List ℕ)
+linked_symbols machine dll es = head_symbol machine dll ∷ (flat_map export_listed es ++ name_symbol machine dll ∷ [])
+
+-- the objects of DLLs
+abbrev pub blocks_objects : MachineType → List Block → List Object
+blocks_objects machine [] = []
+blocks_objects machine (k ∷ blocks) = head machine k.dll ∷ after_head machine k.dll k.exports (blocks_objects machine blocks)
+
+-- a block whose texts have no NUL and whose exports can be asked
+pub record CanBeLinked (machine : MachineType) (k : Block) : Type 0 where
+  pub dll : HasNoNul k.dll
+  pub exports : AllByRecursion (CanBeAsked machine) k.exports
+
+pub blocks_definitions : MachineType → Bases → List Block → List SymbolDefinition
+blocks_definitions machine b [] = []
+blocks_definitions machine b (k ∷ blocks) = block_definitions machine k.dll b k.exports ++ blocks_definitions machine (ends_of_block machine k.dll b k.exports) blocks
+
+definitions-blocks : (machine : MachineType) (b : Bases) (blocks : List Block) → AreAligned b →
+    definitions (placed_from b (blocks_objects machine blocks)) ≡ blocks_definitions machine b blocks
+unfolding blocks_definitions
+definitions-blocks machine b [] even = refl
+definitions-blocks machine b (k ∷ blocks) even =
+    definitions-block machine k.dll b k.exports (blocks_objects machine blocks) even
+    ∙ ap (λ rest. block_definitions machine k.dll b k.exports ++ rest)
+    (definitions-blocks machine (ends_of_block machine k.dll b k.exports) blocks (aligned_block machine k.dll b k.exports even))
+
+names-block : (machine : MachineType) (dll : List ℕ) (b : Bases) (es : List ExportView) →
+    map (λ (d : SymbolDefinition). d.name) (block_definitions machine dll b es) ≡ linked_symbols machine dll es
+unfolding block_definitions head_definition
+names-block machine dll b es = ap (λ rest. head_symbol machine dll ∷ rest) (names-after machine dll _ es)
+
+names-blocks : (machine : MachineType) (b : Bases) (blocks : List Block) →
+    map (λ (d : SymbolDefinition). d.name) (blocks_definitions machine b blocks) ≡ flat_map (λ (k : Block). linked_symbols machine k.dll k.exports) blocks
+unfolding blocks_definitions
+names-blocks machine b [] = refl
+names-blocks machine b (k ∷ blocks) =
+    let later : Bases = ends_of_block machine k.dll b k.exports in
+    map-append (λ (d : SymbolDefinition). d.name) (block_definitions machine k.dll b k.exports) (blocks_definitions machine later blocks)
+    ∙ ap (λ names. names ++ map (λ (d : SymbolDefinition). d.name) (blocks_definitions machine later blocks)) (names-block machine k.dll b k.exports)
+    ∙ ap (λ rest. linked_symbols machine k.dll k.exports ++ rest) (names-blocks machine later blocks)
+
+-- each block links, wherever it stands among the others
+module _ (machine : MachineType) (linked : List Placed) (image : List Range)
+    (starts : AllByRecursion (λ r. 0 < r.start) image) (ends : AllByRecursion (λ r. range_end r < 2 ^ 31) image) where
+  each_links : (blocks : List Block) (b : Bases) → AllByRecursion (CanBeLinked machine) blocks → AreAligned b →
+      ((d : SymbolDefinition) → Among d (blocks_definitions machine b blocks) → definitions_of d.name linked ≡ d ∷ []) →
+      StandsFrom machine linked image b (blocks_objects machine blocks) →
+      AllByRecursion (λ (k : Block). LinksAt machine image linked k.dll k.exports) blocks × AllByRecursion (IsDefinedOnce linked) (undefined_names (placed_from b (blocks_objects machine blocks)))
+  unfolding blocks_definitions
+  each_links [] b fit even only stands = (tt, tt)
+  each_links (k ∷ blocks) b fit even only stands =
+      let rest : List Object = blocks_objects machine blocks in
+      let later : Bases = ends_of_block machine k.dll b k.exports in
+      let own_only = λ (d : SymbolDefinition) (m : Among d (block_definitions machine k.dll b k.exports)). only d (among_front d (block_definitions machine k.dll b k.exports) (blocks_definitions machine later blocks) m) in
+      let others = each_links blocks later fit.1 (aligned_block machine k.dll b k.exports even)
+      (λ d m. only d (among_back d (block_definitions machine k.dll b k.exports) (blocks_definitions machine later blocks) m))
+      (rest_stands machine k.dll k.exports b rest linked image starts ends fit.0.dll fit.0.exports even own_only stands) in (
+        (block_links machine k.dll k.exports b rest linked image starts ends fit.0.dll fit.0.exports even own_only stands, others.0),
+        block_defined machine k.dll k.exports b rest linked image starts ends fit.0.dll fit.0.exports even own_only stands others.1,
+      )
+
+-- objects that are placed admissibly stand in their image
+module _ (machine : MachineType) (b : Bases) (objects : List Object) (admissible : IsAdmissible machine b objects) where
+  placed : List Placed
+  placed = placed_from b objects
+
+  image : List Range
+  image = image_of machine b placed
+
+  even : AreAligned b
+  even = record { lookups = admissible.lookups.1; addresses = admissible.addresses.1 }
+
+  starts_of : (ks : List Kind) → AllByRecursion (λ k. 0 < base_of k b) ks → AllByRecursion (λ r. 0 < r.start) (flat_map (λ k. range_of (base_of k b) (pieces machine placed k placed)) ks)
+  starts_of [] low = tt
+  starts_of (k ∷ ks) low =
+      all_append (λ r. 0 < r.start) (range_of (base_of k b) (pieces machine placed k placed)) (flat_map (λ k. range_of (base_of k b) (pieces machine placed k placed)) ks)
+      (bases_of_ranges (base_of k b) (pieces machine placed k placed) low.0) (starts_of ks low.1)
+
+  starts : AllByRecursion (λ r. 0 < r.start) image
+  unfolding image
+  starts = starts_of kinds (admissible.descriptors.0, (admissible.lookups.0, (admissible.addresses.0, (admissible.hint_names.0, (admissible.dll_names.0, tt)))))
+
+  ends : AllByRecursion (λ r. range_end r < 2 ^ 31) image
+  unfolding image placed
+  ends = admissible.ends
+
+  apart : AllApart image
+  unfolding image placed
+  apart = admissible.apart
+
+  kind_stands : (k : Kind) → Among k kinds → BytesAt image (base_of k b) (filled (base_of k b) (pieces machine placed k placed))
+  unfolding image
+  kind_stands k m =
+      filled_stands (base_of k b) (pieces machine placed k placed) (image_of machine b placed)
+      (λ r held. among_flat (λ k. range_of (base_of k b) (pieces machine placed k placed)) k kinds r m held) apart
+
+  all_stand : StandsFrom machine placed image b objects
+  unfolding Among placed
+  all_stand = record {
+    descriptors = kind_stands Descriptors (inl refl);
+    lookups = kind_stands Lookups (inr (inl refl));
+    addresses = kind_stands Addresses (inr (inr (inl refl)));
+    hint_names = kind_stands HintNames (inr (inr (inr (inl refl))));
+    dll_names = kind_stands DllNames (inr (inr (inr (inr (inl refl)))));
+  }
+
+-- the objects of DLLs link
+module _ (machine : MachineType) (b : Bases) (blocks : List Block) (fit : AllByRecursion (CanBeLinked machine) blocks)
+    (distinct : IsDistinct bytes_eq (flat_map (λ (k : Block). linked_symbols machine k.dll k.exports) blocks))
+    (admissible : IsAdmissible machine b (blocks_objects machine blocks)) where
+  only : (d : SymbolDefinition) → Among d (blocks_definitions machine b blocks) → definitions_of d.name (placed_from b (blocks_objects machine blocks)) ≡ d ∷ []
+  only d m =
+      ap (λ ds. filter (λ (other : SymbolDefinition). bytes_eq d.name other.name) ds) (definitions-blocks machine b blocks (even machine b (blocks_objects machine blocks) admissible))
+      ∙ only_definition d (blocks_definitions machine b blocks) m (subst (IsDistinct bytes_eq) (sym (names-blocks machine b blocks)) distinct)
+
+  pub blocks_link : AllByRecursion (λ (k : Block). LinksAt machine (image_of machine b (placed_from b (blocks_objects machine blocks))) (placed_from b (blocks_objects machine blocks)) k.dll k.exports) blocks
+      × AllByRecursion (IsDefinedOnce (placed_from b (blocks_objects machine blocks))) (undefined_names (placed_from b (blocks_objects machine blocks)))
+  unfolding image placed
+  blocks_link =
+      let objects : List Object = blocks_objects machine blocks in
+      each_links machine (placed_from b objects) (image_of machine b (placed_from b objects)) (starts machine b objects admissible) (ends machine b objects admissible)
+      blocks b fit (even machine b objects admissible) only (all_stand machine b objects admissible)
+
+-- the objects of one DLL
+abbrev pub linked_objects : MachineType → List ℕ → List ExportView → List Object
+linked_objects machine dll es = head machine dll ∷ after_head machine dll es []
+
+pub objects_link : (machine : MachineType) (dll : List ℕ) (es : List ExportView) (b : Bases) → HasNoNul dll → AllByRecursion (CanBeAsked machine) es →
+    IsDistinct bytes_eq (linked_symbols machine dll es) → IsAdmissible machine b (linked_objects machine dll es) → Links machine b dll es (linked_objects machine dll es)
+objects_link machine dll es b text fit distinct admissible =
+    let block : Block = record { dll = dll; exports = es } in
+    let distinct_names : IsDistinct bytes_eq (linked_symbols machine dll es ++ []) = subst (IsDistinct bytes_eq) (sym (append-nil (linked_symbols machine dll es))) distinct in
+    let linked = blocks_link machine b (block ∷ []) (record { dll = text; exports = fit }, tt) distinct_names admissible in
+    record { imports = linked.0.0; defined = linked.1 }

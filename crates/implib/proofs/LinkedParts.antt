@@ -1,0 +1,145 @@
+-- The members for GNU's linker of several DLLs link to what their definitions mean.
+use Rattle.std.proofs.Common.{◌≡◌, ℕ, ◌<◌, List, [], ◌∷◌, ◌++◌, map, false, refl, ap, sym, ◌∙◌, arith, codes, subst, inl, inr}
+use Rattle.std.specs.Prelude.{bytes_eq}
+use Rattle.std.specs.List.{AllByRecursion, IsDistinct, flat_map}
+use Rattle.std.specs.Cmp.Lexicographic.{slice_cmp}
+use Rattle.std.specs.Ordering.{nat_cmp, ordering_then}
+use Rattle.std.specs.declared.cmp.Ordering.{Ordering}
+use Rattle.std.specs.declared.cmp.Ordering.TheVariants.{Equal, Greater, Less}
+use Rattle.std.proofs.lemmas.Bool.{cases_order, le-ltb, lt-ltb, ne_eqb}
+use Rattle.std.proofs.Math.Dec.{eqb, ltb}
+use Rattle.std.proofs.lemmas.List.{append-nil, append_assoc, map-append}
+use Rattle.std.proofs.lemmas.Grind.{flat_map-append}
+use Rattle.std.proofs.lemmas.List.Elements.{filter_map-append}
+use Rattle.implib.specs.declared.machine.MachineType.{MachineType}
+use Rattle.implib.specs.Definition.{DefinitionView}
+use Rattle.implib.specs.Gnu.{export_name, head_name, stem, tail_name}
+use Rattle.implib.specs.Link.{Bases, IsAdmissible, image_of, placed_from}
+use Rattle.implib.specs.Made.{MemberView, head_plan}
+use Rattle.implib.specs.Object.{object_in}
+use Rattle.implib.specs.Theorem.{AllLink, AllRise, Begins, ComesBefore, IsPart, LinksAt, NoneBegins, Part, beginning, all_linked, chosen_exports, linked_members, objects_in}
+use Rattle.implib.proofs.LinkedBlocks.{Block, CanBeLinked, blocks_link, blocks_objects, linked_objects, linked_symbols}
+use Rattle.implib.proofs.LinkedMembers.{members_named, members_rise, same_cmp, dll_free, exports_fit, objects_are, symbols_are}
+use Rattle.implib.proofs.MsvcObjects.{HasNoNul-from_holds}
+use Rattle.implib.proofs.Placement.{export, head, tail}
+
+-- what a part's objects are made of
+abbrev block_of : Part → Block
+block_of p = record { dll = p.definition.import_name; exports = chosen_exports p.definition p.chosen }
+
+parts_fit : (machine : MachineType) (ps : List Part) → AllByRecursion (IsPart machine) ps → AllByRecursion (CanBeLinked machine) (map block_of ps)
+parts_fit machine [] are = tt
+parts_fit machine (p ∷ ps) are = (
+  record {
+    dll = HasNoNul-from_holds p.definition.import_name (dll_free p.definition machine p.members p.chosen are.0.made);
+    exports = exports_fit p.definition machine p.members p.chosen are.0.made;
+  },
+  parts_fit machine ps are.1,
+)
+
+parts_objects : (machine : MachineType) (ps : List Part) → AllByRecursion (IsPart machine) ps → objects_in (all_linked machine ps) ≡ blocks_objects machine (map block_of ps)
+parts_objects machine [] are = refl
+parts_objects machine (p ∷ ps) are =
+    let own : List MemberView = linked_members p.definition machine p.chosen in
+    let dll : List ℕ = p.definition.import_name in
+    filter_map-append (λ (m : MemberView). object_in m.bytes) own (all_linked machine ps)
+    ∙ ap (λ objects. objects ++ objects_in (all_linked machine ps)) (objects_are p.definition machine p.members p.chosen are.0.made)
+    ∙ ap (λ rest. linked_objects machine dll (chosen_exports p.definition p.chosen) ++ rest) (parts_objects machine ps are.1)
+    ∙ ap (λ rest. head machine dll ∷ rest)
+    (append_assoc (map (export machine dll) (chosen_exports p.definition p.chosen)) (tail machine dll ∷ []) (blocks_objects machine (map block_of ps)))
+
+parts_symbols : (machine : MachineType) (ps : List Part) → AllByRecursion (IsPart machine) ps →
+    flat_map (λ (m : MemberView). m.symbols) (all_linked machine ps) ≡ flat_map (λ (k : Block). linked_symbols machine k.dll k.exports) (map block_of ps)
+parts_symbols machine [] are = refl
+parts_symbols machine (p ∷ ps) are =
+    flat_map-append (λ (m : MemberView). m.symbols) (linked_members p.definition machine p.chosen) (all_linked machine ps)
+    ∙ ap (λ symbols. symbols ++ flat_map (λ (m : MemberView). m.symbols) (all_linked machine ps)) (symbols_are p.definition machine p.members p.chosen are.0.made)
+    ∙ ap (λ rest. linked_symbols machine p.definition.import_name (chosen_exports p.definition p.chosen) ++ rest) (parts_symbols machine ps are.1)
+
+all_of_map : {X Y : Type 0} (f : X → Y) (P : Y → Type 0) (xs : List X) → AllByRecursion P (map f xs) → AllByRecursion (λ x. P (f x)) xs
+all_of_map f P [] all = tt
+all_of_map f P (x ∷ xs) all = (all.0, all_of_map f P xs all.1)
+
+pub parts_link : (machine : MachineType) (bases : Bases) (ps : List Part) → AllByRecursion (IsPart machine) ps →
+    IsDistinct bytes_eq (flat_map (λ (m : MemberView). m.symbols) (all_linked machine ps)) → IsAdmissible machine bases (objects_in (all_linked machine ps)) →
+    AllLink machine bases ps (objects_in (all_linked machine ps))
+parts_link machine bases ps are distinct admissible =
+    let blocks : List Block = map block_of ps in
+    let linked = blocks_link machine bases blocks (parts_fit machine ps are) (subst (IsDistinct bytes_eq) (parts_symbols machine ps are) distinct)
+    (subst (IsAdmissible machine bases) (parts_objects machine ps are) admissible) in
+    subst (AllLink machine bases ps) (sym (parts_objects machine ps are)) (record {
+      imports = all_of_map block_of
+          (λ (k : Block). LinksAt machine (image_of machine bases (placed_from bases (blocks_objects machine blocks))) (placed_from bases (blocks_objects machine blocks)) k.dll k.exports)
+          ps linked.0;
+      defined = linked.1;
+    })
+
+-- The order of the names of all parts.
+
+same_front : (x y : ℕ) (xs ys : List ℕ) → x ≡ y → xs ≡ ys → y ∷ xs ≡ x ∷ ys
+same_front x y xs ys first rest = cc
+
+less_is_not_greater : Less ≡ Greater → ⊥
+less_is_not_greater same = cc
+
+greater_is_not_less : (x y : ℕ) (o : Ordering) → y < x → ordering_then (nat_cmp x y) o ≡ Less → ⊥
+greater_is_not_less x y o high less =
+    let not_below : ltb x y ≡ false = le-ltb x y (omega arith) in
+    let not_same : eqb x y ≡ false = ne_eqb x y (λ same. omega arith) in
+    let is : Greater ≡ Less = rw (not_below, not_same) at less in
+    less_is_not_greater (sym is)
+
+-- a text before another that does not begin it comes before it whatever follows
+cmp_apart : (xs ys : List ℕ) (after behind : List ℕ) → slice_cmp nat_cmp xs ys ≡ Less → (Begins xs ys → ⊥) → slice_cmp nat_cmp (xs ++ after) (ys ++ behind) ≡ Less
+cmp_apart [] ys after behind less apart = absurd (apart (ys, refl))
+cmp_apart (x ∷ xs) [] after behind less apart = cc
+cmp_apart (x ∷ xs) (y ∷ ys) after behind less apart =
+    elim (cases_order x y) [
+      | inl e ↦
+          let here : nat_cmp x y ≡ Equal = subst (λ n. nat_cmp x n ≡ Equal) e (same_cmp x) in
+          let later : slice_cmp nat_cmp xs ys ≡ Less = rw here at less in
+          rw here (cmp_apart xs ys after behind later (λ b. apart (b.0, same_front x y ys (xs ++ b.0) e b.1)))
+      | inr other ↦ elim other [
+        | inl low ↦ rw (lt-ltb x y low) refl
+        | inr high ↦ absurd (greater_is_not_less x y (slice_cmp nat_cmp xs ys) high less)
+      ]
+    ]
+
+tail_before_head : (first second : DefinitionView) → ComesBefore (beginning first) (beginning second) → (Begins (beginning first) (beginning second) → ⊥) →
+    ComesBefore (tail_name first.import_name) (head_name second.import_name)
+unfolding tail_name head_name
+tail_before_head first second before apart =
+    let joined : ComesBefore (beginning first ++ codes "t.o") (beginning second ++ codes "h.o") =
+    cmp_apart (beginning first) (beginning second) (codes "t.o") (codes "h.o") before apart in
+    subst (λ name. ComesBefore name (head_name second.import_name)) (append_assoc (stem first.import_name) (codes "_a_") (codes "t.o"))
+    (subst (λ name. ComesBefore (beginning first ++ codes "t.o") name) (append_assoc (stem second.import_name) (codes "_a_") (codes "h.o")) joined)
+
+rise_on : (names : List (List ℕ)) (last next : List ℕ) (others : List (List ℕ)) → AllRise (names ++ last ∷ []) → ComesBefore last next → AllRise (next ∷ others) →
+    AllRise ((names ++ last ∷ []) ++ next ∷ others)
+rise_on [] last next others rise before behind = (before, behind)
+rise_on (x ∷ []) last next others rise before behind = (rise.0, (before, behind))
+rise_on (x ∷ y ∷ names) last next others rise before behind = (rise.0, rise_on (y ∷ names) last next others rise.1 before behind)
+
+abbrev names_of : List MemberView → List (List ℕ)
+names_of members = map (λ (m : MemberView). m.name) members
+
+pub parts_rise : (machine : MachineType) (ps : List Part) → AllByRecursion (IsPart machine) ps → AllRise (map (λ (p : Part). beginning p.definition) ps) →
+    NoneBegins (map (λ (p : Part). beginning p.definition) ps) → AllRise (names_of (all_linked machine ps))
+unfolding head_plan
+parts_rise machine [] are rise apart = tt
+parts_rise machine (p ∷ []) are rise apart =
+    subst (λ members. AllRise (names_of members)) (sym (append-nil (linked_members p.definition machine p.chosen)))
+    (members_rise p.definition machine p.members p.chosen are.0.made are.0.numbers are.0.in_order)
+parts_rise machine (p ∷ q ∷ ps) are rise apart =
+    let dll : List ℕ = p.definition.import_name in
+    let own : List (List ℕ) = head_name dll ∷ map (export_name dll) p.chosen in
+    let named : names_of (linked_members p.definition machine p.chosen) ≡ own ++ tail_name dll ∷ [] =
+    members_named p.definition machine p.members p.chosen are.0.made are.0.numbers in
+    let own_rise : AllRise (own ++ tail_name dll ∷ []) =
+    subst AllRise named (members_rise p.definition machine p.members p.chosen are.0.made are.0.numbers are.0.in_order) in
+    let behind = parts_rise machine (q ∷ ps) are.1 rise.1 apart.1 in
+    let joined : names_of (all_linked machine (p ∷ q ∷ ps)) ≡ (own ++ tail_name dll ∷ []) ++ names_of (all_linked machine (q ∷ ps)) =
+    map-append (λ (m : MemberView). m.name) (linked_members p.definition machine p.chosen) (all_linked machine (q ∷ ps))
+    ∙ ap (λ names. names ++ names_of (all_linked machine (q ∷ ps))) named in
+    subst AllRise (sym joined)
+    (rise_on own (tail_name dll) (head_name q.definition.import_name) _ own_rise (tail_before_head p.definition q.definition rise.0 apart.0.0.0) behind)
