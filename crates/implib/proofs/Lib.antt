@@ -56,6 +56,14 @@ pub mod WorkedObjects
 pub mod Asked
 pub mod WorkedMembers
 pub mod WorkedGnu
+pub mod Ranges
+pub mod Placement
+pub mod Definitions
+pub mod Tables
+pub mod Linked
+pub mod LinkedMembers
+pub mod Loading
+pub mod WorkedLinks
 pub mod GnuObjects
 pub mod GnuNames
 pub mod GnuLoop

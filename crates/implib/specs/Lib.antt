@@ -30,6 +30,10 @@ pub mod Parser
 pub mod ParserViews
 pub mod Writer
 pub mod WriterView
+pub mod Link
+pub mod Load
+pub mod Theorem
+pub mod WorkedLinks
 pub mod Asked
 pub mod WorkedMembers
 pub mod Gnu

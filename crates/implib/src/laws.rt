@@ -2,6 +2,7 @@
 
 pub mod asked;
 pub mod grammar;
+pub mod link;
 pub mod members;
 pub mod objects;
 pub mod renaming;

@@ -1,0 +1,349 @@
+-- The members for GNU's linker, read from their bytes, link to what their definition means.
+use Rattle.std.proofs.Common.{◌≡◌, ℕ, ◌+◌, ◌<◌, ◌≤◌, ◌^◌, zero, suc, Bool, true, false, ◌||◌, List, [], ◌∷◌, ◌++◌, length, map, Option, Some, None, refl, ap, sym, ◌∙◌, arith, subst, inl, inr, if◌then◌else◌}
+use Rattle.std.specs.Prelude.{◌==◌, bytes_eq, not, reverse, slice_get}
+use Rattle.std.specs.Cmp.Lexicographic.{slice_cmp}
+use Rattle.std.specs.List.{AllByRecursion, Contains, IsDistinct, cons_option, filter, filter_map, flat_map, list_all, list_any}
+use Rattle.std.specs.Option.{option_map}
+use Rattle.std.specs.Ordering.{nat_cmp}
+use Rattle.std.specs.declared.cmp.Ordering.TheVariants.{Equal}
+use Rattle.std.proofs.lemmas.Bool.{and_parts, eq-eqb, le-ltb, ltb-false, ltb-true, or_parts}
+use Rattle.std.proofs.lemmas.List.{append_assoc, reverse-append}
+use Rattle.implib.specs.declared.library.Flavor.TheVariants.{Gnu}
+use Rattle.implib.specs.declared.machine.MachineType.{MachineType}
+use Rattle.implib.specs.Definition.{DefinitionView, ExportView}
+use Rattle.implib.specs.Fault.{EmptyName, NulInExport}
+use Rattle.implib.specs.Gnu.{head_symbol, name_symbol, export_listed, export_name, export_object, head_name, head_object, numbered_name, stem, tail_name, tail_object}
+use Rattle.implib.specs.Import.{asked_name, holds, has_underscore, is_empty_text, public_exports, without_first}
+use Rattle.implib.specs.Link.{Bases, IsAdmissible}
+use Rattle.implib.specs.Made.{Made, MemberView, Plan, alias_plans, contents_size, definition_names_refusal, export_plan, gnu_plans, has_u16_ordinal, head_plan, holds_nul, import_name_refusal, is_too_long, length_refusal, member_of, name_refusal, names_refusal, numbered_plans, numbered_plans_of, plans_of, refusal, renamed_refusal, tail_plan}
+use Rattle.implib.specs.Object.{object_in}
+use Rattle.implib.specs.Picture.{Fits, layout, layout_size}
+use Rattle.implib.specs.Renaming.{renamed, renamed_export}
+use Rattle.implib.specs.Theorem.{AllRise, ComesBefore, Links, chosen_exports, linked_members, linked_plans, objects_in, plan_numbered}
+use Rattle.implib.specs.Writer.{Holding, object_held, picture_of}
+use Rattle.implib.proofs.GnuObjects.{Fits-export_object, Fits-head_object, Fits-tail_object}
+use Rattle.implib.proofs.Linked.{linked_objects, linked_symbols, objects_link}
+use Rattle.implib.proofs.MemberReadings.{first_none, if_none, import_name_free, none_too_long}
+use Rattle.implib.proofs.MsvcObjects.{HasNoNul-from_holds}
+use Rattle.implib.proofs.ObjectReading.{object_in-layout}
+use Rattle.implib.proofs.Placement.{export, head, tail}
+use Rattle.implib.proofs.Ranges.{Among, among_back, among_first, among_front, among_later}
+use Rattle.implib.proofs.Tables.{CanBeAsked}
+use Rattle.implib.proofs.WriterPicture.{object_of-picture_of}
+
+-- what a writer wrote reads as what it holds
+held_reads : (h : Holding) → Fits (picture_of h) → layout_size (picture_of h) ≤ 0xFFFF_FFFF → object_in (layout (picture_of h)) ≡ Some (object_held h)
+held_reads h fits short =
+    let below : layout_size (picture_of h) < 2 ^ 32 = omega arith in
+    object_in-layout (picture_of h) fits below ∙ ap Some (object_of-picture_of h)
+
+-- an export that breaks no rule on names
+record IsNamed (e : ExportView) : Type 0 where
+  filled : is_empty_text e.name ≡ false
+  free : holds 0 e.name ≡ false
+
+named : (machine : MachineType) (index : ℕ) (e : ExportView) → name_refusal Gnu machine index e ≡ None → IsNamed e
+named machine index e none =
+    let filled = if_none (is_empty_text e.name) (EmptyName index) _ none in
+    let free = if_none (holds_nul e) (NulInExport index) _ filled.1 in
+    let two = or_parts (holds 0 e.name || holds 0 e.symbol_name) (holds 0 e.alias_target) free.0 in
+    record { filled = filled.0; free = (or_parts (holds 0 e.name) (holds 0 e.symbol_name) two.0).0 }
+
+kept_named : (machine : MachineType) (index : ℕ) (e : ExportView) (exports : List ExportView) (private : Bool) →
+    (if private then None else name_refusal Gnu machine index e) ≡ None → AllByRecursion IsNamed exports →
+    AllByRecursion IsNamed (if not private then e ∷ exports else exports)
+kept_named machine index e exports true none others = others
+kept_named machine index e exports false none others = (named machine index e none, others)
+
+all_named : (machine : MachineType) (index : ℕ) (exports : List ExportView) → names_refusal Gnu machine index exports ≡ None →
+    AllByRecursion IsNamed (filter (λ e. not e.private) exports)
+all_named machine index [] none = tt
+all_named machine index (e ∷ exports) none =
+    let parts = first_none (if e.private then None else name_refusal Gnu machine index e) (names_refusal Gnu machine (index + 1) exports) none in
+    kept_named machine index e (filter (λ e. not e.private) exports) e.private parts.0 (all_named machine (index + 1) exports parts.1)
+
+-- what holds of each holds of the one at a place
+all_at : {X : Type 0} (P : X → Type 0) (xs : List X) (n : ℕ) (x : X) → AllByRecursion P xs → slice_get xs n ≡ Some x → P x
+all_at P [] n x all is = cc
+all_at P (y ∷ xs) zero x all is = subst P (let same : y ≡ x = cc in same) all.0
+all_at P (y ∷ xs) (suc n) x all is = all_at P xs n x all.1 is
+
+none_among : {X : Type 0} (test : X → Bool) (x : X) (xs : List X) → Among x xs → list_any test xs ≡ false → test x ≡ false
+unfolding Among
+none_among test x [] m none = absurd m
+none_among test x (y ∷ xs) (inl e) none = rw e (or_parts (test y) (list_any test xs) none).0
+none_among test x (y ∷ xs) (inr m) none = none_among test x xs m (or_parts (test y) (list_any test xs) none).1
+
+among_reverse : {X : Type 0} (x : X) (xs : List X) → Among x xs → Among x (reverse xs)
+unfolding Among
+among_reverse x [] m = m
+among_reverse x (y ∷ xs) (inl e) = subst (Among x) (sym (reverse-append (y ∷ []) xs)) (among_back x (reverse xs) (y ∷ []) (inl e))
+among_reverse x (y ∷ xs) (inr m) = subst (Among x) (sym (reverse-append (y ∷ []) xs)) (among_front x (reverse xs) (y ∷ []) (among_reverse x xs m))
+
+among_map : {X Y : Type 0} (f : X → Y) (x : X) (xs : List X) → Among x xs → Among (f x) (map f xs)
+unfolding Among
+among_map f x [] m = absurd m
+among_map f x (y ∷ xs) (inl e) = inl (ap f e)
+among_map f x (y ∷ xs) (inr m) = inr (among_map f x xs m)
+
+-- nothing stands past the end
+past_end : {X : Type 0} (xs : List X) (n : ℕ) → slice_get xs n ≡ None → length xs ≤ n
+past_end [] n is = omega arith
+past_end (x ∷ xs) zero is = cc
+past_end (x ∷ xs) (suc n) is = let rest = past_end xs n is in omega arith
+
+asked_free : (stripped : Bool) (name : List ℕ) → holds 0 name ≡ false → holds 0 (if stripped then without_first name else name) ≡ false
+asked_free false name free = free
+asked_free true [] free = refl
+asked_free true (first ∷ rest) free = (or_parts (first == 0) (holds 0 rest) free).1
+
+-- those that are there
+present : {X : Type 0} → List (Option X) → List X
+present xs = filter_map (λ x. x) xs
+
+filter_map-present : {X Y : Type 0} (f : X → Option Y) (xs : List X) → filter_map f xs ≡ present (map f xs)
+unfolding present
+filter_map-present f [] = refl
+filter_map-present f (x ∷ xs) = ap (λ rest. cons_option (f x) rest) (filter_map-present f xs)
+
+present-some : {X : Type 0} (xs : List X) → present (map Some xs) ≡ xs
+unfolding present
+present-some [] = refl
+present-some (x ∷ xs) = ap (λ rest. x ∷ rest) (present-some xs)
+
+-- the plan of each export is among those of the definition
+numbered_among : (machine : MachineType) (dll : List ℕ) (exports : List ExportView) (start n : ℕ) (e : ExportView) → slice_get exports n ≡ Some e →
+    Among (export_plan machine dll (start + n) e) (numbered_plans machine dll start exports)
+numbered_among machine dll [] start n e is = cc
+numbered_among machine dll (x ∷ exports) start zero e is =
+    let same : x ≡ e = cc in
+    let place : start ≡ start + 0 = omega arith in
+    among_front _ (numbered_plans_of machine dll start x) (numbered_plans machine dll (start + 1) exports)
+    (among_back _ (alias_plans machine dll start x) (export_plan machine dll start x ∷ [])
+    (subst (λ y. Among (export_plan machine dll (start + 0) y) (export_plan machine dll start x ∷ [])) same
+    (subst (λ n. Among (export_plan machine dll n x) (export_plan machine dll start x ∷ [])) place (among_first _ []))))
+numbered_among machine dll (x ∷ exports) start (suc n) e is =
+    let place : start + 1 + n ≡ start + suc n = omega arith in
+    among_back _ (numbered_plans_of machine dll start x) (numbered_plans machine dll (start + 1) exports)
+    (subst (λ n. Among (export_plan machine dll n e) (numbered_plans machine dll (start + 1) exports)) place (numbered_among machine dll exports (start + 1) n e is))
+
+among_contains : {X : Type 0} (x : X) (xs : List X) → Among x xs → Contains xs x
+unfolding Among
+among_contains x [] m = absurd m
+among_contains x (y ∷ xs) (inl e) = (0, omega arith, sym e)
+among_contains x (y ∷ xs) (inr m) =
+    let later = among_contains x xs m in
+    (suc later.0, omega arith, later.2)
+
+-- the chosen exports of a list, which breaks no rule
+module _ (machine : MachineType) (dll : List ℕ) (exports : List ExportView) (dll_free : holds 0 dll ≡ false) (all_good : AllByRecursion IsNamed exports)
+    (ordinals : list_all has_u16_ordinal exports ≡ true) (short : list_any is_too_long (gnu_plans machine dll exports) ≡ false) where
+  tail_among : Among (tail_plan machine dll) (gnu_plans machine dll exports)
+  tail_among = among_first _ _
+
+  head_among : Among (head_plan machine dll) (gnu_plans machine dll exports)
+  head_among = among_later _ _ _ (among_first _ _)
+
+  export_among : (n : ℕ) (e : ExportView) → slice_get exports n ≡ Some e → Among (export_plan machine dll n e) (gnu_plans machine dll exports)
+  export_among n e is =
+      let place : 0 + n ≡ n = omega arith in
+      among_later _ _ _ (among_later _ _ _ (among_reverse _ _
+      (subst (λ m. Among (export_plan machine dll m e) (numbered_plans machine dll 0 exports)) place (numbered_among machine dll exports 0 n e is))))
+
+  size_of : (p : Plan) → Among p (gnu_plans machine dll exports) → contents_size p.contents ≤ 0xFFFF_FFFF
+  size_of p m = ltb-false 0xFFFF_FFFF (contents_size p.contents) (none_among is_too_long p (gnu_plans machine dll exports) m short)
+
+  tail_reads : object_in (member_of (tail_plan machine dll)).bytes ≡ Some (tail machine dll)
+  unfolding tail_plan
+  tail_reads = held_reads (tail_object machine dll) (Fits-tail_object machine dll dll_free) (size_of (tail_plan machine dll) tail_among)
+
+  head_reads : object_in (member_of (head_plan machine dll)).bytes ≡ Some (head machine dll)
+  unfolding head_plan
+  head_reads = held_reads (head_object machine dll) (Fits-head_object machine dll dll_free) (size_of (head_plan machine dll) head_among)
+
+  export_reads : (n : ℕ) (e : ExportView) → slice_get exports n ≡ Some e → object_in (member_of (export_plan machine dll n e)).bytes ≡ Some (export machine dll e)
+  unfolding export_plan
+  export_reads n e is =
+      let good = all_at IsNamed exports n e all_good is in
+      held_reads (export_object machine dll e) (Fits-export_object machine dll e dll_free good.free good.filled) (size_of (export_plan machine dll n e) (export_among n e is))
+
+  all_ordinals : (es : List ExportView) → list_all has_u16_ordinal es ≡ true → AllByRecursion (λ e. has_u16_ordinal e ≡ true) es
+  all_ordinals [] fit = tt
+  all_ordinals (e ∷ es) fit =
+      let parts = and_parts (has_u16_ordinal e) (list_all has_u16_ordinal es) fit in
+      (parts.0, all_ordinals es parts.1)
+
+  export_asks : (n : ℕ) (e : ExportView) → slice_get exports n ≡ Some e → CanBeAsked machine e
+  export_asks n e is =
+      let good = all_at IsNamed exports n e all_good is in
+      record {
+        ordinal = ltb-true e.ordinal 0x1_0000 (all_at (λ e. has_u16_ordinal e ≡ true) exports n e (all_ordinals exports ordinals) is);
+        name = HasNoNul-from_holds (asked_name machine e.name) (asked_free (has_underscore machine e.name) e.name good.free);
+      }
+
+  -- what is linked after the head
+  abbrev plans_after : List ℕ → List Plan
+  plans_after ns = filter_map (plan_numbered machine dll exports) ns ++ tail_plan machine dll ∷ []
+
+  abbrev chosen_of : List ℕ → List ExportView
+  chosen_of ns = filter_map (slice_get exports) ns
+
+  -- a fact of what stands at a place, from what it is
+  by_place : (P : Option ExportView → Type 0) (n : ℕ) (o : Option ExportView) → slice_get exports n ≡ o → (slice_get exports n ≡ None → P None) →
+      ((e : ExportView) → slice_get exports n ≡ Some e → P (Some e)) → P o
+  by_place P n None is none some = none is
+  by_place P n (Some e) is none some = some e is
+
+  chosen_fit : (ns : List ℕ) → AllByRecursion (CanBeAsked machine) (chosen_of ns)
+  chosen_fit [] = tt
+  chosen_fit (n ∷ ns) =
+      by_place (λ o. AllByRecursion (CanBeAsked machine) (cons_option o (chosen_of ns))) n (slice_get exports n) refl
+      (λ is. chosen_fit ns) (λ e is. (export_asks n e is, chosen_fit ns))
+
+  chosen_read : (ns : List ℕ) → map (λ (p : Plan). object_in (member_of p).bytes) (plans_after ns) ≡ map Some (map (export machine dll) (chosen_of ns) ++ tail machine dll ∷ [])
+  chosen_read [] = ap (λ o. o ∷ []) tail_reads
+  chosen_read (n ∷ ns) =
+      by_place (λ o. map (λ (p : Plan). object_in (member_of p).bytes) (cons_option (option_map (export_plan machine dll n) o) (filter_map (plan_numbered machine dll exports) ns) ++ tail_plan machine dll ∷ [])
+      ≡ map Some (map (export machine dll) (cons_option o (chosen_of ns)) ++ tail machine dll ∷ [])) n (slice_get exports n) refl
+      (λ is. chosen_read ns)
+      (λ e is. ap (λ o. o ∷ map (λ (p : Plan). object_in (member_of p).bytes) (plans_after ns)) (export_reads n e is) ∙ ap (λ rest. Some (export machine dll e) ∷ rest) (chosen_read ns))
+
+  chosen_listed : (ns : List ℕ) → flat_map (λ (p : Plan). p.listed) (plans_after ns) ≡ flat_map export_listed (chosen_of ns) ++ name_symbol machine dll ∷ []
+  unfolding tail_plan export_plan
+  chosen_listed [] = refl
+  chosen_listed (n ∷ ns) =
+      by_place (λ o. flat_map (λ (p : Plan). p.listed) (cons_option (option_map (export_plan machine dll n) o) (filter_map (plan_numbered machine dll exports) ns) ++ tail_plan machine dll ∷ [])
+      ≡ flat_map export_listed (cons_option o (chosen_of ns)) ++ name_symbol machine dll ∷ []) n (slice_get exports n) refl
+      (λ is. chosen_listed ns)
+      (λ e is. ap (λ rest. export_listed e ++ rest) (chosen_listed ns) ∙ sym (append_assoc (export_listed e) (flat_map export_listed (chosen_of ns)) (name_symbol machine dll ∷ [])))
+
+  chosen_names : (ns : List ℕ) → AllByRecursion (λ n. n < length exports) ns → map (λ (p : Plan). p.name) (plans_after ns) ≡ map (export_name dll) ns ++ tail_name dll ∷ []
+  unfolding tail_plan export_plan
+  chosen_names [] within = refl
+  chosen_names (n ∷ ns) within =
+      let first : n < length exports = within.0 in
+      by_place (λ o. map (λ (p : Plan). p.name) (cons_option (option_map (export_plan machine dll n) o) (filter_map (plan_numbered machine dll exports) ns) ++ tail_plan machine dll ∷ [])
+      ≡ export_name dll n ∷ (map (export_name dll) ns ++ tail_name dll ∷ [])) n (slice_get exports n) refl
+      (λ is. let past : length exports ≤ n = past_end exports n is in absurd (omega arith))
+      (λ e is. ap (λ rest. export_name dll n ∷ rest) (chosen_names ns within.1))
+
+  chosen_among : (ns : List ℕ) → AllByRecursion (λ p. Among p (gnu_plans machine dll exports)) (plans_after ns)
+  chosen_among [] = (tail_among, tt)
+  chosen_among (n ∷ ns) =
+      by_place (λ o. AllByRecursion (λ p. Among p (gnu_plans machine dll exports)) (cons_option (option_map (export_plan machine dll n) o) (filter_map (plan_numbered machine dll exports) ns) ++ tail_plan machine dll ∷ [])) n (slice_get exports n) refl
+      (λ is. chosen_among ns)
+      (λ e is. (export_among n e is, chosen_among ns))
+
+-- The order of the names.
+
+same_cmp : (n : ℕ) → nat_cmp n n ≡ Equal
+same_cmp n = rw (le-ltb n n (omega arith), eq-eqb n n refl) refl
+
+-- names that begin alike are in the order of their rests
+after_same : (front xs ys : List ℕ) → slice_cmp nat_cmp (front ++ xs) (front ++ ys) ≡ slice_cmp nat_cmp xs ys
+after_same [] xs ys = refl
+after_same (byte ∷ front) xs ys = rw (same_cmp byte) (after_same front xs ys)
+
+head_first : (dll : List ℕ) (n : ℕ) → ComesBefore (head_name dll) (export_name dll n)
+unfolding head_name numbered_name
+head_first dll n = after_same (stem dll) _ _
+
+tail_last : (dll : List ℕ) (n : ℕ) → ComesBefore (export_name dll n) (tail_name dll)
+unfolding tail_name numbered_name
+tail_last dll n = after_same (stem dll) _ _
+
+head_before_tail : (dll : List ℕ) → ComesBefore (head_name dll) (tail_name dll)
+unfolding head_name tail_name
+head_before_tail dll = after_same (stem dll) _ _
+
+rise_to_tail : (dll : List ℕ) (n : ℕ) (ns : List ℕ) → AllRise (export_name dll n ∷ map (export_name dll) ns) →
+    AllRise (export_name dll n ∷ (map (export_name dll) ns ++ tail_name dll ∷ []))
+rise_to_tail dll n [] rise = (tail_last dll n, tt)
+rise_to_tail dll n (next ∷ ns) rise = (rise.0, rise_to_tail dll next ns rise.1)
+
+names_rise : (dll : List ℕ) (ns : List ℕ) → AllRise (map (export_name dll) ns) → AllRise (head_name dll ∷ (map (export_name dll) ns ++ tail_name dll ∷ []))
+names_rise dll [] rise = (head_before_tail dll, tt)
+names_rise dll (n ∷ ns) rise = (head_first dll n, rise_to_tail dll n ns rise)
+
+map_map : {X Y Z : Type 0} (f : Y → Z) (g : X → Y) (xs : List X) → map f (map g xs) ≡ map (λ x. f (g x)) xs
+map_map f g [] = refl
+map_map f g (x ∷ xs) = ap (λ ys. f (g x) ∷ ys) (map_map f g xs)
+
+flat_map_map : {X Y Z : Type 0} (f : Y → List Z) (g : X → Y) (xs : List X) → flat_map f (map g xs) ≡ flat_map (λ x. f (g x)) xs
+flat_map_map f g [] = refl
+flat_map_map f g (x ∷ xs) = ap (λ ys. f (g x) ++ ys) (flat_map_map f g xs)
+
+all_contained : {X Y : Type 0} (f : X → Y) (all : List X) (xs : List X) → AllByRecursion (λ x. Among x all) xs → AllByRecursion (Contains (map f all)) (map f xs)
+all_contained f all [] among = tt
+all_contained f all (x ∷ xs) among = (among_contains (f x) (map f all) (among_map f x all among.0), all_contained f all xs among.1)
+
+module _ (d : DefinitionView) (machine : MachineType) (members : List MemberView) (chosen : List ℕ) (made : Made d machine Gnu members) where
+  abbrev public : List ExportView
+  public = public_exports (renamed d)
+
+  refusals : (definition_names_refusal (renamed d) machine Gnu ≡ None) × (length_refusal (plans_of (renamed d) machine Gnu) ≡ None)
+  unfolding refusal renamed_refusal
+  refusals = first_none (definition_names_refusal (renamed d) machine Gnu) (length_refusal (plans_of (renamed d) machine Gnu)) made.accepted
+
+  name_refusals : (import_name_refusal d.import_name ≡ None) × (names_refusal Gnu machine 0 (map renamed_export d.exports) ≡ None)
+  name_refusals = first_none (import_name_refusal d.import_name) (names_refusal Gnu machine 0 (map renamed_export d.exports)) refusals.0
+
+  dll_free : holds 0 d.import_name ≡ false
+  dll_free = import_name_free d.import_name name_refusals.0
+
+  all_good : AllByRecursion IsNamed (public_exports (renamed d))
+  all_good = all_named machine 0 (map renamed_export d.exports) name_refusals.1
+
+  none_long : list_any is_too_long (gnu_plans machine d.import_name (public_exports (renamed d))) ≡ false
+  none_long = none_too_long (plans_of (renamed d) machine Gnu) refusals.1
+
+  pub members_among : AllByRecursion (Contains members) (linked_members d machine chosen)
+  members_among =
+      subst (λ ms. AllByRecursion (Contains ms) (linked_members d machine chosen)) (sym made.made)
+      (all_contained member_of (gnu_plans machine d.import_name public) (linked_plans d machine chosen) (
+        head_among machine d.import_name public dll_free all_good made.ordinals none_long,
+        chosen_among machine d.import_name public dll_free all_good made.ordinals none_long chosen,
+      ))
+
+  pub members_named : AllByRecursion (λ n. n < length (public_exports (renamed d))) chosen →
+      map (λ (m : MemberView). m.name) (linked_members d machine chosen) ≡ head_name d.import_name ∷ (map (export_name d.import_name) chosen ++ tail_name d.import_name ∷ [])
+  unfolding head_plan
+  members_named within =
+      map_map (λ (m : MemberView). m.name) member_of (linked_plans d machine chosen)
+      ∙ ap (λ names. head_name d.import_name ∷ names) (chosen_names machine d.import_name public dll_free all_good made.ordinals none_long chosen within)
+
+  pub members_rise : AllByRecursion (λ n. n < length (public_exports (renamed d))) chosen → AllRise (map (export_name d.import_name) chosen) →
+      AllRise (map (λ (m : MemberView). m.name) (linked_members d machine chosen))
+  members_rise within rise = subst AllRise (sym (members_named within)) (names_rise d.import_name chosen rise)
+
+  read_as : map (λ (m : MemberView). object_in m.bytes) (linked_members d machine chosen) ≡ map Some (linked_objects machine d.import_name (chosen_exports d chosen))
+  read_as =
+      map_map (λ (m : MemberView). object_in m.bytes) member_of (linked_plans d machine chosen)
+      ∙ ap (λ o. o ∷ map (λ (p : Plan). object_in (member_of p).bytes) (plans_after machine d.import_name public dll_free all_good made.ordinals none_long chosen))
+      (head_reads machine d.import_name public dll_free all_good made.ordinals none_long)
+      ∙ ap (λ rest. Some (head machine d.import_name) ∷ rest) (chosen_read machine d.import_name public dll_free all_good made.ordinals none_long chosen)
+
+  objects_are : objects_in (linked_members d machine chosen) ≡ linked_objects machine d.import_name (chosen_exports d chosen)
+  objects_are =
+      filter_map-present (λ (m : MemberView). object_in m.bytes) (linked_members d machine chosen)
+      ∙ ap present read_as
+      ∙ present-some (linked_objects machine d.import_name (chosen_exports d chosen))
+
+  pub members_read : map (λ (m : MemberView). object_in m.bytes) (linked_members d machine chosen) ≡ map Some (objects_in (linked_members d machine chosen))
+  members_read = read_as ∙ ap (map Some) (sym objects_are)
+
+  symbols_are : flat_map (λ (m : MemberView). m.symbols) (linked_members d machine chosen) ≡ linked_symbols machine d.import_name (chosen_exports d chosen)
+  unfolding head_plan
+  symbols_are =
+      flat_map_map (λ (m : MemberView). m.symbols) member_of (linked_plans d machine chosen)
+      ∙ ap (λ rest. head_symbol machine d.import_name ∷ rest) (chosen_listed machine d.import_name public dll_free all_good made.ordinals none_long chosen)
+
+  pub members_link : (bases : Bases) → IsDistinct bytes_eq (flat_map (λ (m : MemberView). m.symbols) (linked_members d machine chosen)) →
+      IsAdmissible machine bases (objects_in (linked_members d machine chosen)) →
+      Links machine bases d.import_name (chosen_exports d chosen) (objects_in (linked_members d machine chosen))
+  members_link bases distinct admissible =
+      subst (Links machine bases d.import_name (chosen_exports d chosen)) (sym objects_are)
+      (objects_link machine d.import_name (chosen_exports d chosen) bases (HasNoNul-from_holds d.import_name dll_free)
+      (chosen_fit machine d.import_name public dll_free all_good made.ordinals none_long chosen)
+      (subst (IsDistinct bytes_eq) symbols_are distinct)
+      (subst (IsAdmissible machine bases) objects_are admissible))

@@ -1,0 +1,80 @@
+-- An image is loaded in one way.
+use Rattle.std.proofs.Common.{◌≡◌, ℕ, ◌+◌, ◌*◌, ◌-◌, ◌%◌, ◌^◌, ◌<◌, ◌≤◌, zero, suc, List, [], ◌∷◌, ◌++◌, length, Option, Some, None, refl, ap, sym, ◌∙◌, arith, subst}
+use Rattle.std.specs.Prelude.{nat_eq, not}
+use Rattle.std.specs.List.{list_all}
+use Rattle.std.proofs.lemmas.Bool.{and_parts, false≢true}
+use Rattle.implib.specs.Import.{Ask, Name, Ordinal}
+use Rattle.implib.specs.Link.{Range, byte_at}
+use Rattle.implib.specs.Load.{AsksFor, BytesAt, Loads, NumberAt, TableAt, TextAt, ThunkAt, number_in}
+use Rattle.implib.specs.Picture.{HasNoNul}
+
+same_byte : (o : Option ℕ) (x y : ℕ) → o ≡ Some x → o ≡ Some y → x ≡ y
+same_byte o x y first second = let same : Some x ≡ Some y = sym first ∙ second in cc
+
+same_list : (x y : ℕ) (xs ys : List ℕ) → x ≡ y → xs ≡ ys → x ∷ xs ≡ y ∷ ys
+same_list x y xs ys first rest = cc
+
+bytes_once : (image : List Range) (xs ys : List ℕ) (a : ℕ) → BytesAt image a xs → BytesAt image a ys → length xs ≡ length ys → xs ≡ ys
+unfolding BytesAt
+bytes_once image [] [] a first second long = refl
+bytes_once image [] (y ∷ ys) a first second long = absurd (omega arith)
+bytes_once image (x ∷ xs) [] a first second long = absurd (omega arith)
+bytes_once image (x ∷ xs) (y ∷ ys) a first second long =
+    same_list x y xs ys (same_byte (byte_at image a) x y first.0 second.0) (bytes_once image xs ys (a + 1) first.1 second.1 (omega arith))
+
+number_once : (image : List Range) (width a n m : ℕ) → NumberAt image width a n → NumberAt image width a m → n ≡ m
+number_once image width a n m first second =
+    sym first.value ∙ ap number_in (bytes_once image first.bytes second.bytes a first.stands second.stands (first.count ∙ sym second.count)) ∙ second.value
+
+no_nul_first : (y : ℕ) (ys : List ℕ) → HasNoNul (y ∷ ys) → 0 ≡ y → ⊥
+no_nul_first zero ys free is = false≢true free
+no_nul_first (suc n) ys free is = omega arith
+
+no_nul_rest : (y : ℕ) (ys : List ℕ) → HasNoNul (y ∷ ys) → HasNoNul ys
+no_nul_rest y ys free = (and_parts (not (nat_eq y 0)) (list_all (λ byte. not (nat_eq byte 0)) ys) free).1
+
+text_once : (image : List Range) (xs ys : List ℕ) (a : ℕ) → HasNoNul xs → HasNoNul ys → BytesAt image a (xs ++ 0 ∷ []) → BytesAt image a (ys ++ 0 ∷ []) → xs ≡ ys
+unfolding BytesAt
+text_once image [] [] a first_free second_free first second = refl
+text_once image [] (y ∷ ys) a first_free second_free first second = absurd (no_nul_first y ys second_free (same_byte (byte_at image a) 0 y first.0 second.0))
+text_once image (x ∷ xs) [] a first_free second_free first second = absurd (no_nul_first x xs first_free (same_byte (byte_at image a) 0 x second.0 first.0))
+text_once image (x ∷ xs) (y ∷ ys) a first_free second_free first second =
+    same_list x y xs ys (same_byte (byte_at image a) x y first.0 second.0)
+    (text_once image xs ys (a + 1) (no_nul_rest x xs first_free) (no_nul_rest y ys second_free) first.1 second.1)
+
+ask_once : (image : List Range) (width thunk : ℕ) (first second : Ask) → AsksFor image width thunk first → AsksFor image width thunk second → first ≡ second
+unfolding AsksFor
+ask_once image width thunk (Ordinal n) (Ordinal m) first second = ap Ordinal (sym first.1 ∙ second.1)
+ask_once image width thunk (Ordinal n) (Name text hint) first second = let high = first.0 in let low = second.0 in absurd (omega arith)
+ask_once image width thunk (Name text hint) (Ordinal n) first second = let low = first.0 in let high = second.0 in absurd (omega arith)
+ask_once image width thunk (Name text hint) (Name other number) first second =
+    let same_text : text ≡ other = text_once image text other (thunk % 2 ^ 31 + 2) first.2.no_nul second.2.no_nul first.2.stands second.2.stands in
+    let same_hint : hint ≡ number = number_once image 2 (thunk % 2 ^ 31) hint number first.1 second.1 in
+    cc
+
+same_asks : (x y : Ask) (xs ys : List Ask) → x ≡ y → xs ≡ ys → x ∷ xs ≡ y ∷ ys
+same_asks x y xs ys first rest = cc
+
+table_once : (image : List Range) (width : ℕ) (xs ys : List Ask) (a : ℕ) → TableAt image width a xs → TableAt image width a ys → xs ≡ ys
+unfolding TableAt
+table_once image width [] [] a first second = refl
+table_once image width [] (y ∷ ys) a first second = absurd (second.0.goes_on (number_once image width a second.0.thunk 0 second.0.stands first))
+table_once image width (x ∷ xs) [] a first second = absurd (first.0.goes_on (number_once image width a first.0.thunk 0 first.0.stands second))
+table_once image width (x ∷ xs) (y ∷ ys) a first second =
+    let thunks : first.0.thunk ≡ second.0.thunk = number_once image width a first.0.thunk second.0.thunk first.0.stands second.0.stands in
+    same_asks x y xs ys
+    (ask_once image width second.0.thunk x y (subst (λ t. AsksFor image width t x) thunks first.0.asks) second.0.asks)
+    (table_once image width xs ys (a + width) first.1 second.1)
+
+pub dll_once : (image : List Range) (width descriptor : ℕ) (dll other : List ℕ) (asks others : List Ask) →
+    Loads image width descriptor dll asks → Loads image width descriptor other others → dll ≡ other
+dll_once image width descriptor dll other asks others first second =
+    let places : first.name ≡ second.name = number_once image 4 (descriptor + 12) first.name second.name first.name_field second.name_field in
+    text_once image dll other second.name first.name_text.no_nul second.name_text.no_nul
+    (subst (λ n. BytesAt image n (dll ++ 0 ∷ [])) places first.name_text.stands) second.name_text.stands
+
+pub asks_once : (image : List Range) (width descriptor : ℕ) (dll other : List ℕ) (asks others : List Ask) →
+    Loads image width descriptor dll asks → Loads image width descriptor other others → asks ≡ others
+asks_once image width descriptor dll other asks others first second =
+    let places : first.lookups ≡ second.lookups = number_once image 4 descriptor first.lookups second.lookups first.lookups_field second.lookups_field in
+    table_once image width asks others second.lookups (subst (λ n. TableAt image width n asks) places first.lookup_table) second.lookup_table

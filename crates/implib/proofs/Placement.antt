@@ -1,0 +1,153 @@
+-- Where the sections of the objects for GNU's linker are placed, and what these objects define.
+use Rattle.std.proofs.Common.{◌≡◌, ℕ, ◌+◌, ◌-◌, ◌%◌, ◌≤◌, Bool, true, false, List, [], ◌∷◌, ◌++◌, length, map, Some, None, refl, ap, ◌∙◌, arith, inl, inr, if◌then◌else◌}
+use Rattle.std.specs.List.{flat_map}
+use Rattle.std.proofs.lemmas.Bool.{cases_Bool}
+use Rattle.implib.specs.declared.machine.MachineType.{MachineType}
+use Rattle.implib.specs.declared.machine.MachineType.TheVariants.{I386, ARMNT, AMD64, ARM64}
+use Rattle.implib.specs.Bytes.{u16_bytes}
+use Rattle.implib.specs.Definition.{ExportView}
+use Rattle.implib.specs.Gnu.{export_listed, export_object, head_object, hint_name, name_symbol, tail_object, thunk}
+use Rattle.implib.specs.Import.{address_symbol}
+use Rattle.implib.specs.Link.{Addresses, At, Bases, Descriptors, DllNames, HintNames, Lookups, Nowhere, Placed, SymbolDefinition, defined_by, definitions, next_multiple, placed_from}
+use Rattle.implib.specs.MsvcObjects.{thunk_width, zeros}
+use Rattle.implib.specs.Object.{Object}
+use Rattle.implib.specs.Writer.{object_held}
+
+pub aligned : (n : ℕ) → n % 4 ≡ 0 → next_multiple 4 n ≡ n
+unfolding next_multiple
+aligned n even = rw even (omega arith)
+
+pub at_least : (step n : ℕ) → n ≤ next_multiple step n
+unfolding next_multiple
+at_least step n = omega arith
+
+pub aligned_thunk : (machine : MachineType) (n : ℕ) → n % 4 ≡ 0 → (n + thunk_width machine) % 4 ≡ 0
+aligned_thunk I386 n even = omega arith
+aligned_thunk ARMNT n even = omega arith
+aligned_thunk AMD64 n even = omega arith
+aligned_thunk ARM64 n even = omega arith
+
+pub length-thunk_of : (machine : MachineType) (ordinal : ℕ) (no_name : Bool) →
+    length (if no_name then u16_bytes ordinal ++ (zeros (thunk_width machine - 3) ++ 0x80 ∷ []) else zeros (thunk_width machine)) ≡ thunk_width machine
+unfolding u16_bytes
+length-thunk_of I386 ordinal true = refl
+length-thunk_of ARMNT ordinal true = refl
+length-thunk_of AMD64 ordinal true = refl
+length-thunk_of ARM64 ordinal true = refl
+length-thunk_of I386 ordinal false = refl
+length-thunk_of ARMNT ordinal false = refl
+length-thunk_of AMD64 ordinal false = refl
+length-thunk_of ARM64 ordinal false = refl
+
+pub length-thunk : (machine : MachineType) (e : ExportView) → length (thunk machine e) ≡ thunk_width machine
+unfolding thunk
+length-thunk machine e = length-thunk_of machine e.ordinal e.no_name
+
+-- the ends of the tables are multiples of 4
+pub record AreAligned (b : Bases) : Type 0 where
+  pub lookups : b.lookups % 4 ≡ 0
+  pub addresses : b.addresses % 4 ≡ 0
+
+module _ (machine : MachineType) (dll : List ℕ) where
+  abbrev pub head : Object
+  head = object_held (head_object machine dll)
+
+  abbrev pub tail : Object
+  tail = object_held (tail_object machine dll)
+
+  abbrev pub export : ExportView → Object
+  export e = object_held (export_object machine dll e)
+
+  -- exports, and the tail after them
+  abbrev pub after_head : List ExportView → List Object
+  after_head es = map export es ++ tail ∷ []
+
+  abbrev pub placed_head : Bases → Placed
+  placed_head b = record {
+    object = head;
+    places = Nowhere ∷ Nowhere ∷ Nowhere ∷ At Descriptors (next_multiple 4 b.descriptors) ∷ At Addresses b.addresses ∷ At Lookups b.lookups ∷ [];
+  }
+
+  abbrev pub ends_of_head : Bases → Bases
+  ends_of_head b = record b { descriptors = next_multiple 4 b.descriptors + 20 }
+
+  abbrev pub placed_export : Bases → ExportView → Placed
+  placed_export b e = record {
+    object = export e;
+    places = Nowhere ∷ Nowhere ∷ Nowhere ∷ At DllNames (next_multiple 4 b.dll_names) ∷ At Addresses b.addresses ∷ At Lookups b.lookups ∷ At HintNames (next_multiple 2 b.hint_names) ∷ [];
+  }
+
+  abbrev pub ends_of_export : Bases → ExportView → Bases
+  ends_of_export b e = record {
+    descriptors = b.descriptors;
+    lookups = b.lookups + thunk_width machine;
+    addresses = b.addresses + thunk_width machine;
+    hint_names = next_multiple 2 b.hint_names + length (hint_name machine e);
+    dll_names = next_multiple 4 b.dll_names + 4;
+  }
+
+  abbrev pub placed_tail : Bases → Placed
+  placed_tail b = record {
+    object = tail;
+    places = Nowhere ∷ Nowhere ∷ Nowhere ∷ At Lookups b.lookups ∷ At Addresses b.addresses ∷ At DllNames (next_multiple 4 b.dll_names) ∷ [];
+  }
+
+  pub aligned_after : (b : Bases) (e : ExportView) → AreAligned b → AreAligned (ends_of_export b e)
+  aligned_after b e even = record { lookups = aligned_thunk machine b.lookups even.lookups; addresses = aligned_thunk machine b.addresses even.addresses }
+
+  plus_none : (n : ℕ) → n + 0 ≡ n
+  plus_none n = omega arith
+
+  pub placed-head : (b : Bases) (objects : List Object) → AreAligned b →
+      placed_from b (head ∷ objects) ≡ placed_head b ∷ placed_from (ends_of_head b) objects
+  unfolding head_object
+  placed-head b objects even = rw (aligned b.lookups even.lookups, aligned b.addresses even.addresses, plus_none b.lookups, plus_none b.addresses) refl
+
+  pub placed-export : (b : Bases) (e : ExportView) (objects : List Object) → AreAligned b →
+      placed_from b (export e ∷ objects) ≡ placed_export b e ∷ placed_from (ends_of_export b e) objects
+  unfolding export_object
+  placed-export b e objects even = rw (aligned b.lookups even.lookups, aligned b.addresses even.addresses, length-thunk machine e) refl
+
+  pub placed-tail : (b : Bases) → AreAligned b → placed_from b (tail ∷ []) ≡ placed_tail b ∷ []
+  unfolding tail_object
+  placed-tail b even = rw (aligned b.lookups even.lookups, aligned b.addresses even.addresses) refl
+
+  -- the ends after exports
+  unfoldable pub ends_of_exports : Bases → List ExportView → Bases
+  ends_of_exports b [] = b
+  ends_of_exports b (e ∷ es) = ends_of_exports (ends_of_export b e) es
+
+  -- what the objects define
+
+  abbrev pub code_definition : ExportView → List SymbolDefinition
+  code_definition e = if e.is_data then [] else record { name = e.name; address = None } ∷ []
+
+  abbrev pub address_definition : Bases → ExportView → SymbolDefinition
+  address_definition b e = record { name = address_symbol e.name; address = Some (b.addresses + 0) }
+
+  unfoldable pub defined_after : Bases → List ExportView → List SymbolDefinition
+  defined_after b [] = record { name = name_symbol machine dll; address = Some (next_multiple 4 b.dll_names + 0) } ∷ []
+  defined_after b (e ∷ es) = code_definition e ++ address_definition b e ∷ defined_after (ends_of_export b e) es
+
+  defined_by_export : (b : Bases) (e : ExportView) (rest : List SymbolDefinition) →
+      defined_by (placed_export b e) ++ rest ≡ code_definition e ++ address_definition b e ∷ rest
+  unfolding export_object
+  defined_by_export b e rest =
+      elim (cases_Bool e.is_data) [ inl is ↦ rw is refl | inr is ↦ rw is refl ]
+
+  pub definitions-after : (b : Bases) (es : List ExportView) → AreAligned b → definitions (placed_from b (after_head es)) ≡ defined_after b es
+  unfolding defined_after tail_object
+  definitions-after b [] even = ap definitions (placed-tail b even)
+  definitions-after b (e ∷ es) even =
+      ap definitions (placed-export b e (after_head es) even)
+      ∙ defined_by_export b e (definitions (placed_from (ends_of_export b e) (after_head es)))
+      ∙ ap (λ rest. code_definition e ++ address_definition b e ∷ rest) (definitions-after (ends_of_export b e) es (aligned_after b e even))
+
+  pub names-after : (b : Bases) (es : List ExportView) → map (λ (d : SymbolDefinition). d.name) (defined_after b es) ≡ flat_map export_listed es ++ name_symbol machine dll ∷ []
+  unfolding defined_after hint_name
+  names-after b [] = refl
+  names-after b (e ∷ es) =
+      elim (cases_Bool e.is_data) [
+        | inl is ↦ rw is (ap (λ rest. address_symbol e.name ∷ rest) (names-after (ends_of_export b e) es))
+        | inr is ↦ rw is (ap (λ rest. e.name ∷ address_symbol e.name ∷ rest) (names-after (ends_of_export b e) es))
+      ]

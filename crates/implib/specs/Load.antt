@@ -1,0 +1,60 @@
+-- Loading: what a loader finds in an image (PE/COFF specification, "The .idata Section").
+use Rattle.std.specs.Prelude.{◌≡◌, ◌≢◌, ℕ, ◌+◌, ◌*◌, ◌-◌, ◌%◌, ◌^◌, ◌<◌, ◌≤◌, List, [], ◌∷◌, ◌++◌, length, Some}
+use Rattle.implib.specs.Import.{Ask, Ordinal, Name}
+use Rattle.implib.specs.Link.{Range, byte_at}
+use Rattle.implib.specs.Picture.{HasNoNul}
+
+-- these bytes stand at an address
+unfoldable pub BytesAt : List Range → ℕ → List ℕ → Type 0
+BytesAt image address [] = Unit {0}
+BytesAt image address (byte ∷ bytes) = (byte_at image address ≡ Some byte) × BytesAt image (address + 1) bytes
+
+-- the number in bytes, the low one first
+abbrev pub number_in : List ℕ → ℕ
+number_in [] = 0
+number_in (byte ∷ bytes) = byte + 256 * number_in bytes
+
+-- a number of so many bytes stands at an address
+pub record NumberAt (image : List Range) (width : ℕ) (address : ℕ) (number : ℕ) : Type 0 where
+  pub bytes : List ℕ
+  pub stands : BytesAt image address bytes
+  pub count : length bytes ≡ width
+  pub value : number_in bytes ≡ number
+
+-- a text, ended by NUL, stands at an address
+pub record TextAt (image : List Range) (address : ℕ) (text : List ℕ) : Type 0 where
+  pub no_nul : HasNoNul text
+  pub stands : BytesAt image address (text ++ 0 ∷ [])
+
+-- A thunk asks for this ("Import Lookup Table", "Hint/Name Table"): with its top bit set for the
+-- ordinal in its low 16 bits, otherwise for the hint and the name at the address in its low 31 bits.
+unfoldable pub AsksFor : List Range → ℕ → ℕ → Ask → Type 0
+AsksFor image width thunk (Ordinal n) = (2 ^ (8 * width - 1) ≤ thunk) × (thunk % 2 ^ 16 ≡ n)
+AsksFor image width thunk (Name text hint) =
+    (thunk < 2 ^ (8 * width - 1)) × NumberAt image 2 (thunk % 2 ^ 31) hint × TextAt image (thunk % 2 ^ 31 + 2) text
+
+-- a thunk at an address that ends no table and asks for this
+pub record ThunkAt (image : List Range) (width : ℕ) (address : ℕ) (ask : Ask) : Type 0 where
+  pub thunk : ℕ
+  pub stands : NumberAt image width address thunk
+  pub goes_on : thunk ≢ 0
+  pub asks : AsksFor image width thunk ask
+
+-- thunks of so many bytes stand one after another from an address on and ask for these; a zero
+-- thunk ends them
+unfoldable pub TableAt : List Range → ℕ → ℕ → List Ask → Type 0
+TableAt image width address [] = NumberAt image width address 0
+TableAt image width address (ask ∷ asks) = ThunkAt image width address ask × TableAt image width (address + width) asks
+
+-- what the descriptor at an address leads to: the lookup table by its field at 0, the DLL's name by
+-- that at 12, the address table by that at 16 ("Import Directory Table")
+pub record Loads (image : List Range) (width : ℕ) (descriptor : ℕ) (dll : List ℕ) (asks : List Ask) : Type 0 where
+  pub lookups : ℕ
+  pub lookups_field : NumberAt image 4 descriptor lookups
+  pub lookup_table : TableAt image width lookups asks
+  pub name : ℕ
+  pub name_field : NumberAt image 4 (descriptor + 12) name
+  pub name_text : TextAt image name dll
+  pub addresses : ℕ
+  pub addresses_field : NumberAt image 4 (descriptor + 16) addresses
+  pub address_table : TableAt image width addresses asks

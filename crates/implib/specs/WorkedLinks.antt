@@ -1,0 +1,120 @@
+-- Members for GNU's linker that were linked by hand: where their tables stand and what they hold.
+use Rattle.std.specs.Prelude.{◌≡◌, ℕ, ◌+◌, ◌^◌, true, List, [], ◌∷◌, ◌++◌, map, codes, Option, Some, None}
+use Rattle.std.specs.Option.{option_map}
+use Rattle.implib.specs.declared.machine.MachineType.{MachineType}
+use Rattle.implib.specs.declared.machine.MachineType.TheVariants.{I386, AMD64}
+use Rattle.implib.specs.Definition.{DefinitionView, ExportView, empty_export}
+use Rattle.implib.specs.Gnu.{hint_name, thunk}
+use Rattle.implib.specs.Link.{Bases, Placed, Range, byte_at, definitions_of, image_of, placed_from}
+use Rattle.implib.specs.Load.{number_in}
+use Rattle.implib.specs.Object.{each_at}
+use Rattle.implib.specs.Theorem.{linked_members, objects_in}
+use Rattle.implib.specs.WorkedMembers.{of_dll}
+use Rattle.implib.specs.WorkedStatements.{plain_export}
+
+-- the chosen members of a definition, placed
+abbrev pub placed : DefinitionView → MachineType → Bases → List ℕ → List Placed
+placed d machine bases chosen = placed_from bases (objects_in (linked_members d machine chosen))
+
+-- so many bytes from an address on
+abbrev pub bytes_from : List Range → ℕ → ℕ → Option (List ℕ)
+bytes_from image count address = each_at (byte_at image) address 1 count
+
+-- so many numbers of a width from an address on
+abbrev pub numbers_from : List Range → ℕ → ℕ → ℕ → Option (List ℕ)
+numbers_from image width count address = each_at (λ place. option_map number_in (bytes_from image width place)) address width count
+
+-- the addresses at which a symbol is defined
+abbrev pub addresses_of : List ℕ → List Placed → List (Option ℕ)
+addresses_of name linked = map (λ d. d.address) (definitions_of name linked)
+
+-- what a linked image is asked: its kinds' bases, the width of a thunk, how many thunks a table has
+-- with the last one, how many bytes the hints and names have, and where the DLL's name stands
+pub record Layout : Type 0 where
+  pub bases : Bases
+  pub width : ℕ
+  pub thunks : ℕ
+  pub hints : ℕ
+  pub dll : ℕ
+
+-- what it answers: the descriptor's five fields, the thunks of each table, the hints and names, the
+-- addresses of symbols
+pub record Found : Type 0 where
+  pub descriptor : List ℕ
+  pub thunks : List ℕ
+  pub hints : List ℕ
+  pub places : List (List (Option ℕ))
+
+-- the linked members of chosen exports of a definition of foo.dll answer so
+pub record Answers (d : DefinitionView) (machine : MachineType) (l : Layout) (chosen : List ℕ) (symbols : List (List ℕ)) (found : Found) : Type 0 where
+  pub descriptor : numbers_from (image_of machine l.bases (placed d machine l.bases chosen)) 4 5 l.bases.descriptors ≡ Some found.descriptor
+  pub lookups : numbers_from (image_of machine l.bases (placed d machine l.bases chosen)) l.width l.thunks l.bases.lookups ≡ Some found.thunks
+  pub addresses : numbers_from (image_of machine l.bases (placed d machine l.bases chosen)) l.width l.thunks l.bases.addresses ≡ Some found.thunks
+  pub hints : bytes_from (image_of machine l.bases (placed d machine l.bases chosen)) l.hints l.bases.hint_names ≡ Some found.hints
+  pub dll : bytes_from (image_of machine l.bases (placed d machine l.bases chosen)) 8 l.dll ≡ Some (codes "foo.dll" ++ 0 ∷ [])
+  pub places : map (λ name. addresses_of name (placed d machine l.bases chosen)) symbols ≡ found.places
+
+-- an export that is asked for by its number
+abbrev pub nameless : List ℕ → ℕ → ExportView
+nameless name ordinal = record empty_export { name = name; ordinal = ordinal; no_name = true }
+
+-- foo.dll with one export by its name and one by its number
+abbrev pub foo : List ℕ → List ℕ → DefinitionView
+foo by_name by_number = of_dll (codes "foo.dll") (plain_export by_name ∷ nameless by_number 5 ∷ [])
+
+abbrev pub bases_64 : Bases
+bases_64 = record { descriptors = 0x1000; lookups = 0x1020; addresses = 0x1040; hint_names = 0x1060; dll_names = 0x1080 }
+
+abbrev pub bases_32 : Bases
+bases_32 = record { descriptors = 0x1000; lookups = 0x1014; addresses = 0x1020; hint_names = 0x102C; dll_names = 0x1034 }
+
+-- linked by hand
+pub record WorkedLinks : Type 0 where
+  pub both : Answers (foo (codes "bar") (codes "baz")) AMD64
+      (record { bases = bases_64; width = 8; thunks = 3; hints = 6; dll = 0x1088 }) (0 ∷ 1 ∷ [])
+      (codes "__imp_bar" ∷ codes "__imp_baz" ∷ codes "bar" ∷ codes "_head_foo_dll" ∷ [])
+      (record {
+        descriptor = 0x1020 ∷ 0 ∷ 0 ∷ 0x1088 ∷ 0x1040 ∷ [];
+        thunks = 0x1060 ∷ 0x8000_0000_0000_0005 ∷ 0 ∷ [];
+        hints = 0 ∷ 0 ∷ (codes "bar" ++ 0 ∷ []);
+        places = (Some 0x1040 ∷ []) ∷ (Some 0x1048 ∷ []) ∷ (None ∷ []) ∷ (Some 0x1000 ∷ []) ∷ [];
+      })
+  pub none : Answers (foo (codes "bar") (codes "baz")) AMD64
+      (record { bases = bases_64; width = 8; thunks = 1; hints = 0; dll = 0x1080 }) []
+      (codes "__imp_bar" ∷ [])
+      (record {
+        descriptor = 0x1020 ∷ 0 ∷ 0 ∷ 0x1080 ∷ 0x1040 ∷ [];
+        thunks = 0 ∷ [];
+        hints = [];
+        places = [] ∷ [];
+      })
+  pub both_32 : Answers (foo (codes "_bar") (codes "_baz")) I386
+      (record { bases = bases_32; width = 4; thunks = 3; hints = 6; dll = 0x103C }) (0 ∷ 1 ∷ [])
+      (codes "__imp__bar" ∷ codes "__imp__baz" ∷ [])
+      (record {
+        descriptor = 0x1014 ∷ 0 ∷ 0 ∷ 0x103C ∷ 0x1020 ∷ [];
+        thunks = 0x102C ∷ 0x8000_0005 ∷ 0 ∷ [];
+        hints = 0 ∷ 0 ∷ (codes "bar" ++ 0 ∷ []);
+        places = (Some 0x1020 ∷ []) ∷ (Some 0x1024 ∷ []) ∷ [];
+      })
+  pub second_32 : Answers (foo (codes "_bar") (codes "_baz")) I386
+      (record { bases = bases_32; width = 4; thunks = 2; hints = 0; dll = 0x1038 }) (1 ∷ [])
+      (codes "__imp__bar" ∷ codes "__imp__baz" ∷ [])
+      (record {
+        descriptor = 0x1014 ∷ 0 ∷ 0 ∷ 0x1038 ∷ 0x1020 ∷ [];
+        thunks = 0x8000_0005 ∷ 0 ∷ [];
+        hints = [];
+        places = [] ∷ (Some 0x1020 ∷ []) ∷ [];
+      })
+  -- the number 0 keeps its top bit, and so ends no table
+  pub number_zero : thunk I386 (nameless (codes "_foo") 0) ≡ 0 ∷ 0 ∷ 0 ∷ 0x80 ∷ []
+  pub no_hint : hint_name I386 (nameless (codes "_foo") 0) ≡ []
+  pub number_zero_links : Answers (of_dll (codes "foo.dll") (nameless (codes "_foo") 0 ∷ [])) I386
+      (record { bases = bases_32; width = 4; thunks = 2; hints = 0; dll = 0x1038 }) (0 ∷ [])
+      (codes "__imp__foo" ∷ [])
+      (record {
+        descriptor = 0x1014 ∷ 0 ∷ 0 ∷ 0x1038 ∷ 0x1020 ∷ [];
+        thunks = 0x8000_0000 ∷ 0 ∷ [];
+        hints = [];
+        places = (Some 0x1020 ∷ []) ∷ [];
+      })

@@ -1,0 +1,72 @@
+//! The law of linking and loading the members for GNU's linker.
+
+ghost use Rattle.implib.specs.Definition.{definition_view};
+ghost use Rattle.implib.specs.Gnu.{export_name, head_name, tail_name};
+ghost use Rattle.implib.specs.Import.{Ask, public_exports};
+ghost use Rattle.implib.specs.Library.{member_view};
+ghost use Rattle.implib.specs.Link.{IsAdmissible, Range};
+ghost use Rattle.implib.specs.Load.{Loads};
+ghost use Rattle.implib.specs.Made.{Made};
+ghost use Rattle.implib.specs.Object.{object_in};
+ghost use Rattle.implib.specs.Renaming.{renamed};
+ghost use Rattle.implib.specs.Theorem.{AllRise, Links, bases_of, chosen_exports, linked_members, objects_in};
+ghost use Rattle.implib.specs.WorkedLinks.{WorkedLinks};
+ghost use Rattle.implib.specs.declared.library.Flavor.TheVariants.{Gnu};
+ghost use Rattle.std.specs.List.{AllByRecursion, Contains, IsDistinct, flat_map};
+ghost use Rattle.std.specs.Prelude.{◌≡◌, ◌<◌, ◌++◌, ◌∷◌, ℕ, List, [], Some, bytes_eq, length, map};
+
+use crate::def::ModuleDef;
+use crate::library::Member;
+use crate::machine::MachineType;
+
+/// The head, the tail and the members of any chosen exports link, at any admissible bases, to an
+/// import of just these exports from the DLL.
+///
+/// `chosen` has the numbers of the exports, which count those that are not private from 0, in the
+/// order of their members' names. `bases` are the addresses of `.idata$2`, `$4`, `$5`, `$6`, `$7`.
+pub fn gnu_links(
+    def: &ModuleDef,
+    machine: MachineType,
+    members: &[Member],
+    chosen: &[usize],
+    bases: [u32; 5],
+)
+    requires made { Made (definition_view def.now) machine Gnu (map member_view members.now) }
+    requires numbers { AllByRecursion (λ n. n < length (public_exports (renamed (definition_view def.now)))) chosen.now }
+    requires in_order { AllRise (map (export_name (definition_view def.now).import_name) chosen.now) }
+    requires distinct { IsDistinct bytes_eq
+        (flat_map (λ m. m.symbols) (linked_members (definition_view def.now) machine chosen.now)) }
+    requires admissible { IsAdmissible machine (bases_of bases)
+        (objects_in (linked_members (definition_view def.now) machine chosen.now)) }
+    ensures from_members { AllByRecursion (Contains (map member_view members.now))
+        (linked_members (definition_view def.now) machine chosen.now) }
+    ensures names { map (λ m. m.name) (linked_members (definition_view def.now) machine chosen.now)
+        ≡ head_name (definition_view def.now).import_name
+        ∷ (map (export_name (definition_view def.now).import_name) chosen.now
+        ++ tail_name (definition_view def.now).import_name ∷ []) }
+    ensures rising { AllRise (map (λ m. m.name) (linked_members (definition_view def.now) machine chosen.now)) }
+    ensures objects { map (λ m. object_in m.bytes) (linked_members (definition_view def.now) machine chosen.now)
+        ≡ map Some (objects_in (linked_members (definition_view def.now) machine chosen.now)) }
+    ensures links { Links machine (bases_of bases) (definition_view def.now).import_name
+        (chosen_exports (definition_view def.now) chosen.now)
+        (objects_in (linked_members (definition_view def.now) machine chosen.now)) }
+{
+    let _definition = def;
+    let _members = members;
+    let _chosen = chosen;
+    let _bases = bases;
+    let _machine = machine;
+}
+
+/// A descriptor of an image leads to one DLL and one list of what is asked of it.
+pub fn loads_once()
+    ensures dll { (image : List Range) (width descriptor : ℕ) (dll other : List ℕ) (asks others : List Ask) →
+        Loads image width descriptor dll asks → Loads image width descriptor other others → dll ≡ other }
+    ensures asks { (image : List Range) (width descriptor : ℕ) (dll other : List ℕ) (asks others : List Ask) →
+        Loads image width descriptor dll asks → Loads image width descriptor other others → asks ≡ others }
+{}
+
+/// Members that were linked by hand have these tables and addresses.
+pub fn worked_links()
+    ensures { WorkedLinks }
+{}
