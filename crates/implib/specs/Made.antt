@@ -133,6 +133,10 @@ alias_plans machine dll number e =
 abbrev pub numbered_plans_of : MachineType → List ℕ → ℕ → ExportView → List Plan
 numbered_plans_of machine dll number e = alias_plans machine dll number e ++ export_plan machine dll number e ∷ []
 
+-- the number of an export's members: its weak externals, and its own
+abbrev pub gnu_member_count : ExportView → ℕ
+gnu_member_count e = if is_alias e.alias_target e.name then 3 else 1
+
 -- the plans of exports that are numbered from this number, in the order of building
 abbrev pub numbered_plans : MachineType → List ℕ → ℕ → List ExportView → List Plan
 numbered_plans machine dll number [] = []

@@ -5,12 +5,12 @@ ghost use Rattle.implib.specs.Fault.{IfInvalid, MemberTooLong};
 ghost use Rattle.implib.specs.Gnu.{export_listed};
 ghost use Rattle.implib.specs.Import.{address_symbol, holds, is_alias, is_empty_text, public_exports};
 ghost use Rattle.implib.specs.Library.{member_view};
-ghost use Rattle.implib.specs.Made.{Made, RefusesAlways, alias_plan, alias_plans, definition_names_refusal, export_plan, has_u16_ordinal, head_plan, holds_nul, is_too_long, member_of, numbered_plans, numbered_plans_of, plans_of, refusal, tail_plan};
+ghost use Rattle.implib.specs.Made.{Made, RefusesAlways, alias_plan, alias_plans, definition_names_refusal, export_plan, gnu_member_count, has_u16_ordinal, head_plan, holds_nul, is_too_long, member_of, numbered_plans, numbered_plans_of, plans_of, refusal, tail_plan};
 ghost use Rattle.implib.specs.Reads.{Reads};
 ghost use Rattle.implib.specs.Renaming.{renamed};
 ghost use Rattle.implib.specs.declared.library.Flavor.TheVariants.{Gnu};
-ghost use Rattle.std.specs.List.{list_all, list_any};
-ghost use Rattle.std.specs.Prelude.{None, Some, [], false, map, string_bytes, true, ◌++◌, ◌∷◌, ◌≡◌, IfOk, OnOk};
+ghost use Rattle.std.specs.List.{list_all, list_any, sum_by};
+ghost use Rattle.std.specs.Prelude.{None, Some, [], false, map, min, string_bytes, true, ◌+◌, ◌++◌, ◌∷◌, ◌≡◌, IfOk, OnOk};
 
 use crate::def::{self, ModuleDef, ShortExport};
 use crate::error::Error;
@@ -111,8 +111,10 @@ fn build(def: &ModuleDef, machine: MachineType) -> Result<Vec<Member>, Error>
     Ok(members)
 }
 
-// How many members there are; at most 2^64 - 1 are counted.
-fn member_count(def: &ModuleDef) -> usize {
+// How many members there are, as far as 64 bits can count.
+fn member_count(def: &ModuleDef) -> usize
+    ensures { result ≡ min u64.MAX (2 + sum_by gnu_member_count (public_exports (definition_view def.now))) }
+{
     let mut count = 2usize;
     for export in def.exports.iter() {
         if !export.private {
