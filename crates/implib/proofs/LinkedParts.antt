@@ -17,9 +17,9 @@ use Rattle.implib.specs.Gnu.{export_name, head_name, stem, tail_name}
 use Rattle.implib.specs.Link.{Bases, IsAdmissible, image_of, placed_from}
 use Rattle.implib.specs.Made.{MemberView, head_plan}
 use Rattle.implib.specs.Object.{object_in}
-use Rattle.implib.specs.Theorem.{AllLink, AllRise, Begins, ComesBefore, IsPart, LinksAt, NoneBegins, Part, beginning, all_linked, chosen_exports, linked_members, objects_in}
+use Rattle.implib.specs.Theorem.{IsLinked, AllLink, AllRise, Begins, ComesBefore, IsPart, LinksAt, NoneBegins, Part, beginning, all_linked, chosen_exports, linked_members, objects_in}
 use Rattle.implib.proofs.LinkedBlocks.{Block, CanBeLinked, blocks_link, blocks_objects, linked_objects, linked_symbols}
-use Rattle.implib.proofs.LinkedMembers.{members_named, members_rise, same_cmp, dll_free, exports_fit, objects_are, symbols_are}
+use Rattle.implib.proofs.LinkedMembers.{members_among, members_read, members_named, members_rise, same_cmp, dll_free, exports_fit, objects_are, symbols_are}
 use Rattle.implib.proofs.MsvcObjects.{HasNoNul-from_holds}
 use Rattle.implib.proofs.Placement.{export, head, tail}
 
@@ -60,6 +60,16 @@ all_of_map : {X Y : Type 0} (f : X → Y) (P : Y → Type 0) (xs : List X) → A
 all_of_map f P [] all = tt
 all_of_map f P (x ∷ xs) all = (all.0, all_of_map f P xs all.1)
 
+parts_linked : (machine : MachineType) (ps : List Part) → AllByRecursion (IsPart machine) ps → AllByRecursion (IsLinked machine) ps
+parts_linked machine [] are = tt
+parts_linked machine (p ∷ ps) are = (
+  record {
+    from_members = members_among p.definition machine p.members p.chosen are.0.made;
+    read = members_read p.definition machine p.members p.chosen are.0.made;
+  },
+  parts_linked machine ps are.1,
+)
+
 pub parts_link : (machine : MachineType) (bases : Bases) (ps : List Part) → AllByRecursion (IsPart machine) ps →
     IsDistinct bytes_eq (flat_map (λ (m : MemberView). m.symbols) (all_linked machine ps)) → IsAdmissible machine bases (objects_in (all_linked machine ps)) →
     AllLink machine bases ps (objects_in (all_linked machine ps))
@@ -68,6 +78,7 @@ parts_link machine bases ps are distinct admissible =
     let linked = blocks_link machine bases blocks (parts_fit machine ps are) (subst (IsDistinct bytes_eq) (parts_symbols machine ps are) distinct)
     (subst (IsAdmissible machine bases) (parts_objects machine ps are) admissible) in
     subst (AllLink machine bases ps) (sym (parts_objects machine ps are)) (record {
+      linked = parts_linked machine ps are;
       imports = all_of_map block_of
           (λ (k : Block). LinksAt machine (image_of machine bases (placed_from bases (blocks_objects machine blocks))) (placed_from bases (blocks_objects machine blocks)) k.dll k.exports)
           ps linked.0;

@@ -18,6 +18,7 @@ opened = tt
 pub worked_links : WorkedLinks
 unfolding opened
 worked_links = record {
+  two = record { descriptors = refl; lookups = refl; addresses = refl; bar = refl; qux = refl };
   both = record { descriptor = refl; lookups = refl; addresses = refl; hints = refl; dll = refl; places = refl };
   none = record { descriptor = refl; lookups = refl; addresses = refl; hints = refl; dll = refl; places = refl };
   both_32 = record { descriptor = refl; lookups = refl; addresses = refl; hints = refl; dll = refl; places = refl };

@@ -2,7 +2,7 @@
 -- DLL and what the chosen exports ask for, and no more.
 use Rattle.std.specs.Prelude.{◌≡◌, ℕ, ◌+◌, List, [], ◌∷◌, ◌++◌, map, slice_get, slice_index, Option, Some, None, if◌then◌else◌, ◌<◌, codes, length}
 use Rattle.std.specs.Cmp.Lexicographic.{slice_cmp}
-use Rattle.std.specs.List.{AllByRecursion, filter_map, flat_map}
+use Rattle.std.specs.List.{AllByRecursion, Contains, filter_map, flat_map}
 use Rattle.std.specs.Option.{option_map}
 use Rattle.std.specs.Ordering.{nat_cmp}
 use Rattle.std.specs.declared.cmp.Ordering.TheVariants.{Less}
@@ -133,8 +133,15 @@ NoneBegins (text ∷ others) = AllByRecursion (λ other. (Begins text other → 
 abbrev pub all_linked : MachineType → List Part → List MemberView
 all_linked machine parts = flat_map (λ p. linked_members p.definition machine p.chosen) parts
 
+-- what is linked of a part are members of the part, and each reads as an object
+pub record IsLinked (machine : MachineType) (p : Part) : Type 0 where
+  pub from_members : AllByRecursion (Contains p.members) (linked_members p.definition machine p.chosen)
+  pub read : map (λ m. object_in m.bytes) (linked_members p.definition machine p.chosen)
+      ≡ map Some (objects_in (linked_members p.definition machine p.chosen))
+
 -- each part links among the others, and no symbol stays undefined or is ambiguous
 pub record AllLink (machine : MachineType) (bases : Bases) (parts : List Part) (objects : List Object) : Type 0 where
+  pub linked : AllByRecursion (IsLinked machine) parts
   pub imports : AllByRecursion
       (λ p. LinksAt machine (image_of machine bases (placed_from bases objects)) (placed_from bases objects) p.definition.import_name (chosen_exports p.definition p.chosen)) parts
   pub defined : AllByRecursion (IsDefinedOnce (placed_from bases objects)) (undefined_names (placed_from bases objects))

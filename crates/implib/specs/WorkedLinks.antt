@@ -8,7 +8,7 @@ use Rattle.implib.specs.Gnu.{hint_name, thunk}
 use Rattle.implib.specs.Link.{Bases, Placed, Range, byte_at, definitions_of, image_of, placed_from}
 use Rattle.implib.specs.Load.{number_in}
 use Rattle.implib.specs.Object.{each_at}
-use Rattle.implib.specs.Theorem.{linked_members, objects_in}
+use Rattle.implib.specs.Theorem.{Part, all_linked, linked_members, objects_in}
 use Rattle.implib.specs.WorkedMembers.{of_dll}
 use Rattle.implib.specs.WorkedStatements.{plain_export}
 
@@ -68,8 +68,29 @@ bases_64 = record { descriptors = 0x1000; lookups = 0x1020; addresses = 0x1040; 
 abbrev pub bases_32 : Bases
 bases_32 = record { descriptors = 0x1000; lookups = 0x1014; addresses = 0x1020; hint_names = 0x102C; dll_names = 0x1034 }
 
+-- two DLLs with one export each
+abbrev pub part : List ℕ → List ℕ → Part
+part dll name = record { definition = of_dll dll (plain_export name ∷ []); members = []; chosen = 0 ∷ [] }
+
+abbrev pub bases_of_two : Bases
+bases_of_two = record { descriptors = 0x1000; lookups = 0x1030; addresses = 0x1050; hint_names = 0x1070; dll_names = 0x1080 }
+
+abbrev pub placed_two : List Placed
+placed_two =
+    placed_from bases_of_two (objects_in (all_linked AMD64 (part (codes "foo.dll") (codes "bar") ∷ part (codes "zed.dll") (codes "qux") ∷ [])))
+
+-- their descriptors, one after another, the thunks of both, the addresses of their symbols
+pub record TwoLink : Type 0 where
+  pub descriptors : numbers_from (image_of AMD64 bases_of_two placed_two) 4 10 0x1000
+      ≡ Some (0x1030 ∷ 0 ∷ 0 ∷ 0x1084 ∷ 0x1050 ∷ 0x1040 ∷ 0 ∷ 0 ∷ 0x1090 ∷ 0x1060 ∷ [])
+  pub lookups : numbers_from (image_of AMD64 bases_of_two placed_two) 8 4 0x1030 ≡ Some (0x1070 ∷ 0 ∷ 0x1076 ∷ 0 ∷ [])
+  pub addresses : numbers_from (image_of AMD64 bases_of_two placed_two) 8 4 0x1050 ≡ Some (0x1070 ∷ 0 ∷ 0x1076 ∷ 0 ∷ [])
+  pub bar : addresses_of (codes "__imp_bar") placed_two ≡ Some 0x1050 ∷ []
+  pub qux : addresses_of (codes "__imp_qux") placed_two ≡ Some 0x1060 ∷ []
+
 -- linked by hand
 pub record WorkedLinks : Type 0 where
+  pub two : TwoLink
   pub both : Answers (foo (codes "bar") (codes "baz")) AMD64
       (record { bases = bases_64; width = 8; thunks = 3; hints = 6; dll = 0x1088 }) (0 ∷ 1 ∷ [])
       (codes "__imp_bar" ∷ codes "__imp_baz" ∷ codes "bar" ∷ codes "_head_foo_dll" ∷ [])

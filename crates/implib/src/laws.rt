@@ -10,4 +10,5 @@ pub mod tokens;
 
 pub use asked::asked_is_word;
 pub use grammar::grammar_or_broken;
+pub use link::{gnu_links, gnu_links_many};
 pub use renaming::rename_twice;
