@@ -8,6 +8,8 @@ mod device;
 mod doubles;
 mod host;
 pub mod laws;
+#[cfg(test)]
+mod library_tests;
 mod listing;
 mod parts;
 mod run;
