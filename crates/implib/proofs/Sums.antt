@@ -1,17 +1,13 @@
 -- Sums over the elements of a list.
 use Rattle.std.proofs.Common.{◌≡◌, ℕ, ◌+◌, ◌<◌, ◌≤◌, List, [], ◌∷◌, ◌++◌, length, map, take, drop, get_or, refl, sym, ◌∙◌, ap, arith}
 use Rattle.std.specs.List.{sum_by, flat_map}
-use Rattle.std.proofs.lemmas.List.{drop_more, map-append, take_all, take_more, take-append-drop}
+use Rattle.std.proofs.lemmas.List.{drop_more, map-append, take_more, take-append-drop}
 use Rattle.std.proofs.lemmas.List.Sums.{sum_by-append, sum_by-cons, sum_by_push}
 
 module _ {X Y : Type 0} (f : Y → ℕ) (v : X → Y) (xs : List X) (i : ℕ) where
   -- one element more
   pub sum_more : (d : X) → i < length xs → sum_by f (map v (take (i + 1) xs)) ≡ sum_by f (map v (take i xs)) + f (v (get_or xs i d))
   sum_more d within = ap (λ t. sum_by f (map v t)) (take_more xs i d within) ∙ (ap (sum_by f) (map-append v (take i xs) (get_or xs i d ∷ [])) ∙ sum_by_push f (map v (take i xs)) (v (get_or xs i d)))
-
-  -- all elements
-  pub sum_all : length xs ≤ i → sum_by f (map v (take i xs)) ≡ sum_by f (map v xs)
-  sum_all past = ap (λ t. sum_by f (map v t)) (take_all i xs past)
 
   -- those before and those from there on
   pub sum_parts : sum_by f (map v (take i xs)) + sum_by f (map v (drop i xs)) ≡ sum_by f (map v xs)

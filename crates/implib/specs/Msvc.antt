@@ -1,9 +1,9 @@
 -- The members for Microsoft's linker, as tables (docs/FORMATS.md, "Short import records").
-use Rattle.std.specs.Prelude.{ℕ, ◌+◌, ◌*◌, Bool, ◌&&◌, not, List, [], ◌∷◌, ◌++◌, length, map, bytes_eq, if◌then◌else◌}
+use Rattle.std.specs.Prelude.{ℕ, ◌+◌, ◌*◌, ◌&&◌, not, List, [], ◌∷◌, ◌++◌, length, bytes_eq, if◌then◌else◌}
 use Rattle.implib.specs.declared.machine.MachineType.{MachineType}
 use Rattle.implib.specs.Bytes.{u16_bytes, u32_bytes}
 use Rattle.implib.specs.Machine.{machine_number}
-use Rattle.implib.specs.Definition.{DefinitionView, ExportView}
+use Rattle.implib.specs.Definition.{ExportView}
 use Rattle.implib.specs.Import.{is_i386, begins_with, holds, underscore, at_sign, import_symbols}
 use Rattle.implib.specs.Record.{ShortRecord, record_header_size, import_code, import_data, import_const, import_ordinal, import_name, import_name_noprefix, import_name_undecorate, asked_by_name_type}
 
