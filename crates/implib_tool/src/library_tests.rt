@@ -70,15 +70,58 @@ fn libraries_have_members(rt: HostRuntime) -> Result<(), Fail> {
     Ok(())
 }
 
-#[test]
-fn a_refused_library_refuses_again(rt: HostRuntime) -> Result<(), Fail> {
-    for flavor in [Flavor::Msvc, Flavor::Gnu] {
-        let library = ImportLibrary::new(rt.alloc(), "EXPORTS\nbar", MachineType::I386, flavor)?;
-        for _ in 0..2 {
-            let refused = library.members();
-            assert!(rt; matches!(refused, Err(Error::Invalid(Fault::EmptyImportName))));
-        }
+// What a fault says is empty.
+fn empty_part(fault: &Fault) -> &'static str {
+    match fault {
+        Fault::EmptyImportName => "import name",
+        Fault::EmptyName(0) => "name",
+        Fault::EmptyAskedName(0) => "asked name",
+        _ => "",
     }
+}
+
+// Whether a library is refused because this is empty.
+fn is_refused_for(library: &ImportLibrary, part: &str) -> bool {
+    match library.members() {
+        Err(Error::Invalid(fault)) => empty_part(&fault) == part,
+        _ => false,
+    }
+}
+
+// Whether a text's libraries are refused, once and again, because this is empty. They are made
+// first, so that every growth after them can be refused.
+fn are_refused_for(
+    alloc: Global,
+    text: &str,
+    machine: MachineType,
+    part: &str,
+) -> Result<bool, Error> {
+    let microsoft = ImportLibrary::new(alloc, text, machine, Flavor::Msvc)?;
+    let gnu = ImportLibrary::new(alloc, text, machine, Flavor::Gnu)?;
+    let once = is_refused_for(&microsoft, part) && is_refused_for(&gnu, part);
+    Ok(once && is_refused_for(&microsoft, part) && is_refused_for(&gnu, part))
+}
+
+#[test]
+fn an_empty_import_name_is_refused_without_memory(rt: HostRuntime) -> Result<(), Fail> {
+    let refused = are_refused_for(rt.alloc(), "", MachineType::AMD64, "import name")?;
+    assert!(rt; refused);
+    Ok(())
+}
+
+#[test]
+fn an_empty_name_is_refused_without_memory(rt: HostRuntime) -> Result<(), Fail> {
+    let text = "LIBRARY foo.dll\nEXPORTS\n\"abc";
+    let refused = are_refused_for(rt.alloc(), text, MachineType::AMD64, "name")?;
+    assert!(rt; refused);
+    Ok(())
+}
+
+#[test]
+fn an_empty_asked_name_is_refused_without_memory(rt: HostRuntime) -> Result<(), Fail> {
+    let text = "LIBRARY foo.dll\nEXPORTS\n\"\"";
+    let refused = are_refused_for(rt.alloc(), text, MachineType::I386, "asked name")?;
+    assert!(rt; refused);
     Ok(())
 }
 
