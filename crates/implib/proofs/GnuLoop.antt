@@ -8,7 +8,7 @@ use Rattle.implib.specs.declared.library.Flavor.TheVariants.{Gnu}
 use Rattle.implib.specs.declared.machine.MachineType.{MachineType}
 use Rattle.implib.specs.Definition.{ExportView}
 use Rattle.implib.specs.Made.{MemberView, Plan, has_u16_ordinal, is_too_long, member_of, name_refusal, names_refusal, numbered_plans, numbered_plans_of}
-use Rattle.implib.proofs.MemberReadings.{first_none}
+use Rattle.implib.proofs.NotRefused.{first_none}
 
 -- the members so far and those of the exports that are left, numbered from a number, are all; none so far is too long
 pub record Left (machine : MachineType) (dll : List ℕ) (all : List MemberView) (long sound : Bool)

@@ -74,12 +74,10 @@ plain_sound symbols name contents flags eight flags_fit = record { fits = plain_
 
 symbol_sound : (count : ℕ) (name : List ℕ) (place : Place) (class : ℕ) → 0 < length name → holds 0 name ≡ false → IsPlaceAmong count place →
     IsSoundSymbol count (added name place class)
-unfolding FitsAuxiliary
 symbol_sound count name place class filled free among =
     record { named = filled; no_nul = HasNoNul-from_holds name free; value = omega arith; place = among; aux = tt }
 
 file_symbol_sound : (count : ℕ) → IsSoundSymbol count file_symbol
-unfolding FitsAuxiliary
 file_symbol_sound count = record { named = omega arith; no_nul = refl; value = omega arith; place = tt; aux = refl }
 
 -- the linkage's sections, where the last three are sound

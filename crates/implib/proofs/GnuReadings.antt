@@ -29,32 +29,17 @@ use Rattle.implib.specs.Writer.{Holding, object_held, picture_of}
 use Rattle.implib.proofs.GnuLoop.{list_any-reverse, map-reverse}
 use Rattle.implib.proofs.GnuObjects.{Fits-export_object, Fits-head_object, Fits-tail_object}
 use Rattle.implib.proofs.MemberMeanings.{DeclaresListed, all_aliases, no_imports, read_declares, weak_declares}
-use Rattle.implib.proofs.MemberReadings.{ReadsBack, all_append, each_length, each_read, first_none, if_none, import_name_free, machine_number_nonzero, map_after, map_same, none_too_long, object_reads}
+use Rattle.implib.proofs.MemberReadings.{ReadsBack, all_append, each_length, each_read, machine_number_nonzero, map_after, map_same, object_reads, weak_reads}
 use Rattle.implib.proofs.MsvcObjects.{Fits-weak_object, HasNoNul-from_holds}
+use Rattle.implib.proofs.NotRefused.{Sound, exports_sound, import_name_is_free, none_long, short_enough}
 use Rattle.implib.proofs.Symbols.{before_nul-ended}
 use Rattle.implib.proofs.WriterPicture.{object_of-picture_of}
 
 -- The plans read back.
 
--- an export that is named, whose texts have no NUL
-record Sound (e : ExportView) : Type 0 where
-  filled : is_empty_text e.name ≡ false
-  name : holds 0 e.name ≡ false
-  alias_target : holds 0 e.alias_target ≡ false
-  ordinal : has_u16_ordinal e ≡ true
-
 held_reads : (h : Holding) → Fits (picture_of h) → layout_size (picture_of h) ≤ 0xFFFF_FFFF → ReadsBack (AnObject (picture_of h))
 unfolding picture_of
 held_reads h fits short = object_reads (picture_of h) fits (machine_number_nonzero h.machine) short
-
-weak_reads : (machine : MachineType) (weak target : List ℕ) → holds 0 weak ≡ false → holds 0 target ≡ false → layout_size (weak_object machine weak target) ≤ 0xFFFF_FFFF →
-    ReadsBack (AnObject (weak_object machine weak target))
-unfolding weak_object
-weak_reads machine weak target weak_free target_free short =
-    object_reads (weak_object machine weak target) (Fits-weak_object machine weak target weak_free target_free) (machine_number_nonzero machine) short
-
-short_enough : (size : ℕ) → nat_lt 0xFFFF_FFFF size ≡ false → size ≤ 0xFFFF_FFFF
-short_enough size short = ltb-false 0xFFFF_FFFF size short
 
 module _ (machine : MachineType) (dll : List ℕ) (dll_free : holds 0 dll ≡ false) where
   chosen_read : (number : ℕ) (e : ExportView) → Sound e → (test : Bool) (first second : List ℕ) →
@@ -62,10 +47,12 @@ module _ (machine : MachineType) (dll : List ℕ) (dll_free : holds 0 dll ≡ fa
       AllByRecursion (λ p. ReadsBack p.contents) (if test then alias_plan machine first e.name e.alias_target ∷ alias_plan machine second (address_symbol e.name) (address_symbol e.alias_target) ∷ [] else [])
   chosen_read number e sound false first second short = tt
   chosen_read number e sound true first second short =
-      let one = or_parts (is_too_long (alias_plan machine first e.name e.alias_target)) _ short in
-      let two = or_parts (is_too_long (alias_plan machine second (address_symbol e.name) (address_symbol e.alias_target))) false one.1 in (
-        weak_reads machine e.name e.alias_target sound.name sound.alias_target (short_enough _ one.0),
-        (weak_reads machine (address_symbol e.name) (address_symbol e.alias_target) sound.name sound.alias_target (short_enough _ two.0), tt),
+      let of_name = alias_plan machine first e.name e.alias_target in
+      let of_address = alias_plan machine second (address_symbol e.name) (address_symbol e.alias_target) in
+      let one = or_parts (is_too_long of_name) _ short in
+      let two = or_parts (is_too_long of_address) false one.1 in (
+        weak_reads machine e.name e.alias_target sound.name sound.alias_target (short_enough of_name one.0),
+        (weak_reads machine (address_symbol e.name) (address_symbol e.alias_target) sound.name sound.alias_target (short_enough of_address two.0), tt),
       )
 
   of_export_read : (number : ℕ) (e : ExportView) → Sound e → list_any is_too_long (numbered_plans_of machine dll number e) ≡ false →
@@ -77,7 +64,7 @@ module _ (machine : MachineType) (dll : List ℕ) (dll_free : holds 0 dll ≡ fa
       let last = or_parts (is_too_long (export_plan machine dll number e)) false parts.1 in
       all_append (λ p. ReadsBack p.contents) (alias_plans machine dll number e) (export_plan machine dll number e ∷ [])
       (chosen_read number e sound (is_alias e.alias_target e.name) _ _ parts.0)
-      (held_reads (export_object machine dll e) (Fits-export_object machine dll e dll_free sound.name sound.filled) (short_enough _ last.0), tt)
+      (held_reads (export_object machine dll e) (Fits-export_object machine dll e dll_free sound.name sound.filled) (short_enough (export_plan machine dll number e) last.0), tt)
 
   numbered_read : (number : ℕ) (exports : List ExportView) → AllByRecursion Sound exports → list_any is_too_long (numbered_plans machine dll number exports) ≡ false →
       AllByRecursion (λ p. ReadsBack p.contents) (numbered_plans machine dll number exports)
@@ -334,31 +321,6 @@ reversed_all : {X : Type 0} (P : X → Type 0) (xs : List X) → AllByRecursion 
 reversed_all P [] all = tt
 reversed_all P (x ∷ xs) all = subst (AllByRecursion P) (sym (reverse-append (x ∷ []) xs)) (all_append P (reverse xs) (x ∷ []) (reversed_all P xs all.1) (all.0, tt))
 
--- what no refusal says of the exports
-sound_of : (machine : MachineType) (index : ℕ) (e : ExportView) → name_refusal Gnu machine index e ≡ None → has_u16_ordinal e ≡ true → Sound e
-sound_of machine index e none ordinal =
-    let filled = if_none (is_empty_text e.name) (EmptyName index) _ none in
-    let free = if_none (holds 0 e.name || holds 0 e.symbol_name || holds 0 e.alias_target) (NulInExport index) _ filled.1 in
-    let two = or_parts (holds 0 e.name || holds 0 e.symbol_name) (holds 0 e.alias_target) free.0 in
-    let one = or_parts (holds 0 e.name) (holds 0 e.symbol_name) two.0 in
-    record { filled = filled.0; name = one.0; alias_target = two.1; ordinal = ordinal }
-
-all_sound : (machine : MachineType) (index : ℕ) (exports : List ExportView) → names_refusal Gnu machine index exports ≡ None →
-    list_all has_u16_ordinal (filter (λ e. not e.private) exports) ≡ true → AllByRecursion Sound (filter (λ e. not e.private) exports)
-all_sound machine index [] none ordinals = tt
-all_sound machine index (e ∷ exports) none ordinals =
-    let parts = first_none (if e.private then None else name_refusal Gnu machine index e) (names_refusal Gnu machine (index + 1) exports) none in
-    by e.private parts.0 ordinals (all_sound machine (index + 1) exports parts.1)
-  where
-    by : (private : Bool) → (if private then None else name_refusal Gnu machine index e) ≡ None →
-        list_all has_u16_ordinal (if not private then e ∷ filter (λ x. not x.private) exports else filter (λ x. not x.private) exports) ≡ true →
-        (list_all has_u16_ordinal (filter (λ x. not x.private) exports) ≡ true → AllByRecursion Sound (filter (λ x. not x.private) exports)) →
-        AllByRecursion Sound (if not private then e ∷ filter (λ x. not x.private) exports else filter (λ x. not x.private) exports)
-    by true none ordinals others = others ordinals
-    by false none ordinals others =
-        let two = and_parts (has_u16_ordinal e) (list_all has_u16_ordinal (filter (λ x. not x.private) exports)) ordinals in
-        (sound_of machine index e none two.0, others two.1)
-
 -- the members of a definition that is not refused are read as the definition means
 module _ (d : DefinitionView) (machine : MachineType) (members : List MemberView) (made : Made d machine Gnu members) where
   abbrev exports : List ExportView
@@ -367,38 +329,25 @@ module _ (d : DefinitionView) (machine : MachineType) (members : List MemberView
   abbrev built : List Plan
   built = numbered_plans machine d.import_name 0 exports
 
-  refusals : (definition_names_refusal (renamed d) machine Gnu ≡ None) × (length_refusal (plans_of (renamed d) machine Gnu) ≡ None)
-  unfolding refusal renamed_refusal
-  refusals = first_none (definition_names_refusal (renamed d) machine Gnu) (length_refusal (plans_of (renamed d) machine Gnu)) made.accepted
-
-  name_refusals : (import_name_refusal d.import_name ≡ None) × (names_refusal Gnu machine 0 (map renamed_export d.exports) ≡ None)
-  name_refusals = first_none (import_name_refusal d.import_name) (names_refusal Gnu machine 0 (map renamed_export d.exports)) refusals.0
-
   free : holds 0 d.import_name ≡ false
-  free = import_name_free d.import_name name_refusals.0
-
-  sound : AllByRecursion Sound exports
-  sound = all_sound machine 0 (map renamed_export d.exports) name_refusals.1 made.ordinals
-
-  short : list_any is_too_long (plans_of (renamed d) machine Gnu) ≡ false
-  short = none_too_long (plans_of (renamed d) machine Gnu) refusals.1
+  free = import_name_is_free d machine Gnu members made
 
   tail_short : (is_too_long (tail_plan machine d.import_name) ≡ false) × (is_too_long (head_plan machine d.import_name) || list_any is_too_long (reverse built) ≡ false)
-  tail_short = or_parts (is_too_long (tail_plan machine d.import_name)) _ short
+  tail_short = or_parts (is_too_long (tail_plan machine d.import_name)) _ (none_long d machine Gnu members made)
 
   head_short : (is_too_long (head_plan machine d.import_name) ≡ false) × (list_any is_too_long (reverse built) ≡ false)
   head_short = or_parts (is_too_long (head_plan machine d.import_name)) (list_any is_too_long (reverse built)) tail_short.1
 
   built_read : AllByRecursion (λ p. ReadsBack p.contents) built
-  built_read = numbered_read machine d.import_name free 0 exports sound (sym (list_any-reverse is_too_long built) ∙ head_short.1)
+  built_read = numbered_read machine d.import_name free 0 exports (exports_sound d machine Gnu members made) (sym (list_any-reverse is_too_long built) ∙ head_short.1)
 
   tail_back : ReadsBack (AnObject (picture_of (tail_object machine d.import_name)))
   unfolding tail_plan
-  tail_back = held_reads (tail_object machine d.import_name) (Fits-tail_object machine d.import_name free) (short_enough _ tail_short.0)
+  tail_back = held_reads (tail_object machine d.import_name) (Fits-tail_object machine d.import_name free) (short_enough (tail_plan machine d.import_name) tail_short.0)
 
   head_back : ReadsBack (AnObject (picture_of (head_object machine d.import_name)))
   unfolding head_plan
-  head_back = held_reads (head_object machine d.import_name) (Fits-head_object machine d.import_name free) (short_enough _ head_short.0)
+  head_back = held_reads (head_object machine d.import_name) (Fits-head_object machine d.import_name free) (short_enough (head_plan machine d.import_name) head_short.0)
 
   plans_read : AllByRecursion (λ p. ReadsBack p.contents) (plans_of (renamed d) machine Gnu)
   unfolding tail_plan head_plan
@@ -443,7 +392,7 @@ module _ (d : DefinitionView) (machine : MachineType) (members : List MemberView
     meanings_read =
         ap (map (λ (m : MemberView). option_and_then (meaning_with (head_file machine d.import_name free) (tail_file machine d.import_name free)) (file_in m.bytes))) behind
         ∙ (read_meaning (head_file machine d.import_name free) (tail_file machine d.import_name free) built built_read
-        ∙ numbered_planned machine d.import_name free 0 exports sound);
+        ∙ numbered_planned machine d.import_name free 0 exports (exports_sound d machine Gnu members made));
     by_export = refl;
     imports = all_imports machine d.import_name free exports;
     aliases = aliases_among machine d.import_name free exports;

@@ -10,6 +10,7 @@ pub mod Fields
 pub mod Symbols
 pub mod Reading
 pub mod MsvcObjects
+pub mod NotRefused
 pub mod MemberReadings
 pub mod MemberMeanings
 pub mod MembersLoop

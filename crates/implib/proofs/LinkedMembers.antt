@@ -23,8 +23,9 @@ use Rattle.implib.specs.Theorem.{AllRise, ComesBefore, Links, chosen_exports, li
 use Rattle.implib.specs.Writer.{Holding, object_held, picture_of}
 use Rattle.implib.proofs.GnuObjects.{Fits-export_object, Fits-head_object, Fits-tail_object}
 use Rattle.implib.proofs.LinkedBlocks.{linked_objects, linked_symbols, objects_link}
-use Rattle.implib.proofs.MemberReadings.{first_none, if_none, import_name_free, none_too_long}
+use Rattle.implib.proofs.MemberReadings.{map_after}
 use Rattle.implib.proofs.MsvcObjects.{HasNoNul-from_holds}
+use Rattle.implib.proofs.NotRefused.{Sound, exports_sound, import_name_is_free, none_long, short_enough}
 use Rattle.implib.proofs.ObjectReading.{object_in-layout}
 use Rattle.implib.proofs.Placement.{export, head, tail}
 use Rattle.implib.proofs.Ranges.{Among, among_back, among_first, among_front, among_later}
@@ -36,31 +37,6 @@ held_reads : (h : Holding) → Fits (picture_of h) → layout_size (picture_of h
 held_reads h fits short =
     let below : layout_size (picture_of h) < 2 ^ 32 = omega arith in
     object_in-layout (picture_of h) fits below ∙ ap Some (object_of-picture_of h)
-
--- an export that breaks no rule on names
-record IsNamed (e : ExportView) : Type 0 where
-  filled : is_empty_text e.name ≡ false
-  free : holds 0 e.name ≡ false
-
-named : (machine : MachineType) (index : ℕ) (e : ExportView) → name_refusal Gnu machine index e ≡ None → IsNamed e
-named machine index e none =
-    let filled = if_none (is_empty_text e.name) (EmptyName index) _ none in
-    let free = if_none (holds_nul e) (NulInExport index) _ filled.1 in
-    let two = or_parts (holds 0 e.name || holds 0 e.symbol_name) (holds 0 e.alias_target) free.0 in
-    record { filled = filled.0; free = (or_parts (holds 0 e.name) (holds 0 e.symbol_name) two.0).0 }
-
-kept_named : (machine : MachineType) (index : ℕ) (e : ExportView) (exports : List ExportView) (private : Bool) →
-    (if private then None else name_refusal Gnu machine index e) ≡ None → AllByRecursion IsNamed exports →
-    AllByRecursion IsNamed (if not private then e ∷ exports else exports)
-kept_named machine index e exports true none others = others
-kept_named machine index e exports false none others = (named machine index e none, others)
-
-all_named : (machine : MachineType) (index : ℕ) (exports : List ExportView) → names_refusal Gnu machine index exports ≡ None →
-    AllByRecursion IsNamed (filter (λ e. not e.private) exports)
-all_named machine index [] none = tt
-all_named machine index (e ∷ exports) none =
-    let parts = first_none (if e.private then None else name_refusal Gnu machine index e) (names_refusal Gnu machine (index + 1) exports) none in
-    kept_named machine index e (filter (λ e. not e.private) exports) e.private parts.0 (all_named machine (index + 1) exports parts.1)
 
 -- what holds of each holds of the one at a place
 all_at : {X : Type 0} (P : X → Type 0) (xs : List X) (n : ℕ) (x : X) → AllByRecursion P xs → slice_get xs n ≡ Some x → P x
@@ -136,8 +112,8 @@ among_contains x (y ∷ xs) (inr m) =
     (suc later.0, omega arith, later.2)
 
 -- the chosen exports of a list, which breaks no rule
-module _ (machine : MachineType) (dll : List ℕ) (exports : List ExportView) (dll_free : holds 0 dll ≡ false) (all_good : AllByRecursion IsNamed exports)
-    (ordinals : list_all has_u16_ordinal exports ≡ true) (short : list_any is_too_long (gnu_plans machine dll exports) ≡ false) where
+module _ (machine : MachineType) (dll : List ℕ) (exports : List ExportView) (dll_free : holds 0 dll ≡ false) (sound : AllByRecursion Sound exports)
+    (short : list_any is_too_long (gnu_plans machine dll exports) ≡ false) where
   tail_among : Among (tail_plan machine dll) (gnu_plans machine dll exports)
   tail_among = among_first _ _
 
@@ -151,7 +127,7 @@ module _ (machine : MachineType) (dll : List ℕ) (exports : List ExportView) (d
       (subst (λ m. Among (export_plan machine dll m e) (numbered_plans machine dll 0 exports)) place (numbered_among machine dll exports 0 n e is))))
 
   size_of : (p : Plan) → Among p (gnu_plans machine dll exports) → contents_size p.contents ≤ 0xFFFF_FFFF
-  size_of p m = ltb-false 0xFFFF_FFFF (contents_size p.contents) (none_among is_too_long p (gnu_plans machine dll exports) m short)
+  size_of p m = short_enough p (none_among is_too_long p (gnu_plans machine dll exports) m short)
 
   tail_reads : object_in (member_of (tail_plan machine dll)).bytes ≡ Some (tail machine dll)
   unfolding tail_plan
@@ -164,21 +140,15 @@ module _ (machine : MachineType) (dll : List ℕ) (exports : List ExportView) (d
   export_reads : (n : ℕ) (e : ExportView) → slice_get exports n ≡ Some e → object_in (member_of (export_plan machine dll n e)).bytes ≡ Some (export machine dll e)
   unfolding export_plan
   export_reads n e is =
-      let good = all_at IsNamed exports n e all_good is in
-      held_reads (export_object machine dll e) (Fits-export_object machine dll e dll_free good.free good.filled) (size_of (export_plan machine dll n e) (export_among n e is))
-
-  all_ordinals : (es : List ExportView) → list_all has_u16_ordinal es ≡ true → AllByRecursion (λ e. has_u16_ordinal e ≡ true) es
-  all_ordinals [] fit = tt
-  all_ordinals (e ∷ es) fit =
-      let parts = and_parts (has_u16_ordinal e) (list_all has_u16_ordinal es) fit in
-      (parts.0, all_ordinals es parts.1)
+      let good = all_at Sound exports n e sound is in
+      held_reads (export_object machine dll e) (Fits-export_object machine dll e dll_free good.name good.filled) (size_of (export_plan machine dll n e) (export_among n e is))
 
   export_asks : (n : ℕ) (e : ExportView) → slice_get exports n ≡ Some e → CanBeAsked machine e
   export_asks n e is =
-      let good = all_at IsNamed exports n e all_good is in
+      let good = all_at Sound exports n e sound is in
       record {
-        ordinal = ltb-true e.ordinal 0x1_0000 (all_at (λ e. has_u16_ordinal e ≡ true) exports n e (all_ordinals exports ordinals) is);
-        name = HasNoNul-from_holds (asked_name machine e.name) (asked_free (has_underscore machine e.name) e.name good.free);
+        ordinal = ltb-true e.ordinal 0x1_0000 good.ordinal;
+        name = HasNoNul-from_holds (asked_name machine e.name) (asked_free (has_underscore machine e.name) e.name good.name);
       }
 
   -- what is linked after the head
@@ -265,10 +235,6 @@ names_rise : (dll : List ℕ) (ns : List ℕ) → AllRise (map (export_name dll)
 names_rise dll [] rise = (head_before_tail dll, tt)
 names_rise dll (n ∷ ns) rise = (head_first dll n, rise_to_tail dll n ns rise)
 
-map_map : {X Y Z : Type 0} (f : Y → Z) (g : X → Y) (xs : List X) → map f (map g xs) ≡ map (λ x. f (g x)) xs
-map_map f g [] = refl
-map_map f g (x ∷ xs) = ap (λ ys. f (g x) ∷ ys) (map_map f g xs)
-
 flat_map_map : {X Y Z : Type 0} (f : Y → List Z) (g : X → Y) (xs : List X) → flat_map f (map g xs) ≡ flat_map (λ x. f (g x)) xs
 flat_map_map f g [] = refl
 flat_map_map f g (x ∷ xs) = ap (λ ys. f (g x) ++ ys) (flat_map_map f g xs)
@@ -281,36 +247,29 @@ module _ (d : DefinitionView) (machine : MachineType) (members : List MemberView
   abbrev public : List ExportView
   public = public_exports (renamed d)
 
-  refusals : (definition_names_refusal (renamed d) machine Gnu ≡ None) × (length_refusal (plans_of (renamed d) machine Gnu) ≡ None)
-  unfolding refusal renamed_refusal
-  refusals = first_none (definition_names_refusal (renamed d) machine Gnu) (length_refusal (plans_of (renamed d) machine Gnu)) made.accepted
-
-  name_refusals : (import_name_refusal d.import_name ≡ None) × (names_refusal Gnu machine 0 (map renamed_export d.exports) ≡ None)
-  name_refusals = first_none (import_name_refusal d.import_name) (names_refusal Gnu machine 0 (map renamed_export d.exports)) refusals.0
-
   pub dll_free : holds 0 d.import_name ≡ false
-  dll_free = import_name_free d.import_name name_refusals.0
+  dll_free = import_name_is_free d machine Gnu members made
 
-  all_good : AllByRecursion IsNamed (public_exports (renamed d))
-  all_good = all_named machine 0 (map renamed_export d.exports) name_refusals.1
+  sound : AllByRecursion Sound public
+  sound = exports_sound d machine Gnu members made
 
-  none_long : list_any is_too_long (gnu_plans machine d.import_name (public_exports (renamed d))) ≡ false
-  none_long = none_too_long (plans_of (renamed d) machine Gnu) refusals.1
+  not_long : list_any is_too_long (gnu_plans machine d.import_name public) ≡ false
+  not_long = none_long d machine Gnu members made
 
   pub members_among : AllByRecursion (Contains members) (linked_members d machine chosen)
   members_among =
       subst (λ ms. AllByRecursion (Contains ms) (linked_members d machine chosen)) (sym made.made)
       (all_contained member_of (gnu_plans machine d.import_name public) (linked_plans d machine chosen) (
-        head_among machine d.import_name public dll_free all_good made.ordinals none_long,
-        chosen_among machine d.import_name public dll_free all_good made.ordinals none_long chosen,
+        head_among machine d.import_name public dll_free sound not_long,
+        chosen_among machine d.import_name public dll_free sound not_long chosen,
       ))
 
   pub members_named : AllByRecursion (λ n. n < length (public_exports (renamed d))) chosen →
       map (λ (m : MemberView). m.name) (linked_members d machine chosen) ≡ head_name d.import_name ∷ (map (export_name d.import_name) chosen ++ tail_name d.import_name ∷ [])
   unfolding head_plan
   members_named within =
-      map_map (λ (m : MemberView). m.name) member_of (linked_plans d machine chosen)
-      ∙ ap (λ names. head_name d.import_name ∷ names) (chosen_names machine d.import_name public dll_free all_good made.ordinals none_long chosen within)
+      map_after (λ (m : MemberView). m.name) member_of (linked_plans d machine chosen)
+      ∙ ap (λ names. head_name d.import_name ∷ names) (chosen_names machine d.import_name public dll_free sound not_long chosen within)
 
   pub members_rise : AllByRecursion (λ n. n < length (public_exports (renamed d))) chosen → AllRise (map (export_name d.import_name) chosen) →
       AllRise (map (λ (m : MemberView). m.name) (linked_members d machine chosen))
@@ -318,10 +277,10 @@ module _ (d : DefinitionView) (machine : MachineType) (members : List MemberView
 
   read_as : map (λ (m : MemberView). object_in m.bytes) (linked_members d machine chosen) ≡ map Some (linked_objects machine d.import_name (chosen_exports d chosen))
   read_as =
-      map_map (λ (m : MemberView). object_in m.bytes) member_of (linked_plans d machine chosen)
-      ∙ ap (λ o. o ∷ map (λ (p : Plan). object_in (member_of p).bytes) (plans_after machine d.import_name public dll_free all_good made.ordinals none_long chosen))
-      (head_reads machine d.import_name public dll_free all_good made.ordinals none_long)
-      ∙ ap (λ rest. Some (head machine d.import_name) ∷ rest) (chosen_read machine d.import_name public dll_free all_good made.ordinals none_long chosen)
+      map_after (λ (m : MemberView). object_in m.bytes) member_of (linked_plans d machine chosen)
+      ∙ ap (λ o. o ∷ map (λ (p : Plan). object_in (member_of p).bytes) (plans_after machine d.import_name public dll_free sound not_long chosen))
+      (head_reads machine d.import_name public dll_free sound not_long)
+      ∙ ap (λ rest. Some (head machine d.import_name) ∷ rest) (chosen_read machine d.import_name public dll_free sound not_long chosen)
 
   pub objects_are : objects_in (linked_members d machine chosen) ≡ linked_objects machine d.import_name (chosen_exports d chosen)
   objects_are =
@@ -336,10 +295,10 @@ module _ (d : DefinitionView) (machine : MachineType) (members : List MemberView
   unfolding head_plan
   symbols_are =
       flat_map_map (λ (m : MemberView). m.symbols) member_of (linked_plans d machine chosen)
-      ∙ ap (λ rest. head_symbol machine d.import_name ∷ rest) (chosen_listed machine d.import_name public dll_free all_good made.ordinals none_long chosen)
+      ∙ ap (λ rest. head_symbol machine d.import_name ∷ rest) (chosen_listed machine d.import_name public dll_free sound not_long chosen)
 
   pub exports_fit : AllByRecursion (CanBeAsked machine) (chosen_exports d chosen)
-  exports_fit = chosen_fit machine d.import_name public dll_free all_good made.ordinals none_long chosen
+  exports_fit = chosen_fit machine d.import_name public dll_free sound not_long chosen
 
   pub members_link : (bases : Bases) → IsDistinct bytes_eq (flat_map (λ (m : MemberView). m.symbols) (linked_members d machine chosen)) →
       IsAdmissible machine bases (objects_in (linked_members d machine chosen)) →
@@ -347,6 +306,6 @@ module _ (d : DefinitionView) (machine : MachineType) (members : List MemberView
   members_link bases distinct admissible =
       subst (Links machine bases d.import_name (chosen_exports d chosen)) (sym objects_are)
       (objects_link machine d.import_name (chosen_exports d chosen) bases (HasNoNul-from_holds d.import_name dll_free)
-      (chosen_fit machine d.import_name public dll_free all_good made.ordinals none_long chosen)
+      (chosen_fit machine d.import_name public dll_free sound not_long chosen)
       (subst (IsDistinct bytes_eq) symbols_are distinct)
       (subst (IsAdmissible machine bases) objects_are admissible))

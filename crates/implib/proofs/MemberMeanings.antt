@@ -21,8 +21,9 @@ use Rattle.implib.specs.Picture.{entries_of, layout, layout_size, name_text, obj
 use Rattle.implib.specs.Reads.{ReadsForMsvc, MeansWhatIsMeant, ReadsAsMsvc, file_of, has_no_symbol_names, import_among, alias_among, import_written, meanings_written}
 use Rattle.implib.specs.Renaming.{renamed, renamed_export}
 use Rattle.implib.proofs.Import.{import_of_record-record_of, import_written-meant, kind_is_data}
-use Rattle.implib.proofs.MemberReadings.{ReadsBack, machine_number_nonzero, object_reads, all_append, files_read, import_name_is_free, lengths_read, map_after, map_same, of_members, plans_read_back}
+use Rattle.implib.proofs.MemberReadings.{ReadsBack, machine_number_nonzero, object_reads, all_append, files_read, lengths_read, map_after, map_same, of_members, plans_read_back}
 use Rattle.implib.proofs.MsvcObjects.{Fits-weak_object, HasNoNul-from_holds}
+use Rattle.implib.proofs.NotRefused.{import_name_is_free}
 use Rattle.implib.proofs.Symbols.{before_nul-ended}
 
 -- What is declared.
@@ -228,7 +229,7 @@ module _ (d : DefinitionView) (machine : MachineType) (members : List MemberView
     dll =
         ap (λ (x : List MemberView). option_and_then (λ (m : MemberView). dll_in m.bytes) (slice_get x 0)) made.made
         ∙ (first_reads machine d.import_name (flat_map (export_plans machine d.import_name) (public_exports (renamed d))) (plans_read_back d machine members made)
-        ∙ dll_of_descriptor machine d.import_name (import_name_is_free d machine members made));
+        ∙ dll_of_descriptor machine d.import_name (import_name_is_free d machine Msvc members made));
     meanings = meanings_read;
   }
 

@@ -26,6 +26,7 @@ use Rattle.implib.specs.Renaming.{renamed, renamed_export}
 use Rattle.implib.specs.Fault.{Cause, EmptyImportName, NulInImportName, EmptyName, NulInExport, MemberTooLong}
 use Rattle.implib.proofs.Import.{FitsRecord-record_of, symbol_without_nul}
 use Rattle.implib.proofs.MsvcObjects.{Fits-descriptor, Fits-null_descriptor, Fits-null_thunk, Fits-weak_object}
+use Rattle.implib.proofs.NotRefused.{Sound, exports_sound, import_name_is_free, none_long, short_enough}
 use Rattle.implib.proofs.ObjectReading.{length-layout, object_in-layout}
 use Rattle.implib.proofs.Record.{length-record_bytes, short_record_in-record_bytes}
 
@@ -72,28 +73,18 @@ object_reads p fits nonzero short =
       length = length-layout p fits below;
     }
 
--- an export whose texts have no NUL
-record Sound (e : ExportView) : Type 0 where
-  name : holds 0 e.name ≡ false
-  symbol_name : holds 0 e.symbol_name ≡ false
-  alias_target : holds 0 e.alias_target ≡ false
-  ordinal : has_u16_ordinal e ≡ true
-
 pub all_append : {X : Type 0} (P : X → Type 0) (xs ys : List X) → AllByRecursion P xs → AllByRecursion P ys → AllByRecursion P (xs ++ ys)
 all_append P [] ys first second = second
 all_append P (x ∷ xs) ys first second = (first.0, all_append P xs ys first.1 second)
 
+pub weak_reads : (machine : MachineType) (weak target : List ℕ) → holds 0 weak ≡ false → holds 0 target ≡ false → layout_size (weak_object machine weak target) ≤ 0xFFFF_FFFF →
+    ReadsBack (AnObject (weak_object machine weak target))
+unfolding weak_object
+weak_reads machine weak target weak_free target_free short =
+    object_reads (weak_object machine weak target) (Fits-weak_object machine weak target weak_free target_free) (machine_number_nonzero machine) short
+
 -- what the plans of a list of exports are read as, one after another
 module _ (machine : MachineType) (dll : List ℕ) (dll_free : holds 0 dll ≡ false) where
-  short_enough : (p : Plan) → is_too_long p ≡ false → contents_size p.contents ≤ 0xFFFF_FFFF
-  short_enough p short = ltb-false 0xFFFF_FFFF (contents_size p.contents) short
-
-  weak_reads : (weak target : List ℕ) → holds 0 weak ≡ false → holds 0 target ≡ false → layout_size (weak_object machine weak target) ≤ 0xFFFF_FFFF →
-      ReadsBack (AnObject (weak_object machine weak target))
-  unfolding weak_object
-  weak_reads weak target weak_free target_free short =
-      object_reads (weak_object machine weak target) (Fits-weak_object machine weak target weak_free target_free) (machine_number_nonzero machine) short
-
   weak_plans_read : (e : ExportView) → Sound e → (test : Bool) →
       list_any is_too_long (if test then weak_plan machine dll (record_symbol e) e.alias_target ∷ weak_plan machine dll (address_symbol (record_symbol e)) (address_symbol e.alias_target) ∷ [] else []) ≡ false →
       AllByRecursion (λ p. ReadsBack p.contents) (if test then weak_plan machine dll (record_symbol e) e.alias_target ∷ weak_plan machine dll (address_symbol (record_symbol e)) (address_symbol e.alias_target) ∷ [] else [])
@@ -102,8 +93,8 @@ module _ (machine : MachineType) (dll : List ℕ) (dll_free : holds 0 dll ≡ fa
       let first = or_parts (is_too_long (weak_plan machine dll (record_symbol e) e.alias_target)) _ short in
       let second = or_parts (is_too_long (weak_plan machine dll (address_symbol (record_symbol e)) (address_symbol e.alias_target))) false first.1 in
       let symbol_free : holds 0 (record_symbol e) ≡ false = symbol_without_nul e.symbol_name e.name sound.symbol_name sound.name in (
-        weak_reads (record_symbol e) e.alias_target symbol_free sound.alias_target (short_enough (weak_plan machine dll (record_symbol e) e.alias_target) first.0),
-        (weak_reads (address_symbol (record_symbol e)) (address_symbol e.alias_target) symbol_free sound.alias_target (short_enough (weak_plan machine dll (address_symbol (record_symbol e)) (address_symbol e.alias_target)) second.0), tt),
+        weak_reads machine (record_symbol e) e.alias_target symbol_free sound.alias_target (short_enough (weak_plan machine dll (record_symbol e) e.alias_target) first.0),
+        (weak_reads machine (address_symbol (record_symbol e)) (address_symbol e.alias_target) symbol_free sound.alias_target (short_enough (weak_plan machine dll (address_symbol (record_symbol e)) (address_symbol e.alias_target)) second.0), tt),
       )
 
   export_plans_read : (e : ExportView) → Sound e → list_any is_too_long (export_plans machine dll e) ≡ false → AllByRecursion (λ p. ReadsBack p.contents) (export_plans machine dll e)
@@ -148,57 +139,6 @@ module _ (machine : MachineType) (dll : List ℕ) (dll_free : holds 0 dll ≡ fa
       all_append (λ p. ReadsBack p.contents) (heading_plans machine dll) (flat_map (export_plans machine dll) exports)
       (heading_plans_read parts.0) (exports_plans_read exports sound parts.1)
 
--- What no refusal says.
-
-pub if_none : {X : Type 0} (test : Bool) (x : X) (otherwise : Option X) → (if test then Some x else otherwise) ≡ None → (test ≡ false) × (otherwise ≡ None)
-if_none true x otherwise none = cc
-if_none false x otherwise none = (refl, none)
-
-pub first_none : (first second : Option Cause) → first_of_both first second ≡ None → (first ≡ None) × (second ≡ None)
-first_none (Some cause) second none = cc
-first_none None second none = (refl, none)
-
-pub import_name_free : (name : List ℕ) → import_name_refusal name ≡ None → holds 0 name ≡ false
-import_name_free name none =
-    let filled = if_none (is_empty_text name) EmptyImportName (if holds 0 name then Some NulInImportName else None) none in
-    (if_none (holds 0 name) NulInImportName None filled.1).0
-
--- an export whose names break no rule
-record NamesInOrder (e : ExportView) : Type 0 where
-  name : holds 0 e.name ≡ false
-  symbol_name : holds 0 e.symbol_name ≡ false
-  alias_target : holds 0 e.alias_target ≡ false
-
-names_in_order : (flavor : Flavor) (machine : MachineType) (index : ℕ) (e : ExportView) → name_refusal flavor machine index e ≡ None → NamesInOrder e
-names_in_order flavor machine index e none =
-    let filled = if_none (is_empty_text e.name) (EmptyName index) _ none in
-    let free = if_none (holds 0 e.name || holds 0 e.symbol_name || holds 0 e.alias_target) (NulInExport index) _ filled.1 in
-    let two = or_parts (holds 0 e.name || holds 0 e.symbol_name) (holds 0 e.alias_target) free.0 in
-    let one = or_parts (holds 0 e.name) (holds 0 e.symbol_name) two.0 in
-    record { name = one.0; symbol_name = one.1; alias_target = two.1 }
-
-kept_in_order : (flavor : Flavor) (machine : MachineType) (index : ℕ) (e : ExportView) (exports : List ExportView) (private : Bool) →
-    (if private then None else name_refusal flavor machine index e) ≡ None → AllByRecursion NamesInOrder exports →
-    AllByRecursion NamesInOrder (if not private then e ∷ exports else exports)
-kept_in_order flavor machine index e exports true none others = others
-kept_in_order flavor machine index e exports false none others = (names_in_order flavor machine index e none, others)
-
-all_names_in_order : (flavor : Flavor) (machine : MachineType) (index : ℕ) (exports : List ExportView) → names_refusal flavor machine index exports ≡ None →
-    AllByRecursion NamesInOrder (filter (λ e. not e.private) exports)
-all_names_in_order flavor machine index [] none = tt
-all_names_in_order flavor machine index (e ∷ exports) none =
-    let parts = first_none (if e.private then None else name_refusal flavor machine index e) (names_refusal flavor machine (index + 1) exports) none in
-    kept_in_order flavor machine index e (filter (λ e. not e.private) exports) e.private parts.0 (all_names_in_order flavor machine (index + 1) exports parts.1)
-
-all_sound : (exports : List ExportView) → AllByRecursion NamesInOrder exports → list_all has_u16_ordinal exports ≡ true → AllByRecursion Sound exports
-all_sound [] names ordinals = tt
-all_sound (e ∷ exports) names ordinals =
-    let parts = and_parts (has_u16_ordinal e) (list_all has_u16_ordinal exports) ordinals in
-    (record { name = names.0.name; symbol_name = names.0.symbol_name; alias_target = names.0.alias_target; ordinal = parts.0 }, all_sound exports names.1 parts.1)
-
-pub none_too_long : (plans : List Plan) → length_refusal plans ≡ None → list_any is_too_long plans ≡ false
-none_too_long plans none = (if_none (list_any is_too_long plans) MemberTooLong None none).0
-
 pub map_same : {X Y : Type 0} (f g : X → Y) (xs : List X) → AllByRecursion (λ x. f x ≡ g x) xs → map f xs ≡ map g xs
 map_same f g [] same = refl
 map_same f g (x ∷ xs) same = let first : f x ≡ g x = same.0 in let rest : map f xs ≡ map g xs = map_same f g xs same.1 in cc
@@ -219,21 +159,10 @@ each_length (p ∷ plans) reads = (reads.0.length, each_length plans reads.1)
 
 -- the files of the members of a definition that is not refused are read as what was planned
 module _ (d : DefinitionView) (machine : MachineType) (members : List MemberView) (made : Made d machine Msvc members) where
-  refusals : (definition_names_refusal (renamed d) machine Msvc ≡ None) × (length_refusal (plans_of (renamed d) machine Msvc) ≡ None)
-  unfolding refusal renamed_refusal
-  refusals = first_none (definition_names_refusal (renamed d) machine Msvc) (length_refusal (plans_of (renamed d) machine Msvc)) made.accepted
-
-  name_refusals : (import_name_refusal d.import_name ≡ None) × (names_refusal Msvc machine 0 (map renamed_export d.exports) ≡ None)
-  name_refusals = first_none (import_name_refusal d.import_name) (names_refusal Msvc machine 0 (map renamed_export d.exports)) refusals.0
-
-  pub import_name_is_free : holds 0 d.import_name ≡ false
-  import_name_is_free = import_name_free d.import_name name_refusals.0
-
   pub plans_read_back : AllByRecursion (λ p. ReadsBack p.contents) (plans_of (renamed d) machine Msvc)
   plans_read_back =
-      plans_read machine d.import_name import_name_is_free (public_exports (renamed d))
-      (all_sound (public_exports (renamed d)) (all_names_in_order Msvc machine 0 (map renamed_export d.exports) name_refusals.1) made.ordinals)
-      (none_too_long (plans_of (renamed d) machine Msvc) refusals.1)
+      plans_read machine d.import_name (import_name_is_free d machine Msvc members made) (public_exports (renamed d))
+      (exports_sound d machine Msvc members made) (none_long d machine Msvc members made)
 
   -- a fact of each member's file is a fact of what was planned
   pub of_members : {Y : Type 0} (f : MemberView → Y) → map f members ≡ map (λ p. f (member_of p)) (plans_of (renamed d) machine Msvc)

@@ -10,7 +10,7 @@ use Rattle.implib.specs.declared.library.Flavor.TheVariants.{Msvc}
 use Rattle.implib.specs.declared.machine.MachineType.{MachineType}
 use Rattle.implib.specs.Definition.{ExportView, export_view}
 use Rattle.implib.specs.Made.{MemberView, export_plans, has_u16_ordinal, is_too_long, member_of, name_refusal, names_refusal}
-use Rattle.implib.proofs.MemberReadings.{first_none}
+use Rattle.implib.proofs.NotRefused.{first_none}
 
 -- the members so far and those of the exports that are left are all; none so far is too long
 pub record Left (machine : MachineType) (dll : List ℕ) (all : List MemberView) (long sound : Bool)

@@ -73,13 +73,11 @@ relocation_fits machine offset index offset_fits index_fits = record { offset = 
 
 -- a symbol whose name is listed
 listed_fits : (strings : List (List ℕ)) (index section class : ℕ) → index < length strings → section < 2 ^ 16 → FitsSymbol strings (symbol (Listed index) section class)
-unfolding FitsName FitsAuxiliary
 listed_fits strings index section class listed section_fits = record { name = listed; value = omega arith; section = section_fits; aux = tt }
 
 -- a symbol whose name stands in its record
 in_record_fits : (strings : List (List ℕ)) (name : List ℕ) (section class : ℕ) → 0 < length name → length name ≤ 8 → holds 0 name ≡ false → section < 2 ^ 16 →
     FitsSymbol strings (symbol (InRecord name) section class)
-unfolding FitsName FitsAuxiliary
 in_record_fits strings name section class some few free section_fits =
     record { name = (some, few, HasNoNul-from_holds name free); value = omega arith; section = section_fits; aux = tt }
 
@@ -176,7 +174,7 @@ length-weak_auxiliary = refl
 
 -- a weak external fits
 pub Fits-weak_object : (machine : MachineType) (weak target : List ℕ) → holds 0 weak ≡ false → holds 0 target ≡ false → Fits (weak_object machine weak target)
-unfolding weak_object FitsName FitsAuxiliary
+unfolding weak_object
 Fits-weak_object machine weak target weak_free target_free =
     let strings = target ∷ weak ∷ [] in
     record {

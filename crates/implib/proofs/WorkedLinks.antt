@@ -26,4 +26,5 @@ worked_links = record {
   number_zero = refl;
   no_hint = refl;
   number_zero_links = record { descriptor = refl; lookups = refl; addresses = refl; hints = refl; dll = refl; places = refl };
+  six_digits_first = refl;
 }

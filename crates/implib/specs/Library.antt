@@ -1,6 +1,7 @@
 -- What an import library holds, and what a member shows.
 use Rattle.std.specs.Prelude.{◌≡◌, ℕ, List, map}
 use Rattle.std.specs.String.{string_bytes}
+use Rattle.std.specs.declared.vec.Vec.{Vec}
 use Rattle.implib.specs.declared.def.ModuleDef.{ModuleDef}
 use Rattle.implib.specs.declared.library.Flavor.{Flavor}
 use Rattle.implib.specs.declared.library.Member.{Member}
@@ -9,6 +10,7 @@ use Rattle.implib.specs.Definition.{DefinitionView, definition_view}
 use Rattle.implib.specs.Made.{MemberView}
 use Rattle.implib.specs.Renaming.{renamed}
 use Rattle.implib.specs.Parses.{Parses}
+use Rattle.implib.specs.Theorem.{Part, parts_of}
 
 -- a definition, and what its members are made for
 pub record LibraryView : Type 0 where
@@ -33,3 +35,8 @@ pub record LibraryOf (text : List ℕ) (machine : MachineType) (flavor : Flavor)
   pub meant : DefinitionView
   pub parses : Parses text machine meant
   pub held : library ≡ record { definition = renamed meant; machine = machine; flavor = flavor }
+
+-- the parts that stand at one place in the program's lists of definitions, members and choices
+abbrev pub parts_held : {A B : Type 0} → List ModuleDef → List (Vec Member A) → List (Vec ℕ B) → List Part
+parts_held definitions members chosen =
+    parts_of (map definition_view definitions) (map (λ list. map member_view list.items) members) (map (λ list. list.items) chosen)

@@ -4,11 +4,11 @@ use Rattle.std.specs.Option.{option_map}
 use Rattle.implib.specs.declared.machine.MachineType.{MachineType}
 use Rattle.implib.specs.declared.machine.MachineType.TheVariants.{I386, AMD64}
 use Rattle.implib.specs.Definition.{DefinitionView, ExportView, empty_export}
-use Rattle.implib.specs.Gnu.{hint_name, thunk}
+use Rattle.implib.specs.Gnu.{export_name, hint_name, thunk}
 use Rattle.implib.specs.Link.{Bases, Placed, Range, byte_at, definitions_of, image_of, placed_from}
 use Rattle.implib.specs.Load.{number_in}
 use Rattle.implib.specs.Object.{each_at}
-use Rattle.implib.specs.Theorem.{Part, all_linked, linked_members, objects_in}
+use Rattle.implib.specs.Theorem.{ComesBefore, Part, all_linked, linked_members, objects_in}
 use Rattle.implib.specs.WorkedMembers.{of_dll}
 use Rattle.implib.specs.WorkedStatements.{plain_export}
 
@@ -139,3 +139,5 @@ pub record WorkedLinks : Type 0 where
         hints = [];
         places = (Some 0x1020 ∷ []) ∷ [];
       })
+  -- from six digits on, the order of names is not that of numbers
+  pub six_digits_first : ComesBefore (export_name (codes "foo.dll") 100000) (export_name (codes "foo.dll") 99999)

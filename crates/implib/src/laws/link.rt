@@ -3,13 +3,13 @@
 ghost use Rattle.implib.specs.Definition.{definition_view};
 ghost use Rattle.implib.specs.Gnu.{export_name, head_name, tail_name};
 ghost use Rattle.implib.specs.Import.{Ask, public_exports};
-ghost use Rattle.implib.specs.Library.{member_view};
+ghost use Rattle.implib.specs.Library.{member_view, parts_held};
 ghost use Rattle.implib.specs.Link.{IsAdmissible, Range};
 ghost use Rattle.implib.specs.Load.{Loads};
 ghost use Rattle.implib.specs.Made.{Made};
 ghost use Rattle.implib.specs.Object.{object_in};
 ghost use Rattle.implib.specs.Renaming.{renamed};
-ghost use Rattle.implib.specs.Theorem.{AllLink, AllRise, IsPart, Links, NoneBegins, all_linked, bases_of, beginning, chosen_exports, linked_members, objects_in, parts_of};
+ghost use Rattle.implib.specs.Theorem.{AllLink, AllRise, IsPart, Links, NoneBegins, all_linked, bases_of, beginning, chosen_exports, linked_members, objects_in};
 ghost use Rattle.implib.specs.WorkedLinks.{WorkedLinks};
 ghost use Rattle.implib.specs.declared.library.Flavor.TheVariants.{Gnu};
 ghost use Rattle.std.specs.List.{AllByRecursion, Contains, IsDistinct, flat_map};
@@ -72,24 +72,16 @@ pub fn gnu_links_many(
 )
     requires same_count { length members.now ≡ length defs.now }
     requires same_choices { length chosen.now ≡ length defs.now }
-    requires parts { AllByRecursion (IsPart machine) (parts_of (map definition_view defs.now)
-        (map (λ list. map member_view list.items) members.now) (map (λ list. list.items) chosen.now)) }
-    requires rising { AllRise (map (λ p. beginning p.definition) (parts_of (map definition_view defs.now)
-        (map (λ list. map member_view list.items) members.now) (map (λ list. list.items) chosen.now))) }
-    requires apart { NoneBegins (map (λ p. beginning p.definition) (parts_of (map definition_view defs.now)
-        (map (λ list. map member_view list.items) members.now) (map (λ list. list.items) chosen.now))) }
+    requires parts { AllByRecursion (IsPart machine) (parts_held defs.now members.now chosen.now) }
+    requires rising { AllRise (map (λ p. beginning p.definition) (parts_held defs.now members.now chosen.now)) }
+    requires apart { NoneBegins (map (λ p. beginning p.definition) (parts_held defs.now members.now chosen.now)) }
     requires distinct { IsDistinct bytes_eq (flat_map (λ m. m.symbols)
-        (all_linked machine (parts_of (map definition_view defs.now)
-        (map (λ list. map member_view list.items) members.now) (map (λ list. list.items) chosen.now)))) }
+        (all_linked machine (parts_held defs.now members.now chosen.now))) }
     requires admissible { IsAdmissible machine (bases_of bases)
-        (objects_in (all_linked machine (parts_of (map definition_view defs.now)
-        (map (λ list. map member_view list.items) members.now) (map (λ list. list.items) chosen.now)))) }
-    ensures links { AllLink machine (bases_of bases) (parts_of (map definition_view defs.now)
-        (map (λ list. map member_view list.items) members.now) (map (λ list. list.items) chosen.now))
-        (objects_in (all_linked machine (parts_of (map definition_view defs.now)
-        (map (λ list. map member_view list.items) members.now) (map (λ list. list.items) chosen.now)))) }
-    ensures names_rise { AllRise (map (λ m. m.name) (all_linked machine (parts_of (map definition_view defs.now)
-        (map (λ list. map member_view list.items) members.now) (map (λ list. list.items) chosen.now)))) }
+        (objects_in (all_linked machine (parts_held defs.now members.now chosen.now))) }
+    ensures links { AllLink machine (bases_of bases) (parts_held defs.now members.now chosen.now)
+        (objects_in (all_linked machine (parts_held defs.now members.now chosen.now))) }
+    ensures names_rise { AllRise (map (λ m. m.name) (all_linked machine (parts_held defs.now members.now chosen.now))) }
 {
     let _definitions = defs;
     let _members = members;
