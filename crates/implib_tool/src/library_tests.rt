@@ -1,6 +1,11 @@
 //! The calls of the library, from outside: they succeed where there is memory. With each growth of
 //! the last test refused in turn (`bench/memory`) it still passes.
 
+mod lexer;
+mod memory;
+mod parser;
+mod writer;
+
 use implib::def::ModuleDef;
 use implib::gnu::GnuImportLibrary;
 use implib::msvc::MsvcImportLibrary;

@@ -353,6 +353,3 @@ fn put_string(pass: &mut Pass, text: &str)
     pass.put_bytes(text.as_bytes());
     pass.put_bytes(&[0]);
 }
-
-#[cfg(test)]
-mod tests;

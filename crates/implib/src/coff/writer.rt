@@ -198,6 +198,3 @@ fn number_of(place: Place) -> u16
         Place::Debug => 0xFFFE,
     }
 }
-
-#[cfg(test)]
-mod tests;

@@ -289,6 +289,3 @@ fn word_kind(word: &str) -> TokenKind
         _ => TokenKind::Identifier,
     }
 }
-
-#[cfg(test)]
-mod tests;

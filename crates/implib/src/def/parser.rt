@@ -156,6 +156,3 @@ impl<'a> Tokens<'a> {
         }
     }
 }
-
-#[cfg(test)]
-mod tests;

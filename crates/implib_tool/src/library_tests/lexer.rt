@@ -1,6 +1,6 @@
 //! Worked texts and their tokens.
 
-use super::{Lexer, Token, TokenKind, word_end};
+use implib::def::lexer::{Lexer, Token, TokenKind, word_end};
 use std::process::Abort;
 use std::test::Fail;
 

@@ -4,7 +4,11 @@
 ghost use Rattle.implib.specs.Writer.{with_section, with_symbol};
 ghost use Rattle.std.specs.Prelude.{◌≡◌, None, [], OnErr, OnOk, codes};
 
-use super::*;
+use super::writer::{section, symbol};
+use implib::coff::{ObjectWriter, Place, Relocation, Section, class};
+use implib::{Error, MachineType};
+use std::alloc::Global;
+use std::test::Fail;
 
 const NAME: [u8; 8] = *b".idata$2";
 

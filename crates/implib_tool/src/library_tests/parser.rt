@@ -1,6 +1,9 @@
-use super::*;
-use crate::def::ShortExport;
-use std::alloc::AllocError;
+//! Worked texts, and what they mean or why they are refused.
+
+use implib::def::parser::Parser;
+use implib::def::{ModuleDef, ShortExport};
+use implib::{Error, MachineType};
+use std::alloc::{AllocError, Global};
 use std::fmt::Write;
 use std::test::Fail;
 

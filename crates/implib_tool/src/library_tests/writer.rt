@@ -4,14 +4,13 @@ ghost use Rattle.implib.specs.Writer.{section_view};
 ghost use Rattle.implib.specs.Writer.{added_view};
 ghost use Rattle.std.specs.Prelude.{◌≡◌, None, [], IfOk};
 
-use super::*;
-use crate::coff::{class, relocation};
+use implib::MachineType;
+use implib::coff::{ObjectWriter, Place, Relocation, Section, Symbol, class, relocation};
+use std::alloc::{AllocError, Global};
 use std::test::Fail;
 
-mod memory;
-
-// A symbol of value 0.
-fn symbol(
+/// A symbol of value 0.
+pub fn symbol(
     alloc: Global,
     name: &str,
     place: Place,
@@ -30,8 +29,13 @@ fn symbol(
     })
 }
 
-// A section without relocations.
-fn section(alloc: Global, name: [u8; 8], flags: u32, bytes: &[u8]) -> Result<Section, AllocError>
+/// A section without relocations.
+pub fn section(
+    alloc: Global,
+    name: [u8; 8],
+    flags: u32,
+    bytes: &[u8],
+) -> Result<Section, AllocError>
     ensures { IfOk result (λ s. section_view s
         ≡ record { name = name; flags = flags; bytes = bytes.now; relocations = [] }) }
 {
