@@ -169,10 +169,10 @@ fn either_export_of_one_name_is_loaded(rt: HostRuntime) -> Result<(), Fail> {
     Ok(())
 }
 
-// The first name has an even length, so a byte lies between it and the next hint.
+// Between the first name, of an even length, and the next hint lies a byte.
 #[test]
-fn exports_with_aliases_are_loaded(rt: HostRuntime) -> Result<(), Fail> {
-    let text = "LIBRARY foo.dll\nEXPORTS\nquux == bar @7\nfoo == baz";
+fn exports_with_aliases_and_data_are_loaded(rt: HostRuntime) -> Result<(), Fail> {
+    let text = "LIBRARY foo.dll\nEXPORTS\nquux == bar @7\nfoo == baz DATA";
     let names = [TAIL, HEAD, SECOND, FIRST];
     let got = loaded(rt.alloc(), MachineType::AMD64, &[text], &names, WIDE)?;
     let want = "descriptor 0x1000: lookups 0x1020, name 0x1088 foo.dll, addresses 0x1040\n\

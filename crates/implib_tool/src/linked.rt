@@ -78,9 +78,10 @@ pub fn link<'a>(
 
 /// Adds the symbols' addresses in all sections of an object that have a place.
 fn relocate(objects: &[Placed], placed: &Placed, image: &mut Image) -> Result<(), Fail> {
+    // No symbol stays undefined, and none is defined twice.
     for symbol in placed.object.symbols.iter() {
         if let Some(symbol) = symbol
-            && symbol.is_undefined()
+            && symbol.is_external()
         {
             defined_address(objects, symbol.name)?;
         }
@@ -108,10 +109,9 @@ fn relocate_section(
             let target = if symbol.is_undefined() {
                 defined_address(objects, symbol.name)?
             } else {
-                placed
-                    .own_address(&symbol)
-                    .ok_or("a symbol has no address")?
+                placed.own_address(&symbol)
             };
+            let target = target.ok_or("a symbol has no address")?;
             // The field stands in the section.
             u32_at(section.data, relocation.offset)?;
             let field = address.saturating_add(relocation.offset);
@@ -121,8 +121,8 @@ fn relocate_section(
     Ok(())
 }
 
-/// The address of the one symbol of a name that objects define for one another.
-fn defined_address(objects: &[Placed], name: &str) -> Result<usize, Fail> {
+/// The address, if there is one, of the one symbol of a name that objects define for one another.
+fn defined_address(objects: &[Placed], name: &str) -> Result<Option<usize>, Fail> {
     let mut found = None;
     for placed in objects {
         for symbol in placed.object.symbols.iter() {
@@ -133,11 +133,11 @@ fn defined_address(objects: &[Placed], name: &str) -> Result<usize, Fail> {
                 if found.is_some() {
                     return Err(Fail::new(format_args!("{name} is defined twice")));
                 }
-                found = placed.own_address(symbol);
+                found = Some(placed.own_address(symbol));
             }
         }
     }
-    found.ok_or_else(|| Fail::new(format_args!("{name} has no address")))
+    found.ok_or_else(|| Fail::new(format_args!("{name} is not defined")))
 }
 
 impl Linked<'_> {

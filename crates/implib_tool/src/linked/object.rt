@@ -43,14 +43,19 @@ pub struct Symbol<'a> {
 }
 
 impl Symbol<'_> {
-    /// Whether it is one that an object defines for the others.
+    /// Whether objects share it by its name.
+    pub fn is_external(&self) -> bool {
+        self.class == 2
+    }
+
+    /// Whether it is one that a section of its object defines for the others.
     pub fn is_defined(&self) -> bool {
-        self.class == 2 && self.section >= 1 && self.section <= 0x7FFF
+        self.is_external() && self.section >= 1 && self.section <= 0x7FFF
     }
 
     /// Whether it is one that another object defines.
     pub fn is_undefined(&self) -> bool {
-        self.class == 2 && self.section == 0
+        self.is_external() && self.section == 0
     }
 }
 
