@@ -10,6 +10,10 @@ mod host;
 pub mod laws;
 #[cfg(test)]
 mod library_tests;
+#[cfg(test)]
+mod link_tests;
+#[cfg(test)]
+mod linked;
 mod listing;
 mod parts;
 mod run;

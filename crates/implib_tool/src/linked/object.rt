@@ -1,0 +1,207 @@
+//! Reads COFF objects, by the PE/COFF specification alone: the places and counts in the bytes are
+//! followed.
+
+ghost use Rattle.std.specs.Prelude.{◌<◌, ◌^◌, IfOk};
+
+use std::alloc::Global;
+use std::str;
+use std::test::Fail;
+
+/// An object.
+#[derive(Drop)]
+pub struct Object<'a> {
+    pub machine: u16,
+    pub sections: Vec<Section<'a>>,
+    /// By index. An auxiliary record has an index and is no symbol.
+    pub symbols: Vec<Option<Symbol<'a>>>,
+}
+
+/// A section with its data and its relocations.
+#[derive(Drop)]
+pub struct Section<'a> {
+    pub name: &'a str,
+    pub flags: u32,
+    pub data: &'a [u8],
+    pub relocations: Vec<Relocation>,
+}
+
+/// A field of a section that depends on a symbol's address.
+#[derive(Clone, Copy)]
+pub struct Relocation {
+    pub offset: usize,
+    pub symbol: usize,
+    pub kind: u16,
+}
+
+/// A symbol.
+#[derive(Clone, Copy)]
+pub struct Symbol<'a> {
+    pub name: &'a str,
+    pub value: usize,
+    pub section: u16,
+    class: u8,
+}
+
+impl Symbol<'_> {
+    /// Whether objects share it by its name.
+    pub fn is_external(&self) -> bool {
+        self.class == 2
+    }
+
+    /// Whether it is one that a section of its object defines for the others.
+    pub fn is_defined(&self) -> bool {
+        self.is_external() && self.section >= 1 && self.section <= 0x7FFF
+    }
+
+    /// Whether it is one that another object defines.
+    pub fn is_undefined(&self) -> bool {
+        self.is_external() && self.section == 0
+    }
+}
+
+impl Section<'_> {
+    /// A power of two, by the flags: their field is one more than its exponent.
+    pub fn alignment(&self) -> usize {
+        match self.flags / 0x0010_0000 % 16 {
+            0 => 1,
+            field => 1 << (field - 1),
+        }
+    }
+}
+
+/// The bytes from a place on.
+pub fn bytes_from(bytes: &[u8], place: usize) -> Result<&[u8], Fail> {
+    Ok(bytes.get(place..).ok_or("a place leads out of its bytes")?)
+}
+
+/// So many bytes from a place on.
+fn bytes_at(bytes: &[u8], place: usize, count: usize) -> Result<&[u8], Fail> {
+    let rest = bytes_from(bytes, place)?;
+    Ok(rest.get(..count).ok_or("a count leads out of its bytes")?)
+}
+
+/// The array at a place.
+fn array_at<const N: usize>(bytes: &[u8], place: usize) -> Result<[u8; N], Fail> {
+    let rest = bytes_from(bytes, place)?;
+    Ok(*rest.first_chunk().ok_or("a field leads out of its bytes")?)
+}
+
+/// The number in two bytes.
+pub fn u16_at(bytes: &[u8], place: usize) -> Result<u16, Fail> {
+    Ok(u16::from_le_bytes(array_at(bytes, place)?))
+}
+
+/// The number in four bytes.
+pub fn u32_at(bytes: &[u8], place: usize) -> Result<u32, Fail> {
+    Ok(u32::from_le_bytes(array_at(bytes, place)?))
+}
+
+/// The number in eight bytes.
+pub fn u64_at(bytes: &[u8], place: usize) -> Result<u64, Fail> {
+    Ok(u64::from_le_bytes(array_at(bytes, place)?))
+}
+
+/// A place or a count of four bytes.
+pub fn place_at(bytes: &[u8], place: usize) -> Result<usize, Fail>
+    ensures { IfOk result (λ value. value < 2 ^ 32) }
+{
+    Ok(u32_at(bytes, place)? as usize)
+}
+
+/// The text that a NUL ends.
+pub fn text_in(bytes: &[u8]) -> Result<&str, Fail> {
+    let end = bytes.iter().position(|byte| *byte == 0);
+    let text = bytes_at(bytes, 0, end.ok_or("a text has no end")?)?;
+    Ok(str::from_utf8(text)?)
+}
+
+/// The text in a field of eight bytes, which NULs fill.
+fn filled_text(record: &[u8]) -> Result<&str, Fail> {
+    let field = bytes_at(record, 0, 8)?;
+    let end = field.iter().position(|byte| *byte == 0).unwrap_or(8);
+    Ok(str::from_utf8(bytes_at(field, 0, end)?)?)
+}
+
+/// The object in a file's bytes.
+pub fn object_in(alloc: Global, bytes: &[u8]) -> Result<Object<'_>, Fail> {
+    let headers_place = 20 + usize::from(u16_at(bytes, 16)?);
+    let headers_count = usize::from(u16_at(bytes, 2)?);
+    let mut sections = Vec::new(alloc);
+    for header in bytes_at(bytes, headers_place, 40 * headers_count)?.chunks_exact(40) {
+        sections.push(section_of(alloc, bytes, header)?)?;
+    }
+    let symbols_size = 18 * place_at(bytes, 12)?;
+    let (records, strings) = bytes_from(bytes, place_at(bytes, 8)?)?
+        .split_at_checked(symbols_size)
+        .ok_or("symbols lead out of their object")?;
+    let strings = bytes_at(strings, 0, place_at(strings, 0)?)?;
+    Ok(Object {
+        machine: u16_at(bytes, 0)?,
+        sections,
+        symbols: symbols_in(alloc, records, strings)?,
+    })
+}
+
+/// The section that a header describes. Without a place for its data it has none.
+fn section_of<'a>(alloc: Global, bytes: &'a [u8], header: &'a [u8]) -> Result<Section<'a>, Fail> {
+    let data_place = place_at(header, 20)?;
+    let data_size = if data_place == 0 {
+        0
+    } else {
+        place_at(header, 16)?
+    };
+    let records_count = usize::from(u16_at(header, 32)?);
+    let records = bytes_at(bytes, place_at(header, 24)?, 10 * records_count)?;
+    let mut relocations = Vec::new(alloc);
+    for record in records.chunks_exact(10) {
+        relocations.push(Relocation {
+            offset: place_at(record, 0)?,
+            symbol: place_at(record, 4)?,
+            kind: u16_at(record, 8)?,
+        })?;
+    }
+    Ok(Section {
+        name: filled_text(header)?,
+        flags: u32_at(header, 36)?,
+        data: bytes_at(bytes, data_place, data_size)?,
+        relocations,
+    })
+}
+
+/// The symbols of a symbol table, each followed by the auxiliary records that it counts.
+fn symbols_in<'a>(
+    alloc: Global,
+    records: &'a [u8],
+    strings: &'a [u8],
+) -> Result<Vec<Option<Symbol<'a>>>, Fail> {
+    let mut symbols = Vec::new(alloc);
+    let mut auxiliary = 0;
+    for record in records.chunks_exact(18) {
+        if auxiliary > 0 {
+            symbols.push(None)?;
+            auxiliary -= 1;
+        } else {
+            let [class, count] = array_at::<2>(record, 16)?;
+            symbols.push(Some(Symbol {
+                name: name_of(record, strings)?,
+                value: place_at(record, 8)?,
+                section: u16_at(record, 12)?,
+                class,
+            }))?;
+            auxiliary = count;
+        }
+    }
+    if auxiliary > 0 {
+        return Err(Fail::new("auxiliary records lead out of the symbol table"));
+    }
+    Ok(symbols)
+}
+
+/// The name of a symbol: after four zero bytes it stands in the string table.
+fn name_of<'a>(record: &'a [u8], strings: &'a [u8]) -> Result<&'a str, Fail> {
+    if u32_at(record, 0)? == 0 {
+        text_in(bytes_from(strings, place_at(record, 4)?)?)
+    } else {
+        filled_text(record)
+    }
+}
