@@ -109,8 +109,9 @@ pub record Placed : Type 0 where
   pub object : Object
   pub places : List Place
 
--- Objects that are placed in their order: of each kind the first section stands at the kind's base,
--- each later one at the first multiple of its alignment that is not below the end of the one before.
+-- Objects that are placed in their order: a section of a kind stands at the first multiple of its
+-- alignment that is not below the end of the one before it of this kind; the first one not below the
+-- kind's base, which for alignments that divide the base is the base itself.
 abbrev pub placed_from : Bases → List Object → List Placed
 placed_from ends [] = []
 placed_from ends (o ∷ objects) =
