@@ -14,7 +14,7 @@ use Rattle.implib.specs.Gnu.{added, empty_sections, export_object, export_symbol
 use Rattle.implib.specs.Import.{address_symbol, holds, is_empty_text}
 use Rattle.implib.specs.MsvcObjects.{relocation}
 use Rattle.implib.specs.Object.{ObjectSection}
-use Rattle.implib.specs.Picture.{Fits, FitsAuxiliary}
+use Rattle.implib.specs.Picture.{Fits}
 use Rattle.implib.specs.Writer.{AddedSymbol, IsPlaceAmong, all_entries, picture_of}
 use Rattle.implib.specs.WriterView.{IsSound, IsSoundSection, IsSoundSymbol}
 use Rattle.implib.proofs.MsvcObjects.{HasNoNul-from_holds, plain_section_fits, relocation_fits}

@@ -1,9 +1,9 @@
 -- What the members for GNU's linker are read as.
 use Rattle.std.proofs.Common.{◌≡◌, ℕ, ◌+◌, ◌<◌, ◌≤◌, ◌^◌, Bool, true, false, if◌then◌else◌, ◌||◌, List, [], ◌∷◌, ◌++◌, length, drop, map, reverse, Option, Some, None, refl, ap, sym, ◌∙◌, codes, subst}
-use Rattle.std.specs.Prelude.{◌==◌, nat_lt, not, bytes_eq}
-use Rattle.std.specs.List.{AllByRecursion, filter, filter_map, flat_map, list_all, list_any}
+use Rattle.std.specs.Prelude.{◌==◌, bytes_eq}
+use Rattle.std.specs.List.{AllByRecursion, filter_map, flat_map, list_any}
 use Rattle.std.specs.Option.{option_and_then, option_map}
-use Rattle.std.proofs.lemmas.Bool.{and_parts, ltb-false, ltb-true, or_parts}
+use Rattle.std.proofs.lemmas.Bool.{ltb-true, or_parts}
 use Rattle.std.proofs.lemmas.List.{append-nil, map-append, reverse-append, reverse-reverse}
 use Rattle.std.proofs.lemmas.List.Elements.{filter_map-append}
 use Rattle.std.proofs.lemmas.List.Folds.{list_any-append}
@@ -14,23 +14,22 @@ use Rattle.implib.specs.declared.machine.MachineType.{MachineType}
 use Rattle.implib.specs.declared.machine.MachineType.TheVariants.{I386, ARMNT, AMD64, ARM64}
 use Rattle.implib.specs.Bytes.{u16_bytes, u32_bytes}
 use Rattle.implib.specs.Definition.{DefinitionView, ExportView}
-use Rattle.implib.specs.Fault.{EmptyName, NulInExport}
 use Rattle.implib.specs.File.{File, ObjectFile, Meaning, AnImport, AnAlias, alias_of_object, declared_by, file_in}
 use Rattle.implib.specs.Gnu.{export_object, export_listed, head_object, head_symbol, hint_name, name_symbol, relocations_of_stub, relocations_of_thunk, stub, tail_object, thunk}
 use Rattle.implib.specs.GnuReading.{CodeRelocation, alias_or_import, ask_of_export, code_of_export, code_relocations, dll_by_names, externals_in, import_of, meaning_with, text_section}
-use Rattle.implib.specs.Import.{Ordinal, Name, address_symbol, aliases_for, ask_meant, asked_name, has_underscore, holds, import_meant, import_symbols, is_alias, is_empty_text, public_exports, without_first}
-use Rattle.implib.specs.Made.{AnObject, Plan, MemberView, Made, alias_plan, alias_plans, contents_bytes, contents_size, definition_names_refusal, export_plan, has_u16_ordinal, head_plan, import_name_refusal, is_too_long, length_refusal, member_of, name_refusal, names_refusal, numbered_plans, numbered_plans_of, plans_of, refusal, renamed_refusal, tail_plan}
+use Rattle.implib.specs.Import.{Ordinal, Name, address_symbol, aliases_for, ask_meant, asked_name, has_underscore, holds, import_meant, import_symbols, is_alias, public_exports, without_first}
+use Rattle.implib.specs.Made.{AnObject, Plan, MemberView, Made, alias_plan, alias_plans, contents_bytes, contents_size, export_plan, head_plan, is_too_long, member_of, numbered_plans, numbered_plans_of, plans_of, tail_plan}
 use Rattle.implib.specs.MsvcObjects.{weak_object}
 use Rattle.implib.specs.Object.{u16_at, u32_at}
 use Rattle.implib.specs.Picture.{Fits, entries_of, layout_size, name_text, object_of}
 use Rattle.implib.specs.Reads.{ReadsForGnu, alias_among, code_meant, file_at, file_of, import_among, meanings_meant}
-use Rattle.implib.specs.Renaming.{renamed, renamed_export}
+use Rattle.implib.specs.Renaming.{renamed}
 use Rattle.implib.specs.Writer.{Holding, object_held, picture_of}
 use Rattle.implib.proofs.GnuLoop.{list_any-reverse, map-reverse}
 use Rattle.implib.proofs.GnuObjects.{Fits-export_object, Fits-head_object, Fits-tail_object}
 use Rattle.implib.proofs.MemberMeanings.{DeclaresListed, all_aliases, no_imports, read_declares, weak_declares}
 use Rattle.implib.proofs.MemberReadings.{ReadsBack, all_append, each_length, each_read, machine_number_nonzero, map_after, map_same, object_reads, weak_reads}
-use Rattle.implib.proofs.MsvcObjects.{Fits-weak_object, HasNoNul-from_holds}
+use Rattle.implib.proofs.MsvcObjects.{HasNoNul-from_holds}
 use Rattle.implib.proofs.NotRefused.{Sound, exports_sound, import_name_is_free, none_long, short_enough}
 use Rattle.implib.proofs.Symbols.{before_nul-ended}
 use Rattle.implib.proofs.WriterPicture.{object_of-picture_of}

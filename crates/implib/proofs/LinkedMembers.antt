@@ -1,24 +1,23 @@
 -- The members for GNU's linker, read from their bytes, link to what their definition means.
-use Rattle.std.proofs.Common.{◌≡◌, ℕ, ◌+◌, ◌<◌, ◌≤◌, ◌^◌, zero, suc, Bool, true, false, ◌||◌, List, [], ◌∷◌, ◌++◌, length, map, Option, Some, None, refl, ap, sym, ◌∙◌, arith, subst, inl, inr, if◌then◌else◌}
-use Rattle.std.specs.Prelude.{◌==◌, bytes_eq, not, reverse, slice_get}
+use Rattle.std.proofs.Common.{◌≡◌, ℕ, ◌+◌, ◌<◌, ◌≤◌, ◌^◌, zero, suc, Bool, true, false, List, [], ◌∷◌, ◌++◌, length, map, Option, Some, None, refl, ap, sym, ◌∙◌, arith, subst, inl, inr, if◌then◌else◌}
+use Rattle.std.specs.Prelude.{◌==◌, bytes_eq, reverse, slice_get}
 use Rattle.std.specs.Cmp.Lexicographic.{slice_cmp}
-use Rattle.std.specs.List.{AllByRecursion, Contains, IsDistinct, cons_option, filter, filter_map, flat_map, list_all, list_any}
+use Rattle.std.specs.List.{AllByRecursion, Contains, IsDistinct, cons_option, filter_map, flat_map, list_any}
 use Rattle.std.specs.Option.{option_map}
 use Rattle.std.specs.Ordering.{nat_cmp}
 use Rattle.std.specs.declared.cmp.Ordering.TheVariants.{Equal}
-use Rattle.std.proofs.lemmas.Bool.{and_parts, eq-eqb, le-ltb, ltb-false, ltb-true, or_parts}
+use Rattle.std.proofs.lemmas.Bool.{eq-eqb, le-ltb, ltb-true, or_parts}
 use Rattle.std.proofs.lemmas.List.{append_assoc, reverse-append}
 use Rattle.implib.specs.declared.library.Flavor.TheVariants.{Gnu}
 use Rattle.implib.specs.declared.machine.MachineType.{MachineType}
 use Rattle.implib.specs.Definition.{DefinitionView, ExportView}
-use Rattle.implib.specs.Fault.{EmptyName, NulInExport}
 use Rattle.implib.specs.Gnu.{head_symbol, name_symbol, export_listed, export_name, export_object, head_name, head_object, numbered_name, stem, tail_name, tail_object}
-use Rattle.implib.specs.Import.{asked_name, holds, has_underscore, is_empty_text, public_exports, without_first}
+use Rattle.implib.specs.Import.{asked_name, holds, has_underscore, public_exports, without_first}
 use Rattle.implib.specs.Link.{Bases, IsAdmissible}
-use Rattle.implib.specs.Made.{Made, MemberView, Plan, alias_plans, contents_size, definition_names_refusal, export_plan, gnu_plans, has_u16_ordinal, head_plan, holds_nul, import_name_refusal, is_too_long, length_refusal, member_of, name_refusal, names_refusal, numbered_plans, numbered_plans_of, plans_of, refusal, renamed_refusal, tail_plan}
+use Rattle.implib.specs.Made.{Made, MemberView, Plan, alias_plans, contents_size, export_plan, gnu_plans, head_plan, is_too_long, member_of, numbered_plans, numbered_plans_of, tail_plan}
 use Rattle.implib.specs.Object.{object_in}
 use Rattle.implib.specs.Picture.{Fits, layout, layout_size}
-use Rattle.implib.specs.Renaming.{renamed, renamed_export}
+use Rattle.implib.specs.Renaming.{renamed}
 use Rattle.implib.specs.Theorem.{AllRise, ComesBefore, Links, chosen_exports, linked_members, linked_plans, objects_in, plan_numbered}
 use Rattle.implib.specs.Writer.{Holding, object_held, picture_of}
 use Rattle.implib.proofs.GnuObjects.{Fits-export_object, Fits-head_object, Fits-tail_object}

@@ -1,29 +1,27 @@
 -- What the members for Microsoft's linker are read as.
-use Rattle.std.proofs.Common.{◌≡◌, ℕ, ◌+◌, ◌-◌, ◌<◌, ◌≤◌, ◌^◌, Bool, true, false, if◌then◌else◌, ◌&&◌, ◌||◌, List, [], ◌∷◌, ◌++◌, length, drop, map, Option, Some, None, refl, ap, sym, ◌∙◌, arith}
-use Rattle.std.specs.Prelude.{◌==◌, nat_le, nat_lt, not}
-use Rattle.std.specs.List.{AllByRecursion, filter, flat_map, list_all, list_any}
+use Rattle.std.proofs.Common.{◌≡◌, ℕ, ◌-◌, ◌<◌, ◌≤◌, ◌^◌, Bool, true, false, if◌then◌else◌, ◌&&◌, ◌||◌, List, [], ◌∷◌, ◌++◌, length, drop, map, Some, None, refl, ap, sym, ◌∙◌, arith}
+use Rattle.std.specs.Prelude.{◌==◌, nat_le, nat_lt}
+use Rattle.std.specs.List.{AllByRecursion, flat_map, list_any}
 use Rattle.std.specs.Option.{option_map}
-use Rattle.std.proofs.lemmas.Bool.{and_parts, ltb-false, or_parts}
+use Rattle.std.proofs.lemmas.Bool.{ltb-false, or_parts}
 use Rattle.std.proofs.lemmas.List.Folds.{list_any-append}
 use Rattle.std.proofs.lemmas.Nat.{from_le_bytes-to_le_bytes_2}
-use Rattle.implib.specs.declared.library.Flavor.{Flavor}
 use Rattle.implib.specs.declared.library.Flavor.TheVariants.{Msvc}
 use Rattle.implib.specs.declared.machine.MachineType.{MachineType}
 use Rattle.implib.specs.declared.machine.MachineType.TheVariants.{I386, ARMNT, AMD64, ARM64}
 use Rattle.implib.specs.Bytes.{u16_bytes}
 use Rattle.implib.specs.Definition.{DefinitionView, ExportView}
 use Rattle.implib.specs.File.{ObjectFile, file_in, record_or_object}
-use Rattle.implib.specs.Import.{address_symbol, holds, is_alias, is_empty_text, public_exports}
+use Rattle.implib.specs.Import.{address_symbol, holds, is_alias, public_exports}
 use Rattle.implib.specs.Machine.{machine_number}
-use Rattle.implib.specs.Made.{Contents, ARecord, AnObject, Plan, MemberView, Made, member_of, plans_of, descriptor_plan, null_descriptor_plan, null_thunk_plan, heading_plans, weak_plan, weak_plans, export_plans, record_plan, is_too_long, contents_bytes, contents_size, has_u16_ordinal, first_of_both, import_name_refusal, name_refusal, names_refusal, definition_names_refusal, length_refusal, renamed_refusal, refusal}
+use Rattle.implib.specs.Made.{Contents, ARecord, AnObject, Plan, MemberView, Made, member_of, plans_of, descriptor_plan, null_descriptor_plan, null_thunk_plan, heading_plans, weak_plan, weak_plans, export_plans, record_plan, is_too_long, contents_bytes, contents_size}
 use Rattle.implib.specs.Msvc.{record_bytes, record_of, record_size, record_symbol}
 use Rattle.implib.specs.MsvcObjects.{descriptor, null_descriptor, null_thunk, weak_object}
 use Rattle.implib.specs.Object.{object_in, u16_at, u32_at}
 use Rattle.implib.specs.Picture.{Picture, Fits, layout, layout_size, header_bytes}
 use Rattle.implib.specs.Reads.{FitsRecord, file_of}
 use Rattle.implib.specs.Record.{ShortRecord, is_record, record_from, record_header_size, short_record_in, text_in}
-use Rattle.implib.specs.Renaming.{renamed, renamed_export}
-use Rattle.implib.specs.Fault.{Cause, EmptyImportName, NulInImportName, EmptyName, NulInExport, MemberTooLong}
+use Rattle.implib.specs.Renaming.{renamed}
 use Rattle.implib.proofs.Import.{FitsRecord-record_of, symbol_without_nul}
 use Rattle.implib.proofs.MsvcObjects.{Fits-descriptor, Fits-null_descriptor, Fits-null_thunk, Fits-weak_object}
 use Rattle.implib.proofs.NotRefused.{Sound, exports_sound, import_name_is_free, none_long, short_enough}

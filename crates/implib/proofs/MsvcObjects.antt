@@ -11,7 +11,7 @@ use Rattle.implib.specs.Bytes.{u32_bytes}
 use Rattle.implib.specs.Constants.{initialized_data, align_4, align_8, read_write, external, static, section_class, undefined, absolute, image_relative}
 use Rattle.implib.specs.MsvcObjects.{symbol, relocation, descriptor_characteristics, weak_auxiliary, base_name, descriptor, descriptor_symbol, null_descriptor, null_descriptor_symbol, null_thunk, null_thunk_symbol, weak_object}
 use Rattle.implib.specs.Object.{ObjectSection}
-use Rattle.implib.specs.Picture.{Picture, PictureSymbol, Fits, FitsAuxiliary, FitsName, FitsRelocation, FitsSection, FitsSymbol, HasNoNul, InRecord, Listed}
+use Rattle.implib.specs.Picture.{Picture, PictureSymbol, Fits, FitsRelocation, FitsSection, FitsSymbol, HasNoNul, InRecord, Listed}
 
 -- a text without NUL
 pub HasNoNul-from_holds : (text : List ℕ) → holds 0 text ≡ false → HasNoNul text

@@ -1,6 +1,6 @@
 -- What is known of a definition that no rule refuses, in either flavour.
 use Rattle.std.proofs.Common.{◌≡◌, ℕ, ◌+◌, ◌≤◌, Bool, true, false, if◌then◌else◌, ◌||◌, List, [], ◌∷◌, map, Option, Some, None, refl}
-use Rattle.std.specs.Prelude.{nat_lt, not}
+use Rattle.std.specs.Prelude.{not}
 use Rattle.std.specs.List.{AllByRecursion, filter, list_all, list_any}
 use Rattle.std.proofs.lemmas.Bool.{and_parts, ltb-false, or_parts}
 use Rattle.implib.specs.declared.library.Flavor.{Flavor}
