@@ -1,5 +1,5 @@
 //! The calls of the library, from outside: they succeed where there is memory. With each growth of
-//! the last test refused in turn (`bench/memory`) it still passes.
+//! the last three tests refused in turn (`bench/memory`) they still pass.
 
 mod lexer;
 mod memory;
@@ -10,7 +10,7 @@ use implib::def::ModuleDef;
 use implib::gnu::GnuImportLibrary;
 use implib::msvc::MsvcImportLibrary;
 use implib::{Error, Fault, Flavor, ImportLibrary, MachineType, Member};
-use std::alloc::{AllocError, Global};
+use std::alloc::Global;
 use std::test::Fail;
 
 // An export with an alias, from a DLL.
@@ -21,15 +21,6 @@ const FOR_MSVC: [usize; 6] = [358, 127, 159, 162, 174, 32];
 
 // The lengths of its members for GNU's linker on AMD64.
 const FOR_GNU: [usize; 5] = [356, 450, 474, 174, 162];
-
-// The lengths of members.
-fn lengths(alloc: Global, members: &[Member]) -> Result<Vec<usize>, AllocError> {
-    let mut lengths = Vec::new(alloc);
-    for member in members {
-        lengths.push(member.bytes.len())?;
-    }
-    Ok(lengths)
-}
 
 #[test]
 fn definitions_and_exports_are_cloned(rt: HostRuntime) -> Result<(), Fail> {
@@ -45,33 +36,41 @@ fn definitions_and_exports_are_cloned(rt: HostRuntime) -> Result<(), Fail> {
     Ok(())
 }
 
+// Whether members have these lengths.
+fn have_lengths(members: &[Member], lengths: &[usize]) -> bool {
+    if members.len() != lengths.len() {
+        return false;
+    }
+    for (member, length) in members.iter().zip(lengths.iter()) {
+        if member.bytes.len() != *length {
+            return false;
+        }
+    }
+    true
+}
+
+// Whether a copy of a library has the import name and members of these lengths.
+fn copy_has(alloc: Global, flavor: Flavor, lengths: &[usize]) -> Result<bool, Error> {
+    let def = ModuleDef::parse(alloc, ALIASED, MachineType::AMD64)?;
+    let copy = ImportLibrary::from_def(def, MachineType::AMD64, flavor).clone()?;
+    Ok(copy.import_name() == "foo.dll" && have_lengths(&copy.members()?, lengths))
+}
+
 #[test]
-fn libraries_have_members(rt: HostRuntime) -> Result<(), Fail> {
-    let machine = MachineType::AMD64;
-    let def = ModuleDef::parse(rt.alloc(), ALIASED, machine)?;
-    let library = ImportLibrary::from_def(def.clone()?, machine, Flavor::Msvc).clone()?;
-    assert_eq!(rt; library.import_name(), "foo.dll");
-    let members = library.members()?;
-    assert_eq!(rt;
-        lengths(rt.alloc(), &members)?.as_slice(),
-        FOR_MSVC.as_slice()
-    );
-    let members = MsvcImportLibrary::new(def.clone()?, machine).members()?;
-    assert_eq!(rt;
-        lengths(rt.alloc(), &members)?.as_slice(),
-        FOR_MSVC.as_slice()
-    );
-    let library = ImportLibrary::from_def(def.clone()?, machine, Flavor::Gnu).clone()?;
-    let members = library.members()?;
-    assert_eq!(rt;
-        lengths(rt.alloc(), &members)?.as_slice(),
-        FOR_GNU.as_slice()
-    );
-    let members = GnuImportLibrary::new(def, machine).members()?;
-    assert_eq!(rt;
-        lengths(rt.alloc(), &members)?.as_slice(),
-        FOR_GNU.as_slice()
-    );
+fn libraries_for_microsoft_have_members(rt: HostRuntime) -> Result<(), Fail> {
+    assert!(rt; copy_has(rt.alloc(), Flavor::Msvc, FOR_MSVC.as_slice())?);
+    let def = ModuleDef::parse(rt.alloc(), ALIASED, MachineType::AMD64)?;
+    let members = MsvcImportLibrary::new(def, MachineType::AMD64).members()?;
+    assert!(rt; have_lengths(&members, FOR_MSVC.as_slice()));
+    Ok(())
+}
+
+#[test]
+fn libraries_for_gnu_have_members(rt: HostRuntime) -> Result<(), Fail> {
+    assert!(rt; copy_has(rt.alloc(), Flavor::Gnu, FOR_GNU.as_slice())?);
+    let def = ModuleDef::parse(rt.alloc(), ALIASED, MachineType::AMD64)?;
+    let members = GnuImportLibrary::new(def, MachineType::AMD64).members()?;
+    assert!(rt; have_lengths(&members, FOR_GNU.as_slice()));
     Ok(())
 }
 
@@ -130,38 +129,69 @@ fn an_empty_asked_name_is_refused_without_memory(rt: HostRuntime) -> Result<(), 
     Ok(())
 }
 
-// Whether it was memory that was refused.
-fn is_memory(refused: &Error) -> bool {
-    matches!(refused, Error::OutOfMemory(_))
+// Whether members have the same names, files and listed symbols.
+fn are_same(left: &[Member], right: &[Member]) -> bool {
+    if left.len() != right.len() {
+        return false;
+    }
+    for (left, right) in left.iter().zip(right.iter()) {
+        if left.name != right.name || left.bytes != right.bytes || left.symbols != right.symbols {
+            return false;
+        }
+    }
+    true
+}
+
+// Makes a library, once more where memory is refused.
+fn made(alloc: Global, flavor: Flavor) -> Result<ImportLibrary, Error> {
+    match ImportLibrary::new(alloc, ALIASED, MachineType::AMD64, flavor) {
+        Err(Error::OutOfMemory(_)) => {
+            ImportLibrary::new(alloc, ALIASED, MachineType::AMD64, flavor)
+        }
+        answer => answer,
+    }
+}
+
+// Copies a library, once more where memory is refused.
+fn copied(library: &ImportLibrary) -> Result<ImportLibrary, Error> {
+    match library.clone() {
+        Err(Error::OutOfMemory(_)) => library.clone(),
+        answer => answer,
+    }
+}
+
+// Asks for a library's members, once more where memory is refused.
+fn asked(library: &ImportLibrary) -> Result<Vec<Member>, Error> {
+    match library.members() {
+        Err(Error::OutOfMemory(_)) => library.members(),
+        answer => answer,
+    }
+}
+
+// Whether a library gives members of these lengths, and the same once more.
+fn gives_as_before(alloc: Global, flavor: Flavor, lengths: &[usize]) -> Result<bool, Error> {
+    let library = made(alloc, flavor)?;
+    let before = asked(&library)?;
+    Ok(have_lengths(&before, lengths) && are_same(&before, &asked(&library)?))
 }
 
 #[test]
-fn a_library_is_unchanged_by_refused_memory(rt: HostRuntime) -> Result<(), Fail> {
-    let alloc = rt.alloc();
-    for (flavor, count) in [(Flavor::Msvc, 6), (Flavor::Gnu, 5)] {
-        let library = match ImportLibrary::new(alloc, ALIASED, MachineType::AMD64, flavor) {
-            Ok(library) => library,
-            Err(refused) => {
-                assert!(rt; is_memory(&refused));
-                ImportLibrary::new(alloc, ALIASED, MachineType::AMD64, flavor)?
-            }
-        };
-        let members = match library.members() {
-            Ok(members) => members,
-            Err(refused) => {
-                assert!(rt; is_memory(&refused));
-                library.members()?
-            }
-        };
-        assert_eq!(rt; members.len(), count);
-        let copy = match library.clone() {
-            Ok(copy) => copy,
-            Err(refused) => {
-                assert!(rt; is_memory(&refused));
-                library.clone()?
-            }
-        };
-        assert_eq!(rt; copy.import_name(), "foo.dll");
-    }
+fn members_for_microsoft_are_unchanged_by_refused_memory(rt: HostRuntime) -> Result<(), Fail> {
+    assert!(rt; gives_as_before(rt.alloc(), Flavor::Msvc, FOR_MSVC.as_slice())?);
+    Ok(())
+}
+
+#[test]
+fn members_for_gnu_are_unchanged_by_refused_memory(rt: HostRuntime) -> Result<(), Fail> {
+    assert!(rt; gives_as_before(rt.alloc(), Flavor::Gnu, FOR_GNU.as_slice())?);
+    Ok(())
+}
+
+#[test]
+fn copies_are_unchanged_by_refused_memory(rt: HostRuntime) -> Result<(), Fail> {
+    let library = made(rt.alloc(), Flavor::Msvc)?;
+    let copy = copied(&library)?;
+    assert_eq!(rt; copy.import_name(), "foo.dll");
+    assert!(rt; are_same(&asked(&copy)?, &asked(&library)?));
     Ok(())
 }
