@@ -62,13 +62,13 @@ pub struct MemorySink {
 }
 
 impl MemorySink {
-    /// It takes at most `step` bytes a call, and fails after `calls` calls. The first 4,096 bytes
+    /// It takes at most `step` bytes a call, and fails after `calls` calls. The first 16,384 bytes
     /// need no more memory.
     pub fn new(alloc: Global, step: usize, calls: usize) -> Result<Self, AllocError>
         ensures sound { IfOk result (λ sink. sink.has_failed ≡ false) }
     {
         Ok(MemorySink {
-            bytes: Vec::with_capacity(alloc, 4096)?,
+            bytes: Vec::with_capacity(alloc, 16_384)?,
             step,
             calls,
             has_failed: false,

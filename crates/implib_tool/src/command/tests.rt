@@ -1,6 +1,7 @@
 use super::command;
 use crate::doubles::{MemorySink, MemorySource};
 use std::alloc::{AllocError, Global};
+use std::process::Abort;
 use std::test::Fail;
 
 const ANY: usize = 1_000_000;
@@ -336,18 +337,130 @@ fn a_writer_that_fails_is_answered(rt: HostRuntime) -> Result<(), Fail> {
     Ok(())
 }
 
-// To be run with one allocation refused, each in turn.
-#[test]
-fn refused_memory_is_answered(rt: HostRuntime) {
-    let Ok(got) = answered(rt.alloc(), "", BAR.as_bytes(), WHOLE, WHOLE) else {
-        return;
-    };
+/// Holds that a command lists members of these heads. Where memory is refused it says so and writes
+/// nothing, and lists them when it is called again; the answer is then that memory was refused.
+fn expect_listed(
+    rt: &impl Abort,
+    alloc: Global,
+    words: &str,
+    text: &str,
+    want: &str,
+) -> Result<(), AllocError> {
+    let got = answered(alloc, words, text.as_bytes(), WHOLE, WHOLE)?;
     if got.status == 0 {
-        assert!(rt; got.written.ends_with(BAR_BYTES));
-        assert_eq!(rt; got.faults.as_str(), "");
-    } else {
-        assert_eq!(rt; got.status, 3);
-        assert_eq!(rt; got.written.as_str(), "");
-        assert_eq!(rt; got.faults.as_str(), "implib: out of memory\n");
+        assert_eq!(rt; heads(alloc, got.written.as_str())?.as_str(), want);
+        return Ok(());
     }
+    assert_eq!(rt; got.status, 3);
+    assert_eq!(rt; got.written.as_str(), "");
+    assert_eq!(rt; got.faults.as_str(), "implib: out of memory\n");
+    let again = answered(alloc, words, text.as_bytes(), WHOLE, WHOLE)?;
+    assert_eq!(rt; again.status, 0);
+    assert_eq!(rt; heads(alloc, again.written.as_str())?.as_str(), want);
+    Err(AllocError)
+}
+
+const BAR_HEADS_FOR_GNU: &str = "member foo_dll_a_t.o 356\n\
+    symbol foo_dll_iname\n\
+    member foo_dll_a_h.o 450\n\
+    symbol _head_foo_dll\n\
+    member foo_dll_a_s00000.o 474\n\
+    symbol bar\n\
+    symbol __imp_bar\n";
+
+#[test]
+fn one_function_is_listed_or_memory_refused(rt: HostRuntime) -> Result<(), Fail> {
+    let want = format!(in rt.alloc(); "{FOO_HEADS}{BAR_HEADS}")?;
+    expect_listed(&rt, rt.alloc(), "", BAR, want.as_str())?;
+    Ok(())
+}
+
+#[test]
+fn one_function_is_listed_for_gnu_or_memory_refused(rt: HostRuntime) -> Result<(), Fail> {
+    expect_listed(&rt, rt.alloc(), "AMD64 gnu", BAR, BAR_HEADS_FOR_GNU)?;
+    Ok(())
+}
+
+const ALIASED: &str = "LIBRARY foo.dll\nEXPORTS\nfoo = bar == baz";
+
+const ALIASED_HEADS: &str = "member foo.dll 162\n\
+    symbol foo\n\
+    member foo.dll 174\n\
+    symbol __imp_foo\n\
+    member foo.dll 32\n\
+    symbol __imp_foo\n\
+    symbol foo\n";
+
+const ALIASED_HEADS_FOR_GNU: &str = "member foo_dll_a_t.o 356\n\
+    symbol foo_dll_iname\n\
+    member foo_dll_a_h.o 450\n\
+    symbol _head_foo_dll\n\
+    member foo_dll_a_s00000.o 474\n\
+    symbol foo\n\
+    symbol __imp_foo\n\
+    member foo_dll_a_x00000.o 174\n\
+    symbol __imp_foo\n\
+    member foo_dll_a_w00000.o 162\n\
+    symbol foo\n";
+
+#[test]
+fn an_alias_is_listed_or_memory_refused(rt: HostRuntime) -> Result<(), Fail> {
+    let want = format!(in rt.alloc(); "{FOO_HEADS}{ALIASED_HEADS}")?;
+    expect_listed(&rt, rt.alloc(), "", ALIASED, want.as_str())?;
+    Ok(())
+}
+
+#[test]
+fn an_alias_is_listed_for_gnu_or_memory_refused(rt: HostRuntime) -> Result<(), Fail> {
+    expect_listed(&rt, rt.alloc(), "AMD64 gnu", ALIASED, ALIASED_HEADS_FOR_GNU)?;
+    Ok(())
+}
+
+/// A definition as a tool writes it, with functions and data.
+const PYTHON: &str =
+    ";\n; Definition file of python310.dll\n;\nLIBRARY \"python310.dll\"\nEXPORTS\n\
+    PyAIter_Check\nPyArg_Parse\nPyByteArray_Type DATA\nPyBytesIter_Type DATA";
+
+const PYTHON_HEADS: &str = "member python310.dll 376\n\
+    symbol __IMPORT_DESCRIPTOR_python310\n\
+    member python310.dll 127\n\
+    symbol __NULL_IMPORT_DESCRIPTOR\n\
+    member python310.dll 165\n\
+    symbol \\x7fpython310_NULL_THUNK_DATA\n\
+    member python310.dll 48\n\
+    symbol __imp_PyAIter_Check\n\
+    symbol PyAIter_Check\n\
+    member python310.dll 46\n\
+    symbol __imp_PyArg_Parse\n\
+    symbol PyArg_Parse\n\
+    member python310.dll 51\n\
+    symbol __imp_PyByteArray_Type\n\
+    member python310.dll 51\n\
+    symbol __imp_PyBytesIter_Type\n";
+
+const PYTHON_HEADS_FOR_GNU: &str = "member python310_dll_a_t.o 368\n\
+    symbol python310_dll_iname\n\
+    member python310_dll_a_h.o 462\n\
+    symbol _head_python310_dll\n\
+    member python310_dll_a_s00003.o 470\n\
+    symbol __imp_PyBytesIter_Type\n\
+    member python310_dll_a_s00002.o 470\n\
+    symbol __imp_PyByteArray_Type\n\
+    member python310_dll_a_s00001.o 508\n\
+    symbol PyArg_Parse\n\
+    symbol __imp_PyArg_Parse\n\
+    member python310_dll_a_s00000.o 514\n\
+    symbol PyAIter_Check\n\
+    symbol __imp_PyAIter_Check\n";
+
+#[test]
+fn functions_and_data_are_listed_or_memory_refused(rt: HostRuntime) -> Result<(), Fail> {
+    expect_listed(&rt, rt.alloc(), "", PYTHON, PYTHON_HEADS)?;
+    Ok(())
+}
+
+#[test]
+fn functions_and_data_are_listed_for_gnu_or_memory_refused(rt: HostRuntime) -> Result<(), Fail> {
+    expect_listed(&rt, rt.alloc(), "AMD64 gnu", PYTHON, PYTHON_HEADS_FOR_GNU)?;
+    Ok(())
 }
