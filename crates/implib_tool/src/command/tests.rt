@@ -232,6 +232,28 @@ fn definitions_are_listed(rt: HostRuntime) -> Result<(), Fail> {
             ],
             "00 00 04 00 71 75 78 00 7a 65 64 2e 64 6c 6c 00\n",
         ),
+        (
+            "",
+            "LIBRARY \"NAME\"",
+            [
+                "member NAME 357\nsymbol __IMPORT_DESCRIPTOR_NAME\n",
+                "member NAME 127\nsymbol __NULL_IMPORT_DESCRIPTOR\n",
+                "member NAME 160\nsymbol \\x7fNAME_NULL_THUNK_DATA\n",
+                "",
+            ],
+            "",
+        ),
+        (
+            "",
+            "; a\0b\nLIBRARY x",
+            [
+                "member x 348\nsymbol __IMPORT_DESCRIPTOR_x\n",
+                "member x 127\nsymbol __NULL_IMPORT_DESCRIPTOR\n",
+                "member x 157\nsymbol \\x7fx_NULL_THUNK_DATA\n",
+                "",
+            ],
+            "",
+        ),
     ];
     for (words, text, [first, second, third, fourth], end) in rows {
         for pace in [WHOLE, (1, ANY)] {
@@ -267,6 +289,23 @@ fn refusals_are_answered(rt: HostRuntime) -> Result<(), Fail> {
             "unknown directive: foo",
         ),
         ("\"a\nb\"", "unknown directive: a\nb"),
+        ("LIBRARY a\0b", "import name contains null byte"),
+        ("LIBRARY \"a\0b\"", "import name contains null byte"),
+        ("LIBRARY \"a.dll", "import name is empty"),
+        ("HEAPSIZE 18446744073709551615", "import name is empty"),
+        ("HEAPSIZE 18446744073709551616", "expected integer"),
+        ("HEAPSIZE +0007", "import name is empty"),
+        ("HEAPSIZE -1", "expected integer"),
+        ("HEAPSIZE +", "expected integer"),
+        ("VERSION 4294967295.0", "import name is empty"),
+        ("VERSION 4294967296", "expected integer"),
+        ("VERSION .1", "expected integer"),
+        ("VERSION 1.", "expected integer"),
+        ("EXPORTS f @65535", "import name is empty"),
+        ("EXPORTS f @ 65536", "invalid ordinal: 65536"),
+        ("EXPORTS @5", "import name is empty"),
+        ("EXPORTS f @ =", "invalid ordinal: ="),
+        ("EXPORTS\na\x0cb\nc\x0c\n", "import name is empty"),
     ];
     for (text, fault) in rows {
         let got = answered(rt.alloc(), "", text.as_bytes(), WHOLE, (ANY, 0))?;
