@@ -1,6 +1,6 @@
 //! The members for GNU's linker, linked and loaded by rules that know nothing of how they are made.
 
-use crate::linked::link;
+use crate::linked::{Unlinked, link, refusal};
 use implib::{Flavor, ImportLibrary, MachineType, Member};
 use std::alloc::Global;
 use std::test::Fail;
@@ -165,6 +165,26 @@ fn either_export_of_one_name_is_loaded(rt: HostRuntime) -> Result<(), Fail> {
             address 0x1060: bar, hint 0\n\
             __imp_bar 0x1040\n";
         assert_eq!(rt; got.as_str(), want, "{name}");
+    }
+    Ok(())
+}
+
+#[test]
+fn members_that_do_not_link_are_refused(rt: HostRuntime) -> Result<(), Fail> {
+    let texts = ["LIBRARY foo.dll\nEXPORTS\nbar\nbar"];
+    let libraries = members_of(rt.alloc(), MachineType::AMD64, &texts)?;
+    let names = [HEAD, FIRST, TAIL, SECOND];
+    let rows = [
+        (0..3, WIDE, None),
+        (0..4, WIDE, Some(Unlinked::Ambiguous("bar"))),
+        (0..2, WIDE, Some(Unlinked::Undefined("foo_dll_iname"))),
+        (1..3, WIDE, Some(Unlinked::Undefined("_head_foo_dll"))),
+        (0..3, CLOSE, Some(Unlinked::Overlapping)),
+    ];
+    for (range, bases, want) in rows {
+        let names = names.get(range).ok_or("there are four names")?;
+        let files = chosen(rt.alloc(), libraries.as_slice(), names)?;
+        assert_eq!(rt; refusal(rt.alloc(), files, bases)?, want, "{names:?}");
     }
     Ok(())
 }

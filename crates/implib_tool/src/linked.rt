@@ -49,9 +49,46 @@ fn is_32bit(machine: u16) -> bool {
     machine == 0x14C || machine == 0x1C4
 }
 
+/// Why objects do not link.
+#[derive(Clone, Copy, Debug, PartialEq, Eq)]
+pub enum Unlinked<'a> {
+    /// No object defines the symbol.
+    Undefined(&'a str),
+    /// The symbol is defined twice.
+    Ambiguous(&'a str),
+    /// An address is in two ranges of the image.
+    Overlapping,
+}
+
 /// Links the objects in files of these names and bytes. The sections stand in the order of the
 /// names; the bases are those of `.idata$2`, `$4`, `$5`, `$6` and `$7`.
 pub fn link<'a>(
+    alloc: Global,
+    files: Vec<(&'a str, &'a [u8])>,
+    bases: [usize; 5],
+) -> Result<Linked<'a>, Fail> {
+    let linked = place(alloc, files, bases)?;
+    if let Some(unlinked) = linked.refusal() {
+        return Err(Fail::from(unlinked));
+    }
+    let Linked { objects, mut image } = linked;
+    for placed in objects.iter() {
+        relocate(&objects, placed, &mut image)?;
+    }
+    Ok(Linked { objects, image })
+}
+
+/// Why the objects in such files do not link, if they do not.
+pub fn refusal<'a>(
+    alloc: Global,
+    files: Vec<(&'a str, &'a [u8])>,
+    bases: [usize; 5],
+) -> Result<Option<Unlinked<'a>>, Fail> {
+    Ok(place(alloc, files, bases)?.refusal())
+}
+
+/// Places the sections of the objects in such files, and relocates none.
+fn place<'a>(
     alloc: Global,
     mut files: Vec<(&'a str, &'a [u8])>,
     bases: [usize; 5],
@@ -67,25 +104,11 @@ pub fn link<'a>(
         }
         objects.push(Placed { object, addresses })?;
     }
-    if !image.is_apart() {
-        return Err(Fail::new("two ranges of the image overlap"));
-    }
-    for placed in objects.iter() {
-        relocate(&objects, placed, &mut image)?;
-    }
     Ok(Linked { objects, image })
 }
 
 /// Adds the symbols' addresses in all sections of an object that have a place.
 fn relocate(objects: &[Placed], placed: &Placed, image: &mut Image) -> Result<(), Fail> {
-    // No symbol stays undefined, and none is defined twice.
-    for symbol in placed.object.symbols.iter() {
-        if let Some(symbol) = symbol
-            && symbol.is_external()
-        {
-            defined_address(objects, symbol.name)?;
-        }
-    }
     for (section, address) in placed.object.sections.iter().zip(placed.addresses.iter()) {
         if let Some(address) = address {
             relocate_section(objects, placed, section, *address, image)?;
@@ -122,7 +145,7 @@ fn relocate_section(
 }
 
 /// The address, if there is one, of the one symbol of a name that objects define for one another.
-fn defined_address(objects: &[Placed], name: &str) -> Result<Option<usize>, Fail> {
+fn defined_address<'a>(objects: &[Placed], name: &'a str) -> Result<Option<usize>, Unlinked<'a>> {
     let mut found = None;
     for placed in objects {
         for symbol in placed.object.symbols.iter() {
@@ -131,13 +154,34 @@ fn defined_address(objects: &[Placed], name: &str) -> Result<Option<usize>, Fail
                 && symbol.name == name
             {
                 if found.is_some() {
-                    return Err(Fail::new(format_args!("{name} is defined twice")));
+                    return Err(Unlinked::Ambiguous(name));
                 }
                 found = Some(placed.own_address(symbol));
             }
         }
     }
-    found.ok_or_else(|| Fail::new(format_args!("{name} is not defined")))
+    found.ok_or(Unlinked::Undefined(name))
+}
+
+impl<'a> Linked<'a> {
+    /// Why the objects do not link: where ranges overlap, or a symbol stays undefined or is
+    /// defined twice.
+    fn refusal(&self) -> Option<Unlinked<'a>> {
+        if !self.image.is_apart() {
+            return Some(Unlinked::Overlapping);
+        }
+        for placed in self.objects.iter() {
+            for symbol in placed.object.symbols.iter() {
+                if let Some(symbol) = symbol
+                    && symbol.is_external()
+                    && let Err(unlinked) = defined_address(&self.objects, symbol.name)
+                {
+                    return Some(unlinked);
+                }
+            }
+        }
+        None
+    }
 }
 
 impl Linked<'_> {
