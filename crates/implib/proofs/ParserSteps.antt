@@ -10,8 +10,8 @@ use Rattle.implib.specs.Definition.{DefinitionView, ExportView, empty_definition
 use Rattle.implib.specs.Fault.{Cause}
 use Rattle.implib.specs.Grammar.{Attribute, Export, Heap, Named, Nameless, Region, Sizes, Stack, Statement, Version, region_kind}
 use Rattle.implib.specs.Meaning.{exports_in}
-use Rattle.implib.specs.ParserViews.{TakesFirst, all_put, one_put, put, settings_put, with_export, with_settings}
-use Rattle.implib.specs.Reading.{◌>>=◌, Reads, attributes_read, base_read, definition_from, name_by, name_read, named_from, read, some_statement, statements_read, with_statements, export_of, export_read, exports_from, exports_read, made_export, named_export, sizes_read, statement_read, target_read, version_read, with_attribute, with_statement}
+use Rattle.implib.specs.ParserViews.{TakesFirst, all_put, one_put, put, settings_put, with_export}
+use Rattle.implib.specs.Reading.{◌>>=◌, Reads, attributes_read, base_read, definition_from, name_by, name_read, named_from, read, some_statement, statements_read, with_statements, export_of, export_read, exports_from, exports_read, made_export, named_export, sizes_read, statement_read, target_read, version_read, with_attribute, with_settings, with_statement}
 use Rattle.implib.specs.Token.{Seen, seen}
 use Rattle.implib.proofs.ParserLoops.{err_is, ok_is}
 

@@ -1,5 +1,5 @@
 -- Views of the parser's state and of what its functions answer. No promise cites them.
-use Rattle.std.specs.Prelude.{◌≡◌, ℕ, ◌++◌, Bool, true, false, List, [], ◌∷◌, Option, Some, None, MatchOption, unwrap_or, Result, Ok, Err}
+use Rattle.std.specs.Prelude.{◌≡◌, ℕ, ◌++◌, Bool, true, false, List, [], ◌∷◌, Option, Some, None, MatchOption, Result, Ok, Err}
 use Rattle.std.specs.List.{fold}
 use Rattle.std.specs.Borrow.{Bor}
 use Rattle.implib.specs.declared.def.lexer.Token.{Token}
@@ -11,9 +11,8 @@ use Rattle.implib.specs.declared.machine.MachineType.{MachineType}
 use Rattle.implib.specs.Definition.{DefinitionView, ExportView}
 use Rattle.implib.specs.Fault.{Cause, cause_of}
 use Rattle.implib.specs.Grammar.{Export, Statement, Nameless, Named}
-use Rattle.implib.specs.Meaning.{heap_commit_in, heap_reserve_in, image_base_in, import_name_in, major_in, minor_in, stack_commit_in, stack_reserve_in}
 use Rattle.implib.specs.Reading as reading
-use Rattle.implib.specs.Reading.{◌>>=◌, Reads, made_export, with_attribute, with_statement}
+use Rattle.implib.specs.Reading.{◌>>=◌, Reads, made_export, with_attribute, with_settings, with_statement}
 use Rattle.implib.specs.Token.{Seen, seen}
 
 -- the tokens to come: the one that was looked at, if any, and those of the lexer
@@ -55,22 +54,6 @@ one_put apply state read = read >>= put apply state
 -- the same, of what a reader of all items gives
 abbrev pub all_put : {A S : Type 0} → (S → A → S) → S → Reads (List A) → Result (S × List Seen) Cause
 all_put apply state read = read >>= put_all apply state
-
--- a definition after a statement without exports
-abbrev pub with_settings : DefinitionView → Statement → DefinitionView
-with_settings d s = record {
-  exports = d.exports;
-  import_name = unwrap_or (import_name_in s) d.import_name;
-  image_base = unwrap_or (image_base_in s) d.image_base;
-  stack_reserve = unwrap_or (stack_reserve_in s) d.stack_reserve;
-  stack_commit = unwrap_or (stack_commit_in s) d.stack_commit;
-  heap_reserve = unwrap_or (heap_reserve_in s) d.heap_reserve;
-  heap_commit = unwrap_or (heap_commit_in s) d.heap_commit;
-  major_image_version = unwrap_or (major_in s) d.major_image_version;
-  minor_image_version = unwrap_or (minor_in s) d.minor_image_version;
-  major_os_version = d.major_os_version;
-  minor_os_version = d.minor_os_version;
-}
 
 -- a statement that was read sets what it sets
 abbrev pub put_settings : DefinitionView → Statement × List Seen → Result (DefinitionView × List Seen) Cause

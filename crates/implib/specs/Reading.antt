@@ -330,10 +330,10 @@ named_export machine word target = record {
 unfoldable pub made_export : MachineType → Export → ExportView
 made_export machine e = fold with_attribute (named_export machine e.word e.target) e.attributes
 
--- a definition after one more statement
-abbrev pub with_statement : MachineType → DefinitionView → Statement → DefinitionView
-with_statement machine d s = record {
-  exports = d.exports ++ map (made_export machine) (exports_in s);
+-- a definition after a statement without exports
+abbrev pub with_settings : DefinitionView → Statement → DefinitionView
+with_settings d s = record {
+  exports = d.exports;
   import_name = unwrap_or (import_name_in s) d.import_name;
   image_base = unwrap_or (image_base_in s) d.image_base;
   stack_reserve = unwrap_or (stack_reserve_in s) d.stack_reserve;
@@ -345,6 +345,10 @@ with_statement machine d s = record {
   major_os_version = d.major_os_version;
   minor_os_version = d.minor_os_version;
 }
+
+-- a definition after one more statement
+abbrev pub with_statement : MachineType → DefinitionView → Statement → DefinitionView
+with_statement machine d s = record (with_settings d s) { exports = d.exports ++ map (made_export machine) (exports_in s) }
 
 -- a definition after all statements
 unfoldable pub with_statements : MachineType → DefinitionView → List Statement → DefinitionView
