@@ -1,0 +1,622 @@
+"""The program once more, in Python, for `bench/random` to compare with. It was written from the rules
+of docs/GRAMMAR.md and docs/FORMATS.md by somebody who had seen neither the code nor its
+specifications, and shortened since. Definitions that are made by hand and members that are too long
+are not in it.
+
+`run` gives the status, the output and the line of a fault for an input and the program's words.
+Devices never fail here, and memory is ample.
+"""
+import struct
+from dataclasses import dataclass, replace
+
+# ---- machines
+
+
+@dataclass(frozen=True)
+class Machine:
+    number: int
+    is_32bit: bool
+    # the type of an image-relative relocation
+    image_relative: int
+    # the code of a stub, and its relocations, each an offset and a type
+    stub: bytes
+    stub_relocations: tuple
+
+    @property
+    def thunk_width(self):
+        return 4 if self.is_32bit else 8
+
+
+X86_STUB = bytes.fromhex("FF 25 00 00 00 00 90 90")
+ARM_STUB = bytes.fromhex("00 C0 9F E5 00 F0 9C E5 00 00 00 00")
+ARM64_STUB = bytes.fromhex("10 00 00 90 10 02 40 F9 00 02 1F D6")
+MACHINES = {
+    "I386": Machine(0x14C, True, 7, X86_STUB, ((2, 6),)),
+    "ARMNT": Machine(0x1C4, True, 2, ARM_STUB, ((8, 0x0A),)),
+    "AMD64": Machine(0x8664, False, 3, X86_STUB, ((2, 4),)),
+    "ARM64": Machine(0xAA64, False, 2, ARM64_STUB, ((0, 4), (4, 7))),
+}
+I386 = MACHINES["I386"]
+
+
+class Refused(Exception):
+    """A fault, by its text."""
+
+
+# ---- tokens
+
+# What Rust takes for white space; Python's `isspace` is another.
+WHITE_SPACE = frozenset(map(chr, [
+    *range(0x09, 0x0E), 0x20, 0x85, 0xA0, 0x1680, *range(0x2000, 0x200B),
+    0x2028, 0x2029, 0x202F, 0x205F, 0x3000,
+]))
+WORD_DELIMITERS = frozenset("=,;\r\n \t\x0b")
+KEYWORDS = {
+    "BASE": "KwBase", "CONSTANT": "KwConstant", "DATA": "KwData", "EXPORTS": "KwExports",
+    "HEAPSIZE": "KwHeapsize", "LIBRARY": "KwLibrary", "NAME": "KwName", "NONAME": "KwNoname",
+    "PRIVATE": "KwPrivate", "STACKSIZE": "KwStacksize", "VERSION": "KwVersion",
+}
+
+
+@dataclass(frozen=True)
+class Token:
+    kind: str
+    value: str
+
+
+def trimmed_end(text):
+    while text and text[-1] in WHITE_SPACE:
+        text = text[:-1]
+    return text
+
+
+def trimmed(text):
+    return trimmed_end(trimmed_end(text)[::-1])[::-1]
+
+
+def after_gap(text, place):
+    """The place after white space and comments."""
+    while place < len(text):
+        if text[place] in WHITE_SPACE:
+            place += 1
+        elif text[place] == ";":
+            end = text.find("\n", place)
+            place = len(text) if end < 0 else end + 1
+        else:
+            break
+    return place
+
+
+def token_at(text, place):
+    """The token at a place that is neither in a gap nor at the end, and the place after it."""
+    if text.startswith("==", place):
+        return Token("EqualEqual", "=="), place + 2
+    if text[place] == "=":
+        return Token("Equal", "="), place + 1
+    if text[place] == ",":
+        return Token("Comma", ","), place + 1
+    if text[place] == '"':
+        end = text.find('"', place + 1)
+        if end < 0:
+            return Token("Identifier", ""), len(text)
+        return Token("Identifier", trimmed(text[place + 1:end])), end + 1
+    end = place
+    while end < len(text) and text[end] not in WORD_DELIMITERS:
+        end += 1
+    value = trimmed_end(text[place:end])
+    return Token(KEYWORDS.get(value, "Identifier"), value), end
+
+
+def tokens_of(text):
+    tokens = []
+    place = after_gap(text, 0)
+    while place < len(text) and text[place] != "\0":
+        token, place = token_at(text, place)
+        tokens.append(token)
+        place = after_gap(text, place)
+    return [*tokens, Token("Eof", "")]
+
+
+U16, U32, U64 = 2**16 - 1, 2**32 - 1, 2**64 - 1
+
+
+def number_of(value, limit):
+    """The number that a text is, or nothing."""
+    digits = value.removeprefix("+")
+    if not digits or any(digit not in "0123456789" for digit in digits):
+        return None
+    digits = digits.lstrip("0") or "0"
+    if len(digits) > 20 or int(digits) > limit:
+        return None
+    return int(digits)
+
+
+# ---- definitions
+
+
+@dataclass
+class Export:
+    name: str
+    external_name: str | None = None
+    alias_target: str = ""
+    ordinal: int = 0
+    no_name: bool = False
+    is_data: bool = False
+    private: bool = False
+    constant: bool = False
+
+
+FLAGS = {"KwData": "is_data", "KwConstant": "constant", "KwPrivate": "private"}
+
+
+class Parser:
+    """Reads statements. What no member shows, as sizes and versions, is tested and dropped."""
+
+    def __init__(self, text, machine):
+        self.tokens = tokens_of(text)
+        self.place = 0
+        self.machine = machine
+        self.import_name = ""
+        self.exports = []
+
+    def peek(self):
+        return self.tokens[self.place]
+
+    def take(self):
+        token = self.tokens[self.place]
+        if token.kind != "Eof":
+            self.place += 1
+        return token
+
+    def take_if(self, kind):
+        if self.peek().kind != kind:
+            return False
+        self.place += 1
+        return True
+
+    def parse(self):
+        while (token := self.take()).kind != "Eof":
+            if token.kind in ("KwHeapsize", "KwStacksize"):
+                self.sizes()
+            elif token.kind in ("KwName", "KwLibrary"):
+                self.name()
+            elif token.kind == "KwVersion":
+                self.version()
+            elif token.kind == "KwExports":
+                while self.peek().kind == "Identifier":
+                    self.export()
+            else:
+                raise Refused(f"unknown directive: {token.value}")
+
+    def identifier(self):
+        token = self.take()
+        if token.kind != "Identifier":
+            raise Refused(f"expected identifier, found: {token.kind}")
+        return token.value
+
+    def number(self, value, limit):
+        if number_of(value, limit) is None:
+            raise Refused("expected integer")
+
+    def sizes(self):
+        self.number(self.identifier(), U64)
+        if self.take_if("Comma"):
+            self.number(self.identifier(), U64)
+
+    def name(self):
+        self.import_name = ""
+        if self.peek().kind == "Identifier":
+            self.import_name = self.take().value
+            if self.take_if("KwBase"):
+                sign = self.take()
+                if sign.kind != "Equal":
+                    raise Refused(f"expected equal, found: {sign.kind}")
+                self.number(self.identifier(), U64)
+
+    def version(self):
+        for part in self.identifier().split(".", 1):
+            self.number(part, U32)
+
+    def export(self):
+        """An export, whose first token is an identifier; `@` and `@5` after another export do not
+        come here, since that export took them."""
+        export = Export(self.take().value)
+        if self.take_if("Equal"):
+            target = self.identifier()
+            if target == "@":
+                raise Refused("lone @ after =")
+            export.name, export.external_name = target, export.name
+        while self.attribute(export):
+            pass
+        if self.machine is I386:
+            export.name = decorated(export.name)
+            if export.external_name is not None:
+                export.external_name = decorated(export.external_name)
+        self.exports.append(export)
+
+    def attribute(self, export):
+        """Whether one more attribute was there."""
+        token = self.peek()
+        if token.kind == "Identifier" and token.value == "@":
+            self.take()
+            self.ordinal(export, self.take())
+        elif token.kind == "Identifier" and token.value.startswith("@"):
+            if number_of(token.value[1:], U16) is None:
+                return False
+            self.take()
+            self.ordinal(export, Token("Identifier", token.value[1:]))
+        elif token.kind == "EqualEqual":
+            self.take()
+            export.alias_target = self.identifier()
+        elif token.kind in FLAGS:
+            self.take()
+            setattr(export, FLAGS[token.kind], True)
+        else:
+            return False
+        return True
+
+    def ordinal(self, export, token):
+        if token.kind == "Eof":
+            raise Refused("expected identifier, found: Eof")
+        ordinal = number_of(token.value, U16)
+        if ordinal is None:
+            raise Refused(f"invalid ordinal: {token.value}")
+        export.ordinal = ordinal
+        if self.take_if("KwNoname"):
+            export.no_name = True
+
+
+def decorated(name):
+    return name if name.startswith("?") or "@" in name else "_" + name
+
+
+def renamed(export):
+    if export.external_name is None:
+        return export
+    return replace(export, name=export.external_name, external_name=None)
+
+
+# ---- what is asked for, and what is refused
+
+ORDINAL, NAME, NO_PREFIX = 0, 1, 2
+
+
+def has_underscore(export, machine):
+    return machine is I386 and export.name.startswith("_")
+
+
+def name_type(export, machine):
+    """A parsed export has no symbol name, so a record's symbol is the export's name."""
+    if export.no_name:
+        return ORDINAL
+    if export.name.startswith("_") and "@" in export.name:
+        return NAME
+    return NO_PREFIX if has_underscore(export, machine) else NAME
+
+
+def asked_by_record(export, machine):
+    return export.name[1:] if name_type(export, machine) == NO_PREFIX else export.name
+
+
+def asked_by_object(export, machine):
+    if has_underscore(export, machine) and "@" not in export.name:
+        return export.name[1:]
+    return export.name
+
+
+def check(import_name, exports, machine, asked):
+    if import_name == "":
+        raise Refused("import name is empty")
+    if "\0" in import_name:
+        raise Refused("import name contains null byte")
+    for export in exports:
+        if export.name == "":
+            raise Refused("export name is empty")
+        if "\0" in export.name + export.alias_target:
+            raise Refused("export name contains null byte")
+        if not export.no_name and asked(export, machine) == "":
+            raise Refused("asked name is empty")
+
+
+# ---- objects
+
+UNDEFINED, ABSOLUTE, DEBUG = 0, -1, -2
+EXTERNAL, STATIC, FILE, SECTION, WEAK_EXTERNAL = 2, 3, 103, 104, 105
+
+
+@dataclass
+class Section:
+    name: str
+    flags: int
+    data: bytes = b""
+    # each an offset, the index of a symbol and a type
+    relocations: tuple = ()
+
+
+@dataclass
+class Symbol:
+    name: str
+    section: int
+    storage_class: int
+    auxiliary: bytes | None = None
+
+
+@dataclass
+class Member:
+    name: str
+    data: bytes
+    symbols: list
+
+
+def object_of(machine, sections, symbols, listed=None, characteristics=0):
+    """An object. The string table has the names of the symbols at the places `listed`, or, where
+    none are given, each different one of more than 8 bytes, in order of first use."""
+    if listed is None:
+        listed = [place for place, symbol in enumerate(symbols) if len(symbol.name.encode()) > 8]
+    headers, contents = b"", b""
+    start = 20 + 40 * len(sections)
+    for section in sections:
+        data_place = start + len(contents) if section.data else 0
+        contents += section.data
+        relocations_place = start + len(contents) if section.relocations else 0
+        for relocation in section.relocations:
+            contents += struct.pack("<IIH", *relocation)
+        headers += section.name.encode().ljust(8, b"\0")
+        headers += struct.pack(
+            "<IIIIIIHHI", 0, 0, len(section.data), data_place, relocations_place, 0,
+            len(section.relocations), 0, section.flags,
+        )
+    strings, offsets = b"", {}
+    for name in dict.fromkeys(symbols[place].name for place in listed):
+        offsets[name] = 4 + len(strings)
+        strings += name.encode() + b"\0"
+    records, count = b"", 0
+    for place, symbol in enumerate(symbols):
+        if place in listed:
+            records += struct.pack("<II", 0, offsets[symbol.name])
+        else:
+            records += symbol.name.encode().ljust(8, b"\0")
+        auxiliary = [] if symbol.auxiliary is None else [symbol.auxiliary]
+        records += struct.pack("<IhHBB", 0, symbol.section, 0, symbol.storage_class, len(auxiliary))
+        records += b"".join(auxiliary)
+        count += 1 + len(auxiliary)
+    header = struct.pack(
+        "<HHIIIHH", machine.number, len(sections), 0, start + len(contents), count, 0, characteristics
+    )
+    return header + headers + contents + records + struct.pack("<I", 4 + len(strings)) + strings
+
+
+def weak_external(machine, target, weak):
+    auxiliary = struct.pack("<II", 2, 3) + bytes(10)
+    symbols = [
+        Symbol("@comp.id", ABSOLUTE, STATIC),
+        Symbol("@feat.00", ABSOLUTE, STATIC),
+        Symbol(target, UNDEFINED, EXTERNAL),
+        Symbol(weak, UNDEFINED, WEAK_EXTERNAL, auxiliary),
+    ]
+    return object_of(machine, [Section(".drectve", 0xA00)], symbols, [2, 3])
+
+
+def weak_externals(export, machine):
+    """Each with its symbol: of the name, and of its address."""
+    if export.alias_target in ("", export.name):
+        return []
+    return [
+        (prefix + export.name, weak_external(machine, prefix + export.alias_target, prefix + export.name))
+        for prefix in ("", "__imp_")
+    ]
+
+
+# ---- members for GNU's linker
+
+
+def gnu_members(import_name, exports, machine):
+    stem = import_name.replace(".", "_")
+    lead = "_" if machine is I386 else ""
+    head, name = f"{lead}_head_{stem}", f"{lead}{stem}_iname"
+    built = []
+    for number, export in enumerate(exports):
+        for letter, (symbol, data) in zip("wx", weak_externals(export, machine)):
+            built.append(Member(f"{stem}_a_{letter}{number:05}.o", data, [symbol]))
+        data = gnu_export(export, head, machine)
+        symbols = [] if export.is_data else [export.name]
+        built.append(Member(f"{stem}_a_s{number:05}.o", data, [*symbols, "__imp_" + export.name]))
+    tail = Member(f"{stem}_a_t.o", gnu_tail(import_name, name, machine), [name])
+    return [tail, Member(f"{stem}_a_h.o", gnu_head(head, name, machine), [head]), *built[::-1]]
+
+
+FIRST_SECTIONS = [
+    Section(".text", 0x60500020),
+    Section(".data", 0xC0500040),
+    Section(".bss", 0xC0500080),
+]
+FILE_SYMBOL = Symbol(".file", DEBUG, FILE, b"fake" + bytes(14))
+
+
+def gnu_head(head, name, machine):
+    kind = machine.image_relative
+    relocations = ((0, 3, kind), (16, 2, kind), (12, 5, kind))
+    sections = [
+        *FIRST_SECTIONS,
+        Section(".idata$2", 0xC0300040, bytes(20), relocations),
+        Section(".idata$5", 0xC0300040),
+        Section(".idata$4", 0xC0300040),
+    ]
+    symbols = [
+        FILE_SYMBOL,
+        Symbol(".idata$5", 5, STATIC),
+        Symbol(".idata$4", 6, STATIC),
+        Symbol(head, 4, EXTERNAL),
+        Symbol(name, UNDEFINED, EXTERNAL),
+    ]
+    return object_of(machine, sections, symbols)
+
+
+def gnu_tail(import_name, name, machine):
+    thunk = bytes(machine.thunk_width)
+    sections = [
+        *FIRST_SECTIONS,
+        Section(".idata$4", 0xC0300040, thunk),
+        Section(".idata$5", 0xC0300040, thunk),
+        Section(".idata$7", 0xC0300040, import_name.encode() + b"\0"),
+    ]
+    return object_of(machine, sections, [FILE_SYMBOL, Symbol(name, 6, EXTERNAL)])
+
+
+def gnu_export(export, head, machine):
+    symbols = [Symbol(head, UNDEFINED, EXTERNAL)]
+    if not export.is_data:
+        symbols.append(Symbol(export.name, 1, EXTERNAL))
+    address = len(symbols)
+    symbols.append(Symbol("__imp_" + export.name, 5, EXTERNAL))
+    hint_name = len(symbols)
+    symbols.append(Symbol(".idata$6", 7, STATIC))
+    kind = machine.image_relative
+    if export.is_data:
+        code, code_relocations = b"", ()
+    else:
+        code = machine.stub
+        code_relocations = tuple((offset, address, kind) for offset, kind in machine.stub_relocations)
+    if export.no_name:
+        thunk = struct.pack("<H", export.ordinal) + bytes(machine.thunk_width - 3) + b"\x80"
+        thunk_relocations, hint_and_name = (), b""
+    else:
+        thunk, thunk_relocations = bytes(machine.thunk_width), ((0, hint_name, kind),)
+        asked = asked_by_object(export, machine).encode()
+        hint_and_name = struct.pack("<H", export.ordinal) + asked + b"\0"
+    sections = [
+        Section(".text", 0x60300020, code, code_relocations),
+        Section(".data", 0xC0300040),
+        Section(".bss", 0xC0300080),
+        Section(".idata$7", 0xC0300000, bytes(4), ((0, 0, kind),)),
+        Section(".idata$5", 0xC0300000, thunk, thunk_relocations),
+        Section(".idata$4", 0xC0300000, thunk, thunk_relocations),
+        Section(".idata$6", 0xC0200000, hint_and_name),
+    ]
+    return object_of(machine, sections, symbols)
+
+
+# ---- members for Microsoft's linker
+
+
+def msvc_members(import_name, exports, machine):
+    base = import_name[:-4] if import_name.endswith((".dll", ".exe")) else import_name
+    descriptor = "__IMPORT_DESCRIPTOR_" + base
+    null_descriptor = "__NULL_IMPORT_DESCRIPTOR"
+    null_thunk = f"\x7f{base}_NULL_THUNK_DATA"
+    members = [
+        Member(import_name, data, [symbol])
+        for symbol, data in (
+            (descriptor, msvc_descriptor(import_name, descriptor, null_descriptor, null_thunk, machine)),
+            (null_descriptor, msvc_null(machine, [".idata$3"], 0xC0300040, 20, null_descriptor)),
+            (null_thunk, msvc_null(
+                machine, [".idata$5", ".idata$4"], 0xC0300040 if machine.is_32bit else 0xC0400040,
+                machine.thunk_width, null_thunk,
+            )),
+        )
+    ]
+    for export in exports:
+        for symbol, data in weak_externals(export, machine):
+            members.append(Member(import_name, data, [symbol]))
+        symbols = [] if export.is_data else [export.name]
+        data = msvc_record(import_name, export, machine)
+        members.append(Member(import_name, data, ["__imp_" + export.name, *symbols]))
+    return members
+
+
+def msvc_characteristics(machine):
+    return 0x100 if machine.is_32bit else 0
+
+
+def msvc_descriptor(import_name, descriptor, null_descriptor, null_thunk, machine):
+    kind = machine.image_relative
+    relocations = ((12, 2, kind), (0, 3, kind), (16, 4, kind))
+    sections = [
+        Section(".idata$2", 0xC0300040, bytes(20), relocations),
+        Section(".idata$6", 0xC0200040, import_name.encode() + b"\0"),
+    ]
+    symbols = [
+        Symbol(descriptor, 1, EXTERNAL),
+        Symbol(".idata$2", 1, SECTION),
+        Symbol(".idata$6", 2, STATIC),
+        Symbol(".idata$4", UNDEFINED, SECTION),
+        Symbol(".idata$5", UNDEFINED, SECTION),
+        Symbol(null_descriptor, UNDEFINED, EXTERNAL),
+        Symbol(null_thunk, UNDEFINED, EXTERNAL),
+    ]
+    return object_of(machine, sections, symbols, [0, 5, 6], msvc_characteristics(machine))
+
+
+def msvc_null(machine, names, flags, size, symbol):
+    """An object of sections of zeros, whose one symbol stands at the front of the first."""
+    sections = [Section(name, flags, bytes(size)) for name in names]
+    return object_of(machine, sections, [Symbol(symbol, 1, EXTERNAL)], [0], msvc_characteristics(machine))
+
+
+def msvc_record(import_name, export, machine):
+    import_type = 1 if export.is_data else 2 if export.constant else 0
+    texts = export.name.encode() + b"\0" + import_name.encode() + b"\0"
+    types = import_type | name_type(export, machine) << 2
+    fields = (0, 0xFFFF, 0, machine.number, 0, len(texts), export.ordinal, types)
+    return struct.pack("<HHHHIIHH", *fields) + texts
+
+
+# ---- the program
+
+FLAVOURS = {"msvc": (asked_by_record, msvc_members), "gnu": (asked_by_object, gnu_members)}
+USAGE = b"usage: implib_tool MACHINE FLAVOUR\n"
+
+
+def members_of(text, machine, flavour):
+    parser = Parser(text, machine)
+    parser.parse()
+    exports = [renamed(export) for export in parser.exports if not export.private]
+    asked, members = FLAVOURS[flavour]
+    check(parser.import_name, exports, machine, asked)
+    return members(parser.import_name, exports, machine)
+
+
+def shown(name):
+    """A name as the listing has it."""
+    return "".join(
+        chr(byte) if 0x21 <= byte <= 0x7E and byte != 0x5C else f"\\x{byte:02x}" for byte in name.encode()
+    )
+
+
+def listing(members):
+    lines = []
+    for member in members:
+        lines.append(f"member {shown(member.name)} {len(member.data)}\n")
+        lines.extend(f"symbol {shown(symbol)}\n" for symbol in member.symbols)
+        for place in range(0, len(member.data), 16):
+            lines.append(member.data[place:place + 16].hex(" ") + "\n")
+    return "".join(lines)
+
+
+def parts_of(text):
+    """The parts between lines that are `---`, or that and a carriage return."""
+    parts = [""]
+    for line in text.split("\n"):
+        if line in ("---", "---\r"):
+            parts.append("")
+        else:
+            parts[-1] += line + "\n"
+    # The last line has no line feed, and a line that divides has none that stays.
+    if not text.endswith(("\n---", "\n---\r")) and text not in ("---", "---\r"):
+        parts[-1] = parts[-1][:-1]
+    return parts
+
+
+def run(data, words):
+    words = words or ["AMD64", "msvc"]
+    if len(words) != 2 or words[0] not in MACHINES or words[1] not in FLAVOURS:
+        return 2, b"", USAGE
+    try:
+        text = data.decode()
+    except UnicodeDecodeError:
+        return 1, b"", b"implib: input is not UTF-8\n"
+    try:
+        lists = [listing(members_of(part, MACHINES[words[0]], words[1])) for part in parts_of(text)]
+    except Refused as fault:
+        return 1, b"", f"implib: {fault}\n".encode()
+    return 0, "".join(lists).encode(), b""
