@@ -1,4 +1,4 @@
--- A text is in the grammar or broken, and so in one way.
+-- What a text is, statements or broken, it is in one way.
 use Rattle.std.proofs.Common.{◌≡◌, ◌⊎◌, inl, inr, ℕ, List, Result, Ok, Err, refl, sym, ap, subst, ◌∙◌}
 use Rattle.std.specs.Str.{IsUtf8}
 use Rattle.implib.specs.declared.machine.MachineType.{MachineType}

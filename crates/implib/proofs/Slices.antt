@@ -85,7 +85,7 @@ pieces_slices text front (piece ∷ pieces) end e stand utf8 =
     (piece_slices text front piece after e stand.0 utf8)
     (subst (λ n. AllByRecursion (IsSliceOf text) (tokens_from n pieces)) (length-append front (spelling piece)) rest)
 
--- each token's value is the slice of the text at its place
+-- the values of tokens are cut from the text, each from its place on
 pub Lexed-slices : (text : List ℕ) (tokens : List Seen) → IsUtf8 text → Lexed text tokens → AllByRecursion (IsSliceOf text) tokens
 Lexed-slices text tokens utf8 lexed =
     let d = lexed.divides in

@@ -11,7 +11,7 @@ use Rattle.implib.specs.Made.{asked_in}
 use Rattle.implib.specs.Parses.{Parses}
 use Rattle.implib.specs.Renaming.{renamed}
 
--- the word that an export is known by outside its DLL: its first identifier, as the text has it
+-- the word by which others know an export: the one that the text gives it first, unchanged
 abbrev pub external_word : Export → List ℕ
 external_word e = e.word
 

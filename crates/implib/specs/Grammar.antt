@@ -178,7 +178,7 @@ statement_spelling (Version major minor) = Of KwVersion ∷ Numbers major minor 
 abbrev pub spelling : List Statement → List Wanted
 spelling statements = flat_map statement_spelling statements
 
--- the tokens are those of the statements one after another, and then Eof
+-- all tokens are used up: the statements spell them, with Eof behind the last
 abbrev pub Sentence : List Seen → List Statement → Type 0
 Sentence tokens statements = Begins tokens (spelling statements ++ Of Eof ∷ []) []
 

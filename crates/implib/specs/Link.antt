@@ -109,9 +109,9 @@ pub record Placed : Type 0 where
   pub object : Object
   pub places : List Place
 
--- Objects that are placed in their order: a section of a kind stands at the first multiple of its
--- alignment that is not below the end of the one before it of this kind; the first one not below the
--- kind's base, which for alignments that divide the base is the base itself.
+-- Objects that are placed in their order. Each kind has an address from which on it is free: its base,
+-- and then the end of the last section placed. A section goes there, or as far behind it as its
+-- alignment makes it; a base that the alignment divides is taken as it is.
 abbrev pub placed_from : Bases → List Object → List Placed
 placed_from ends [] = []
 placed_from ends (o ∷ objects) =

@@ -1,4 +1,4 @@
--- View of the code's state: a pass over bytes to be written.
+-- A pass over bytes to be written.
 use Rattle.std.specs.Prelude.{◌≡◌, ℕ, ◌+◌, List, ◌++◌, length}
 
 -- what was put into a pass, and the number of bytes that still fit

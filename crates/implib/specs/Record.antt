@@ -1,5 +1,5 @@
 -- Reading a short import record (PE/COFF specification, "Import Library Format"):
--- a header of 20 bytes, then the symbol and the DLL's name, each ended by a NUL.
+-- behind a header of 20 bytes stand two texts with a NUL each, the symbol and the DLL's name.
 -- The reader takes what it finds in the bytes, and knows nothing of who wrote them.
 use Rattle.std.specs.Prelude.{ℕ, ◌-◌, ◌/◌, ◌%◌, Bool, ◌&&◌, ◌==◌, nat_le, List, [], ◌∷◌, length, drop, Option, Some, None, if◌then◌else◌}
 use Rattle.std.specs.List.{before_first}
@@ -85,7 +85,7 @@ record_from bytes (Some (symbol, rest)) = record_with bytes symbol (text_in rest
 unfoldable pub short_record_in : List ℕ → Option ShortRecord
 short_record_in bytes = if is_record bytes then record_from bytes (text_in (drop record_header_size bytes)) else None
 
--- a symbol without one leading `?`, `@` or `_`
+-- a symbol without its first byte, where that is `?`, `@` or `_`
 abbrev pub without_prefix : List ℕ → List ℕ
 without_prefix symbol =
     if begins_with question_mark symbol then without_first symbol

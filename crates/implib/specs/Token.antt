@@ -192,6 +192,6 @@ pub record LexedOnce (text : List ℕ) : Type 0 where
 abbrev pub IsKnown : Seen → Type 0
 IsKnown token = token.kind ≢ kind.Unknown
 
--- the value of the token is the slice of the text at the token's place
+-- the value of the token is cut from the text at the token's place
 abbrev pub IsSliceOf : List ℕ → Seen → Type 0
 IsSliceOf text token = take (length token.value) (drop token.at text) ≡ token.value

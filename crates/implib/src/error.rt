@@ -8,7 +8,7 @@ use std::alloc::{AllocError, AllocFailed};
 
 /// What is wrong with a text or with a definition.
 ///
-/// A `usize` is the export's index in the definition, from 0, private exports counted.
+/// A `usize` tells the export: its place among all exports of the definition, from 0.
 #[derive(Debug, PartialEq, Eq, Drop, thiserror::Error)]
 pub enum Fault {
     /// `parse`: a statement begins with this value, which is no directive.
@@ -44,7 +44,7 @@ pub enum Fault {
     /// `members`: this export asks the DLL for an empty name.
     #[error("asked name is empty")]
     EmptyAskedName(usize),
-    /// `members`, `write`: a member would be longer than 2^32 - 1 bytes.
+    /// `members`, `write`: a file has more than 2^32 - 1 bytes.
     #[error("member too long")]
     MemberTooLong,
 }

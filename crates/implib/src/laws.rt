@@ -1,4 +1,4 @@
-//! Laws: functions that answer nothing, and whose contracts are facts about the definitions.
+//! Laws: what a caller may conclude from the definitions, each as the contract of an empty function.
 
 pub mod asked;
 pub mod grammar;

@@ -94,11 +94,15 @@ impl ImportLibrary {
         self.def.import_name.as_str()
     }
 
-    /// The members, in order.
+    /// The members, in order. An error leaves the library as it was.
     ///
-    /// Refuses, by the first that holds: an empty import name, a NUL in it; then for each export that
-    /// is not private, in order, an empty name, a NUL in one of its texts, an empty name to ask for;
-    /// then a member longer than 2^32 - 1 bytes. The faults of names come whatever memory there is.
+    /// # Errors
+    ///
+    /// The first that applies: `EmptyImportName` or `NulInImportName`; then, export by export,
+    /// private ones left out, `EmptyName`, `NulInExport` (of its name, symbol name or alias target) or
+    /// `EmptyAskedName`, with the index that the export has in the definition; then `MemberTooLong`
+    /// for a member of more than 2^32 - 1 bytes. Those of names come whatever memory there is; all
+    /// others can be preceded by `OutOfMemory`.
     pub fn members(&self) -> Result<Vec<Member>, Error>
         ensures ok { IfOk result (λ members.
             Made self.now.definition self.now.machine self.now.flavor (map member_view members.items)) }

@@ -31,7 +31,7 @@ after_byte count index = if index % 16 == 15 || index + 1 == count then 10 else 
 abbrev pub byte_listing : ℕ → ℕ × ℕ → List ℕ
 byte_listing count place = hex_byte place.1 ++ after_byte count place.0 ∷ []
 
--- bytes, in lines of at most 16
+-- bytes, a line for each 16 and one for those left over
 abbrev pub bytes_listing : List ℕ → List ℕ
 bytes_listing bytes = flat_map (byte_listing (length bytes)) (enumerate_from 0 bytes)
 

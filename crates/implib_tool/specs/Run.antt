@@ -8,17 +8,19 @@ use Rattle.implib.specs.Definition.{DefinitionView}
 use Rattle.implib.specs.Fault.{Cause, cause_of}
 use Rattle.implib.specs.Made.{Made, MemberView, refusal}
 use Rattle.implib.specs.Parses.{Parses, Refuses}
+use Rattle.implib.specs.Reads.{Reads}
 use Rattle.implib.specs.Renaming.{renamed}
 use Rattle.implib_tool.specs.declared.run.RunError.{RunError}
 use Rattle.implib_tool.specs.declared.run.RunError.TheVariants.{Refused, NotUtf8, Read, Write, OutOfMemory}
 use Rattle.implib_tool.specs.Listing.{listing_of}
 use Rattle.implib_tool.specs.Parts.{Parts}
 
--- the members are those of the definition that the text means, renamed
+-- the members are those of the definition that the text means, renamed, and are read as what it means
 pub record MembersOf (text : List ℕ) (machine : MachineType) (flavor : Flavor) (members : List MemberView) : Type 0 where
   pub meant : DefinitionView
   pub parses : Parses text machine meant
   pub made : Made (renamed meant) machine flavor members
+  pub reads : Reads (renamed meant) machine flavor members
 
 -- the definition that the text means, renamed, has no members, for this cause
 pub record HasNoMembers (text : List ℕ) (machine : MachineType) (flavor : Flavor) (cause : Cause) : Type 0 where

@@ -115,7 +115,7 @@ fn list_line(
     listing.push(&line[..3 * (end - start)])
 }
 
-/// Appends bytes, in lines of at most 16.
+/// Appends bytes, a line for each 16 and one for those left over.
 fn list_bytes(listing: &mut TextBlocks, bytes: &[u8]) -> Result<(), AllocError>
     ensures { OnOk result (listing.new ≡ listing.old ++ bytes_listing bytes.now) }
 {

@@ -116,7 +116,8 @@ fn list_parts(
 
 /// Reads all of the reader, and writes the listing of its definitions once it is whole.
 ///
-/// No fault is retried. The input is tested for UTF-8 before anything of it is refused.
+/// Neither device has failed before. No fault is retried. The input is tested for UTF-8 before
+/// anything of it is refused.
 pub fn run<R: Source, W: Sink>(
     alloc: Global,
     reader: &mut R,

@@ -39,7 +39,7 @@ impl Pass {
         })
     }
 
-    /// Appends a number, in 2 bytes, the low one first.
+    /// Appends a number, in 2 bytes, the low one first. There is room for them.
     #[tactic(auto, unfolding(crate::specs::Bytes::u16_bytes))]
     pub fn put_u16(&mut self, value: u16)
         requires { 2 ≤ self.old.left }
@@ -50,7 +50,7 @@ impl Pass {
         self.left -= 2;
     }
 
-    /// Appends a number, in 4 bytes, the low one first.
+    /// Appends a number, in 4 bytes, the low one first. There is room for them.
     #[tactic(auto, unfolding(crate::specs::Bytes::u32_bytes))]
     pub fn put_u32(&mut self, value: u32)
         requires { 4 ≤ self.old.left }
@@ -61,7 +61,7 @@ impl Pass {
         self.left -= 4;
     }
 
-    /// Appends bytes as they are.
+    /// Appends bytes as they are. There is room for them.
     pub fn put_bytes(&mut self, bytes: &[u8])
         requires { length bytes.now ≤ self.old.left }
         ensures puts { Puts self.old self.new bytes.now }
@@ -78,7 +78,7 @@ impl Pass {
         self.left
     }
 
-    /// All that was put, in order.
+    /// All that was put, in order, once no room is left.
     pub fn finish(self) -> Vec<u8>
         requires { self.left ≡ 0 }
         ensures { result.items ≡ self.put }

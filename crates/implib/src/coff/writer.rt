@@ -61,7 +61,9 @@ impl ObjectWriter {
         }
     }
 
-    /// Adds a section and gives its number, from 1. A refusal leaves the writer unchanged.
+    /// Adds a section and gives its number, from 1. Where memory is refused the writer is as before.
+    ///
+    /// The section has no relocation yet, and fewer than 32,767 others are there.
     pub fn add_section(&mut self, section: Section) -> Result<u16, Error>
         requires no_relocation { section.relocations.items ≡ [] }
         requires room { length self.old.sections < 32767 }
@@ -74,8 +76,11 @@ impl ObjectWriter {
         Ok(self.sections.len() as u16)
     }
 
-    /// Adds a symbol and gives its index, auxiliary records counted. A refusal leaves the writer
-    /// unchanged.
+    /// Adds a symbol and gives its index, for which auxiliary records count too. Where memory is
+    /// refused the writer is as before.
+    ///
+    /// The name has a byte or more and no NUL. The place is no section, or one that was added. The
+    /// symbol table has room for 2^32 - 1 records.
     pub fn add_symbol(&mut self, symbol: Symbol) -> Result<u32, Error>
         requires named { 0 < length (string_bytes symbol.name) }
         requires no_nul { HasNoNul (string_bytes symbol.name) }
@@ -94,7 +99,11 @@ impl ObjectWriter {
         Ok(index)
     }
 
-    /// Adds a relocation to the section of this number. A refusal leaves the writer unchanged.
+    /// Adds a relocation to the section of this number. Where memory is refused the writer is as
+    /// before.
+    ///
+    /// The section was added, with four bytes of data at the offset, and takes 65,535 relocations at
+    /// most. The symbol's index is one that `add_symbol` gave.
     pub fn add_relocation(&mut self, section: u16, relocation: Relocation) -> Result<(), Error>
         requires section { IsSomeAnd (section_numbered self.old.sections section) (HasRoomFor relocation) }
         requires symbol { IsSymbolIndex self.old.symbols relocation.symbol }

@@ -60,9 +60,9 @@ impl fmt::Display for TokenKind {
 pub struct Token<'a> {
     /// What the token is.
     pub kind: TokenKind,
-    /// The slice of the text that begins at byte `at`; empty at the end.
+    /// Its text, a slice of the whole; empty at the end.
     pub value: &'a str,
-    /// The byte offset in the text.
+    /// Where `value` begins in the whole text, in bytes.
     pub at: usize,
 }
 
@@ -115,10 +115,11 @@ impl<'a> Iterator for Lexer<'a> {
     }
 }
 
-/// The first place, not below `from`, that holds a byte which ends a word, or the length.
+/// Where a word ends that goes on at the index `from`: the index of the next byte that ends a word,
+/// which may stand at `from` itself, or the length.
 ///
-/// The bytes `=`, `,`, `;`, `\r`, `\n`, space, `\t` and `\x0B` end a word. The bytes need not be
-/// UTF-8.
+/// `=`, `,`, `;`, `\r`, `\n`, space, `\t` and `\x0B` end a word. `from` is not above the length. Any
+/// bytes will do, also such as are not UTF-8.
 pub fn word_end(bytes: &[u8], from: usize) -> usize
     requires { from ≤ length bytes.now }
     ensures { IsWordEnd bytes.now from result }
@@ -211,9 +212,8 @@ fn equal_sign<'a>(text: &'a str, at: usize) -> (Token<'a>, &'a str)
     }
 }
 
-// The token of the quoted name at the front of the text. Without a closing quote the value is
-// empty, and so it is without anything but white space inside; it then stands right after the
-// opening quote.
+// The token of the quoted name at the front of the text. An unclosed name, and one of white space
+// alone, has an empty value, which begins behind the first quote.
 fn quoted_name<'a>(text: &'a str, at: usize) -> (Token<'a>, &'a str)
     requires quote { begins is_quote text.now ≡ true }
     requires fits { at + length text.now < 2 ^ 64 }

@@ -22,8 +22,8 @@ pub fn sentence_or_broken()
         Broken tokens cause → Broken tokens other → cause ≡ other }
 {}
 
-/// A text is in the grammar or broken, never both; one that is in the grammar means one definition
-/// on each machine, and a broken one has one cause.
+/// Every text either is in the grammar, and then means one definition on each machine, or is broken,
+/// and then for one cause.
 pub fn grammar_or_broken(text: &str)
     ensures either { InGrammar text.now ⊎ IsBroken text.now }
     ensures never_both { (machine : MachineType) (definition : DefinitionView) (cause : Cause) →

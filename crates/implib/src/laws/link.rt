@@ -19,8 +19,8 @@ use crate::def::ModuleDef;
 use crate::library::Member;
 use crate::machine::MachineType;
 
-/// The head, the tail and the members of any chosen exports link, at any admissible bases, to an
-/// import of just these exports from the DLL.
+/// The head, the tail and the members of any chosen exports, where their listed symbols are distinct,
+/// link, at any admissible bases, to an import of just these exports from the DLL.
 ///
 /// `chosen` has the numbers of the exports, which count those that are not private from 0, in the
 /// order of their members' names. `bases` are the addresses of `.idata$2`, `$4`, `$5`, `$6`, `$7`.
@@ -62,7 +62,8 @@ pub fn gnu_links(
 /// link at any admissible bases, for each DLL to an import of just these exports from it.
 ///
 /// `members` and `chosen` have for each definition its members and the numbers of the chosen exports,
-/// as `gnu_links` takes them.
+/// as `gnu_links` takes them. The definitions stand in the order of what their members' names begin
+/// with, no such text begins another, and the listed symbols of all that is linked are distinct.
 pub fn gnu_links_many(
     defs: &[ModuleDef],
     machine: MachineType,

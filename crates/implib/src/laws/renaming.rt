@@ -6,7 +6,7 @@ ghost use Rattle.std.specs.Prelude.{◌≡◌};
 
 use crate::def::ModuleDef;
 
-/// Renaming a renamed definition changes nothing.
+/// A definition whose exports are under the names to link by stays as it is when it is renamed again.
 pub fn rename_twice(def: &ModuleDef)
     ensures { renamed (renamed (definition_view def.now)) ≡ renamed (definition_view def.now) }
 {

@@ -25,7 +25,7 @@ pub fn kinds_are_known(text: &str)
     ensures { (tokens : List Seen) → Lexed text.now tokens → AllByRecursion IsKnown tokens }
 {}
 
-/// Each token's value is the slice of the text that begins at the token's place.
+/// A token's value is cut from the text, from the token's place on.
 pub fn values_are_slices(text: &str)
     ensures { (tokens : List Seen) → Lexed text.now tokens → AllByRecursion (IsSliceOf text.now) tokens }
 {}

@@ -308,11 +308,13 @@ fn refusals_are_answered(rt: HostRuntime) -> Result<(), Fail> {
         ("EXPORTS\na\x0cb\nc\x0c\n", "import name is empty"),
     ];
     for (text, fault) in rows {
-        let got = answered(rt.alloc(), "", text.as_bytes(), WHOLE, (ANY, 0))?;
-        let want = format!(in rt.alloc(); "implib: {fault}\n")?;
-        assert_eq!(rt; got.status, 1, "{text:?}");
-        assert_eq!(rt; got.written.as_str(), "", "{text:?}");
-        assert_eq!(rt; got.faults.as_str(), want.as_str(), "{text:?}");
+        for words in ["AMD64 msvc", "AMD64 gnu"] {
+            let got = answered(rt.alloc(), words, text.as_bytes(), WHOLE, (ANY, 0))?;
+            let want = format!(in rt.alloc(); "implib: {fault}\n")?;
+            assert_eq!(rt; got.status, 1, "{text:?}");
+            assert_eq!(rt; got.written.as_str(), "", "{text:?}");
+            assert_eq!(rt; got.faults.as_str(), want.as_str(), "{text:?}");
+        }
     }
     Ok(())
 }
@@ -350,28 +352,48 @@ fn other_bytes_are_answered(rt: HostRuntime) -> Result<(), Fail> {
     Ok(())
 }
 
+/// Words and texts that devices are tried on.
+const RUNS: [(&str, &str); 3] = [("AMD64 gnu", BAR), ("", ALIASED), ("", PYTHON)];
+
+#[test]
+fn one_byte_a_call_changes_nothing(rt: HostRuntime) -> Result<(), Fail> {
+    for (words, text) in RUNS {
+        let whole = answered(rt.alloc(), words, text.as_bytes(), WHOLE, WHOLE)?;
+        let single = answered(rt.alloc(), words, text.as_bytes(), (1, ANY), (1, ANY))?;
+        assert_eq!(rt; whole.status, 0, "{text:?}");
+        assert_eq!(rt; single, whole, "{text:?}");
+    }
+    Ok(())
+}
+
 #[test]
 fn a_reader_that_fails_is_answered(rt: HostRuntime) -> Result<(), Fail> {
-    // One call for each byte, and one that finds the end.
-    for reads in 0..BAR.len() + 1 {
-        let got = answered(rt.alloc(), "", BAR.as_bytes(), (1, reads), (ANY, 0))?;
-        assert_eq!(rt; got.status, 3);
-        assert_eq!(rt; got.faults.as_str(), "implib: read failed\n");
+    for (words, text) in RUNS {
+        // One call for each byte, and one that finds the end.
+        for reads in 0..text.len() + 1 {
+            let got = answered(rt.alloc(), words, text.as_bytes(), (1, reads), WHOLE)?;
+            assert_eq!(rt; got.status, 3, "{text:?}");
+            assert_eq!(rt; got.written.as_str(), "", "{text:?}");
+            assert_eq!(rt; got.faults.as_str(), "implib: read failed\n", "{text:?}");
+        }
     }
     Ok(())
 }
 
 #[test]
 fn a_writer_that_fails_is_answered(rt: HostRuntime) -> Result<(), Fail> {
-    let all = answered(rt.alloc(), "", BAR.as_bytes(), WHOLE, WHOLE)?
-        .written
-        .len();
-    // One that fails at its first call, its second, and so on; the last takes no byte.
-    for calls in 0..=all {
-        let pace = if calls < all { (1, calls) } else { (0, ANY) };
-        let got = answered(rt.alloc(), "", BAR.as_bytes(), WHOLE, pace)?;
-        assert_eq!(rt; got.status, 3);
-        assert_eq!(rt; got.faults.as_str(), "implib: write failed\n");
+    for (words, text) in RUNS {
+        let all = answered(rt.alloc(), words, text.as_bytes(), WHOLE, WHOLE)?
+            .written
+            .len();
+        // One that fails at its first call, its second, and so on; the last takes no byte.
+        let last = all.div_ceil(64);
+        for calls in 0..=last {
+            let pace = if calls < last { (64, calls) } else { (0, ANY) };
+            let got = answered(rt.alloc(), words, text.as_bytes(), WHOLE, pace)?;
+            assert_eq!(rt; got.status, 3, "{text:?}");
+            assert_eq!(rt; got.faults.as_str(), "implib: write failed\n", "{text:?}");
+        }
     }
     Ok(())
 }
