@@ -1,7 +1,7 @@
 -- Where the bytes of ranges stand in an image.
 use Rattle.std.proofs.Common.{◌≡◌, ℕ, ◌+◌, ◌-◌, ◌<◌, ◌≤◌, ◌^◌, true, List, [], ◌∷◌, ◌++◌, length, Some, refl, ap, sym, ◌∙◌, arith, subst, inl, inr, ◌⊎◌}
-use Rattle.std.specs.Prelude.{nat_le, nat_lt, slice_index}
-use Rattle.std.specs.List.{AllByRecursion, flat_map}
+use Rattle.std.specs.Prelude.{Bool, ◌&&◌, nat_le, nat_lt, slice_index}
+use Rattle.std.specs.List.{AllByRecursion, flat_map, list_all}
 use Rattle.std.proofs.lemmas.Bool.{and_from, and_parts, cases_Bool, le-leb, leb-true, lt-ltb, ltb-true}
 use Rattle.std.proofs.lemmas.List.{append_assoc, get_or_at, length-append}
 use Rattle.implib.specs.Link.{AllApart, AreApart, Piece, Range, byte_at, filled, is_in, range_end, range_of}
@@ -57,6 +57,37 @@ byte_of r (x ∷ xs) a (inr m) apart within =
 
 is_in_from : (a : ℕ) (r : Range) → r.start ≤ a → a < range_end r → is_in a r ≡ true
 is_in_from a r low high = and_from _ _ (le-leb r.start a low) (lt-ltb a (range_end r) high)
+
+-- whether each range ends before the later ones start, and below a limit
+abbrev pub rise_below : ℕ → List Range → Bool
+rise_below limit [] = true
+rise_below limit (r ∷ rs) = nat_lt (range_end r) limit && (list_all (λ later. nat_le (range_end r) later.start) rs && rise_below limit rs)
+
+apart_from_first : (r : Range) (rs : List Range) → list_all (λ later. nat_le (range_end r) later.start) rs ≡ true → AllByRecursion (AreApart r) rs
+apart_from_first r [] h = tt
+apart_from_first r (later ∷ rs) h =
+    let parts = and_parts (nat_le (range_end r) later.start) (list_all (λ later. nat_le (range_end r) later.start) rs) h in (
+      λ a in_first in_later.
+          let first = ltb-true a (range_end r) (and_parts (nat_le r.start a) (nat_lt a (range_end r)) in_first).1 in
+          let second = leb-true later.start a (and_parts (nat_le later.start a) (nat_lt a (range_end later)) in_later).0 in
+          let between = leb-true (range_end r) later.start parts.0 in
+          omega arith,
+      apart_from_first r rs parts.1,
+    )
+
+pub apart_as_they_rise : (limit : ℕ) (rs : List Range) → rise_below limit rs ≡ true → AllApart rs
+apart_as_they_rise limit [] h = tt
+apart_as_they_rise limit (r ∷ rs) h =
+    let parts = and_parts (nat_lt (range_end r) limit) (list_all (λ later. nat_le (range_end r) later.start) rs && rise_below limit rs) h in
+    let later = and_parts (list_all (λ later. nat_le (range_end r) later.start) rs) (rise_below limit rs) parts.1 in
+    (apart_from_first r rs later.0, apart_as_they_rise limit rs later.1)
+
+pub ends_below : (limit : ℕ) (rs : List Range) → rise_below limit rs ≡ true → AllByRecursion (λ r. range_end r < limit) rs
+ends_below limit [] h = tt
+ends_below limit (r ∷ rs) h =
+    let parts = and_parts (nat_lt (range_end r) limit) (list_all (λ later. nat_le (range_end r) later.start) rs && rise_below limit rs) h in
+    let later = and_parts (list_all (λ later. nat_le (range_end r) later.start) rs) (rise_below limit rs) parts.1 in
+    (ltb-true (range_end r) limit parts.0, ends_below limit rs later.1)
 
 -- what a range holds from a place on stands there
 rest_stands : (r : Range) (ranges : List Range) → Among r ranges → AllApart ranges → (bytes front : List ℕ) (a : ℕ) →

@@ -1,14 +1,18 @@
 -- Members for GNU's linker that were linked by hand: where their tables stand and what they hold.
-use Rattle.std.specs.Prelude.{◌≡◌, ℕ, true, List, [], ◌∷◌, ◌++◌, map, codes, Option, Some, None}
+use Rattle.std.specs.Prelude.{◌≡◌, ℕ, true, List, [], ◌∷◌, ◌++◌, map, bytes_eq, codes, Option, Some, None}
+use Rattle.std.specs.List.{AllByRecursion, IsDistinct, flat_map}
 use Rattle.std.specs.Option.{option_map}
+use Rattle.implib.specs.declared.library.Flavor.TheVariants.{Gnu}
 use Rattle.implib.specs.declared.machine.MachineType.{MachineType}
 use Rattle.implib.specs.declared.machine.MachineType.TheVariants.{I386, AMD64}
 use Rattle.implib.specs.Definition.{DefinitionView, ExportView, empty_export}
 use Rattle.implib.specs.Gnu.{export_name, hint_name, thunk}
-use Rattle.implib.specs.Link.{Bases, Placed, Range, byte_at, definitions_of, image_of, placed_from}
+use Rattle.implib.specs.Link.{Bases, IsAdmissible, Placed, Range, byte_at, definitions_of, image_of, placed_from}
 use Rattle.implib.specs.Load.{number_in}
+use Rattle.implib.specs.Made.{Made, member_of, plans_of}
 use Rattle.implib.specs.Object.{each_at}
-use Rattle.implib.specs.Theorem.{ComesBefore, Part, all_linked, linked_members, objects_in}
+use Rattle.implib.specs.Renaming.{renamed}
+use Rattle.implib.specs.Theorem.{AllRise, ComesBefore, IsPart, NoneBegins, Part, all_linked, beginning, linked_members, objects_in}
 use Rattle.implib.specs.WorkedMembers.{of_dll}
 use Rattle.implib.specs.WorkedStatements.{plain_export}
 
@@ -70,14 +74,21 @@ bases_32 = record { descriptors = 0x1000; lookups = 0x1014; addresses = 0x1020; 
 
 -- two DLLs with one export each
 abbrev pub part : List ℕ → List ℕ → Part
-part dll name = record { definition = of_dll dll (plain_export name ∷ []); members = []; chosen = 0 ∷ [] }
+part dll name = record {
+  definition = of_dll dll (plain_export name ∷ []);
+  members = map member_of (plans_of (renamed (of_dll dll (plain_export name ∷ []))) AMD64 Gnu);
+  chosen = 0 ∷ [];
+}
+
+abbrev pub two_parts : List Part
+two_parts = part (codes "foo.dll") (codes "bar") ∷ part (codes "zed.dll") (codes "qux") ∷ []
 
 abbrev pub bases_of_two : Bases
 bases_of_two = record { descriptors = 0x1000; lookups = 0x1030; addresses = 0x1050; hint_names = 0x1070; dll_names = 0x1080 }
 
 abbrev pub placed_two : List Placed
 placed_two =
-    placed_from bases_of_two (objects_in (all_linked AMD64 (part (codes "foo.dll") (codes "bar") ∷ part (codes "zed.dll") (codes "qux") ∷ [])))
+    placed_from bases_of_two (objects_in (all_linked AMD64 two_parts))
 
 -- their descriptors, one after another, the thunks of both, the addresses of their symbols
 pub record TwoLink : Type 0 where
@@ -88,8 +99,25 @@ pub record TwoLink : Type 0 where
   pub bar : addresses_of (codes "__imp_bar") placed_two ≡ Some 0x1050 ∷ []
   pub qux : addresses_of (codes "__imp_qux") placed_two ≡ Some 0x1060 ∷ []
 
+-- The law of linking speaks of these: they are the members of a definition that is not refused, they
+-- are placed where they may be, and their listed symbols are distinct.
+pub record MayLink (d : DefinitionView) (machine : MachineType) (bases : Bases) (chosen : List ℕ) : Type 0 where
+  pub made : Made d machine Gnu (map member_of (plans_of (renamed d) machine Gnu))
+  pub distinct : IsDistinct bytes_eq (flat_map (λ m. m.symbols) (linked_members d machine chosen))
+  pub admissible : IsAdmissible machine bases (objects_in (linked_members d machine chosen))
+
+-- and so does the law of linking several
+pub record PartsMayLink (machine : MachineType) (bases : Bases) (parts : List Part) : Type 0 where
+  pub made : AllByRecursion (IsPart machine) parts
+  pub rising : AllRise (map (λ p. beginning p.definition) parts)
+  pub apart : NoneBegins (map (λ p. beginning p.definition) parts)
+  pub distinct : IsDistinct bytes_eq (flat_map (λ m. m.symbols) (all_linked machine parts))
+  pub admissible : IsAdmissible machine bases (objects_in (all_linked machine parts))
+
 -- linked by hand
 pub record WorkedLinks : Type 0 where
+  pub two_may_link : PartsMayLink AMD64 bases_of_two two_parts
+  pub both_may_link : MayLink (foo (codes "bar") (codes "baz")) AMD64 bases_64 (0 ∷ 1 ∷ [])
   pub two : TwoLink
   pub both : Answers (foo (codes "bar") (codes "baz")) AMD64
       (record { bases = bases_64; width = 8; thunks = 3; hints = 6; dll = 0x1088 }) (0 ∷ 1 ∷ [])
