@@ -1,7 +1,8 @@
-"""The program once more, in Python, for `bench/random` to compare with. It was written from the rules
-of docs/GRAMMAR.md and docs/FORMATS.md by somebody who had seen neither the code nor its
-specifications, and shortened since. Definitions that are made by hand and members that are too long
-are not in it.
+"""The program once more, in Python, for `bench/random` to compare with. It has the rules
+that docs/GRAMMAR.md and docs/FORMATS.md tell. It was written by somebody who had seen neither the
+code nor its specifications, and was then put into this shorter form by an author of the code, with
+the same answers to 6,000 texts. Definitions that are made by hand and members that are too long are
+not in it.
 
 `run` gives the status, the output and the line of a fault for an input and the program's words.
 Devices never fail here, and memory is ample.
@@ -27,9 +28,9 @@ class Machine:
         return 4 if self.is_32bit else 8
 
 
-X86_STUB = bytes.fromhex("FF 25 00 00 00 00 90 90")
-ARM_STUB = bytes.fromhex("00 C0 9F E5 00 F0 9C E5 00 00 00 00")
-ARM64_STUB = bytes.fromhex("10 00 00 90 10 02 40 F9 00 02 1F D6")
+X86_STUB = bytes.fromhex("ff 25 00 00 00 00 90 90")
+ARM_STUB = bytes.fromhex("00 c0 9f e5 00 f0 9c e5 00 00 00 00")
+ARM64_STUB = bytes.fromhex("10 00 00 90 10 02 40 f9 00 02 1f d6")
 MACHINES = {
     "I386": Machine(0x14C, True, 7, X86_STUB, ((2, 6),)),
     "ARMNT": Machine(0x1C4, True, 2, ARM_STUB, ((8, 0x0A),)),
