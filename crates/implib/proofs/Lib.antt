@@ -54,6 +54,7 @@ pub mod WriterPicture
 pub mod Written
 pub mod WriterSound
 pub mod WorkedObjects
+pub mod WorkedTables
 pub mod Asked
 pub mod WorkedMembers
 pub mod WorkedGnu

@@ -39,5 +39,8 @@ pub mod WorkedMembers
 pub mod Gnu
 pub mod GnuReading
 pub mod WorkedGnu
+pub mod WorkedDigits
+pub mod WorkedMachines
 pub mod WorkedObjects
+pub mod WorkedTables
 pub mod Ascii

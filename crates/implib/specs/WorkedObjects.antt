@@ -1,8 +1,11 @@
--- Objects with their sizes and places, worked by hand.
+-- Objects worked by hand: those of foo.dll with all their numbers, and sizes and places of objects.
 use Rattle.std.specs.Prelude.{◌≡◌, ℕ, ◌+◌, List, [], ◌∷◌, ◌++◌, None, Some, codes, replicate}
 use Rattle.implib.specs.declared.coff.object.Relocation.{Relocation}
+use Rattle.implib.specs.declared.machine.MachineType.TheVariants.{I386, AMD64}
 use Rattle.implib.specs.Object.{ObjectSection}
 use Rattle.implib.specs.Picture.{InRecord, Listed, Picture, PictureSymbol, SymbolName, contents_place, contents_size, header_bytes, layout_size, string_offsets, strings_size, symbols_place}
+use Rattle.implib.specs.WorkedDigits.{hex}
+use Rattle.implib.specs.WorkedMachines.{Numbers, at, numbers}
 
 -- a symbol of value 0 without an auxiliary record
 abbrev pub symbol : SymbolName → ℕ → ℕ → PictureSymbol
@@ -10,9 +13,6 @@ symbol name section class = record { name = name; value = 0; section = section; 
 
 abbrev pub section : List ℕ → ℕ → List ℕ → List Relocation → ObjectSection
 section name flags bytes relocations = record { name = name; flags = flags; bytes = bytes; relocations = relocations }
-
-abbrev pub at : ℕ → ℕ → ℕ → Relocation
-at offset symbol kind = record { offset = offset; symbol = symbol; kind = kind }
 
 abbrev pub zeros : ℕ → List ℕ
 zeros count = replicate count 0
@@ -42,36 +42,15 @@ one_section = record {
   strings = [];
 }
 
--- the export member of `bar` of `foo.dll` for AMD64
-unfoldable pub bar_member : Picture
-bar_member = record {
-  machine = 0x8664;
-  characteristics = 0;
-  sections =
-      section (codes ".text" ++ zeros 3) 0x60300020 (0xFF ∷ 0x25 ∷ 0 ∷ 0 ∷ 0 ∷ 0 ∷ 0x90 ∷ 0x90 ∷ []) (at 2 2 4 ∷ [])
-      ∷ section (codes ".data" ++ zeros 3) 0xC0300040 [] []
-      ∷ section (codes ".bss" ++ zeros 4) 0xC0300080 [] []
-      ∷ section (codes ".idata$7") 0xC0300000 (zeros 4) (at 0 0 3 ∷ [])
-      ∷ section (codes ".idata$5") 0xC0300000 (zeros 8) (at 0 3 3 ∷ [])
-      ∷ section (codes ".idata$4") 0xC0300000 (zeros 8) (at 0 3 3 ∷ [])
-      ∷ section (codes ".idata$6") 0xC0200000 (0 ∷ 0 ∷ codes "bar" ++ zeros 1) []
-      ∷ [];
-  symbols =
-      symbol (Listed 0) 0 2
-      ∷ symbol (InRecord (codes "bar")) 1 2
-      ∷ symbol (Listed 1) 5 2
-      ∷ symbol (InRecord (codes ".idata$6")) 7 3
-      ∷ [];
-  strings = codes "_head_foo_dll" ∷ codes "__imp_bar" ∷ [];
-}
+-- For Microsoft's linker, by the numbers of the machine.
 
--- the import descriptor of `foo.dll` for AMD64
-unfoldable pub descriptor : Picture
-descriptor = record {
-  machine = 0x8664;
-  characteristics = 0;
+-- the import descriptor of foo.dll
+unfoldable pub descriptor : Numbers → Picture
+descriptor n = record {
+  machine = n.machine;
+  characteristics = n.characteristics;
   sections =
-      section (codes ".idata$2") 0xC0300040 (zeros 20) (at 12 2 3 ∷ at 0 3 3 ∷ at 16 4 3 ∷ [])
+      section (codes ".idata$2") 0xC0300040 (zeros 20) (at 12 2 n.image_relative ∷ at 0 3 n.image_relative ∷ at 16 4 n.image_relative ∷ [])
       ∷ section (codes ".idata$6") 0xC0200040 (codes "foo.dll" ++ zeros 1) []
       ∷ [];
   symbols =
@@ -86,40 +65,160 @@ descriptor = record {
   strings = codes "__IMPORT_DESCRIPTOR_foo" ∷ codes "__NULL_IMPORT_DESCRIPTOR" ∷ (0x7F ∷ codes "foo_NULL_THUNK_DATA") ∷ [];
 }
 
--- the null descriptor, and the null thunk of `foo.dll` for a machine by its thunk
-
-unfoldable pub null_descriptor : Picture
-null_descriptor = record {
-  machine = 0x8664;
-  characteristics = 0;
+-- the null descriptor
+unfoldable pub null_descriptor : Numbers → Picture
+null_descriptor n = record {
+  machine = n.machine;
+  characteristics = n.characteristics;
   sections = section (codes ".idata$3") 0xC0300040 (zeros 20) [] ∷ [];
   symbols = symbol (Listed 0) 1 2 ∷ [];
   strings = codes "__NULL_IMPORT_DESCRIPTOR" ∷ [];
 }
 
-unfoldable pub null_thunk : ℕ → ℕ → ℕ → ℕ → Picture
-null_thunk machine characteristics width flags = record {
-  machine = machine;
-  characteristics = characteristics;
-  sections = section (codes ".idata$5") flags (zeros width) [] ∷ section (codes ".idata$4") flags (zeros width) [] ∷ [];
+-- the null thunk of foo.dll
+unfoldable pub null_thunk : Numbers → Picture
+null_thunk n = record {
+  machine = n.machine;
+  characteristics = n.characteristics;
+  sections =
+      section (codes ".idata$5") n.null_thunk_flags n.null_thunk []
+      ∷ section (codes ".idata$4") n.null_thunk_flags n.null_thunk []
+      ∷ [];
   symbols = symbol (Listed 0) 1 2 ∷ [];
   strings = (0x7F ∷ codes "foo_NULL_THUNK_DATA") ∷ [];
 }
 
 -- a weak external: the second name for the first
-unfoldable pub weak : List ℕ → List ℕ → Picture
-weak target name = record {
-  machine = 0x8664;
+unfoldable pub weak : Numbers → List ℕ → List ℕ → Picture
+weak n target name = record {
+  machine = n.machine;
   characteristics = 0;
   sections = section (codes ".drectve") 0xA00 [] [] ∷ [];
   symbols =
       symbol (InRecord (codes "@comp.id")) 0xFFFF 3
       ∷ symbol (InRecord (codes "@feat.00")) 0xFFFF 3
       ∷ symbol (Listed 0) 0 2
-      ∷ record { name = Listed 1; value = 0; section = 0; class = 105; aux = Some (2 ∷ 0 ∷ 0 ∷ 0 ∷ 3 ∷ zeros 13) }
+      ∷ record {
+        name = Listed 1;
+        value = 0;
+        section = 0;
+        class = 105;
+        aux = Some (hex (codes "02 00 00 00 03 00 00 00 00 00 00 00 00 00 00 00 00 00"));
+      }
       ∷ [];
   strings = target ∷ name ∷ [];
 }
+
+-- For GNU's linker, by the numbers of the machine.
+
+-- the symbol of a file's name: section -2, one auxiliary record
+abbrev pub file : PictureSymbol
+file = record { name = InRecord (codes ".file"); value = 0; section = 0xFFFE; class = 103; aux = Some (codes "fake" ++ zeros 14) }
+
+-- the sections of the head and of the tail that hold nothing
+abbrev pub empty_sections : List ObjectSection
+empty_sections =
+    section (codes ".text" ++ zeros 3) 0x60500020 [] []
+    ∷ section (codes ".data" ++ zeros 3) 0xC0500040 [] []
+    ∷ section (codes ".bss" ++ zeros 4) 0xC0500080 [] []
+    ∷ []
+
+-- the head of foo.dll
+unfoldable pub head : Numbers → Picture
+head n = record {
+  machine = n.machine;
+  characteristics = 0;
+  sections =
+      empty_sections
+      ++ section (codes ".idata$2") 0xC0300040 (zeros 20) (at 0 3 n.image_relative ∷ at 16 2 n.image_relative ∷ at 12 5 n.image_relative ∷ [])
+      ∷ section (codes ".idata$5") 0xC0300040 [] []
+      ∷ section (codes ".idata$4") 0xC0300040 [] []
+      ∷ [];
+  symbols =
+      file
+      ∷ symbol (InRecord (codes ".idata$5")) 5 3
+      ∷ symbol (InRecord (codes ".idata$4")) 6 3
+      ∷ symbol (Listed 0) 4 2
+      ∷ symbol (Listed 1) 0 2
+      ∷ [];
+  strings = n.head ∷ n.iname ∷ [];
+}
+
+-- the tail of foo.dll
+unfoldable pub tail : Numbers → Picture
+tail n = record {
+  machine = n.machine;
+  characteristics = 0;
+  sections =
+      empty_sections
+      ++ section (codes ".idata$4") 0xC0300040 n.null_thunk []
+      ∷ section (codes ".idata$5") 0xC0300040 n.null_thunk []
+      ∷ section (codes ".idata$7") 0xC0300040 (codes "foo.dll" ++ zeros 1) []
+      ∷ [];
+  symbols = file ∷ symbol (Listed 0) 6 2 ∷ [];
+  strings = n.iname ∷ [];
+}
+
+-- the sections of an export: its code, its entry in both tables, and its hint and name, with what is relocated
+abbrev pub export_sections : Numbers → List ℕ → List Relocation → List ℕ → List Relocation → List ℕ → List ObjectSection
+export_sections n code code_relocations entry entry_relocations hint_and_name =
+    section (codes ".text" ++ zeros 3) 0x60300020 code code_relocations
+    ∷ section (codes ".data" ++ zeros 3) 0xC0300040 [] []
+    ∷ section (codes ".bss" ++ zeros 4) 0xC0300080 [] []
+    ∷ section (codes ".idata$7") 0xC0300000 (zeros 4) (at 0 0 n.image_relative ∷ [])
+    ∷ section (codes ".idata$5") 0xC0300000 entry entry_relocations
+    ∷ section (codes ".idata$4") 0xC0300000 entry entry_relocations
+    ∷ section (codes ".idata$6") 0xC0200000 hint_and_name []
+    ∷ []
+
+-- an export of foo.dll with code, by its name of at most 8 bytes and the symbol of its address
+abbrev pub with_code : Numbers → List ℕ → List ℕ → List ObjectSection → Picture
+with_code n name address sections = record {
+  machine = n.machine;
+  characteristics = 0;
+  sections = sections;
+  symbols =
+      symbol (Listed 0) 0 2
+      ∷ symbol (InRecord name) 1 2
+      ∷ symbol (Listed 1) 5 2
+      ∷ symbol (InRecord (codes ".idata$6")) 7 3
+      ∷ [];
+  strings = n.head ∷ address ∷ [];
+}
+
+-- the variable bar of foo.dll: no code
+abbrev pub without_code : Numbers → List ObjectSection → Picture
+without_code n sections = record {
+  machine = n.machine;
+  characteristics = 0;
+  sections = sections;
+  symbols = symbol (Listed 0) 0 2 ∷ symbol (Listed 1) 5 2 ∷ symbol (InRecord (codes ".idata$6")) 7 3 ∷ [];
+  strings = n.head ∷ codes "__imp_bar" ∷ [];
+}
+
+-- the function bar
+unfoldable pub function : Numbers → Picture
+function n = with_code n (codes "bar") (codes "__imp_bar")
+    (export_sections n n.stub n.stub_relocations n.null_thunk (at 0 3 n.image_relative ∷ []) (hex (codes "00 00 62 61 72 00")))
+
+-- a function of this name, which is asked for by this hint and name
+unfoldable pub function_asking : Numbers → List ℕ → List ℕ → List ℕ → Picture
+function_asking n name address hint_and_name = with_code n name address
+    (export_sections n n.stub n.stub_relocations n.null_thunk (at 0 3 n.image_relative ∷ []) hint_and_name)
+
+-- the function bar by the ordinal 258
+unfoldable pub function_by_ordinal : Numbers → Picture
+function_by_ordinal n = with_code n (codes "bar") (codes "__imp_bar")
+    (export_sections n n.stub n.stub_relocations n.thunk_of_258 [] [])
+
+-- the variable bar with the hint 258
+unfoldable pub variable : Numbers → Picture
+variable n = without_code n
+    (export_sections n [] [] n.null_thunk (at 0 2 n.image_relative ∷ []) (hex (codes "02 01 62 61 72 00")))
+
+-- the variable bar by the ordinal 258
+unfoldable pub variable_by_ordinal : Numbers → Picture
+variable_by_ordinal n = without_code n (export_sections n [] [] n.thunk_of_258 [] [])
 
 -- what is worked of them: sizes in bytes, places from the begin of the file
 pub record WorkedObjects : Type 0 where
@@ -127,17 +226,18 @@ pub record WorkedObjects : Type 0 where
   pub one_section_size : layout_size one_section ≡ 112
   pub one_section_places : places_from (contents_place one_section) one_section.sections ≡ 60 ∷ []
   pub one_section_symbols : symbols_place one_section ≡ 90
-  pub bar_member_size : layout_size bar_member ≡ 474
-  pub bar_member_places : places_from (contents_place bar_member) bar_member.sections ≡ 300 ∷ 318 ∷ 318 ∷ 318 ∷ 332 ∷ 350 ∷ 368 ∷ []
-  pub bar_member_symbols : symbols_place bar_member ≡ 374
-  pub bar_member_strings : strings_size bar_member.strings ≡ 28
-  pub descriptor_size : layout_size descriptor ≡ 358
-  pub descriptor_header : header_bytes descriptor ≡ 0x64 ∷ 0x86 ∷ 2 ∷ 0 ∷ 0 ∷ 0 ∷ 0 ∷ 0 ∷ 0x9E ∷ 0 ∷ 0 ∷ 0 ∷ 7 ∷ 0 ∷ 0 ∷ 0 ∷ 0 ∷ 0 ∷ 0 ∷ 0 ∷ []
-  pub descriptor_offsets : string_offsets descriptor.strings ≡ 4 ∷ 28 ∷ 53 ∷ []
-  pub descriptor_strings : strings_size descriptor.strings ≡ 74
-  pub null_descriptor_size : layout_size null_descriptor ≡ 127
-  pub null_thunk_size : layout_size (null_thunk 0x8664 0 8 0xC0400040) ≡ 159
-  pub null_thunk_size_32 : layout_size (null_thunk 0x14C 0x100 4 0xC0300040) ≡ 151
-  pub weak_size : layout_size (weak (codes "baz") (codes "foo")) ≡ 162
-  pub weak_size_imp : layout_size (weak (codes "__imp_baz") (codes "__imp_foo")) ≡ 174
-  pub weak_symbols : symbols_place (weak (codes "baz") (codes "foo")) ≡ 60
+  pub function_size : layout_size (function (numbers AMD64)) ≡ 474
+  pub function_places : places_from (contents_place (function (numbers AMD64))) (function (numbers AMD64)).sections
+      ≡ 300 ∷ 318 ∷ 318 ∷ 318 ∷ 332 ∷ 350 ∷ 368 ∷ []
+  pub function_symbols : symbols_place (function (numbers AMD64)) ≡ 374
+  pub function_strings : strings_size (function (numbers AMD64)).strings ≡ 28
+  pub descriptor_size : layout_size (descriptor (numbers AMD64)) ≡ 358
+  pub descriptor_header : header_bytes (descriptor (numbers AMD64)) ≡ hex (codes "64 86 02 00 00 00 00 00 9e 00 00 00 07 00 00 00 00 00 00 00")
+  pub descriptor_offsets : string_offsets (descriptor (numbers AMD64)).strings ≡ 4 ∷ 28 ∷ 53 ∷ []
+  pub descriptor_strings : strings_size (descriptor (numbers AMD64)).strings ≡ 74
+  pub null_descriptor_size : layout_size (null_descriptor (numbers AMD64)) ≡ 127
+  pub null_thunk_size : layout_size (null_thunk (numbers AMD64)) ≡ 159
+  pub null_thunk_size_32 : layout_size (null_thunk (numbers I386)) ≡ 151
+  pub weak_size : layout_size (weak (numbers AMD64) (codes "baz") (codes "foo")) ≡ 162
+  pub weak_size_imp : layout_size (weak (numbers AMD64) (codes "__imp_baz") (codes "__imp_foo")) ≡ 174
+  pub weak_symbols : symbols_place (weak (numbers AMD64) (codes "baz") (codes "foo")) ≡ 60

@@ -3,7 +3,10 @@
 ghost use Rattle.implib.specs.Object.{Object, object_in};
 ghost use Rattle.implib.specs.Picture.{Fits, Picture, layout, layout_size, object_of};
 ghost use Rattle.implib.specs.WorkedObjects.{WorkedObjects};
+ghost use Rattle.implib.specs.WorkedTables.{WorkedAskedNames, WorkedGnuNames, WorkedGnuTables, WorkedMsvcTables, WorkedNameTypes, WorkedNames, WorkedRecords};
 ghost use Rattle.std.specs.Prelude.{◌<◌, ◌^◌, ◌≡◌, ℕ, List, Some, length};
+
+use crate::machine::MachineType;
 
 /// A picture whose fields have their ranges and whose bytes are fewer than 2^32 reads back from its
 /// bytes as what it shows.
@@ -24,4 +27,19 @@ pub fn object_is_one()
 /// Objects that were worked by hand have their sizes and places.
 pub fn worked_objects()
     ensures { WorkedObjects }
+{}
+
+/// The tables of foo.dll, which was worked by hand, are these objects on each machine.
+pub fn worked_tables()
+    ensures for_microsoft { (machine : MachineType) → WorkedMsvcTables machine }
+    ensures for_gnu { (machine : MachineType) → WorkedGnuTables machine }
+    ensures asked_of_gnu { WorkedGnuNames }
+    ensures names { WorkedNames }
+{}
+
+/// Records that were worked by hand have these bytes, and ask for these names.
+pub fn worked_records()
+    ensures bytes { WorkedRecords }
+    ensures name_types { WorkedNameTypes }
+    ensures asked { WorkedAskedNames }
 {}

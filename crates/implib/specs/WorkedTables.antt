@@ -1,0 +1,124 @@
+-- The tables of both flavours for foo.dll, held against objects and bytes that were worked by hand.
+use Rattle.std.specs.Prelude.{◌≡◌, ℕ, true, List, [], ◌∷◌, ◌++◌, codes, take, drop}
+use Rattle.implib.specs.declared.machine.MachineType.{MachineType}
+use Rattle.implib.specs.declared.machine.MachineType.TheVariants.{I386, ARMNT, AMD64, ARM64}
+use Rattle.implib.specs.Definition.{ExportView, empty_export}
+use Rattle.implib.specs.Gnu.{export_object, five_digits, head_object, stem, tail_object}
+use Rattle.implib.specs.Msvc.{asked_by_record, record_bytes, record_of}
+use Rattle.implib.specs.MsvcObjects.{base_name, weak_object}
+use Rattle.implib.specs.MsvcObjects as msvc
+use Rattle.implib.specs.Picture.{Picture}
+use Rattle.implib.specs.Writer.{picture_of}
+use Rattle.implib.specs.WorkedDigits.{hex}
+use Rattle.implib.specs.WorkedMachines.{numbers}
+use Rattle.implib.specs.WorkedObjects.{descriptor, function, function_asking, function_by_ordinal, head, null_descriptor, null_thunk, tail, variable, variable_by_ordinal, weak}
+use Rattle.implib.specs.WorkedStatements.{plain_export}
+
+abbrev pub foo_dll : List ℕ
+foo_dll = codes "foo.dll"
+
+-- The objects for Microsoft's linker, and both weak externals that make foo stand for baz.
+pub record WorkedMsvcTables (machine : MachineType) : Type 0 where
+  pub descriptor : msvc.descriptor machine foo_dll ≡ descriptor (numbers machine)
+  pub null_descriptor : msvc.null_descriptor machine ≡ null_descriptor (numbers machine)
+  pub null_thunk : msvc.null_thunk machine foo_dll ≡ null_thunk (numbers machine)
+  pub weak : weak_object machine (codes "foo") (codes "baz") ≡ weak (numbers machine) (codes "baz") (codes "foo")
+
+-- the object of an export of foo.dll for GNU's linker
+abbrev pub gnu_export : MachineType → ExportView → Picture
+gnu_export machine e = picture_of (export_object machine foo_dll e)
+
+-- the function bar
+abbrev pub bar : ExportView
+bar = plain_export (codes "bar")
+
+-- The objects for GNU's linker.
+pub record WorkedGnuTables (machine : MachineType) : Type 0 where
+  pub head : picture_of (head_object machine foo_dll) ≡ head (numbers machine)
+  pub tail : picture_of (tail_object machine foo_dll) ≡ tail (numbers machine)
+  pub function : gnu_export machine bar ≡ function (numbers machine)
+  pub function_by_ordinal : gnu_export machine (record bar { no_name = true; ordinal = 258 }) ≡ function_by_ordinal (numbers machine)
+  pub variable : gnu_export machine (record bar { is_data = true; ordinal = 258 }) ≡ variable (numbers machine)
+  pub variable_by_ordinal : gnu_export machine (record bar { is_data = true; no_name = true; ordinal = 258 })
+      ≡ variable_by_ordinal (numbers machine)
+
+-- What is asked for in GNU's objects: I386 takes an underscore off, unless there is an `@`.
+pub record WorkedGnuNames : Type 0 where
+  pub underscore_on_i386 : gnu_export I386 (plain_export (codes "_bar"))
+      ≡ function_asking (numbers I386) (codes "_bar") (codes "__imp__bar") (hex (codes "00 00 62 61 72 00"))
+  pub underscore_on_armnt : gnu_export ARMNT (plain_export (codes "_bar"))
+      ≡ function_asking (numbers ARMNT) (codes "_bar") (codes "__imp__bar") (hex (codes "00 00 5f 62 61 72 00"))
+  pub with_underscore_and_at_sign : gnu_export I386 (plain_export (codes "_f@8"))
+      ≡ function_asking (numbers I386) (codes "_f@8") (codes "__imp__f@8") (hex (codes "00 00 5f 66 40 38 00"))
+  pub with_two_at_signs : gnu_export I386 (plain_export (codes "@h@4"))
+      ≡ function_asking (numbers I386) (codes "@h@4") (codes "__imp_@h@4") (hex (codes "00 00 40 68 40 34 00"))
+
+-- What members and symbols are named after: the import name less one extension, and with `_` for each `.`.
+pub record WorkedNames : Type 0 where
+  pub base_of_dll : base_name (codes "a-b.dll") ≡ codes "a-b"
+  pub base_of_exe : base_name (codes "a.exe") ≡ codes "a"
+  pub base_of_sys : base_name (codes "a.sys") ≡ codes "a.sys"
+  pub base_of_two : base_name (codes "a.b.dll.dll") ≡ codes "a.b.dll"
+  pub base_in_capitals : base_name (codes "a.DLL") ≡ codes "a.DLL"
+  pub base_without_full_stop : base_name (codes "dll") ≡ codes "dll"
+  pub base_of_extension : base_name (codes ".dll") ≡ []
+  pub stem_of_sys : stem (codes "a.sys") ≡ codes "a_sys"
+  pub stem_of_dll : stem (codes "a-b.dll") ≡ codes "a-b_dll"
+  pub stem_of_two : stem (codes "a.b.dll.dll") ≡ codes "a_b_dll_dll"
+  pub stem_of_underscore : stem (codes "A_b/@.Dll") ≡ codes "A_b/@_Dll"
+  pub first_number : five_digits 0 ≡ codes "00000"
+  pub greatest_number_of_five : five_digits 99999 ≡ codes "99999"
+  pub number_of_six : five_digits 100000 ≡ codes "100000"
+
+-- the record of an export of foo.dll
+abbrev pub record_for : MachineType → ExportView → List ℕ
+record_for machine e = record_bytes (record_of machine foo_dll e)
+
+-- a function that is linked by another name than the DLL's
+abbrev pub under_symbol : List ℕ → List ℕ → ExportView
+under_symbol name symbol = record empty_export { name = name; symbol_name = symbol }
+
+-- Whole records: the first two bytes of the last four are the ordinal or hint, the next one is the import
+-- type and 4 times the name type.
+pub record WorkedRecords : Type 0 where
+  pub on_i386 : record_for I386 bar ≡ hex (codes "00 00 ff ff 00 00 4c 01 00 00 00 00 0c 00 00 00 00 00 04 00 62 61 72 00 66 6f 6f 2e 64 6c 6c 00")
+  pub on_armnt : record_for ARMNT bar ≡ hex (codes "00 00 ff ff 00 00 c4 01 00 00 00 00 0c 00 00 00 00 00 04 00 62 61 72 00 66 6f 6f 2e 64 6c 6c 00")
+  pub on_amd64 : record_for AMD64 bar ≡ hex (codes "00 00 ff ff 00 00 64 86 00 00 00 00 0c 00 00 00 00 00 04 00 62 61 72 00 66 6f 6f 2e 64 6c 6c 00")
+  pub on_arm64 : record_for ARM64 bar ≡ hex (codes "00 00 ff ff 00 00 64 aa 00 00 00 00 0c 00 00 00 00 00 04 00 62 61 72 00 66 6f 6f 2e 64 6c 6c 00")
+  pub hint : record_for AMD64 (record bar { ordinal = 0x1234 })
+      ≡ hex (codes "00 00 ff ff 00 00 64 86 00 00 00 00 0c 00 00 00 34 12 04 00 62 61 72 00 66 6f 6f 2e 64 6c 6c 00")
+  pub constant_by_ordinal : record_for AMD64 (record bar { constant = true; no_name = true; ordinal = 0x1234 })
+      ≡ hex (codes "00 00 ff ff 00 00 64 86 00 00 00 00 0c 00 00 00 34 12 02 00 62 61 72 00 66 6f 6f 2e 64 6c 6c 00")
+  pub data_without_prefix : record_for I386 (record empty_export { name = codes "_v"; is_data = true })
+      ≡ hex (codes "00 00 ff ff 00 00 4c 01 00 00 00 00 0b 00 00 00 00 00 09 00 5f 76 00 66 6f 6f 2e 64 6c 6c 00")
+  pub undecorated : record_for AMD64 (under_symbol (codes "f") (codes "_f@8"))
+      ≡ hex (codes "00 00 ff ff 00 00 64 86 00 00 00 00 0d 00 00 00 00 00 0c 00 5f 66 40 38 00 66 6f 6f 2e 64 6c 6c 00")
+
+-- the last two bytes of a record's header
+abbrev pub types_of : MachineType → ExportView → List ℕ
+types_of machine e = take 2 (drop 18 (record_for machine e))
+
+-- Which name type is taken where several rules hold.
+pub record WorkedNameTypes : Type 0 where
+  pub no_rule : types_of AMD64 (plain_export (codes "_f")) ≡ hex (codes "04 00")
+  pub prefix : types_of I386 (plain_export (codes "_f")) ≡ hex (codes "08 00")
+  pub prefix_on_armnt : types_of ARMNT (plain_export (codes "_f")) ≡ hex (codes "04 00")
+  pub other_symbol : types_of ARM64 (under_symbol (codes "f") (codes "g")) ≡ hex (codes "0c 00")
+  pub decorated_before_prefix : types_of I386 (plain_export (codes "_f@8")) ≡ hex (codes "04 00")
+  pub decorated_before_other_symbol : types_of I386 (under_symbol (codes "_f@8") (codes "_g")) ≡ hex (codes "04 00")
+  pub decorated_on_amd64 : types_of AMD64 (under_symbol (codes "_f@8") (codes "g")) ≡ hex (codes "04 00")
+  pub at_sign_alone : types_of I386 (under_symbol (codes "f@8") (codes "g")) ≡ hex (codes "0c 00")
+  pub underscore_alone : types_of I386 (under_symbol (codes "_f") (codes "g")) ≡ hex (codes "0c 00")
+  pub other_symbol_before_prefix : types_of I386 (under_symbol (codes "f") (codes "_g")) ≡ hex (codes "0c 00")
+  pub ordinal_before_all : types_of I386 (record empty_export { name = codes "_f@8"; symbol_name = codes "_g"; no_name = true }) ≡ hex (codes "00 00")
+
+-- What records ask for, by their name type.
+pub record WorkedAskedNames : Type 0 where
+  pub whole : asked_by_record AMD64 (plain_export (codes "_f")) ≡ codes "_f"
+  pub whole_decorated : asked_by_record I386 (under_symbol (codes "_f@8") (codes "_g@4")) ≡ codes "_g@4"
+  pub without_prefix : asked_by_record I386 (plain_export (codes "__f")) ≡ codes "_f"
+  pub without_question_mark : asked_by_record AMD64 (under_symbol (codes "f") (codes "?f@@YAXXZ")) ≡ codes "f"
+  pub without_at_sign : asked_by_record AMD64 (under_symbol (codes "f") (codes "@g@4")) ≡ codes "g"
+  pub without_underscore : asked_by_record AMD64 (under_symbol (codes "f") (codes "_g@4")) ≡ codes "g"
+  pub one_prefix_alone : asked_by_record AMD64 (under_symbol (codes "f") (codes "??g")) ≡ codes "?g"
+  pub without_prefix_or_end : asked_by_record AMD64 (under_symbol (codes "f") (codes "g")) ≡ codes "g"
