@@ -43,4 +43,5 @@ pub mod WorkedDigits
 pub mod WorkedMachines
 pub mod WorkedObjects
 pub mod WorkedTables
+pub mod WorkedLayouts
 pub mod Ascii

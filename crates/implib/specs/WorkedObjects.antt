@@ -103,7 +103,7 @@ weak n target name = record {
         value = 0;
         section = 0;
         class = 105;
-        aux = Some (hex (codes "02 00 00 00 03 00 00 00 00 00 00 00 00 00 00 00 00 00"));
+        aux = Some (hex "02 00 00 00 03 00 00 00 00 00 00 00 00 00 00 00 00 00");
       }
       ∷ [];
   strings = target ∷ name ∷ [];
@@ -199,7 +199,7 @@ without_code n sections = record {
 -- the function bar
 unfoldable pub function : Numbers → Picture
 function n = with_code n (codes "bar") (codes "__imp_bar")
-    (export_sections n n.stub n.stub_relocations n.null_thunk (at 0 3 n.image_relative ∷ []) (hex (codes "00 00 62 61 72 00")))
+    (export_sections n n.stub n.stub_relocations n.null_thunk (at 0 3 n.image_relative ∷ []) (hex "00 00 62 61 72 00"))
 
 -- a function of this name, which is asked for by this hint and name
 unfoldable pub function_asking : Numbers → List ℕ → List ℕ → List ℕ → Picture
@@ -214,7 +214,7 @@ function_by_ordinal n = with_code n (codes "bar") (codes "__imp_bar")
 -- the variable bar with the hint 258
 unfoldable pub variable : Numbers → Picture
 variable n = without_code n
-    (export_sections n [] [] n.null_thunk (at 0 2 n.image_relative ∷ []) (hex (codes "02 01 62 61 72 00")))
+    (export_sections n [] [] n.null_thunk (at 0 2 n.image_relative ∷ []) (hex "02 01 62 61 72 00"))
 
 -- the variable bar by the ordinal 258
 unfoldable pub variable_by_ordinal : Numbers → Picture
@@ -232,7 +232,7 @@ pub record WorkedObjects : Type 0 where
   pub function_symbols : symbols_place (function (numbers AMD64)) ≡ 374
   pub function_strings : strings_size (function (numbers AMD64)).strings ≡ 28
   pub descriptor_size : layout_size (descriptor (numbers AMD64)) ≡ 358
-  pub descriptor_header : header_bytes (descriptor (numbers AMD64)) ≡ hex (codes "64 86 02 00 00 00 00 00 9e 00 00 00 07 00 00 00 00 00 00 00")
+  pub descriptor_header : header_bytes (descriptor (numbers AMD64)) ≡ hex "64 86 02 00 00 00 00 00 9e 00 00 00 07 00 00 00 00 00 00 00"
   pub descriptor_offsets : string_offsets (descriptor (numbers AMD64)).strings ≡ 4 ∷ 28 ∷ 53 ∷ []
   pub descriptor_strings : strings_size (descriptor (numbers AMD64)).strings ≡ 74
   pub null_descriptor_size : layout_size (null_descriptor (numbers AMD64)) ≡ 127

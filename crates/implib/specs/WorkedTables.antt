@@ -45,13 +45,13 @@ pub record WorkedGnuTables (machine : MachineType) : Type 0 where
 -- What is asked for in GNU's objects: I386 takes an underscore off, unless there is an `@`.
 pub record WorkedGnuNames : Type 0 where
   pub underscore_on_i386 : gnu_export I386 (plain_export (codes "_bar"))
-      ≡ function_asking (numbers I386) (codes "_bar") (codes "__imp__bar") (hex (codes "00 00 62 61 72 00"))
+      ≡ function_asking (numbers I386) (codes "_bar") (codes "__imp__bar") (hex "00 00 62 61 72 00")
   pub underscore_on_armnt : gnu_export ARMNT (plain_export (codes "_bar"))
-      ≡ function_asking (numbers ARMNT) (codes "_bar") (codes "__imp__bar") (hex (codes "00 00 5f 62 61 72 00"))
+      ≡ function_asking (numbers ARMNT) (codes "_bar") (codes "__imp__bar") (hex "00 00 5f 62 61 72 00")
   pub with_underscore_and_at_sign : gnu_export I386 (plain_export (codes "_f@8"))
-      ≡ function_asking (numbers I386) (codes "_f@8") (codes "__imp__f@8") (hex (codes "00 00 5f 66 40 38 00"))
+      ≡ function_asking (numbers I386) (codes "_f@8") (codes "__imp__f@8") (hex "00 00 5f 66 40 38 00")
   pub with_two_at_signs : gnu_export I386 (plain_export (codes "@h@4"))
-      ≡ function_asking (numbers I386) (codes "@h@4") (codes "__imp_@h@4") (hex (codes "00 00 40 68 40 34 00"))
+      ≡ function_asking (numbers I386) (codes "@h@4") (codes "__imp_@h@4") (hex "00 00 40 68 40 34 00")
 
 -- What members and symbols are named after: the import name less one extension, and with `_` for each `.`.
 pub record WorkedNames : Type 0 where
@@ -81,18 +81,18 @@ under_symbol name symbol = record empty_export { name = name; symbol_name = symb
 -- Whole records: the first two bytes of the last four are the ordinal or hint, the next one is the import
 -- type and 4 times the name type.
 pub record WorkedRecords : Type 0 where
-  pub on_i386 : record_for I386 bar ≡ hex (codes "00 00 ff ff 00 00 4c 01 00 00 00 00 0c 00 00 00 00 00 04 00 62 61 72 00 66 6f 6f 2e 64 6c 6c 00")
-  pub on_armnt : record_for ARMNT bar ≡ hex (codes "00 00 ff ff 00 00 c4 01 00 00 00 00 0c 00 00 00 00 00 04 00 62 61 72 00 66 6f 6f 2e 64 6c 6c 00")
-  pub on_amd64 : record_for AMD64 bar ≡ hex (codes "00 00 ff ff 00 00 64 86 00 00 00 00 0c 00 00 00 00 00 04 00 62 61 72 00 66 6f 6f 2e 64 6c 6c 00")
-  pub on_arm64 : record_for ARM64 bar ≡ hex (codes "00 00 ff ff 00 00 64 aa 00 00 00 00 0c 00 00 00 00 00 04 00 62 61 72 00 66 6f 6f 2e 64 6c 6c 00")
+  pub on_i386 : record_for I386 bar ≡ hex "00 00 ff ff 00 00 4c 01 00 00 00 00 0c 00 00 00 00 00 04 00 62 61 72 00 66 6f 6f 2e 64 6c 6c 00"
+  pub on_armnt : record_for ARMNT bar ≡ hex "00 00 ff ff 00 00 c4 01 00 00 00 00 0c 00 00 00 00 00 04 00 62 61 72 00 66 6f 6f 2e 64 6c 6c 00"
+  pub on_amd64 : record_for AMD64 bar ≡ hex "00 00 ff ff 00 00 64 86 00 00 00 00 0c 00 00 00 00 00 04 00 62 61 72 00 66 6f 6f 2e 64 6c 6c 00"
+  pub on_arm64 : record_for ARM64 bar ≡ hex "00 00 ff ff 00 00 64 aa 00 00 00 00 0c 00 00 00 00 00 04 00 62 61 72 00 66 6f 6f 2e 64 6c 6c 00"
   pub hint : record_for AMD64 (record bar { ordinal = 0x1234 })
-      ≡ hex (codes "00 00 ff ff 00 00 64 86 00 00 00 00 0c 00 00 00 34 12 04 00 62 61 72 00 66 6f 6f 2e 64 6c 6c 00")
+      ≡ hex "00 00 ff ff 00 00 64 86 00 00 00 00 0c 00 00 00 34 12 04 00 62 61 72 00 66 6f 6f 2e 64 6c 6c 00"
   pub constant_by_ordinal : record_for AMD64 (record bar { constant = true; no_name = true; ordinal = 0x1234 })
-      ≡ hex (codes "00 00 ff ff 00 00 64 86 00 00 00 00 0c 00 00 00 34 12 02 00 62 61 72 00 66 6f 6f 2e 64 6c 6c 00")
+      ≡ hex "00 00 ff ff 00 00 64 86 00 00 00 00 0c 00 00 00 34 12 02 00 62 61 72 00 66 6f 6f 2e 64 6c 6c 00"
   pub data_without_prefix : record_for I386 (record empty_export { name = codes "_v"; is_data = true })
-      ≡ hex (codes "00 00 ff ff 00 00 4c 01 00 00 00 00 0b 00 00 00 00 00 09 00 5f 76 00 66 6f 6f 2e 64 6c 6c 00")
+      ≡ hex "00 00 ff ff 00 00 4c 01 00 00 00 00 0b 00 00 00 00 00 09 00 5f 76 00 66 6f 6f 2e 64 6c 6c 00"
   pub undecorated : record_for AMD64 (under_symbol (codes "f") (codes "_f@8"))
-      ≡ hex (codes "00 00 ff ff 00 00 64 86 00 00 00 00 0d 00 00 00 00 00 0c 00 5f 66 40 38 00 66 6f 6f 2e 64 6c 6c 00")
+      ≡ hex "00 00 ff ff 00 00 64 86 00 00 00 00 0d 00 00 00 00 00 0c 00 5f 66 40 38 00 66 6f 6f 2e 64 6c 6c 00"
 
 -- the last two bytes of a record's header
 abbrev pub types_of : MachineType → ExportView → List ℕ
@@ -100,17 +100,17 @@ types_of machine e = take 2 (drop 18 (record_for machine e))
 
 -- Which name type is taken where several rules hold.
 pub record WorkedNameTypes : Type 0 where
-  pub no_rule : types_of AMD64 (plain_export (codes "_f")) ≡ hex (codes "04 00")
-  pub prefix : types_of I386 (plain_export (codes "_f")) ≡ hex (codes "08 00")
-  pub prefix_on_armnt : types_of ARMNT (plain_export (codes "_f")) ≡ hex (codes "04 00")
-  pub other_symbol : types_of ARM64 (under_symbol (codes "f") (codes "g")) ≡ hex (codes "0c 00")
-  pub decorated_before_prefix : types_of I386 (plain_export (codes "_f@8")) ≡ hex (codes "04 00")
-  pub decorated_before_other_symbol : types_of I386 (under_symbol (codes "_f@8") (codes "_g")) ≡ hex (codes "04 00")
-  pub decorated_on_amd64 : types_of AMD64 (under_symbol (codes "_f@8") (codes "g")) ≡ hex (codes "04 00")
-  pub at_sign_alone : types_of I386 (under_symbol (codes "f@8") (codes "g")) ≡ hex (codes "0c 00")
-  pub underscore_alone : types_of I386 (under_symbol (codes "_f") (codes "g")) ≡ hex (codes "0c 00")
-  pub other_symbol_before_prefix : types_of I386 (under_symbol (codes "f") (codes "_g")) ≡ hex (codes "0c 00")
-  pub ordinal_before_all : types_of I386 (record empty_export { name = codes "_f@8"; symbol_name = codes "_g"; no_name = true }) ≡ hex (codes "00 00")
+  pub no_rule : types_of AMD64 (plain_export (codes "_f")) ≡ hex "04 00"
+  pub prefix : types_of I386 (plain_export (codes "_f")) ≡ hex "08 00"
+  pub prefix_on_armnt : types_of ARMNT (plain_export (codes "_f")) ≡ hex "04 00"
+  pub other_symbol : types_of ARM64 (under_symbol (codes "f") (codes "g")) ≡ hex "0c 00"
+  pub decorated_before_prefix : types_of I386 (plain_export (codes "_f@8")) ≡ hex "04 00"
+  pub decorated_before_other_symbol : types_of I386 (under_symbol (codes "_f@8") (codes "_g")) ≡ hex "04 00"
+  pub decorated_on_amd64 : types_of AMD64 (under_symbol (codes "_f@8") (codes "g")) ≡ hex "04 00"
+  pub at_sign_alone : types_of I386 (under_symbol (codes "f@8") (codes "g")) ≡ hex "0c 00"
+  pub underscore_alone : types_of I386 (under_symbol (codes "_f") (codes "g")) ≡ hex "0c 00"
+  pub other_symbol_before_prefix : types_of I386 (under_symbol (codes "f") (codes "_g")) ≡ hex "0c 00"
+  pub ordinal_before_all : types_of I386 (record empty_export { name = codes "_f@8"; symbol_name = codes "_g"; no_name = true }) ≡ hex "00 00"
 
 -- What records ask for, by their name type.
 pub record WorkedAskedNames : Type 0 where

@@ -2,6 +2,7 @@
 
 ghost use Rattle.implib.specs.Object.{Object, object_in};
 ghost use Rattle.implib.specs.Picture.{Fits, Picture, layout, layout_size, object_of};
+ghost use Rattle.implib.specs.WorkedLayouts.{WorkedLayouts};
 ghost use Rattle.implib.specs.WorkedObjects.{WorkedObjects};
 ghost use Rattle.implib.specs.WorkedTables.{WorkedAskedNames, WorkedGnuNames, WorkedGnuTables, WorkedMsvcTables, WorkedNameTypes, WorkedNames, WorkedRecords};
 ghost use Rattle.std.specs.Prelude.{◌<◌, ◌^◌, ◌≡◌, ℕ, List, Some, length};
@@ -24,9 +25,10 @@ pub fn object_is_one()
     ensures { (bytes : List ℕ) (a b : Object) → object_in bytes ≡ Some a → object_in bytes ≡ Some b → a ≡ b }
 {}
 
-/// Objects that were worked by hand have their sizes and places.
+/// Objects that were worked by hand have their sizes and places, and these bytes.
 pub fn worked_objects()
-    ensures { WorkedObjects }
+    ensures sizes { WorkedObjects }
+    ensures bytes { WorkedLayouts }
 {}
 
 /// The tables of foo.dll, which was worked by hand, are these objects on each machine.

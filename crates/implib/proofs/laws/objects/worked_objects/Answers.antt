@@ -1,5 +1,6 @@
+use Rattle.implib.proofs.WorkedLayouts.{worked_layouts}
 use Rattle.implib.proofs.WorkedObjects.{worked_objects}
 use Rattle.implib.proofs.laws.objects.worked_objects.Goals as goal
 
 pub returns : goal.returns
-returns c = worked_objects
+returns c = record { sizes = worked_objects; bytes = worked_layouts }
