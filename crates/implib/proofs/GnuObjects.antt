@@ -10,8 +10,8 @@ use Rattle.implib.specs.declared.machine.MachineType.{MachineType}
 use Rattle.implib.specs.declared.machine.MachineType.TheVariants.{I386, ARMNT, AMD64, ARM64}
 use Rattle.implib.specs.Constants.{external, static}
 use Rattle.implib.specs.Definition.{ExportView}
-use Rattle.implib.specs.Gnu.{added, empty_sections, export_object, export_symbols, file_symbol, head_object, head_symbol, head_symbols, hint_name, linkage_symbol, name_symbol, relocations_of_stub, relocations_of_thunk, section, stem, stub, stub_relocations, tail_object, tail_symbols, thunk, without_full_stop}
-use Rattle.implib.specs.Import.{address_symbol, holds, is_empty_text}
+use Rattle.implib.specs.Gnu.{added, empty_sections, export_object, export_symbols, file_symbol, full_stop, head_object, head_symbol, head_symbols, hint_name, linkage_symbol, name_symbol, relocations_of_stub, relocations_of_thunk, section, stem, stub, stub_relocations, tail_object, tail_symbols, thunk, without_full_stop}
+use Rattle.implib.specs.Import.{address_symbol, holds, is_empty_text, underscore}
 use Rattle.implib.specs.MsvcObjects.{relocation}
 use Rattle.implib.specs.Object.{ObjectSection}
 use Rattle.implib.specs.Picture.{Fits}
@@ -22,7 +22,7 @@ use Rattle.implib.proofs.WriterPicture.{picture_of-fits}
 
 -- Names.
 
-stem_byte : (stops : Bool) (b : ℕ) → nat_eq b 0 ≡ false → nat_eq (if stops then 0x5F else b) 0 ≡ false
+stem_byte : (stops : Bool) (b : ℕ) → nat_eq b 0 ≡ false → nat_eq (if stops then underscore else b) 0 ≡ false
 stem_byte true b free = refl
 stem_byte false b free = free
 
@@ -31,7 +31,7 @@ unfolding stem
 holds-stem [] free = refl
 holds-stem (b ∷ dll) free =
     let parts = or_parts (nat_eq b 0) (holds 0 dll) free in
-    or_from (nat_eq (without_full_stop b) 0) (holds 0 (stem dll)) (stem_byte (b == 0x2E) b parts.0) (holds-stem dll parts.1)
+    or_from (nat_eq (without_full_stop b) 0) (holds 0 (stem dll)) (stem_byte (b == full_stop) b parts.0) (holds-stem dll parts.1)
 
 holds-linkage_symbol : (machine : MachineType) (name : List ℕ) → holds 0 name ≡ false → holds 0 (linkage_symbol machine name) ≡ false
 holds-linkage_symbol I386 name free = free

@@ -1,6 +1,7 @@
 -- The import that an export's record stands for.
-use Rattle.std.proofs.Common.{◌≡◌, ℕ, ◌<◌, ◌^◌, Bool, true, false, if◌then◌else◌, ◌&&◌, nat_le, nat_lt, List, [], ◌∷◌, Some, refl, ap, ◌∙◌, arith}
+use Rattle.std.proofs.Common.{◌≡◌, ℕ, ◌<◌, ◌≤◌, ◌^◌, Bool, true, false, if◌then◌else◌, ◌&&◌, nat_le, nat_lt, List, [], ◌∷◌, Some, refl, ap, ◌∙◌, arith}
 use Rattle.std.specs.Prelude.{◌==◌, bytes_eq, not}
+use Rattle.std.proofs.lemmas.Bool.Decides.{nat_tests}
 use Rattle.std.proofs.lemmas.Bool.{eqb-true, le-leb, ltb-true}
 use Rattle.implib.specs.declared.machine.MachineType.{MachineType}
 use Rattle.implib.specs.declared.machine.MachineType.TheVariants.{I386, ARMNT, AMD64, ARM64}
@@ -18,20 +19,11 @@ machine_number_fits ARMNT = omega arith
 machine_number_fits AMD64 = omega arith
 machine_number_fits ARM64 = omega arith
 
--- a choice of numbers is below what each of them is below
-chosen_below : (b : Bool) (x y n : ℕ) → x < n → y < n → (if b then x else y) < n
-chosen_below true x y n first second = first
-chosen_below false x y n first second = second
+kind_of_fits : (e : ExportView) → kind_of e ≤ import_const
+kind_of_fits e = grind arith
 
-kind_of_fits : (e : ExportView) → kind_of e < 3
-kind_of_fits e = chosen_below e.is_data 1 (if e.constant then 2 else 0) 3 (omega arith) (chosen_below e.constant 2 0 3 (omega arith) (omega arith))
-
-name_type_of_fits : (machine : MachineType) (e : ExportView) → name_type_of machine e < 4
-name_type_of_fits machine e =
-    chosen_below e.no_name 0 _ 4 (omega arith)
-    (chosen_below (begins_with underscore e.name && holds at_sign e.name) 1 _ 4 (omega arith)
-    (chosen_below (not (bytes_eq (record_symbol e) e.name)) 3 _ 4 (omega arith)
-    (chosen_below (is_i386 machine && begins_with underscore (record_symbol e)) 2 1 4 (omega arith) (omega arith))))
+name_type_of_fits : (machine : MachineType) (e : ExportView) → name_type_of machine e ≤ import_name_undecorate
+name_type_of_fits machine e = grind arith
 
 pub symbol_without_nul : (symbol name : List ℕ) → holds 0 symbol ≡ false → holds 0 name ≡ false → holds 0 (symbol_or_name symbol name) ≡ false
 symbol_without_nul [] name symbol_free name_free = name_free
@@ -66,30 +58,21 @@ kind_is_data true constant = refl
 kind_is_data false true = refl
 kind_is_data false false = refl
 
--- a choice of numbers that are not 0 is not 0
-chosen_nonzero : (b : Bool) (x y : ℕ) → (x == 0) ≡ false → (y == 0) ≡ false → ((if b then x else y) == 0) ≡ false
-chosen_nonzero true x y first second = first
-chosen_nonzero false x y first second = second
-
-type_is_ordinal : (no_name : Bool) (otherwise : ℕ) → (otherwise == 0) ≡ false → ((if no_name then import_ordinal else otherwise) == import_ordinal) ≡ no_name
-type_is_ordinal true otherwise nonzero = refl
-type_is_ordinal false otherwise nonzero = nonzero
+name_type_is_ordinal : (machine : MachineType) (e : ExportView) → (name_type_of machine e == import_ordinal) ≡ e.no_name
+name_type_is_ordinal machine e = grind (arith, nat_tests)
 
 -- the import that the record of an export stands for
 pub import_of_record-record_of : (machine : MachineType) (dll : List ℕ) (e : ExportView) → import_of_record (record_of machine dll e) ≡ Some (import_written machine dll e)
 import_of_record-record_of machine dll e =
     import_by_types (record_of machine dll e) e.is_data e.no_name
-    (le-leb (kind_of e) 2 (omega (arith, kind_of_fits e)))
-    (le-leb (name_type_of machine e) 3 (omega (arith, name_type_of_fits machine e)))
+    (le-leb (kind_of e) import_const (kind_of_fits e))
+    (le-leb (name_type_of machine e) import_name_undecorate (name_type_of_fits machine e))
     (kind_is_data e.is_data e.constant)
-    (type_is_ordinal e.no_name _
-    (chosen_nonzero (begins_with underscore e.name && holds at_sign e.name) 1 _ refl
-    (chosen_nonzero (not (bytes_eq (record_symbol e) e.name)) 3 _ refl
-    (chosen_nonzero (is_i386 machine && begins_with underscore (record_symbol e)) 2 1 refl refl))))
+    (name_type_is_ordinal machine e)
 
 without_prefix-underscore : (name : List ℕ) → begins_with underscore name ≡ true → without_prefix name ≡ without_first name
 without_prefix-underscore [] begins = cc
-without_prefix-underscore (b ∷ name) begins = let same : b ≡ 0x5F = eqb-true b 0x5F begins in rw same refl
+without_prefix-underscore (b ∷ name) begins = let same : b ≡ underscore = eqb-true b underscore begins in rw same refl
 
 -- the name type of a plain symbol asks for the name without the underscore of I386
 same_name_asked : (i386 begins has : Bool) (name : List ℕ) → begins_with underscore name ≡ begins →
