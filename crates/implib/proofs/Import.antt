@@ -74,39 +74,20 @@ without_prefix-underscore : (name : List ℕ) → begins_with underscore name �
 without_prefix-underscore [] begins = cc
 without_prefix-underscore (b ∷ name) begins = let same : b ≡ underscore = eqb-true b underscore begins in rw same refl
 
--- the name type of a plain symbol asks for the name without the underscore of I386
-same_name_asked : (i386 begins has : Bool) (name : List ℕ) → begins_with underscore name ≡ begins →
-    asked_by_name_type (if begins && has then import_name else if i386 && begins then import_name_noprefix else import_name) name
-    ≡ (if (i386 && begins) && not has then without_first name else name)
-same_name_asked true true true name is = refl
-same_name_asked true true false name is = without_prefix-underscore name is
-same_name_asked true false true name is = refl
-same_name_asked true false false name is = refl
-same_name_asked false true true name is = refl
-same_name_asked false true false name is = refl
-same_name_asked false false true name is = refl
-same_name_asked false false false name is = refl
+-- by its name type, the record of an export without a symbol name asks for what is meant
+asked-meant : (machine : MachineType) (e : ExportView) → e.symbol_name ≡ [] → e.no_name ≡ false → bytes_eq e.name e.name ≡ true →
+    asked_by_name_type (name_type_of machine e) (record_symbol e) ≡ asked_name machine e.name
+asked-meant machine e plain named same = grind (arith, nat_tests, without_prefix-underscore e.name, plain, named, same)
 
--- where the symbol is the name, the name type does not undecorate
-plain_name_type : (begins_has i386_begins same : Bool) → same ≡ true →
-    (if begins_has then import_name else if not same then import_name_undecorate else if i386_begins then import_name_noprefix else import_name)
-    ≡ (if begins_has then import_name else if i386_begins then import_name_noprefix else import_name)
-plain_name_type begins_has i386_begins same is = rw is refl
-
-same_ask : (no_name : Bool) (ordinal name_type : ℕ) (name asked : List ℕ) → asked_by_name_type name_type name ≡ asked →
-    (if no_name then Ordinal ordinal else Name (asked_by_name_type (if no_name then import_ordinal else name_type) name) ordinal)
-    ≡ (if no_name then Ordinal ordinal else Name asked ordinal)
-same_ask true ordinal name_type name asked is = refl
-same_ask false ordinal name_type name asked is = ap (λ x. Name x ordinal) is
+same_ask : (no_name : Bool) (ordinal : ℕ) (written meant : List ℕ) → (no_name ≡ false → written ≡ meant) →
+    (if no_name then Ordinal ordinal else Name written ordinal) ≡ (if no_name then Ordinal ordinal else Name meant ordinal)
+same_ask true ordinal written meant same = refl
+same_ask false ordinal written meant same = ap (λ x. Name x ordinal) (same refl)
 
 -- an export without a symbol name asks for what it means to ask for
 pub ask_written-meant : (machine : MachineType) (e : ExportView) → e.symbol_name ≡ [] → ask_written machine e ≡ ask_meant machine e
 ask_written-meant machine e plain =
-    ap (λ (s : List ℕ). ask_written machine (record e { symbol_name = s })) plain
-    ∙ same_ask e.no_name e.ordinal _ e.name (asked_name machine e.name)
-    (ap (λ n. asked_by_name_type n e.name)
-    (plain_name_type (begins_with underscore e.name && holds at_sign e.name) (is_i386 machine && begins_with underscore e.name) (bytes_eq e.name e.name) ((bytes_eq-Decides e.name e.name).1 refl))
-    ∙ same_name_asked (is_i386 machine) (begins_with underscore e.name) (holds at_sign e.name) e.name refl)
+    same_ask e.no_name e.ordinal _ _ (λ named. asked-meant machine e plain named ((bytes_eq-Decides e.name e.name).1 refl))
 
 -- and its record stands for the import that it means
 pub import_written-meant : (machine : MachineType) (dll : List ℕ) (e : ExportView) → e.symbol_name ≡ [] → import_written machine dll e ≡ import_meant machine dll e
