@@ -59,6 +59,8 @@ worked_exports = record {
   last_alias_wins = parses _ _ _ refl refl;
   target_and_alias = parses _ _ _ refl refl;
   decorated_names = parses _ _ _ refl refl;
+  flags = parses _ _ _ refl refl;
+  greatest_ordinal = parses _ _ _ refl refl;
   decorated_target = parses _ _ _ refl refl;
 }
 

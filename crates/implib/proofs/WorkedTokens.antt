@@ -31,4 +31,7 @@ worked = record {
   unclosed_quote = Lexed-by_computing _ _ refl refl;
   form_feeds = Lexed-by_computing _ _ refl refl;
   other_spaces = Lexed-by_computing _ _ refl refl;
+  keywords = Lexed-by_computing _ _ refl refl;
+  no_keywords = Lexed-by_computing _ _ refl refl;
+  delimiters = Lexed-by_computing _ _ refl refl;
 }
