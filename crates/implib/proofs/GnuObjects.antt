@@ -47,11 +47,11 @@ filled-linkage_symbol ARM64 name filled = filled
 
 pub holds-head_symbol : (machine : MachineType) (dll : List ℕ) → holds 0 dll ≡ false → holds 0 (head_symbol machine dll) ≡ false
 unfolding head_symbol
-holds-head_symbol machine dll free = holds-linkage_symbol machine (codes "_head_" ++ stem dll) (holds-stem dll free)
+holds-head_symbol machine dll free = holds-linkage_symbol machine _ (holds-stem dll free)
 
 pub filled-head_symbol : (machine : MachineType) (dll : List ℕ) → 0 < length (head_symbol machine dll)
 unfolding head_symbol
-filled-head_symbol machine dll = filled-linkage_symbol machine (codes "_head_" ++ stem dll) (omega arith)
+filled-head_symbol machine dll = filled-linkage_symbol machine _ (omega arith)
 
 pub holds-name_symbol : (machine : MachineType) (dll : List ℕ) → holds 0 dll ≡ false → holds 0 (name_symbol machine dll) ≡ false
 unfolding name_symbol

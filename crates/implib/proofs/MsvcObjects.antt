@@ -9,7 +9,7 @@ use Rattle.implib.specs.Import.{holds}
 use Rattle.implib.specs.Machine.{is_32bit, machine_number}
 use Rattle.implib.specs.Bytes.{u32_bytes}
 use Rattle.implib.specs.Constants.{initialized_data, align_4, align_8, read_write, external, static, section_class, undefined, absolute, image_relative}
-use Rattle.implib.specs.MsvcObjects.{symbol, relocation, descriptor_characteristics, weak_auxiliary, base_name, descriptor, descriptor_symbol, null_descriptor, null_descriptor_symbol, null_thunk, null_thunk_symbol, weak_object}
+use Rattle.implib.specs.MsvcObjects.{symbol, relocation, descriptor_characteristics, weak_auxiliary, base_name, descriptor, descriptor_symbol, null_descriptor, null_descriptor_symbol, null_thunk, null_thunk_section, null_thunk_symbol, weak_object}
 use Rattle.implib.specs.Object.{ObjectSection}
 use Rattle.implib.specs.Picture.{Picture, PictureSymbol, Fits, FitsRelocation, FitsSection, FitsSymbol, HasNoNul, InRecord, Listed}
 
@@ -149,9 +149,11 @@ Fits-null_descriptor machine = record {
   strings = (HasNoNul-from_holds null_descriptor_symbol holds-null_descriptor_symbol, tt);
 }
 
-null_thunk_flags_fit : (is_32bit : Bool) → initialized_data + (if is_32bit then align_4 else align_8) + read_write < 2 ^ 32
-null_thunk_flags_fit true = omega arith
-null_thunk_flags_fit false = omega arith
+null_thunk_section_fits : (machine : MachineType) (name : List ℕ) → length name ≡ 8 → FitsSection (null_thunk_section machine name)
+null_thunk_section_fits I386 name eight = plain_section_fits name _ _ eight (omega arith)
+null_thunk_section_fits ARMNT name eight = plain_section_fits name _ _ eight (omega arith)
+null_thunk_section_fits AMD64 name eight = plain_section_fits name _ _ eight (omega arith)
+null_thunk_section_fits ARM64 name eight = plain_section_fits name _ _ eight (omega arith)
 
 -- the null thunk fits
 pub Fits-null_thunk : (machine : MachineType) (dll : List ℕ) → holds 0 dll ≡ false → Fits (null_thunk machine dll)
@@ -161,8 +163,8 @@ Fits-null_thunk machine dll free = record {
   characteristics = descriptor_characteristics_fits machine;
   count = omega arith;
   sections = (
-    plain_section_fits (codes ".idata$5") _ _ refl (null_thunk_flags_fit (is_32bit machine)),
-    (plain_section_fits (codes ".idata$4") _ _ refl (null_thunk_flags_fit (is_32bit machine)), tt),
+    null_thunk_section_fits machine _ refl,
+    (null_thunk_section_fits machine _ refl, tt),
   );
   symbols = (listed_fits (null_thunk_symbol dll ∷ []) 0 1 external (omega arith) (omega arith), tt);
   strings = (HasNoNul-from_holds (null_thunk_symbol dll) (holds-null_thunk_symbol dll free), tt);
@@ -181,13 +183,13 @@ Fits-weak_object machine weak target weak_free target_free =
       machine = machine_fits machine;
       characteristics = omega arith;
       count = omega arith;
-      sections = (plain_section_fits (codes ".drectve") [] _ refl (omega arith), tt);
+      sections = (plain_section_fits _ _ _ refl (omega arith), tt);
       symbols = (
-        in_record_fits strings (codes "@comp.id") absolute static (omega arith) (omega arith) refl (omega arith),
+        in_record_fits strings _ _ _ (omega arith) (omega arith) refl (omega arith),
         (
-          in_record_fits strings (codes "@feat.00") absolute static (omega arith) (omega arith) refl (omega arith),
+          in_record_fits strings _ _ _ (omega arith) (omega arith) refl (omega arith),
           (
-            listed_fits strings 0 undefined external (omega arith) (omega arith),
+            listed_fits strings _ _ _ (omega arith) (omega arith),
             (record { name = omega arith; value = omega arith; section = omega arith; aux = length-weak_auxiliary }, tt),
           ),
         ),
