@@ -29,11 +29,12 @@ const UNDEFINED: u16 = 0;
 
 const ABSOLUTE: u16 = 0xFFFF;
 
-// The auxiliary record of a weak external: the index of the symbol that it stands for, 2, and how it
-// is searched for, as an alias.
-const WEAK_AUXILIARY: [u8; 18] = [
-    2, 0, 0, 0, weak::SEARCH_ALIAS as u8, 0, 0, 0, 0, 0, 0, 0, 0, 0, 0, 0, 0, 0,
-];
+// How the symbol that a weak external stands for is searched for.
+const ALIAS: u8 = weak::SEARCH_ALIAS as u8;
+
+// The auxiliary record of a weak external: the index of the symbol that it stands for, 2, and that it
+// is an alias.
+const WEAK_AUXILIARY: [u8; 18] = [2, 0, 0, 0, ALIAS, 0, 0, 0, 0, 0, 0, 0, 0, 0, 0, 0, 0, 0];
 
 #[tactic(auto, using(std::proofs::lemmas::Str::Pattern::ends_text))]
 fn ends_with(text: &str, suffix: &str) -> bool
