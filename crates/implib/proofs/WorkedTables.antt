@@ -69,6 +69,7 @@ worked_records = record {
   constant_by_ordinal = refl;
   data_without_prefix = refl;
   undecorated = refl;
+  bytes = refl;
 }
 
 pub worked_name_types : WorkedNameTypes

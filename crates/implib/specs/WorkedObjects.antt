@@ -12,7 +12,12 @@ abbrev pub symbol : SymbolName → ℕ → ℕ → PictureSymbol
 symbol name section class = record { name = name; value = 0; section = section; class = class; aux = None }
 
 abbrev pub section : List ℕ → ℕ → List ℕ → List Relocation → ObjectSection
-section name flags bytes relocations = record { name = name; flags = flags; bytes = bytes; relocations = relocations }
+section name flags bytes relocations = record {
+  name = name;
+  flags = flags;
+  bytes = bytes;
+  relocations = relocations;
+}
 
 abbrev pub zeros : ℕ → List ℕ
 zeros count = replicate count 0
@@ -50,7 +55,8 @@ descriptor n = record {
   machine = n.machine;
   characteristics = n.characteristics;
   sections =
-      section (codes ".idata$2") 0xC0300040 (zeros 20) (at 12 2 n.image_relative ∷ at 0 3 n.image_relative ∷ at 16 4 n.image_relative ∷ [])
+      section (codes ".idata$2") 0xC0300040 (zeros 20)
+      (at 12 2 n.image_relative ∷ at 0 3 n.image_relative ∷ at 16 4 n.image_relative ∷ [])
       ∷ section (codes ".idata$6") 0xC0200040 (codes "foo.dll" ++ zeros 1) []
       ∷ [];
   symbols =
@@ -62,7 +68,11 @@ descriptor n = record {
       ∷ symbol (Listed 1) 0 2
       ∷ symbol (Listed 2) 0 2
       ∷ [];
-  strings = codes "__IMPORT_DESCRIPTOR_foo" ∷ codes "__NULL_IMPORT_DESCRIPTOR" ∷ (0x7F ∷ codes "foo_NULL_THUNK_DATA") ∷ [];
+  strings =
+      codes "__IMPORT_DESCRIPTOR_foo"
+      ∷ codes "__NULL_IMPORT_DESCRIPTOR"
+      ∷ (0x7F ∷ codes "foo_NULL_THUNK_DATA")
+      ∷ [];
 }
 
 -- the null descriptor
@@ -113,7 +123,13 @@ weak n target name = record {
 
 -- the symbol of a file's name: section -2, one auxiliary record
 abbrev pub file : PictureSymbol
-file = record { name = InRecord (codes ".file"); value = 0; section = 0xFFFE; class = 103; aux = Some (codes "fake" ++ zeros 14) }
+file = record {
+  name = InRecord (codes ".file");
+  value = 0;
+  section = 0xFFFE;
+  class = 103;
+  aux = Some (codes "fake" ++ zeros 14);
+}
 
 -- the sections of the head and of the tail that hold nothing
 abbrev pub empty_sections : List ObjectSection
@@ -130,7 +146,8 @@ head n = record {
   characteristics = 0;
   sections =
       empty_sections
-      ++ section (codes ".idata$2") 0xC0300040 (zeros 20) (at 0 3 n.image_relative ∷ at 16 2 n.image_relative ∷ at 12 5 n.image_relative ∷ [])
+      ++ section (codes ".idata$2") 0xC0300040 (zeros 20)
+      (at 0 3 n.image_relative ∷ at 16 2 n.image_relative ∷ at 12 5 n.image_relative ∷ [])
       ∷ section (codes ".idata$5") 0xC0300040 [] []
       ∷ section (codes ".idata$4") 0xC0300040 [] []
       ∷ [];
@@ -159,8 +176,10 @@ tail n = record {
   strings = n.iname ∷ [];
 }
 
--- the sections of an export: its code, its entry in both tables, and its hint and name, with what is relocated
-abbrev pub export_sections : Numbers → List ℕ → List Relocation → List ℕ → List Relocation → List ℕ → List ObjectSection
+-- the sections of an export: its code and its entry in both tables, each with its relocations, and its
+-- hint and name
+abbrev pub export_sections :
+    Numbers → List ℕ → List Relocation → List ℕ → List Relocation → List ℕ → List ObjectSection
 export_sections n code code_relocations entry entry_relocations hint_and_name =
     section (codes ".text" ++ zeros 3) 0x60300020 code code_relocations
     ∷ section (codes ".data" ++ zeros 3) 0xC0300040 [] []
@@ -199,7 +218,8 @@ without_code n sections = record {
 -- the function bar
 unfoldable pub function : Numbers → Picture
 function n = with_code n (codes "bar") (codes "__imp_bar")
-    (export_sections n n.stub n.stub_relocations n.null_thunk (at 0 3 n.image_relative ∷ []) (hex "00 00 62 61 72 00"))
+    (export_sections n n.stub n.stub_relocations n.null_thunk (at 0 3 n.image_relative ∷ [])
+    (hex "00 00 62 61 72 00"))
 
 -- a function of this name, which is asked for by this hint and name
 unfoldable pub function_asking : Numbers → List ℕ → List ℕ → List ℕ → Picture
@@ -227,12 +247,14 @@ pub record WorkedObjects : Type 0 where
   pub one_section_places : places_from (contents_place one_section) one_section.sections ≡ 60 ∷ []
   pub one_section_symbols : symbols_place one_section ≡ 90
   pub function_size : layout_size (function (numbers AMD64)) ≡ 474
-  pub function_places : places_from (contents_place (function (numbers AMD64))) (function (numbers AMD64)).sections
+  pub function_places :
+      places_from (contents_place (function (numbers AMD64))) (function (numbers AMD64)).sections
       ≡ 300 ∷ 318 ∷ 318 ∷ 318 ∷ 332 ∷ 350 ∷ 368 ∷ []
   pub function_symbols : symbols_place (function (numbers AMD64)) ≡ 374
   pub function_strings : strings_size (function (numbers AMD64)).strings ≡ 28
   pub descriptor_size : layout_size (descriptor (numbers AMD64)) ≡ 358
-  pub descriptor_header : header_bytes (descriptor (numbers AMD64)) ≡ hex "64 86 02 00 00 00 00 00 9e 00 00 00 07 00 00 00 00 00 00 00"
+  pub descriptor_header : header_bytes (descriptor (numbers AMD64))
+      ≡ hex "64 86 02 00 00 00 00 00 9e 00 00 00 07 00 00 00 00 00 00 00"
   pub descriptor_offsets : string_offsets (descriptor (numbers AMD64)).strings ≡ 4 ∷ 28 ∷ 53 ∷ []
   pub descriptor_strings : strings_size (descriptor (numbers AMD64)).strings ≡ 74
   pub null_descriptor_size : layout_size (null_descriptor (numbers AMD64)) ≡ 127

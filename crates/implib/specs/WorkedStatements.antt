@@ -64,9 +64,12 @@ pub record WorkedExports : Type 0 where
     import_name = codes "foo.dll";
   })
   pub flags : Parses (codes "EXPORTS\na DATA\nb CONSTANT\nc PRIVATE") AMD64 (of_exports
-      (record empty_export { name = codes "a"; is_data = true } ∷ record empty_export { name = codes "b"; constant = true }
-      ∷ record empty_export { name = codes "c"; private = true } ∷ []))
-  pub greatest_ordinal : Parses (codes "EXPORTS f @65535") AMD64 (of_exports (record empty_export { name = codes "f"; ordinal = 65535 } ∷ []))
+      (record empty_export { name = codes "a"; is_data = true }
+      ∷ record empty_export { name = codes "b"; constant = true }
+      ∷ record empty_export { name = codes "c"; private = true }
+      ∷ []))
+  pub greatest_ordinal : Parses (codes "EXPORTS f @65535") AMD64
+      (of_exports (record empty_export { name = codes "f"; ordinal = 65535 } ∷ []))
   pub decorated_target : Parses (codes "EXPORTS\nf = @g@4") I386 (of_exports (record empty_export { name = codes "@g@4"; ext_name = Some (codes "_f") } ∷ []))
 
 -- texts that are refused

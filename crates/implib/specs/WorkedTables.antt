@@ -22,7 +22,8 @@ pub record WorkedMsvcTables (machine : MachineType) : Type 0 where
   pub descriptor : msvc.descriptor machine foo_dll ≡ descriptor (numbers machine)
   pub null_descriptor : msvc.null_descriptor machine ≡ null_descriptor (numbers machine)
   pub null_thunk : msvc.null_thunk machine foo_dll ≡ null_thunk (numbers machine)
-  pub weak : weak_object machine (codes "foo") (codes "baz") ≡ weak (numbers machine) (codes "baz") (codes "foo")
+  pub weak : weak_object machine (codes "foo") (codes "baz")
+      ≡ weak (numbers machine) (codes "baz") (codes "foo")
 
 -- the object of an export of foo.dll for GNU's linker
 abbrev pub gnu_export : MachineType → ExportView → Picture
@@ -37,8 +38,10 @@ pub record WorkedGnuTables (machine : MachineType) : Type 0 where
   pub head : picture_of (head_object machine foo_dll) ≡ head (numbers machine)
   pub tail : picture_of (tail_object machine foo_dll) ≡ tail (numbers machine)
   pub function : gnu_export machine bar ≡ function (numbers machine)
-  pub function_by_ordinal : gnu_export machine (record bar { no_name = true; ordinal = 258 }) ≡ function_by_ordinal (numbers machine)
-  pub variable : gnu_export machine (record bar { is_data = true; ordinal = 258 }) ≡ variable (numbers machine)
+  pub function_by_ordinal : gnu_export machine (record bar { no_name = true; ordinal = 258 })
+      ≡ function_by_ordinal (numbers machine)
+  pub variable : gnu_export machine (record bar { is_data = true; ordinal = 258 })
+      ≡ variable (numbers machine)
   pub variable_by_ordinal : gnu_export machine (record bar { is_data = true; no_name = true; ordinal = 258 })
       ≡ variable_by_ordinal (numbers machine)
 
@@ -78,21 +81,32 @@ record_for machine e = record_bytes (record_of machine foo_dll e)
 abbrev pub under_symbol : List ℕ → List ℕ → ExportView
 under_symbol name symbol = record empty_export { name = name; symbol_name = symbol }
 
--- Whole records: the first two bytes of the last four are the ordinal or hint, the next one is the import
--- type and 4 times the name type.
+-- two texts, each with its NUL
+abbrev pub texts : List ℕ → List ℕ → List ℕ
+texts symbol dll = symbol ++ 0 ∷ (dll ++ 0 ∷ [])
+
+-- Whole records. The last four bytes of a header are the ordinal or hint, and the import type with 4 times
+-- the name type.
 pub record WorkedRecords : Type 0 where
-  pub on_i386 : record_for I386 bar ≡ hex "00 00 ff ff 00 00 4c 01 00 00 00 00 0c 00 00 00 00 00 04 00 62 61 72 00 66 6f 6f 2e 64 6c 6c 00"
-  pub on_armnt : record_for ARMNT bar ≡ hex "00 00 ff ff 00 00 c4 01 00 00 00 00 0c 00 00 00 00 00 04 00 62 61 72 00 66 6f 6f 2e 64 6c 6c 00"
-  pub on_amd64 : record_for AMD64 bar ≡ hex "00 00 ff ff 00 00 64 86 00 00 00 00 0c 00 00 00 00 00 04 00 62 61 72 00 66 6f 6f 2e 64 6c 6c 00"
-  pub on_arm64 : record_for ARM64 bar ≡ hex "00 00 ff ff 00 00 64 aa 00 00 00 00 0c 00 00 00 00 00 04 00 62 61 72 00 66 6f 6f 2e 64 6c 6c 00"
+  pub on_i386 : record_for I386 bar
+      ≡ hex "00 00 ff ff 00 00 4c 01 00 00 00 00 0c 00 00 00 00 00 04 00" ++ texts (codes "bar") foo_dll
+  pub on_armnt : record_for ARMNT bar
+      ≡ hex "00 00 ff ff 00 00 c4 01 00 00 00 00 0c 00 00 00 00 00 04 00" ++ texts (codes "bar") foo_dll
+  pub on_amd64 : record_for AMD64 bar
+      ≡ hex "00 00 ff ff 00 00 64 86 00 00 00 00 0c 00 00 00 00 00 04 00" ++ texts (codes "bar") foo_dll
+  pub on_arm64 : record_for ARM64 bar
+      ≡ hex "00 00 ff ff 00 00 64 aa 00 00 00 00 0c 00 00 00 00 00 04 00" ++ texts (codes "bar") foo_dll
   pub hint : record_for AMD64 (record bar { ordinal = 0x1234 })
-      ≡ hex "00 00 ff ff 00 00 64 86 00 00 00 00 0c 00 00 00 34 12 04 00 62 61 72 00 66 6f 6f 2e 64 6c 6c 00"
-  pub constant_by_ordinal : record_for AMD64 (record bar { constant = true; no_name = true; ordinal = 0x1234 })
-      ≡ hex "00 00 ff ff 00 00 64 86 00 00 00 00 0c 00 00 00 34 12 02 00 62 61 72 00 66 6f 6f 2e 64 6c 6c 00"
+      ≡ hex "00 00 ff ff 00 00 64 86 00 00 00 00 0c 00 00 00 34 12 04 00" ++ texts (codes "bar") foo_dll
+  pub constant_by_ordinal : record_for AMD64 (record bar { constant = true; no_name = true; ordinal = 2 })
+      ≡ hex "00 00 ff ff 00 00 64 86 00 00 00 00 0c 00 00 00 02 00 02 00" ++ texts (codes "bar") foo_dll
   pub data_without_prefix : record_for I386 (record empty_export { name = codes "_v"; is_data = true })
-      ≡ hex "00 00 ff ff 00 00 4c 01 00 00 00 00 0b 00 00 00 00 00 09 00 5f 76 00 66 6f 6f 2e 64 6c 6c 00"
+      ≡ hex "00 00 ff ff 00 00 4c 01 00 00 00 00 0b 00 00 00 00 00 09 00" ++ texts (codes "_v") foo_dll
   pub undecorated : record_for AMD64 (under_symbol (codes "f") (codes "_f@8"))
-      ≡ hex "00 00 ff ff 00 00 64 86 00 00 00 00 0d 00 00 00 00 00 0c 00 5f 66 40 38 00 66 6f 6f 2e 64 6c 6c 00"
+      ≡ hex "00 00 ff ff 00 00 64 86 00 00 00 00 0d 00 00 00 00 00 0c 00" ++ texts (codes "_f@8") foo_dll
+  -- a record byte by byte
+  pub bytes : record_for AMD64 bar
+      ≡ hex "00 00 ff ff 00 00 64 86 00 00 00 00 0c 00 00 00 00 00 04 00 62 61 72 00 66 6f 6f 2e 64 6c 6c 00"
 
 -- the last two bytes of a record's header
 abbrev pub types_of : MachineType → ExportView → List ℕ
@@ -110,7 +124,8 @@ pub record WorkedNameTypes : Type 0 where
   pub at_sign_alone : types_of I386 (under_symbol (codes "f@8") (codes "g")) ≡ hex "0c 00"
   pub underscore_alone : types_of I386 (under_symbol (codes "_f") (codes "g")) ≡ hex "0c 00"
   pub other_symbol_before_prefix : types_of I386 (under_symbol (codes "f") (codes "_g")) ≡ hex "0c 00"
-  pub ordinal_before_all : types_of I386 (record empty_export { name = codes "_f@8"; symbol_name = codes "_g"; no_name = true }) ≡ hex "00 00"
+  pub ordinal_before_all : types_of I386 (record (under_symbol (codes "_f@8") (codes "_g")) { no_name = true })
+      ≡ hex "00 00"
 
 -- What records ask for, by their name type.
 pub record WorkedAskedNames : Type 0 where

@@ -51,15 +51,37 @@ pub record WorkedTokens : Type 0 where
   pub other_spaces : Lexed (no_break_space ++ codes "NAME" ++ em_space ++ codes "x" ++ ideographic_space)
       (identifier (codes "NAME" ++ em_space ++ codes "x") 2 ∷ eof 13 ∷ [])
   -- each keyword, words that are none, and each delimiter
-  pub keywords : Lexed (codes "BASE CONSTANT DATA EXPORTS HEAPSIZE LIBRARY NAME NONAME PRIVATE STACKSIZE VERSION")
-      (token kind.KwBase (codes "BASE") 0 ∷ token kind.KwConstant (codes "CONSTANT") 5 ∷ token kind.KwData (codes "DATA") 14
-      ∷ token kind.KwExports (codes "EXPORTS") 19 ∷ token kind.KwHeapsize (codes "HEAPSIZE") 27
-      ∷ token kind.KwLibrary (codes "LIBRARY") 36 ∷ token kind.KwName (codes "NAME") 44 ∷ token kind.KwNoname (codes "NONAME") 49
-      ∷ token kind.KwPrivate (codes "PRIVATE") 56 ∷ token kind.KwStacksize (codes "STACKSIZE") 64
-      ∷ token kind.KwVersion (codes "VERSION") 74 ∷ eof 81 ∷ [])
+  pub keywords : Lexed
+      (codes "BASE CONSTANT DATA EXPORTS HEAPSIZE LIBRARY NAME NONAME PRIVATE STACKSIZE VERSION")
+      (token kind.KwBase (codes "BASE") 0
+      ∷ token kind.KwConstant (codes "CONSTANT") 5
+      ∷ token kind.KwData (codes "DATA") 14
+      ∷ token kind.KwExports (codes "EXPORTS") 19
+      ∷ token kind.KwHeapsize (codes "HEAPSIZE") 27
+      ∷ token kind.KwLibrary (codes "LIBRARY") 36
+      ∷ token kind.KwName (codes "NAME") 44
+      ∷ token kind.KwNoname (codes "NONAME") 49
+      ∷ token kind.KwPrivate (codes "PRIVATE") 56
+      ∷ token kind.KwStacksize (codes "STACKSIZE") 64
+      ∷ token kind.KwVersion (codes "VERSION") 74
+      ∷ eof 81
+      ∷ [])
   pub no_keywords : Lexed (codes "Base CODE DATA1")
-      (identifier (codes "Base") 0 ∷ identifier (codes "CODE") 5 ∷ identifier (codes "DATA1") 10 ∷ eof 15 ∷ [])
+      (identifier (codes "Base") 0
+      ∷ identifier (codes "CODE") 5
+      ∷ identifier (codes "DATA1") 10
+      ∷ eof 15
+      ∷ [])
   pub delimiters : Lexed (codes "a=b,c;\nd\re f\tg\u{b}h")
-      (identifier (codes "a") 0 ∷ token kind.Equal (codes "=") 1 ∷ identifier (codes "b") 2 ∷ token kind.Comma (codes ",") 3
-      ∷ identifier (codes "c") 4 ∷ identifier (codes "d") 7 ∷ identifier (codes "e") 9 ∷ identifier (codes "f") 11
-      ∷ identifier (codes "g") 13 ∷ identifier (codes "h") 15 ∷ eof 16 ∷ [])
+      (identifier (codes "a") 0
+      ∷ token kind.Equal (codes "=") 1
+      ∷ identifier (codes "b") 2
+      ∷ token kind.Comma (codes ",") 3
+      ∷ identifier (codes "c") 4
+      ∷ identifier (codes "d") 7
+      ∷ identifier (codes "e") 9
+      ∷ identifier (codes "f") 11
+      ∷ identifier (codes "g") 13
+      ∷ identifier (codes "h") 15
+      ∷ eof 16
+      ∷ [])
