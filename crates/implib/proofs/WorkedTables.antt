@@ -12,7 +12,7 @@ use Rattle.implib.specs.WorkedObjects as worked
 use Rattle.implib.specs.WorkedTables.{WorkedMsvcTables, WorkedGnuTables, WorkedGnuNames, WorkedNames, WorkedRecords, WorkedNameTypes, WorkedAskedNames}
 
 -- what the computing has to open
-abbrev opened : Unit {0}
+unfoldable pub opened : Unit {0}
 unfolding bytes_of_digits base_name descriptor_symbol null_descriptor_symbol null_thunk_symbol descriptor null_descriptor null_thunk weak_object export_object head_object tail_object head_symbol name_symbol stem stub relocations_of_stub thunk relocations_of_thunk hint_name five_digits digits long_names name_place picture_of symbol_written with_long_name with_name u16_bytes u32_bytes worked.descriptor worked.null_descriptor worked.null_thunk worked.weak worked.head worked.tail worked.function worked.function_asking worked.function_by_ordinal worked.variable worked.variable_by_ordinal
 opened = tt
 

@@ -43,5 +43,6 @@ pub mod WorkedDigits
 pub mod WorkedMachines
 pub mod WorkedObjects
 pub mod WorkedTables
+pub mod WorkedPlans
 pub mod WorkedLayouts
 pub mod Ascii

@@ -2,6 +2,9 @@
 
 ghost use Rattle.implib.specs.WorkedMembers.{WorkedBytes, WorkedFields, WorkedMeanings, WorkedOutlines, WorkedRefusals};
 ghost use Rattle.implib.specs.WorkedGnu.{WorkedGnuBytes, WorkedGnuOutlines, WorkedGnuRefusals};
+ghost use Rattle.implib.specs.WorkedPlans.{WorkedPlans};
+
+use crate::machine::MachineType;
 
 /// Definitions that were worked by hand have these members for Microsoft's linker, or are refused
 /// for these causes.
@@ -19,4 +22,9 @@ pub fn worked_gnu_members()
     ensures outlines { WorkedGnuOutlines }
     ensures refusals { WorkedGnuRefusals }
     ensures bytes { WorkedGnuBytes }
+{}
+
+/// A definition that was worked by hand has these members on each machine, for either linker.
+pub fn worked_plans()
+    ensures { (machine : MachineType) → WorkedPlans machine }
 {}
