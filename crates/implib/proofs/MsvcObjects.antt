@@ -100,28 +100,28 @@ Fits-descriptor machine dll free =
           flags = omega arith;
           count = omega arith;
           relocations = (
-            relocation_fits machine 12 2 (omega arith) (omega arith),
+            relocation_fits machine _ _ (omega arith) (omega arith),
             (
-              relocation_fits machine 0 3 (omega arith) (omega arith),
-              (relocation_fits machine 16 4 (omega arith) (omega arith), tt),
+              relocation_fits machine _ _ (omega arith) (omega arith),
+              (relocation_fits machine _ _ (omega arith) (omega arith), tt),
             ),
           );
         },
-        (plain_section_fits (codes ".idata$6") (dll ++ 0 ∷ []) _ refl (omega arith), tt),
+        (plain_section_fits _ _ _ refl (omega arith), tt),
       );
       symbols = (
-        listed_fits strings 0 1 external (omega arith) (omega arith),
+        listed_fits strings _ _ _ (omega arith) (omega arith),
         (
-          in_record_fits strings (codes ".idata$2") 1 section_class (omega arith) (omega arith) refl (omega arith),
+          in_record_fits strings _ _ _ (omega arith) (omega arith) refl (omega arith),
           (
-            in_record_fits strings (codes ".idata$6") 2 static (omega arith) (omega arith) refl (omega arith),
+            in_record_fits strings _ _ _ (omega arith) (omega arith) refl (omega arith),
             (
-              in_record_fits strings (codes ".idata$4") undefined section_class (omega arith) (omega arith) refl (omega arith),
+              in_record_fits strings _ _ _ (omega arith) (omega arith) refl (omega arith),
               (
-                in_record_fits strings (codes ".idata$5") undefined section_class (omega arith) (omega arith) refl (omega arith),
+                in_record_fits strings _ _ _ (omega arith) (omega arith) refl (omega arith),
                 (
-                  listed_fits strings 1 undefined external (omega arith) (omega arith),
-                  (listed_fits strings 2 undefined external (omega arith) (omega arith), tt),
+                  listed_fits strings _ _ _ (omega arith) (omega arith),
+                  (listed_fits strings _ _ _ (omega arith) (omega arith), tt),
                 ),
               ),
             ),
@@ -144,8 +144,8 @@ Fits-null_descriptor machine = record {
   machine = machine_fits machine;
   characteristics = descriptor_characteristics_fits machine;
   count = omega arith;
-  sections = (plain_section_fits (codes ".idata$3") _ _ refl (omega arith), tt);
-  symbols = (listed_fits (null_descriptor_symbol ∷ []) 0 1 external (omega arith) (omega arith), tt);
+  sections = (plain_section_fits _ _ _ refl (omega arith), tt);
+  symbols = (listed_fits (null_descriptor_symbol ∷ []) _ _ _ (omega arith) (omega arith), tt);
   strings = (HasNoNul-from_holds null_descriptor_symbol holds-null_descriptor_symbol, tt);
 }
 
@@ -166,7 +166,7 @@ Fits-null_thunk machine dll free = record {
     null_thunk_section_fits machine _ refl,
     (null_thunk_section_fits machine _ refl, tt),
   );
-  symbols = (listed_fits (null_thunk_symbol dll ∷ []) 0 1 external (omega arith) (omega arith), tt);
+  symbols = (listed_fits (null_thunk_symbol dll ∷ []) _ _ _ (omega arith) (omega arith), tt);
   strings = (HasNoNul-from_holds (null_thunk_symbol dll) (holds-null_thunk_symbol dll free), tt);
 }
 
