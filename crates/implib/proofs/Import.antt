@@ -1,16 +1,16 @@
 -- The import that an export's record stands for.
-use Rattle.std.proofs.Common.{◌≡◌, ℕ, ◌<◌, ◌≤◌, ◌^◌, Bool, true, false, if◌then◌else◌, ◌&&◌, nat_le, nat_lt, List, [], ◌∷◌, Some, refl, ap, ◌∙◌, arith}
-use Rattle.std.specs.Prelude.{◌==◌, bytes_eq, not}
+use Rattle.std.proofs.Common.{◌≡◌, ℕ, ◌<◌, ◌≤◌, ◌^◌, Bool, true, false, if◌then◌else◌, nat_le, nat_lt, List, [], ◌∷◌, Some, refl, ap, arith}
+use Rattle.std.specs.Prelude.{◌==◌, bytes_eq}
 use Rattle.std.proofs.lemmas.Bool.Decides.{nat_tests}
 use Rattle.std.proofs.lemmas.Bool.{eqb-true, le-leb, ltb-true}
 use Rattle.implib.specs.declared.machine.MachineType.{MachineType}
 use Rattle.implib.specs.declared.machine.MachineType.TheVariants.{I386, ARMNT, AMD64, ARM64}
 use Rattle.implib.specs.Definition.{ExportView}
-use Rattle.implib.specs.Import.{Ordinal, Name, holds, begins_with, underscore, at_sign, is_i386, import_symbols, import_meant, ask_meant, asked_name, without_first}
+use Rattle.implib.specs.Import.{Ordinal, Name, holds, begins_with, underscore, import_symbols, import_meant, ask_meant, asked_name, without_first}
 use Rattle.implib.specs.Machine.{machine_number}
 use Rattle.implib.specs.Msvc.{record_of, record_symbol, symbol_or_name, kind_of, name_type_of, record_listed}
 use Rattle.implib.specs.Reads.{FitsRecord, import_written, ask_written}
-use Rattle.implib.specs.Record.{ShortRecord, import_of_record, asked_by_name_type, import_ordinal, import_name, import_name_noprefix, import_name_undecorate, import_code, import_data, import_const, without_prefix}
+use Rattle.implib.specs.Record.{ShortRecord, import_of_record, asked_by_name_type, import_ordinal, import_name_undecorate, import_code, import_data, import_const, without_prefix}
 use Rattle.std.proofs.lemmas.Slice.Eq.{bytes_eq-Decides}
 
 machine_number_fits : (machine : MachineType) → machine_number machine < 2 ^ 16

@@ -1,14 +1,14 @@
 -- The objects for Microsoft's linker fit what a file has room for.
-use Rattle.std.proofs.Common.{◌≡◌, ℕ, ◌+◌, ◌-◌, ◌<◌, ◌≤◌, ◌^◌, Bool, true, false, if◌then◌else◌, List, [], ◌∷◌, ◌++◌, length, take, refl, ◌∙◌, arith, codes, zero, suc}
+use Rattle.std.proofs.Common.{◌≡◌, ℕ, ◌-◌, ◌<◌, ◌≤◌, ◌^◌, Bool, true, false, if◌then◌else◌, List, [], ◌∷◌, length, take, refl, ◌∙◌, arith, codes, zero, suc}
 use Rattle.std.specs.Prelude.{nat_eq}
 use Rattle.std.proofs.lemmas.Bool.{or_parts, or_from}
 use Rattle.std.proofs.lemmas.List.Folds.{list_any-append}
 use Rattle.implib.specs.declared.machine.MachineType.{MachineType}
 use Rattle.implib.specs.declared.machine.MachineType.TheVariants.{I386, ARMNT, AMD64, ARM64}
 use Rattle.implib.specs.Import.{holds}
-use Rattle.implib.specs.Machine.{is_32bit, machine_number}
+use Rattle.implib.specs.Machine.{machine_number}
 use Rattle.implib.specs.Bytes.{u32_bytes}
-use Rattle.implib.specs.Constants.{initialized_data, align_4, align_8, read_write, external, static, section_class, undefined, absolute, image_relative}
+use Rattle.implib.specs.Constants.{image_relative}
 use Rattle.implib.specs.MsvcObjects.{symbol, relocation, descriptor_characteristics, weak_auxiliary, base_name, descriptor, descriptor_symbol, null_descriptor, null_descriptor_symbol, null_thunk, null_thunk_section, null_thunk_symbol, weak_object}
 use Rattle.implib.specs.Object.{ObjectSection}
 use Rattle.implib.specs.Picture.{Picture, PictureSymbol, Fits, FitsRelocation, FitsSection, FitsSymbol, HasNoNul, InRecord, Listed}
