@@ -181,15 +181,19 @@ class Linker:
     def __str__(self):
         return f"{self.kind} {version_of(self.command)}"
 
-    def link(self, folder, files):
-        """Links files to a program, which it gives."""
+    def link(self, folder, files, options=("/safeseh:no",)):
+        """Links files to a program, which it gives, without a word. The options are lld-link's own,
+        which `ld.lld` and GNU ld do not get."""
         target, image = TARGETS[self.machine], os.path.join(folder, "linked.exe")
         if self.kind == "lld-link":
-            words = [f"/machine:{target.lld_link}", "/entry:start", "/subsystem:console", "/safeseh:no", "/nodefaultlib", f"/out:{image}"]
+            words = [f"/machine:{target.lld_link}", "/entry:start", "/subsystem:console", "/nodefaultlib", f"/out:{image}", *options]
         else:
             words = ["-m", target.ld_lld] if self.kind == "ld.lld" else []
             words += ["-e", f"{target.lead}start", "--subsystem", "console", "-o", image]
-        done([self.command, *words, *files])
+        run = subprocess.run([self.command, *words, *files], capture_output=True, text=True, errors="replace")
+        said = (run.stderr + run.stdout).strip()
+        if run.returncode != 0 or said:
+            raise Failed(f"{self.command}, status {run.returncode}: {said}")
         return image
 
 
