@@ -6,7 +6,7 @@ The offsets are those of Microsoft's "PE Format": "Optional Header", "Import Dir
 import struct
 from dataclasses import dataclass
 
-import tools
+from targets import MARK
 
 
 class Broken(Exception):
@@ -31,13 +31,17 @@ class Image:
         header = struct.unpack_from("<I", self.data, 60)[0]
         self.machine, sections = struct.unpack_from("<HH", self.data, header + 4)
         optional = header + 24
-        self.width = 8 if struct.unpack_from("<H", self.data, optional)[0] == 0x20B else 4
-        self.base = struct.unpack_from("<Q" if self.width == 8 else "<I", self.data, optional + (24 if self.width == 8 else 28))[0]
-        directories = optional + (112 if self.width == 8 else 96)
+        if struct.unpack_from("<H", self.data, optional)[0] == 0x20B:
+            self.width, directories = 8, optional + 112
+            self.base = struct.unpack_from("<Q", self.data, optional + 24)[0]
+        else:
+            self.width, directories = 4, optional + 96
+            self.base = struct.unpack_from("<I", self.data, optional + 28)[0]
         self.directory = struct.unpack_from("<I", self.data, directories + 8)[0]
         first = optional + struct.unpack_from("<H", self.data, header + 20)[0]
         # of each section the size in memory, the address, the size in the file and the place there
-        self.sections = [struct.unpack_from("<IIII", self.data, first + 40 * index + 8) for index in range(sections)]
+        places = range(first, first + 40 * sections, 40)
+        self.sections = [struct.unpack_from("<IIII", self.data, place + 8) for place in places]
 
     def bytes_at(self, address, count):
         """The bytes at an address in memory; what the file does not have of a section is zero."""
@@ -70,23 +74,29 @@ class Image:
         return found
 
     def imports(self):
-        """The DLLs of the import directory, up to the null descriptor."""
+        """The DLLs of the import directory, up to the null descriptor. Both tables of each ask for the
+        same."""
         found, place = [], self.directory
         while place and self.bytes_at(place, 20) != bytes(20):
             lookups, _, _, name, addresses = struct.unpack("<5I", self.bytes_at(place, 20))
-            found.append(Dll(self.text_at(name), self.asks(lookups), self.asks(addresses), addresses))
-            if found[-1].lookups != found[-1].addresses:
-                raise Broken(f"{found[-1].name}: the lookup table asks for {found[-1].lookups}, the address table for {found[-1].addresses}")
+            dll = Dll(self.text_at(name), self.asks(lookups), self.asks(addresses), addresses)
+            if dll.lookups != dll.addresses:
+                raise Broken(f"{dll.name}: lookup table {dll.lookups}, address table {dll.addresses}")
+            found.append(dll)
             place += 20
         return found
 
     def entries(self):
         """The entry of each import: its address, and the DLL and what it is asked for."""
-        return {dll.table + self.width * index: (dll.name, ask) for dll in self.imports() for index, ask in enumerate(dll.addresses)}
+        return {
+            dll.table + self.width * index: (dll.name, ask)
+            for dll in self.imports()
+            for index, ask in enumerate(dll.addresses)
+        }
 
     def words(self, count):
         """The words behind the mark of a program, less the base."""
-        mark = self.data.index(tools.MARK.encode()) + len(tools.MARK)
+        mark = self.data.index(MARK.encode()) + len(MARK)
         words = struct.unpack_from(f"<{count}{'Q' if self.width == 8 else 'I'}", self.data, mark)
         return [word - self.base for word in words]
 
@@ -105,12 +115,17 @@ class Image:
         return field - self.base if self.machine == 0x14C else (stub + 6 + field) & 0xFFFFFFFF
 
     def entry_of_thumb(self, stub):
-        """ARMNT: `movw ip, low`, `movt ip, high`, `ldr.w pc, [ip]`."""
-        first, second, third, fourth, fifth, sixth = struct.unpack("<6H", self.bytes_at(stub, 12))
-        if (first & 0xFBF0, third & 0xFBF0, second & 0x8F00, fourth & 0x8F00, fifth, sixth) != (0xF240, 0xF2C0, 0xC00, 0xC00, 0xF8DC, 0xF000):
+        """ARMNT: `movw ip, low`, `movt ip, high`, `ldr.w pc, [ip]`. A number of 16 bits has 4, 1, 3 and
+        8 of them in two halfwords."""
+        movw, low, movt, high, *load = struct.unpack("<6H", self.bytes_at(stub, 12))
+        kinds = [movw & 0xFBF0, low & 0x8F00, movt & 0xFBF0, high & 0x8F00, *load]
+        if kinds != [0xF240, 0x0C00, 0xF2C0, 0x0C00, 0xF8DC, 0xF000]:
             raise Broken(f"no Thumb stub at {stub:#x}")
-        halves = [(one & 15) << 12 | (one >> 10 & 1) << 11 | (other >> 12 & 7) << 8 | other & 255 for one, other in ((first, second), (third, fourth))]
-        return (halves[0] | halves[1] << 16) - self.base
+        numbers = [
+            (first & 15) << 12 | (first >> 10 & 1) << 11 | (second >> 12 & 7) << 8 | second & 255
+            for first, second in ((movw, low), (movt, high))
+        ]
+        return (numbers[0] | numbers[1] << 16) - self.base
 
     def entry_of_arm64(self, stub):
         """ARM64: `adrp x16, page`, `ldr x16, [x16, offset]`, `br x16`."""

@@ -4,6 +4,8 @@ A symbol is named as C names it. What it leads to is the entry of an import, a s
 entry, or nothing that a loader fills: then it is lost.
 """
 from dataclasses import dataclass, field
+from functools import reduce
+from operator import or_
 
 LLD, GNU = ("lld-link", "ld.lld"), ("GNU ld",)
 ALL = LLD + GNU
@@ -86,6 +88,7 @@ OPTIONS = {
     "ld.lld": tuple(f"-Xlink={option}" for option in ALTERNATES),
     "GNU ld": ("--defsym={_}zoo_a={_}zoo_b", "--defsym=__imp_{_}zoo_a=__imp_{_}zoo_b"),
 }
+OF_C = Fails(("__imp__feed@8", "_feed@8"), "undefined.*feed@8")
 NAMES = {
     "alias-gnu": [
         trial
@@ -108,7 +111,7 @@ NAMES = {
     "alias-option": both(ALL, X86, definition("zoo.dll", "zoo_b"), ASKS_B, options=OPTIONS),
     "renamed": both(ALL, X86, definition("zoo.dll", "zoo_a = zoo_b"), ASKS_A),
     "stdcall": [
-        *both(ALL, ("I386",), definition("zoo.dll", "feed@8"), Fails(("__imp__feed@8", "_feed@8"), "undefined.*feed@8")),
+        *both(ALL, ("I386",), definition("zoo.dll", "feed@8"), OF_C),
         *both(ALL, ("I386",), definition("zoo.dll", "feed@8"), calls("zoo.dll", "feed@8")),
         *both(ALL, ("I386",), definition("zoo.dll", "_feed@8"), calls("zoo.dll", "_feed@8")),
     ],
@@ -179,22 +182,30 @@ RUNS = [definition(f"{name}.dll", f"{name}_run", f"{name}_size DATA") for name i
 
 def runs(count):
     """What a program finds that calls a function of each of so many DLLs."""
-    return {symbol: what for name in ANIMALS[:count] for symbol, what in calls(f"{name}.dll", f"{name}_run").items()}
+    return reduce(or_, (calls(f"{name}.dll", f"{name}_run") for name in ANIMALS[:count]))
 
 
 def sizes(count):
     """What a program finds that names data of each of so many DLLs."""
-    return {symbol: what for name in ANIMALS[:count] for symbol, what in entries(f"{name}.dll", f"{name}_size").items()}
+    return reduce(or_, (entries(f"{name}.dll", f"{name}_size") for name in ANIMALS[:count]))
+
+
+def of_arm64(libraries, found):
+    return Trial(LLD, ("ARM64",), libraries, found)
+
+
+def misaligned(symbols):
+    return Fails(tuple(symbols), "misaligned ldr/str offset")
 
 
 ALIGNMENT = {
     "even": [
-        *(Trial(LLD, ("ARM64",), gnu(*RUNS[:count]), Fails(tuple(runs(count)), "misaligned ldr/str offset")) for count in (2, 4)),
-        Trial(LLD, ("ARM64",), gnu(*RUNS[:2]), Fails(tuple(entries("", "zoo_run", "yak_run")), "misaligned ldr/str offset")),
-        *(Trial(LLD, ("ARM64",), gnu(*RUNS[:count]), runs(count)) for count in (1, 3, 5)),
-        *(Trial(LLD, ("ARM64",), gnu(*RUNS[:count]), sizes(count)) for count in (2, 4)),
-        *(Trial(LLD, ("ARM64",), msvc(RUNS[0]) + gnu(*RUNS[1:count]), runs(count)) for count in (2, 3, 4)),
-        Trial(LLD, ("ARM64",), msvc(*RUNS[:4]), runs(4)),
+        *(of_arm64(gnu(*RUNS[:count]), misaligned(runs(count))) for count in (2, 4)),
+        of_arm64(gnu(*RUNS[:2]), misaligned(("__imp_zoo_run", "__imp_yak_run"))),
+        *(of_arm64(gnu(*RUNS[:count]), runs(count)) for count in (1, 3, 5)),
+        *(of_arm64(gnu(*RUNS[:count]), sizes(count)) for count in (2, 4)),
+        *(of_arm64(msvc(RUNS[0]) + gnu(*RUNS[1:count]), runs(count)) for count in (2, 3, 4)),
+        of_arm64(msvc(*RUNS[:4]), runs(4)),
     ],
 }
 
@@ -213,7 +224,9 @@ def of_names(linkers, machines, flavour, *dlls):
 def of_lost_names(is_there, *dlls):
     """Libraries of DLLs of these names, all of whose imports are lost; the DLL is there or not."""
     found = lost("zoo_open", "secret", "animals")
-    return [Trial(GNU, X86, msvc(definition(dll, *EXPORTS)), found, {dll: []} if is_there else {}) for dll in dlls]
+    return [
+        Trial(GNU, X86, msvc(definition(dll, *EXPORTS)), found, {dll: []} if is_there else {}) for dll in dlls
+    ]
 
 
 EXPORTS = ("zoo_open", "secret @9 NONAME", "animals DATA")
