@@ -156,12 +156,14 @@ SEVERAL = {
         Trial(LLD, EVERY, gnu(OPEN, CLOSE), SECOND_LOST),
         Trial(GNU, X86, msvc(OPEN, CLOSE), SECOND_LOST),
         Trial(GNU, X86, gnu(OPEN, CLOSE), TWO_RIGHT),
+        Trial(ALL, X86, msvc(OPEN) + gnu(CLOSE), TWO_RIGHT),
+        Trial(ALL, X86, gnu(OPEN) + msvc(CLOSE), TWO_RIGHT),
     ],
     "one-stem": [
         Trial(LLD, EVERY, gnu(*STEMS), entries("a.b.dll", "zoo_open") | lost("zoo_close")),
         Trial(GNU, X86, gnu(*STEMS), entries("a.b.dll", "zoo_open", "zoo_close")),
         *(
-            Trial(ALL, NOT_ARMNT, libraries, STEMS_RIGHT)
+            Trial(ALL, EVERY, libraries, STEMS_RIGHT)
             for libraries in (gnu(STEMS[0]) + msvc(STEMS[1]), msvc(STEMS[0]) + gnu(STEMS[1]), msvc(*STEMS))
         ),
     ],
