@@ -183,12 +183,12 @@ RUNS = [definition(f"{name}.dll", f"{name}_run", f"{name}_size DATA") for name i
 
 
 def runs(count):
-    """What a program finds that calls a function of each of so many DLLs."""
+    """What a program finds that calls a function of each of the first DLLs."""
     return reduce(or_, (calls(f"{name}.dll", f"{name}_run") for name in ANIMALS[:count]))
 
 
 def sizes(count):
-    """What a program finds that names data of each of so many DLLs."""
+    """What a program finds that names data of each of the first DLLs."""
     return reduce(or_, (entries(f"{name}.dll", f"{name}_size") for name in ANIMALS[:count]))
 
 
