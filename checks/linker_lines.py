@@ -1,0 +1,246 @@
+"""The lines of docs/LINKERS.md, each by its name with what is linked and what is found.
+
+A symbol is named as C names it. What it leads to is the entry of an import, a stub that jumps by this
+entry, or nothing that a loader fills: then it is lost.
+"""
+from dataclasses import dataclass, field
+from functools import reduce
+from operator import or_
+
+LLD, GNU = ("lld-link", "ld.lld"), ("GNU ld",)
+ALL = LLD + GNU
+X86 = ("I386", "AMD64")
+EVERY = ("I386", "ARMNT", "AMD64", "ARM64")
+NOT_ARMNT = ("I386", "AMD64", "ARM64")
+LOST = "lost"
+
+
+@dataclass(frozen=True)
+class Fails:
+    """A link that fails, of a program that names these symbols. What the linker writes has this, a
+    regular expression."""
+
+    symbols: tuple
+    text: str
+
+
+@dataclass(frozen=True)
+class Trial:
+    """What is linked, by which linkers for which machines, and what is found: what each symbol leads
+    to, or how the link fails; and, where it is given, what the import directory has, that is each DLL
+    with what it is asked for."""
+
+    linkers: tuple
+    machines: tuple
+    libraries: tuple
+    found: object
+    directory: dict | None = None
+    # words for a linker; `{_}` is what stands in front of a symbol of C
+    options: dict = field(default_factory=dict)
+
+
+def definition(dll, *exports):
+    return "\n".join([f"LIBRARY {dll}", "EXPORTS", *exports, ""])
+
+
+def msvc(*definitions):
+    """An archive for each definition, in Microsoft's flavour."""
+    return tuple(("msvc", text) for text in definitions)
+
+
+def gnu(*definitions):
+    return tuple(("gnu", text) for text in definitions)
+
+
+def entries(dll, *names):
+    """Symbols of addresses, each of which is at its entry. A name with a `:` tells behind it what the
+    DLL is asked for; else that is the name."""
+    pairs = (name.partition(":")[::2] for name in names)
+    return {f"__imp_{symbol}": f"entry of {dll}!{asked or symbol}" for symbol, asked in pairs}
+
+
+def calls(dll, *names):
+    """Symbols of functions and of their addresses."""
+    pairs = [name.partition(":")[::2] for name in names]
+    return entries(dll, *names) | {symbol: f"stub of {dll}!{asked or symbol}" for symbol, asked in pairs}
+
+
+def lost(*names):
+    return {f"__imp_{name}": LOST for name in names}
+
+
+def both(linkers, machines, text, found, **more):
+    """The same of each flavour."""
+    return [Trial(linkers, machines, libraries, found, **more) for libraries in (msvc(text), gnu(text))]
+
+
+# ---- aliases and other names
+
+ALIAS = definition("zoo.dll", "zoo_b", "zoo_a == zoo_b")
+ALIAS_ALONE = definition("zoo.dll", "zoo_a == zoo_b")
+ALIAS_WITH_LEAD = definition("zoo.dll", "zoo_b", "zoo_a == _zoo_b")
+ASKS_A, ASKS_B = calls("zoo.dll", "zoo_a"), calls("zoo.dll", "zoo_a:zoo_b")
+UNDEFINED = Fails(("__imp_zoo_a", "zoo_a"), r"undefined symbol: _?zoo_a\b")
+GUESSED = Fails(UNDEFINED.symbols, "status -11: .*Resolving zoo_b by linking to _zoo_b")
+ALTERNATES = ("/alternatename:{_}zoo_a={_}zoo_b", "/alternatename:__imp_{_}zoo_a=__imp_{_}zoo_b")
+OPTIONS = {
+    "lld-link": ALTERNATES,
+    "ld.lld": tuple(f"-Xlink={option}" for option in ALTERNATES),
+    "GNU ld": ("--defsym={_}zoo_a={_}zoo_b", "--defsym=__imp_{_}zoo_a=__imp_{_}zoo_b"),
+}
+OF_C = Fails(("__imp__feed@8", "_feed@8"), "undefined.*feed@8")
+NAMES = {
+    "alias-gnu": [
+        trial
+        for text in (ALIAS, ALIAS_ALONE)
+        for trial in (
+            Trial(ALL, NOT_ARMNT, gnu(text), ASKS_A),
+            Trial(LLD, ("ARMNT",), gnu(text), entries("zoo.dll", "zoo_a")),
+        )
+    ],
+    "alias-lld": [
+        Trial(LLD, ("ARMNT", "AMD64", "ARM64"), msvc(ALIAS), ASKS_B),
+        Trial(LLD, ("I386",), msvc(ALIAS_WITH_LEAD), ASKS_B),
+        Trial(LLD, EVERY, msvc(ALIAS_ALONE), UNDEFINED),
+    ],
+    "alias-lead": [
+        Trial(("lld-link",), ("I386",), msvc(ALIAS), UNDEFINED),
+        Trial(("ld.lld",), ("I386",), msvc(ALIAS), GUESSED),
+    ],
+    "alias-gnu-ld": [Trial(GNU, X86, msvc(text), ASKS_A) for text in (ALIAS, ALIAS_ALONE)],
+    "alias-option": both(ALL, X86, definition("zoo.dll", "zoo_b"), ASKS_B, options=OPTIONS),
+    "renamed": both(ALL, X86, definition("zoo.dll", "zoo_a = zoo_b"), ASKS_A),
+    "stdcall": [
+        *both(ALL, ("I386",), definition("zoo.dll", "feed@8"), OF_C),
+        *both(ALL, ("I386",), definition("zoo.dll", "feed@8"), calls("zoo.dll", "feed@8")),
+        *both(ALL, ("I386",), definition("zoo.dll", "_feed@8"), calls("zoo.dll", "_feed@8")),
+    ],
+}
+
+# ---- constants
+
+CONSTANT = definition("zoo.dll", "zoo_open", "limit CONSTANT")
+CONSTANTS = {
+    "constant-gnu": [
+        Trial(ALL, NOT_ARMNT, gnu(CONSTANT), calls("zoo.dll", "limit")),
+        Trial(LLD, ("ARMNT",), gnu(CONSTANT), entries("zoo.dll", "limit")),
+    ],
+    "constant-lld": [
+        Trial(LLD, EVERY, msvc(CONSTANT), entries("zoo.dll", "limit") | {"limit": "entry of zoo.dll!limit"}),
+    ],
+    "constant-gnu-ld": [
+        *(
+            Trial(GNU, X86, msvc(CONSTANT), Fails(symbols, "file format not recognized"))
+            for symbols in (("__imp_limit",), ("limit",), ("__imp_zoo_open", "__imp_limit"))
+        ),
+        Trial(GNU, X86, msvc(CONSTANT), calls("zoo.dll", "zoo_open")),
+    ],
+}
+
+# ---- several archives and several DLLs
+
+OPEN, CLOSE = definition("zoo.dll", "zoo_open"), definition("zoo.dll", "zoo_close")
+TWO_RIGHT = entries("zoo.dll", "zoo_open", "zoo_close")
+SECOND_LOST = entries("zoo.dll", "zoo_open") | lost("zoo_close")
+STEMS = definition("a.b.dll", "zoo_open"), definition("a_b.dll", "zoo_close")
+STEMS_RIGHT = entries("a.b.dll", "zoo_open") | entries("a_b.dll", "zoo_close")
+BEGINNINGS = definition("zoo", "zoo_open"), definition("zoo_a_i.dll", "zoo_close")
+BEGINNINGS_RIGHT = entries("zoo", "zoo_open") | entries("zoo_a_i.dll", "zoo_close")
+DLLS = definition("zoo.dll", "zoo_open"), definition("yak.dll", "yak_open")
+SEVERAL = {
+    "one-archive": both(
+        ALL, X86, "---\n".join(DLLS), calls("zoo.dll", "zoo_open") | calls("yak.dll", "yak_open")
+    ),
+    "two-archives": [
+        Trial(LLD, EVERY, msvc(OPEN, CLOSE), TWO_RIGHT),
+        Trial(LLD, EVERY, gnu(OPEN, CLOSE), SECOND_LOST),
+        Trial(GNU, X86, msvc(OPEN, CLOSE), SECOND_LOST),
+        Trial(GNU, X86, gnu(OPEN, CLOSE), TWO_RIGHT),
+        Trial(ALL, X86, msvc(OPEN) + gnu(CLOSE), TWO_RIGHT),
+        Trial(ALL, X86, gnu(OPEN) + msvc(CLOSE), TWO_RIGHT),
+    ],
+    "one-stem": [
+        Trial(LLD, EVERY, gnu(*STEMS), entries("a.b.dll", "zoo_open") | lost("zoo_close")),
+        Trial(GNU, X86, gnu(*STEMS), entries("a.b.dll", "zoo_open", "zoo_close")),
+        *(
+            Trial(ALL, EVERY, libraries, STEMS_RIGHT)
+            for libraries in (gnu(STEMS[0]) + msvc(STEMS[1]), msvc(STEMS[0]) + gnu(STEMS[1]), msvc(*STEMS))
+        ),
+    ],
+    "beginnings": [
+        Trial(
+            ALL, X86, gnu("---\n".join(BEGINNINGS)), lost("zoo_open") | entries("zoo_a_i.dll", "zoo_close"),
+            {"zoo": ["zoo_close"], "zoo_a_i.dll": ["zoo_close"]},
+        ),
+        Trial(ALL, X86, gnu(*BEGINNINGS), BEGINNINGS_RIGHT),
+    ],
+}
+
+# ---- tables of ARM64 that are not aligned
+
+ANIMALS = ("zoo", "yak", "emu", "gnu", "lynx")
+RUNS = [definition(f"{name}.dll", f"{name}_run", f"{name}_size DATA") for name in ANIMALS]
+
+
+def runs(count):
+    """What a program finds that calls a function of each of the first DLLs."""
+    return reduce(or_, (calls(f"{name}.dll", f"{name}_run") for name in ANIMALS[:count]))
+
+
+def sizes(count):
+    """What a program finds that names data of each of the first DLLs."""
+    return reduce(or_, (entries(f"{name}.dll", f"{name}_size") for name in ANIMALS[:count]))
+
+
+def of_arm64(libraries, found):
+    return Trial(LLD, ("ARM64",), libraries, found)
+
+
+def misaligned(symbols):
+    return Fails(tuple(symbols), "misaligned ldr/str offset")
+
+
+ALIGNMENT = {
+    "even": [
+        *(of_arm64(gnu(*RUNS[:count]), misaligned(runs(count))) for count in (2, 4)),
+        of_arm64(gnu(*RUNS[:2]), misaligned(("__imp_zoo_run", "__imp_yak_run"))),
+        *(of_arm64(gnu(*RUNS[:count]), runs(count)) for count in (1, 3, 5)),
+        *(of_arm64(gnu(*RUNS[:count]), sizes(count)) for count in (2, 4)),
+        *(of_arm64(msvc(RUNS[0]) + gnu(*RUNS[1:count]), runs(count)) for count in (2, 3, 4)),
+        of_arm64(msvc(*RUNS[:4]), runs(4)),
+    ],
+}
+
+# ---- names of DLLs
+
+
+def of_names(linkers, machines, flavour, *dlls):
+    """Libraries of DLLs of these names, of which all that a program names is found."""
+    return [
+        Trial(linkers, machines, flavour(definition(dll, *EXPORTS)), found, {dll: ["#9", "animals", "zoo_open"]})
+        for dll in dlls
+        for found in [entries(dll, "zoo_open", "secret:#9", "animals")]
+    ]
+
+
+def of_lost_names(is_there, *dlls):
+    """Libraries of DLLs of these names, all of whose imports are lost; the DLL is there or not."""
+    found = lost("zoo_open", "secret", "animals")
+    return [
+        Trial(GNU, X86, msvc(definition(dll, *EXPORTS)), found, {dll: []} if is_there else {}) for dll in dlls
+    ]
+
+
+EXPORTS = ("zoo_open", "secret @9 NONAME", "animals DATA")
+OTHER_NAMES = ("zoo.exe", "zoo", "zoo.drv", "zoo.sys", "ZOO.DLL", "zoo.EXE", "a.b.dll")
+DLL_NAMES = {
+    "dll-names": [
+        *of_names(LLD, EVERY, msvc, *OTHER_NAMES),
+        *of_names(ALL, EVERY, gnu, *OTHER_NAMES),
+        *of_names(GNU, X86, msvc, "zoo.dll", "Zoo.dll", "a.b.dll"),
+    ],
+    "dll-name-exe": of_lost_names(True, "zoo.exe", "zoo"),
+    "dll-name-other": of_lost_names(False, "ZOO.DLL", "zoo.EXE", "zoo.drv", "zoo.sys"),
+}
+
+LINES = NAMES | CONSTANTS | SEVERAL | ALIGNMENT | DLL_NAMES

@@ -1,0 +1,147 @@
+"""What the checks share: their words, which tools there are, archives, and runs under Wine."""
+import argparse
+import functools
+import os
+import re
+import shutil
+import subprocess
+import sys
+
+ROOT = os.path.dirname(os.path.dirname(os.path.abspath(__file__)))
+PROGRAM = os.path.join(ROOT, "crates", "implib_tool", "out", "implib_tool")
+PACK = os.path.join(ROOT, "examples", "pack")
+MACHINES = ("I386", "ARMNT", "AMD64", "ARM64")
+FLAVOURS = ("msvc", "gnu")
+
+
+class Failed(Exception):
+    """A tool that refused its work, with what it said."""
+
+
+# ---- arguments and tools
+
+
+def arguments(description, **options):
+    """The words of a check: the program and, of each option, its number."""
+    parser = argparse.ArgumentParser(
+        description=description, formatter_class=argparse.RawDescriptionHelpFormatter
+    )
+    parser.add_argument("--program", default=PROGRAM, help="the built program; else the one of this clone")
+    for name, (default, help_) in options.items():
+        parser.add_argument(f"--{name}", type=int, default=default, help=f"{help_}; else {default}")
+    words = parser.parse_args()
+    words.program = os.path.abspath(words.program)
+    if not os.access(words.program, os.X_OK):
+        sys.exit(f"no {words.program}: `rt run < stdin` in crates/implib_tool builds it")
+    return words
+
+
+@functools.cache
+def versions(name):
+    """The commands on the path that are this tool, with the number of a version behind its name or
+    without; of two that are one file, the first."""
+    pattern, found = re.compile(re.escape(name) + r"(-\d+)?$"), {}
+    for folder in os.environ["PATH"].split(os.pathsep):
+        for command in sorted(os.listdir(folder)) if os.path.isdir(folder) else ():
+            if pattern.match(command):
+                found.setdefault(os.path.realpath(os.path.join(folder, command)), command)
+    return sorted(found.values(), key=lambda command: (len(command), command))
+
+
+def tool(name):
+    """One command that is this tool, or nothing."""
+    return next(iter(versions(name)), None)
+
+
+@functools.cache
+def version_of(command):
+    """What a tool says its version is."""
+    told = subprocess.run([command, "--version"], capture_output=True, text=True).stdout
+    found = re.search(r"\d+\.\d+[.\d]*", told)
+    return found[0] if found else "of unknown version"
+
+
+def beside(command, name):
+    """The tool of this name that was built with a command."""
+    return os.path.join(os.path.dirname(os.path.realpath(shutil.which(command))), name)
+
+
+def missing(*names):
+    """Whether one of these tools is missing, which is then said."""
+    lacking = [name for name in names if tool(name) is None]
+    if lacking:
+        print(f"skipped: no {' and no '.join(lacking)}")
+    return bool(lacking)
+
+
+def done(words, **more):
+    """Runs a command, which has to succeed, and gives what it wrote."""
+    run = subprocess.run(words, capture_output=True, text=True, errors="replace", **more)
+    if run.returncode != 0:
+        raise Failed(f"{words[0]}, status {run.returncode}: {(run.stderr + run.stdout).strip()}")
+    return run.stdout
+
+
+def file_of(folder, name, text):
+    """A new file of this text."""
+    path = os.path.join(folder, name)
+    with open(path, "w") as file:
+        file.write(text)
+    return path
+
+
+# ---- archives
+
+
+def packed(words, folder, name, machine, flavour, definition, archiver=None):
+    """The archive that `examples/pack` makes of a definition, in a folder of its own."""
+    os.makedirs(os.path.join(folder, name))
+    source = file_of(os.path.join(folder, name), "definition.def", definition)
+    archive = os.path.join(folder, name, name)
+    chosen = ["--archiver", archiver or tool("llvm-ar")]
+    done([PACK, "--program", words.program, *chosen, machine, flavour, source, archive])
+    return archive
+
+
+def archive_members(archive):
+    """The contents of an archive's members, its own tables left out."""
+    with open(archive, "rb") as file:
+        data = file.read()
+    if data[:8] != b"!<arch>\n":
+        raise Failed(f"{archive}: no archive")
+    place, found = 8, []
+    while place < len(data):
+        name, size = data[place : place + 16].rstrip(), int(data[place + 48 : place + 58])
+        if name not in (b"/", b"//"):
+            found.append(data[place + 60 : place + 60 + size])
+        place += 60 + size + size % 2
+    return found
+
+
+# ---- Wine
+
+# Where it is for the programs of a machine.
+WINES = {"AMD64": ("wine64", "/usr/lib/wine/wine64", "wine"), "I386": ("wine32", "/usr/lib/wine/wine")}
+
+
+def wine_for(machine):
+    """Wine for the programs of a machine; where it is missing, that is said."""
+    wine = next((name for name in WINES[machine] if shutil.which(name) is not None), None)
+    if wine is None:
+        print(f"skipped: no Wine for {machine}, as {' or '.join(WINES[machine])}")
+    return wine
+
+
+@functools.cache
+def wine_version(wine):
+    """What Wine says its name and version are."""
+    told = subprocess.run([wine, "--version"], capture_output=True, text=True).stdout.split()
+    return told[0] if told else "Wine of unknown version"
+
+
+def run_by_wine(wine, folder, image):
+    """What a program writes under Wine, and its status. Wine keeps its own files in the folder."""
+    environment = {**os.environ, "WINEPREFIX": os.path.join(folder, "wine"), "WINEDEBUG": "-all"}
+    words = {"stdout": subprocess.PIPE, "stderr": subprocess.DEVNULL}
+    ran = subprocess.run([wine, image], env=environment, **words)
+    return ran.stdout.strip(), ran.returncode
