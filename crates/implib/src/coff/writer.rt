@@ -132,10 +132,8 @@ impl ObjectWriter {
     }
 }
 
-/// The bytes of the object of these parts, laid out as by a writer that holds them.
-///
-/// Refuses with `MemberTooLong` where they are more than 2^32 - 1, before they grow.
-pub(crate) fn write_parts(
+// The bytes of the object of these parts, laid out as by a writer that holds them.
+fn write_parts(
     alloc: Global,
     machine: MachineType,
     sections: &[Section],
