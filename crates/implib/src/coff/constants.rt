@@ -38,8 +38,6 @@ pub mod flags {
     pub const ALIGN_8BYTES: u32 = 0x0040_0000;
     /// At a multiple of 16.
     pub const ALIGN_16BYTES: u32 = 0x0050_0000;
-    /// The field that an alignment stands in.
-    pub const ALIGN_MASK: u32 = 0x00F0_0000;
     /// May be executed.
     pub const MEM_EXECUTE: u32 = 0x2000_0000;
     /// May be read.
@@ -50,8 +48,6 @@ pub mod flags {
 
 /// "Storage Class".
 pub mod class {
-    /// None.
-    pub const NULL: u8 = 0;
     /// A name for other objects, defined in this one or owed by another.
     pub const EXTERNAL: u8 = 2;
     /// A name of this object alone.
@@ -76,8 +72,6 @@ pub mod relocation {
     pub const I386_DIR32: u16 = 6;
     /// The address relative to the image.
     pub const I386_DIR32NB: u16 = 7;
-    /// The address relative to the next instruction.
-    pub const I386_REL32: u16 = 0x14;
     /// The address relative to the image.
     pub const ARM_ADDR32NB: u16 = 2;
     /// The address relative to the next instruction, as the stub of ARMNT has it.

@@ -303,8 +303,10 @@ fn hint_name(
     if export.no_name {
         return Ok(Vec::new(alloc));
     }
-    let mut bytes = Vec::from_slice(alloc, &export.ordinal.to_le_bytes())?;
-    bytes.extend_from_slice(asked(export, machine))?;
+    let name = asked(export, machine);
+    let mut bytes = Vec::with_capacity(alloc, name.len().saturating_add(3))?;
+    bytes.extend_from_slice(&export.ordinal.to_le_bytes())?;
+    bytes.extend_from_slice(name)?;
     bytes.push(0)?;
     Ok(bytes)
 }

@@ -54,6 +54,7 @@ pub(crate) fn write_table(
         × (2 ^ 32 ≤ layout_size (picture_of (table_view machine sections.now symbols.now)))) }
 {
     let mut writer = ObjectWriter::new(alloc, machine);
+    writer.reserve(sections.len(), symbols.len())?;
     add_sections(alloc, &mut writer, sections)?;
     add_symbols(alloc, &mut writer, symbols)?;
     add_relocations(&mut writer, sections)?;

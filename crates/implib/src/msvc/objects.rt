@@ -13,7 +13,7 @@ ghost use Rattle.std.specs.List.{ends_with};
 ghost use Rattle.std.specs.Prelude.{Some, [], false, map, nat_eq, string_bytes, true, ◌∷◌, ◌<◌, ◌^◌, ◌≡◌, ◌≤◌, IfOk, OnOk};
 
 use crate::coff::picture::{Picture, PictureSymbol, SymbolName, lay_out};
-use crate::coff::{Section, characteristics, class, flags};
+use crate::coff::{Section, characteristics, class, flags, weak};
 use crate::error::Error;
 use crate::import_tables::{DESCRIPTOR_SIZE, image_relocation, thunk_width, zeros};
 use crate::library::Member;
@@ -29,9 +29,12 @@ const UNDEFINED: u16 = 0;
 
 const ABSOLUTE: u16 = 0xFFFF;
 
+// How a weak external's name is searched for, in the low byte of its field.
+const ALIAS: u8 = weak::SEARCH_ALIAS as u8;
+
 // The auxiliary record of a weak external: the index of the symbol that it stands for, 2, and how it
 // is searched for, as an alias.
-const WEAK_AUXILIARY: [u8; 18] = [2, 0, 0, 0, 3, 0, 0, 0, 0, 0, 0, 0, 0, 0, 0, 0, 0, 0];
+const WEAK_AUXILIARY: [u8; 18] = [2, 0, 0, 0, ALIAS, 0, 0, 0, 0, 0, 0, 0, 0, 0, 0, 0, 0, 0];
 
 #[tactic(auto, using(std::proofs::lemmas::Str::Pattern::ends_text))]
 fn ends_with(text: &str, suffix: &str) -> bool
