@@ -63,8 +63,9 @@ pub record LiesIn (symbols : List AddedSymbol) (s : ObjectSection) (r : Relocati
   pub within : r.offset + 4 ≤ length s.bytes
   pub symbol : IsSymbolIndex symbols r.symbol
 
--- a section has room for so many relocations more, and each of them lies in it
-pub record HasRoomForAll (symbols : List AddedSymbol) (more : List Relocation) (s : ObjectSection) : Type 0 where
+-- a section has room for these relocations more, and each of them lies in it
+pub record HasRoomForAll (symbols : List AddedSymbol) (more : List Relocation) (s : ObjectSection)
+    : Type 0 where
   pub count : length s.relocations + length more ≤ 65535
   pub each : AllByRecursion (LiesIn symbols s) more
 
@@ -73,4 +74,5 @@ pub record CanBeHeld (h : Holding) : Type 0 where
   pub few : length h.sections ≤ 32767
   pub records : length (all_entries h.symbols) < 2 ^ 32
   pub symbols : AllByRecursion (CanBeAdded (length h.sections)) h.symbols
-  pub relocations : AllByRecursion (λ s. HasRoomForAll h.symbols s.relocations (record s { relocations = [] })) h.sections
+  pub relocations :
+      AllByRecursion (λ s. HasRoomForAll h.symbols s.relocations (record s { relocations = [] })) h.sections
