@@ -1,5 +1,5 @@
 -- The objects for GNU's linker fit what a file has room for.
-use Rattle.std.proofs.Common.{◌≡◌, ℕ, ◌<◌, ◌^◌, Bool, true, false, if◌then◌else◌, List, [], ◌∷◌, ◌++◌, length, refl, ◌∙◌, arith, codes, length-append}
+use Rattle.std.proofs.Common.{◌≡◌, ℕ, ◌<◌, ◌≤◌, ◌^◌, Bool, true, false, if◌then◌else◌, List, [], ◌∷◌, ◌++◌, length, refl, ◌∙◌, arith, codes, length-append}
 use Rattle.std.specs.Prelude.{nat_eq, ◌==◌}
 use Rattle.std.specs.List.{AllByRecursion}
 use Rattle.std.proofs.lemmas.Bool.{or_parts, or_from}
@@ -10,14 +10,16 @@ use Rattle.implib.specs.declared.machine.MachineType.{MachineType}
 use Rattle.implib.specs.declared.machine.MachineType.TheVariants.{I386, ARMNT, AMD64, ARM64}
 use Rattle.implib.specs.Constants.{external, static}
 use Rattle.implib.specs.Definition.{ExportView}
-use Rattle.implib.specs.Gnu.{added, empty_sections, export_object, export_symbols, file_symbol, full_stop, head_object, head_symbol, head_symbols, hint_name, linkage_symbol, name_symbol, relocations_of_stub, relocations_of_thunk, section, stem, stub, stub_relocations, tail_object, tail_symbols, thunk, without_full_stop}
+use Rattle.implib.specs.Gnu.{added, empty_sections, export_object, export_symbols, file_symbol, full_stop, head_object, head_symbol, head_symbols, hint_name, linkage_symbol, name_symbol, relocations_of_stub, relocations_of_thunk, section, stem, stub, stub_relocations, tail_object, tail_symbols, thunk, without_full_stop, stub_bytes}
 use Rattle.implib.specs.Import.{address_symbol, holds, is_empty_text, underscore}
-use Rattle.implib.specs.MsvcObjects.{relocation}
+use Rattle.implib.specs.MsvcObjects.{relocation, thunk_width, zeros}
 use Rattle.implib.specs.Object.{ObjectSection}
 use Rattle.implib.specs.Picture.{Fits}
+use Rattle.implib.specs.Table.{CanBeHeld}
 use Rattle.implib.specs.Writer.{AddedSymbol, IsPlaceAmong, all_entries, picture_of}
 use Rattle.implib.specs.WriterView.{IsSound, IsSoundSection, IsSoundSymbol}
 use Rattle.implib.proofs.MsvcObjects.{HasNoNul-from_holds, plain_section_fits, relocation_fits}
+use Rattle.implib.proofs.Table.{CanBeHeld-from_sound, LieWithin}
 use Rattle.implib.proofs.WriterPicture.{picture_of-fits}
 
 -- Names.
@@ -132,6 +134,15 @@ IsSound-head_object machine dll free =
 pub Fits-head_object : (machine : MachineType) (dll : List ℕ) → holds 0 dll ≡ false → Fits (picture_of (head_object machine dll))
 Fits-head_object machine dll free = picture_of-fits (head_object machine dll) 6 (IsSound-head_object machine dll free)
 
+head_within : (machine : MachineType) (dll : List ℕ) → AllByRecursion LieWithin (head_object machine dll).sections
+unfolding head_object
+head_within machine dll = (tt, (tt, (tt, ((omega arith, (omega arith, (omega arith, tt))), (tt, (tt, tt))))))
+
+-- a writer can hold it
+pub CanBeHeld-head_object : (machine : MachineType) (dll : List ℕ) → holds 0 dll ≡ false → CanBeHeld (head_object machine dll)
+CanBeHeld-head_object machine dll free =
+    CanBeHeld-from_sound (head_object machine dll) 6 (IsSound-head_object machine dll free) (omega arith) (head_within machine dll)
+
 -- The tail.
 
 pub IsSound-tail_object : (machine : MachineType) (dll : List ℕ) → holds 0 dll ≡ false → IsSound (tail_object machine dll) 3
@@ -154,6 +165,14 @@ IsSound-tail_object machine dll free =
 
 pub Fits-tail_object : (machine : MachineType) (dll : List ℕ) → holds 0 dll ≡ false → Fits (picture_of (tail_object machine dll))
 Fits-tail_object machine dll free = picture_of-fits (tail_object machine dll) 3 (IsSound-tail_object machine dll free)
+
+tail_within : (machine : MachineType) (dll : List ℕ) → AllByRecursion LieWithin (tail_object machine dll).sections
+unfolding tail_object
+tail_within machine dll = (tt, (tt, (tt, (tt, (tt, (tt, tt))))))
+
+pub CanBeHeld-tail_object : (machine : MachineType) (dll : List ℕ) → holds 0 dll ≡ false → CanBeHeld (tail_object machine dll)
+CanBeHeld-tail_object machine dll free =
+    CanBeHeld-from_sound (tail_object machine dll) 3 (IsSound-tail_object machine dll free) (omega arith) (tail_within machine dll)
 
 -- An export.
 
@@ -270,3 +289,38 @@ pub Fits-export_object : (machine : MachineType) (dll : List ℕ) (e : ExportVie
     Fits (picture_of (export_object machine dll e))
 Fits-export_object machine dll e free name_free filled =
     picture_of-fits (export_object machine dll e) (length (all_entries (export_symbols (head_symbol machine dll) e))) (IsSound-export_object machine dll e free name_free filled)
+
+stub_within : (machine : MachineType) (is_data : Bool) → LieWithin (section [] 0 (if is_data then [] else stub_bytes machine) (if is_data then [] else stub_relocations machine 2))
+stub_within machine true = tt
+stub_within I386 false = (omega arith, tt)
+stub_within ARMNT false = (omega arith, tt)
+stub_within AMD64 false = (omega arith, tt)
+stub_within ARM64 false = (omega arith, (omega arith, tt))
+
+entry_within : (machine : MachineType) (no_name : Bool) (by_ordinal : List ℕ) (symbol : ℕ) →
+    LieWithin (section [] 0 (if no_name then by_ordinal else zeros (thunk_width machine)) (if no_name then [] else relocation machine 0 symbol ∷ []))
+entry_within machine true by_ordinal symbol = tt
+entry_within I386 false by_ordinal symbol = (omega arith, tt)
+entry_within ARMNT false by_ordinal symbol = (omega arith, tt)
+entry_within AMD64 false by_ordinal symbol = (omega arith, tt)
+entry_within ARM64 false by_ordinal symbol = (omega arith, tt)
+
+export_within : (machine : MachineType) (dll : List ℕ) (e : ExportView) → AllByRecursion LieWithin (export_object machine dll e).sections
+unfolding export_object stub relocations_of_stub thunk relocations_of_thunk
+export_within machine dll e = (
+  stub_within machine e.is_data,
+  (tt, (tt, ((omega arith, tt), (entry_within machine e.no_name _ _, (entry_within machine e.no_name _ _, (tt, tt)))))),
+)
+
+few_entries : (head : List ℕ) (e : ExportView) → length (all_entries (export_symbols head e)) ≤ 4
+few_entries head e = by e.is_data
+  where
+    by : (is_data : Bool) → length (all_entries (symbols_by is_data head e.name)) ≤ 4
+    by true = omega arith
+    by false = omega arith
+
+pub CanBeHeld-export_object : (machine : MachineType) (dll : List ℕ) (e : ExportView) → holds 0 dll ≡ false → holds 0 e.name ≡ false → is_empty_text e.name ≡ false →
+    CanBeHeld (export_object machine dll e)
+CanBeHeld-export_object machine dll e free name_free filled =
+    CanBeHeld-from_sound (export_object machine dll e) (length (all_entries (export_symbols (head_symbol machine dll) e))) (IsSound-export_object machine dll e free name_free filled)
+    (omega (arith, few_entries (head_symbol machine dll) e)) (export_within machine dll e)

@@ -71,6 +71,7 @@ pub mod LinkedParts
 pub mod Loading
 pub mod WorkedLinks
 pub mod GnuObjects
+pub mod Table
 pub mod GnuNames
 pub mod GnuLoop
 pub mod GnuReadings

@@ -29,6 +29,7 @@ pub mod Reading
 pub mod Parser
 pub mod ParserViews
 pub mod Writer
+pub mod Table
 pub mod WriterView
 pub mod Link
 pub mod Load

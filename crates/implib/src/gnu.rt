@@ -2,7 +2,7 @@
 
 ghost use Rattle.implib.specs.Definition.{definition_view, export_view};
 ghost use Rattle.implib.specs.Fault.{IfInvalid, MemberTooLong};
-ghost use Rattle.implib.specs.Gnu.{export_listed};
+ghost use Rattle.implib.specs.Gnu.{export_listed, head_symbol};
 ghost use Rattle.implib.specs.Import.{address_symbol, holds, is_alias, is_empty_text, public_exports};
 ghost use Rattle.implib.specs.Library.{member_view};
 ghost use Rattle.implib.specs.Made.{Made, RefusesAlways, alias_plan, alias_plans, definition_names_refusal, export_plan, gnu_member_count, has_u16_ordinal, head_plan, holds_nul, is_too_long, member_of, numbered_plans, numbered_plans_of, plans_of, refusal, tail_plan};
@@ -22,6 +22,7 @@ use std::marker::Model;
 
 mod names;
 mod objects;
+mod table;
 
 use names::{head_name, head_symbol, name_symbol, numbered_name, tail_name};
 pub(crate) use objects::asked;
@@ -82,15 +83,19 @@ pub(crate) fn members(def: &ModuleDef, machine: MachineType) -> Result<Vec<Membe
     ensures too_long { IfInvalid result (λ cause. (cause ≡ MemberTooLong)
         × (list_any is_too_long (plans_of (definition_view def.now) machine Gnu) ≡ true)) }
 {
-    let mut members = build(def, machine)?;
-    push_linkage(&mut members, machine, def.import_name.as_str())?;
+    let dll = def.import_name.as_str();
+    let head = head_symbol(*def.exports.allocator(), machine, dll)?;
+    let mut members = build(def, machine, head.as_str())?;
+    push_linkage(&mut members, machine, dll)?;
     members.reverse();
     Ok(members)
 }
 
-// The members of the exports, in the order of building, with room for the head and the tail.
-fn build(def: &ModuleDef, machine: MachineType) -> Result<Vec<Member>, Error>
-    requires { definition_names_refusal (definition_view def.now) machine Gnu ≡ None }
+// The members of the exports, by the head's symbol, in the order of building, with room for the head and
+// the tail.
+fn build(def: &ModuleDef, machine: MachineType, head: &str) -> Result<Vec<Member>, Error>
+    requires names { definition_names_refusal (definition_view def.now) machine Gnu ≡ None }
+    requires head { head.now ≡ head_symbol machine (definition_view def.now).import_name }
     ensures ok { IfOk result (λ members. map member_view members.items
         ≡ map member_of (numbered_plans machine (definition_view def.now).import_name 0 (public_exports (definition_view def.now)))) }
     ensures fit { OnOk result (list_any is_too_long
@@ -104,7 +109,7 @@ fn build(def: &ModuleDef, machine: MachineType) -> Result<Vec<Member>, Error>
     let mut number = 0usize;
     for export in def.exports.iter() {
         if !export.private {
-            push_export(&mut members, export, number, machine, dll)?;
+            push_export(&mut members, export, number, machine, dll, head)?;
             number += 1;
         }
     }
@@ -202,8 +207,10 @@ fn push_export(
     number: usize,
     machine: MachineType,
     dll: &str,
+    head: &str,
 ) -> Result<(), Error>
     requires dll_text { holds 0 dll.now ≡ false }
+    requires head { head.now ≡ head_symbol machine dll.now }
     requires nul { holds_nul (export_view export.now) ≡ false }
     requires filled { is_empty_text (export_view export.now).name ≡ false }
     ensures ok { OnOk result (map member_view members.new.items
@@ -216,7 +223,7 @@ fn push_export(
     if has_aliases(export) {
         push_weak_externals(members, export, number, machine, dll)?;
     }
-    members.push(export_member(*members.allocator(), export, number, machine, dll)?)?;
+    members.push(export_member(*members.allocator(), export, number, machine, dll, head)?)?;
     Ok(())
 }
 
@@ -293,8 +300,10 @@ fn export_member(
     number: usize,
     machine: MachineType,
     dll: &str,
+    head: &str,
 ) -> Result<Member, Error>
     requires dll_text { holds 0 dll.now ≡ false }
+    requires head { head.now ≡ head_symbol machine dll.now }
     requires name_text { holds 0 (export_view export.now).name ≡ false }
     requires filled { is_empty_text (export_view export.now).name ≡ false }
     ensures ok { IfOk result (λ m. member_view m ≡ member_of (export_plan machine dll.now number (export_view export.now))) }
@@ -304,9 +313,8 @@ fn export_member(
         × (is_too_long (export_plan machine dll.now number (export_view export.now)) ≡ true)) }
 {
     let _ordinal = export.ordinal;
-    let head = head_symbol(alloc, machine, dll)?;
     let address = address_symbol(alloc, export.name.as_str())?;
-    let bytes = export_object(alloc, export, machine, dll, head.as_str(), address.as_str())?;
+    let bytes = export_object(alloc, export, machine, dll, head, address.as_str())?;
     let symbols = export_listed(alloc, export, address)?;
     let name = numbered_name(alloc, dll, "s", number)?;
     Ok(Member {

@@ -61,6 +61,16 @@ impl ObjectWriter {
         }
     }
 
+    /// Makes room for so many sections and symbols more; what the writer holds stays.
+    pub(crate) fn reserve(&mut self, sections: usize, symbols: usize) -> Result<(), Error>
+        ensures held { self.new ≡ self.old }
+        ensures memory { IfErr result (λ e. e ≡ Error.OutOfMemory alloc_error) }
+    {
+        self.sections.reserve(sections)?;
+        self.symbols.reserve(symbols)?;
+        Ok(())
+    }
+
     /// Adds a section and gives its number, from 1. Where memory is refused the writer is as before.
     ///
     /// The section has no relocation yet, and fewer than 32,767 others are there.
@@ -132,10 +142,8 @@ impl ObjectWriter {
     }
 }
 
-/// The bytes of the object of these parts, laid out as by a writer that holds them.
-///
-/// Refuses with `MemberTooLong` where they are more than 2^32 - 1, before they grow.
-pub(crate) fn write_parts(
+// The bytes of the object of these parts, laid out as by a writer that holds them.
+fn write_parts(
     alloc: Global,
     machine: MachineType,
     sections: &[Section],

@@ -29,11 +29,14 @@ fn push_stem(out: &mut String, dll: &str) -> Result<(), AllocError>
     Ok(())
 }
 
-// The DLL's name with each full stop as an underscore, and then this text.
+// Room for what follows the stem in a member's name, which is seldom more.
+const AFTER_STEM: usize = 16;
+
+// The DLL's name with each full stop as an underscore, and then this text; there is room for more.
 fn stem_with(alloc: Global, dll: &str, end: &str) -> Result<String, AllocError>
     ensures { IfOk result (λ name. string_bytes name ≡ stem dll.now ++ end.now) }
 {
-    let mut name = String::new(alloc);
+    let mut name = String::with_capacity(alloc, dll.len().saturating_add(AFTER_STEM))?;
     push_stem(&mut name, dll)?;
     name.push_str(end)?;
     Ok(name)

@@ -13,7 +13,7 @@ returns-clause-ok c =
     let dll = string_bytes c.args.def.now.import_name in
     let built = numbered_plans machine dll 0 (public_exports (definition_view c.args.def.now)) in
     let pushed : map member_view c.push_linkage.new.members.items ≡ map member_of built ++ map member_of (head_plan machine dll ∷ tail_plan machine dll ∷ []) =
-    rw (c.in_ok-members.ensures.ok, c.as_str.ensures.value) at c.in_ok-push_linkage.ensures.ok in
+    rw (c.in_ok-members.ensures.ok, c.as_str-dll.ensures.value) at c.in_ok-push_linkage.ensures.ok in
     ap (map member_view) c.reverse.ensures.items
     ∙ (map-reverse member_view c.push_linkage.new.members.items
     ∙ made_turned (map member_view c.push_linkage.new.members.items) built (head_plan machine dll) (tail_plan machine dll) pushed)
@@ -24,6 +24,6 @@ returns-clause-fit c =
     let dll = string_bytes c.args.def.now.import_name in
     let built = numbered_plans machine dll 0 (public_exports (definition_view c.args.def.now)) in
     let linkage : list_any is_too_long (head_plan machine dll ∷ tail_plan machine dll ∷ []) ≡ false =
-    rw c.as_str.ensures.value at c.in_ok-push_linkage.ensures.fit in
+    rw c.as_str-dll.ensures.value at c.in_ok-push_linkage.ensures.fit in
     long_turned built (head_plan machine dll) (tail_plan machine dll)
     ∙ (ap (λ b. b || list_any is_too_long (head_plan machine dll ∷ tail_plan machine dll ∷ [])) c.in_ok-members.ensures.fit ∙ linkage)

@@ -1,38 +1,79 @@
-use Rattle.std.proofs.Common.{◌≡◌, ◌<◌, ◌≤◌, ◌^◌, ◌∙◌, refl, ap, sym, subst, map, List, ℕ}
-use Rattle.std.specs.Prelude.{IfOk, OnOk}
+use Rattle.std.proofs.Common.{◌≡◌, ◌∷◌, [], map, refl}
 use Rattle.implib.specs.Definition.{export_view}
-use Rattle.implib.specs.Fault.{IfInvalid, MemberTooLong}
-use Rattle.implib.specs.Gnu.{export_object, export_symbols}
-use Rattle.implib.specs.Picture.{Fits, layout, layout_size}
-use Rattle.implib.specs.Writer.{Holding, added_view, picture_of}
-use Rattle.implib.proofs.GnuObjects.{Fits-export_object}
-use Rattle.implib.proofs.Written.{same_holding}
+use Rattle.implib.specs.Gnu.{export_object, export_symbols, head_symbol, relocations_of_thunk}
+use Rattle.implib.specs.Table.{symbol_row, table_view}
+use Rattle.implib.proofs.GnuObjects.{CanBeHeld-export_object}
 use Rattle.implib.proofs.gnu.objects.export_object.Goals as goal
+use Rattle.implib.proofs.gnu.objects.export_object.Goals.{After-drop-hint_name, else-export, then-export}
 
-pub write_parts-requires : goal.write_parts-requires
-unfolding export_object
-write_parts-requires c =
-    subst (λ (h : Holding). Fits (picture_of h))
-    (sym (same_holding (export_object c.args.machine c.args.dll.now (export_view c.args.export.now)) _ _ _ refl c.in_ok-sections.ensures (ap (map added_view) c.deref.ensures.value ∙ (c.in_ok-symbols.ensures ∙ ap (λ (s : List ℕ). export_symbols s (export_view c.args.export.now)) c.requires.head))))
-    (Fits-export_object c.args.machine c.args.dll.now (export_view c.args.export.now) c.requires.dll_text c.requires.name_text c.requires.filled)
+pub write_table-requires : goal.write_table-requires
+unfolding export_object relocations_of_thunk
+write_table-requires c =
+    let same : table_view c.args.machine (c.section.result ∷ c.empty_section.result ∷ c.empty_section-2.result ∷ c.section-2.result ∷ c.section-3.result ∷ c.section-4.result ∷ c.section-5.result ∷ []) c.if-export.symbols.now ≡ export_object c.args.machine c.args.dll.now (export_view c.args.export.now) =
+    let symbols : map symbol_row c.if-export.symbols.now ≡ export_symbols (head_symbol c.args.machine c.args.dll.now) (export_view c.args.export.now) =
+    elim c.if-export.branch [
+      | then-export w ↦ rw (w.symbols-is, w.if-export.true, c.symbol-head.ensures, c.symbol-address.ensures, c.symbol-names.ensures, c.requires.head, c.requires.address) refl
+      | else-export w ↦ rw (w.symbols-is, w.if-export.false, c.symbol-head.ensures, c.symbol-code.ensures, c.symbol-address.ensures, c.symbol-names.ensures, c.as_str.ensures.value, c.requires.head, c.requires.address) refl
+    ] in
+    rw (
+      symbols,
+      c.section.ensures,
+      c.empty_section.ensures,
+      c.empty_section-2.ensures,
+      c.section-2.ensures,
+      c.section-3.ensures,
+      c.section-4.ensures,
+      c.section-5.ensures,
+      c.stub.ensures,
+      c.stub_relocations.ensures,
+      c.entry_relocations-entry_relocations.ensures,
+      c.image_relocation.ensures,
+      c.image_relocation-2.ensures,
+      c.hint_name_symbol.ensures,
+      c.thunk_width.ensures,
+      c.thunk-thunk.ensures,
+      c.deref.ensures.value,
+      c.in_ok-hint_name.ensures,
+    )
+    refl in
+    rw same (CanBeHeld-export_object c.args.machine c.args.dll.now (export_view c.args.export.now) c.requires.dll_text c.requires.name_text c.requires.filled)
+
+-- the table that is written is the one that is meant
+same : (c : After-drop-hint_name) → table_view c.args.machine (c.section.result ∷ c.empty_section.result ∷ c.empty_section-2.result ∷ c.section-2.result ∷ c.section-3.result ∷ c.section-4.result ∷ c.section-5.result ∷ []) c.if-export.symbols.now ≡ export_object c.args.machine c.args.dll.now (export_view c.args.export.now)
+unfolding export_object relocations_of_thunk
+same c =
+    let symbols : map symbol_row c.if-export.symbols.now ≡ export_symbols (head_symbol c.args.machine c.args.dll.now) (export_view c.args.export.now) =
+    elim c.if-export.branch [
+      | then-export w ↦ rw (w.symbols-is, w.if-export.true, c.symbol-head.ensures, c.symbol-address.ensures, c.symbol-names.ensures, c.requires.head, c.requires.address) refl
+      | else-export w ↦ rw (w.symbols-is, w.if-export.false, c.symbol-head.ensures, c.symbol-code.ensures, c.symbol-address.ensures, c.symbol-names.ensures, c.as_str.ensures.value, c.requires.head, c.requires.address) refl
+    ] in
+    rw (
+      symbols,
+      c.section.ensures,
+      c.empty_section.ensures,
+      c.empty_section-2.ensures,
+      c.section-2.ensures,
+      c.section-3.ensures,
+      c.section-4.ensures,
+      c.section-5.ensures,
+      c.stub.ensures,
+      c.stub_relocations.ensures,
+      c.entry_relocations-entry_relocations.ensures,
+      c.image_relocation.ensures,
+      c.image_relocation-2.ensures,
+      c.hint_name_symbol.ensures,
+      c.thunk_width.ensures,
+      c.thunk-thunk.ensures,
+      c.deref.ensures.value,
+      c.in_ok-hint_name.ensures,
+    )
+    refl
 
 pub returns-clause-bytes : goal.returns-clause-bytes
-unfolding export_object
-returns-clause-bytes c =
-    subst (λ (h : Holding). IfOk c.write_parts.result (λ bytes. bytes.items ≡ layout (picture_of h)))
-    (same_holding (export_object c.args.machine c.args.dll.now (export_view c.args.export.now)) _ _ _ refl c.in_ok-sections.ensures (ap (map added_view) c.deref.ensures.value ∙ (c.in_ok-symbols.ensures ∙ ap (λ (s : List ℕ). export_symbols s (export_view c.args.export.now)) c.requires.head)))
-    c.write_parts.ensures.bytes
+returns-clause-bytes c = rw (← same c) c.write_table.ensures.bytes
 
 pub returns-clause-short : goal.returns-clause-short
-unfolding export_object
-returns-clause-short c =
-    subst (λ (h : Holding). OnOk c.write_parts.result (layout_size (picture_of h) < 2 ^ 32))
-    (same_holding (export_object c.args.machine c.args.dll.now (export_view c.args.export.now)) _ _ _ refl c.in_ok-sections.ensures (ap (map added_view) c.deref.ensures.value ∙ (c.in_ok-symbols.ensures ∙ ap (λ (s : List ℕ). export_symbols s (export_view c.args.export.now)) c.requires.head)))
-    c.write_parts.ensures.short
+returns-clause-short c = rw (← same c) c.write_table.ensures.short
 
 pub returns-clause-too_long : goal.returns-clause-too_long
-unfolding export_object
-returns-clause-too_long c =
-    subst (λ (h : Holding). IfInvalid c.write_parts.result (λ cause. (cause ≡ MemberTooLong) × (2 ^ 32 ≤ layout_size (picture_of h))))
-    (same_holding (export_object c.args.machine c.args.dll.now (export_view c.args.export.now)) _ _ _ refl c.in_ok-sections.ensures (ap (map added_view) c.deref.ensures.value ∙ (c.in_ok-symbols.ensures ∙ ap (λ (s : List ℕ). export_symbols s (export_view c.args.export.now)) c.requires.head)))
-    c.write_parts.ensures.refused
+returns-clause-too_long c = rw (← same c) c.write_table.ensures.too_long

@@ -1,37 +1,56 @@
-use Rattle.std.proofs.Common.{◌≡◌, ◌<◌, ◌≤◌, ◌^◌, ◌∙◌, refl, ap, sym, subst}
-use Rattle.std.specs.Prelude.{IfOk, OnOk}
-use Rattle.implib.specs.Fault.{IfInvalid, MemberTooLong}
-use Rattle.implib.specs.Gnu.{tail_object, tail_symbols}
-use Rattle.implib.specs.Picture.{Fits, layout, layout_size}
-use Rattle.implib.specs.Writer.{Holding, picture_of}
-use Rattle.implib.proofs.GnuObjects.{Fits-tail_object}
-use Rattle.implib.proofs.Written.{same_holding}
+use Rattle.std.proofs.Common.{◌≡◌, ◌∷◌, [], refl}
+use Rattle.implib.specs.Gnu.{tail_object}
+use Rattle.implib.specs.Table.{table_view}
+use Rattle.implib.proofs.GnuObjects.{CanBeHeld-tail_object}
 use Rattle.implib.proofs.gnu.objects.tail_object.Goals as goal
+use Rattle.implib.proofs.gnu.objects.tail_object.Goals.{After-drop-thunk-2}
 
-pub write_parts-requires : goal.write_parts-requires
+pub write_table-requires : goal.write_table-requires
 unfolding tail_object
-write_parts-requires c =
-    subst (λ (h : Holding). Fits (picture_of h))
-    (sym (same_holding (tail_object c.args.machine c.args.dll.now) _ _ _ refl c.in_ok-sections.ensures (c.in_ok-symbols.ensures ∙ ap tail_symbols c.requires.name)))
-    (Fits-tail_object c.args.machine c.args.dll.now c.requires.dll_text)
+write_table-requires c =
+    rw (
+      c.linkage_sections-sections.ensures,
+      c.section.ensures,
+      c.section-2.ensures,
+      c.section-3.ensures,
+      c.deref.ensures.value,
+      c.deref-2.ensures.value,
+      c.deref-3.ensures.value,
+      c.in_ok-thunk.ensures,
+      c.thunk_width.ensures,
+      c.in_ok-text.ensures,
+      c.file_symbol.ensures,
+      c.symbol.ensures,
+      c.requires.name,
+    )
+    (CanBeHeld-tail_object c.args.machine c.args.dll.now c.requires.dll_text)
+
+-- the table that is written is the one that is meant
+same : (c : After-drop-thunk-2) → table_view c.args.machine c.linkage_sections-sections.result (c.file_symbol.result ∷ c.symbol.result ∷ []) ≡ tail_object c.args.machine c.args.dll.now
+unfolding tail_object
+same c =
+    rw (
+      c.linkage_sections-sections.ensures,
+      c.section.ensures,
+      c.section-2.ensures,
+      c.section-3.ensures,
+      c.deref.ensures.value,
+      c.deref-2.ensures.value,
+      c.deref-3.ensures.value,
+      c.in_ok-thunk.ensures,
+      c.thunk_width.ensures,
+      c.in_ok-text.ensures,
+      c.file_symbol.ensures,
+      c.symbol.ensures,
+      c.requires.name,
+    )
+    refl
 
 pub returns-clause-bytes : goal.returns-clause-bytes
-unfolding tail_object
-returns-clause-bytes c =
-    subst (λ (h : Holding). IfOk c.write_parts.result (λ bytes. bytes.items ≡ layout (picture_of h)))
-    (same_holding (tail_object c.args.machine c.args.dll.now) _ _ _ refl c.in_ok-sections.ensures (c.in_ok-symbols.ensures ∙ ap tail_symbols c.requires.name))
-    c.write_parts.ensures.bytes
+returns-clause-bytes c = rw (← same c) c.write_table.ensures.bytes
 
 pub returns-clause-short : goal.returns-clause-short
-unfolding tail_object
-returns-clause-short c =
-    subst (λ (h : Holding). OnOk c.write_parts.result (layout_size (picture_of h) < 2 ^ 32))
-    (same_holding (tail_object c.args.machine c.args.dll.now) _ _ _ refl c.in_ok-sections.ensures (c.in_ok-symbols.ensures ∙ ap tail_symbols c.requires.name))
-    c.write_parts.ensures.short
+returns-clause-short c = rw (← same c) c.write_table.ensures.short
 
 pub returns-clause-too_long : goal.returns-clause-too_long
-unfolding tail_object
-returns-clause-too_long c =
-    subst (λ (h : Holding). IfInvalid c.write_parts.result (λ cause. (cause ≡ MemberTooLong) × (2 ^ 32 ≤ layout_size (picture_of h))))
-    (same_holding (tail_object c.args.machine c.args.dll.now) _ _ _ refl c.in_ok-sections.ensures (c.in_ok-symbols.ensures ∙ ap tail_symbols c.requires.name))
-    c.write_parts.ensures.refused
+returns-clause-too_long c = rw (← same c) c.write_table.ensures.too_long

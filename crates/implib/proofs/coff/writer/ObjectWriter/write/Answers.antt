@@ -1,10 +1,12 @@
-use Rattle.std.proofs.Common.{◌≡◌, ◌∙◌, ap, map, subst, sym, ◌<◌, ◌≤◌, ◌^◌, IfOk, OnOk}
+use Rattle.std.proofs.Common.{◌≡◌, ◌∙◌, ap, length, map, subst, sym, ◌<◌, ◌≤◌, ◌^◌, IfOk, OnOk, Some}
 use Rattle.implib.specs.Fault.{IfInvalid, MemberTooLong}
+use Rattle.implib.specs.Object.{object_in}
 use Rattle.implib.specs.Picture.{Fits, layout, layout_size}
-use Rattle.implib.specs.Writer.{Holding, added_view, picture_of, section_view}
+use Rattle.implib.specs.Writer.{Holding, added_view, object_held, picture_of, section_view}
 use Rattle.implib.proofs.WriterPicture.{picture_of-fits, object_of-picture_of}
 use Rattle.implib.proofs.Written.{length_if_ok, read_if_ok, same_holding}
 use Rattle.implib.proofs.coff.writer.ObjectWriter.write.Goals as goal
+use Rattle.implib.proofs.coff.writer.ObjectWriter.write.Goals.{After-write_parts}
 
 pub write_parts-requires : goal.write_parts-requires
 write_parts-requires c =
@@ -15,8 +17,10 @@ write_parts-requires c =
     (ap (map added_view) c.deref-2.ensures.value ∙ ap (λ h. h.symbols) c.self.view_is)))
     (picture_of-fits c.args.self.now c.self.inside.records (rw c.self.view_is at c.self.invariant))
 
-pub returns-clause-bytes : goal.returns-clause-bytes
-returns-clause-bytes c =
+-- What is known of the result, fact by fact.
+
+bytes_given : (c : After-write_parts) → IfOk c.write_parts.result (λ bytes. bytes.items ≡ layout (picture_of c.args.self.now))
+bytes_given c =
     subst (λ (h : Holding). IfOk c.write_parts.result (λ bytes. bytes.items ≡ layout (picture_of h)))
     (same_holding c.args.self.now _ c.deref.result.now c.deref-2.result.now
     (ap (λ h. h.machine) c.self.view_is)
@@ -24,8 +28,8 @@ returns-clause-bytes c =
     (ap (map added_view) c.deref-2.ensures.value ∙ ap (λ h. h.symbols) c.self.view_is))
     c.write_parts.ensures.bytes
 
-pub returns-clause-short : goal.returns-clause-short
-returns-clause-short c =
+short_given : (c : After-write_parts) → OnOk c.write_parts.result (layout_size (picture_of c.args.self.now) < 2 ^ 32)
+short_given c =
     subst (λ (h : Holding). OnOk c.write_parts.result (layout_size (picture_of h) < 2 ^ 32))
     (same_holding c.args.self.now _ c.deref.result.now c.deref-2.result.now
     (ap (λ h. h.machine) c.self.view_is)
@@ -33,8 +37,8 @@ returns-clause-short c =
     (ap (map added_view) c.deref-2.ensures.value ∙ ap (λ h. h.symbols) c.self.view_is))
     c.write_parts.ensures.short
 
-pub returns-clause-refused : goal.returns-clause-refused
-returns-clause-refused c =
+refused_given : (c : After-write_parts) → IfInvalid c.write_parts.result (λ cause. (cause ≡ MemberTooLong) × (2 ^ 32 ≤ layout_size (picture_of c.args.self.now)))
+refused_given c =
     subst (λ (h : Holding). IfInvalid c.write_parts.result (λ cause. (cause ≡ MemberTooLong) × (2 ^ 32 ≤ layout_size (picture_of h))))
     (same_holding c.args.self.now _ c.deref.result.now c.deref-2.result.now
     (ap (λ h. h.machine) c.self.view_is)
@@ -42,15 +46,18 @@ returns-clause-refused c =
     (ap (map added_view) c.deref-2.ensures.value ∙ ap (λ h. h.symbols) c.self.view_is))
     c.write_parts.ensures.refused
 
-pub returns-clause-read : goal.returns-clause-read
-returns-clause-read c =
+read_given : (c : After-write_parts) → IfOk c.write_parts.result (λ bytes. object_in bytes.items ≡ Some (object_held c.args.self.now))
+read_given c =
     rw (← object_of-picture_of c.args.self.now)
     (read_if_ok (λ bytes. bytes.items) c.write_parts.result (picture_of c.args.self.now)
     (picture_of-fits c.args.self.now c.self.inside.records (rw c.self.view_is at c.self.invariant))
-    (returns-clause-bytes c) (returns-clause-short c))
+    (bytes_given c) (short_given c))
 
-pub returns-clause-length : goal.returns-clause-length
-returns-clause-length c =
+length_given : (c : After-write_parts) → IfOk c.write_parts.result (λ bytes. length bytes.items ≡ layout_size (picture_of c.args.self.now))
+length_given c =
     length_if_ok (λ bytes. bytes.items) c.write_parts.result (picture_of c.args.self.now)
     (picture_of-fits c.args.self.now c.self.inside.records (rw c.self.view_is at c.self.invariant))
-    (returns-clause-bytes c) (returns-clause-short c)
+    (bytes_given c) (short_given c)
+
+pub returns : goal.returns
+returns c = search (bytes_given c, short_given c, refused_given c, read_given c, length_given c)
