@@ -55,6 +55,7 @@ pub mod Written
 pub mod WriterSound
 pub mod WorkedObjects
 pub mod Asked
+pub mod SymbolNames
 pub mod WorkedMembers
 pub mod WorkedGnu
 pub mod Ranges

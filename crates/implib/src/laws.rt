@@ -1,6 +1,7 @@
 //! Laws: what a caller may conclude from the definitions, each as the contract of an empty function.
 
 pub mod asked;
+pub mod definition;
 pub mod grammar;
 pub mod link;
 pub mod members;
@@ -9,6 +10,7 @@ pub mod renaming;
 pub mod tokens;
 
 pub use asked::asked_is_word;
+pub use definition::parsed_lacks_symbol_names;
 pub use grammar::grammar_or_broken;
 pub use link::{gnu_links, gnu_links_many};
 pub use renaming::rename_twice;
