@@ -1,8 +1,10 @@
-//! Laws: what a caller may conclude from the definitions, each as the contract of an empty function.
+//! Laws: what a caller may conclude from the definitions, each as the contract of an empty function;
+//! and in `kinds` what `==` and `default` give.
 
 pub mod asked;
 pub mod definition;
 pub mod grammar;
+pub mod kinds;
 pub mod link;
 pub mod members;
 pub mod objects;

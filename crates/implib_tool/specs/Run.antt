@@ -124,7 +124,7 @@ HasCause machine flavor before after Read =
 HasCause machine flavor before after Write =
     (after.reader_failed ≡ false) × (after.writer_failed ≡ true) × IfSome before.remaining IsUtf8
     × IfSome before.remaining (λ text.
-        (listing : List ℕ) × Lists text machine flavor listing × AppendsBeginning before.contents after.contents listing)
+    (listing : List ℕ) × Lists text machine flavor listing × AppendsBeginning before.contents after.contents listing)
 HasCause machine flavor before after OutOfMemory = NothingWritten before after
 
 -- what a run answers, and what it does

@@ -124,3 +124,5 @@ pub fn command<R: Source, W: Sink, E: Sink>(
 
 #[cfg(test)]
 mod tests;
+#[cfg(test)]
+mod texts;

@@ -71,3 +71,6 @@ impl<T: io::Write> Sink for Host<T> {
         written.map_err(|_| DeviceFault)
     }
 }
+
+#[cfg(test)]
+mod tests;

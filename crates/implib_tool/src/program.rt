@@ -94,3 +94,6 @@ pub fn perform_on_system(
 {
     perform(alloc, arguments, reader, writer, faults)
 }
+
+#[cfg(test)]
+mod tests;

@@ -11,7 +11,7 @@ returns-in_default g c = rw c.fault.ensures (words_refused (words_of (into_iter_
 pub returns : goal.returns
 returns g c =
     let same : map string_bytes c.as_slice.result.now ≡ words_of (into_iter_items c.args.arguments) =
-        ap (map string_bytes) (c.as_slice.ensures.value ∙ c.in-Ok.ensures) in
+    ap (map string_bytes) (c.as_slice.ensures.value ∙ c.in-Ok.ensures) in
     rw (sym same)
     (words_answered (map string_bytes c.as_slice.result.now) _ _ c.command.result c.command.ensures.words
     (λ none. let kept = c.command.ensures.untouched none in rw (kept.0, kept.1) refl) c.command.ensures.run)

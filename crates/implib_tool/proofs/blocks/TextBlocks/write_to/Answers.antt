@@ -10,7 +10,7 @@ returns-in_err-write_all-clause-beginning g c =
     let blocks = c.deref-block-items.result.now in
     let last = c.self.inside.last.items in
     let whole = sym c.self.view_is ∙ ap (λ t. flat_map (λ block. block.items) t ++ last) (sym c.deref-block-items.ensures.value)
-        ∙ block_between (λ block. block.items) blocks last c.loop-block.block-index c.block-item.result c.loop-block-test.true c.block-item.is in
+    ∙ block_between (λ block. block.items) blocks last c.loop-block.block-index c.block-item.result c.loop-block-test.true c.block-item.is in
     let block = subst (AppendsBeginning (g.W.Sink.contents c.loop-block.writer) (g.W.Sink.contents c.write_all.new.writer)) c.as_slice.ensures.value c.in_err-write_all.ensures.beginning in
     rw error.1
     (subst (AppendsBeginning (g.W.Sink.contents c.args.writer.now) (g.W.Sink.contents c.write_all.new.writer)) (sym whole)
