@@ -58,6 +58,7 @@ pub mod WorkedTables
 pub mod WorkedPlans
 pub mod WorkedLayouts
 pub mod Asked
+pub mod SymbolNames
 pub mod WorkedMembers
 pub mod WorkedGnu
 pub mod Ranges

@@ -18,6 +18,7 @@ pub mod Library
 pub mod Bytes
 pub mod Pass
 pub mod Reads
+pub mod SymbolNames
 pub mod Object
 pub mod Picture
 pub mod Constants

@@ -1,7 +1,10 @@
-//! Laws: what a caller may conclude from the definitions, each as the contract of an empty function.
+//! Laws: what a caller may conclude from the definitions, each as the contract of an empty function;
+//! and in `kinds` what `==` and `default` give.
 
 pub mod asked;
+pub mod definition;
 pub mod grammar;
+pub mod kinds;
 pub mod link;
 pub mod members;
 pub mod objects;
@@ -9,6 +12,7 @@ pub mod renaming;
 pub mod tokens;
 
 pub use asked::asked_is_word;
+pub use definition::parsed_lacks_symbol_names;
 pub use grammar::grammar_or_broken;
 pub use link::{gnu_links, gnu_links_many};
 pub use renaming::rename_twice;

@@ -1,3 +1,4 @@
 pub mod Dividing
+pub mod Meant
 pub mod Running
 pub mod Shown

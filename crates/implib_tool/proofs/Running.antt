@@ -1,7 +1,9 @@
 -- Lemmas on the runs of the program.
-use Rattle.std.proofs.Common.{◌≡◌, ℕ, ◌-◌, List, [], ◌∷◌, ◌++◌, Option, None, Some, MatchOption, length, take, drop, refl, sym, ap, subst, ◌∙◌, append_assoc, append-nil, take-append-drop}
-use Rattle.std.proofs.KnownBytes.{Appends-trans}
+use Rattle.std.proofs.Common.{◌≡◌, ℕ, suc, ◌-◌, ◌<◌, List, [], ◌∷◌, ◌++◌, Option, None, Some, IfSome, IsNone, MatchOption, Err, false, ◌↔◌, ◌⊎◌, inl, inr, flat_map, get_or, length, take, drop, refl, sym, ap, subst, ◌∙◌, append_assoc, append-nil, take-append-drop}
+use Rattle.std.proofs.KnownBytes.{Appends-trans, Keeps-refl}
+use Rattle.std.proofs.lemmas.Grind.{flat_map-append}
 use Rattle.std.proofs.lemmas.List.{take_rest}
+use Rattle.std.proofs.Math.Seq.{split_at}
 use Rattle.std.specs.Borrow.{Bor}
 use Rattle.std.specs.Io.KnownBytes.{Appends}
 use Rattle.implib.specs.declared.library.Flavor.{Flavor}
@@ -10,11 +12,32 @@ use Rattle.implib.specs.Fault.{Cause, cause_of}
 use Rattle.implib.specs.Made.{MemberView}
 use Rattle.implib_tool.specs.declared.run.RunError.{RunError}
 use Rattle.implib_tool.specs.declared.run.RunError.TheVariants.{Refused, NotUtf8, Read, Write, OutOfMemory}
+use Rattle.implib_tool.specs.Device.{AppendsBeginning}
 use Rattle.implib_tool.specs.Listing.{listing_of}
 use Rattle.implib_tool.specs.Parts.{Divides, IsUndivided}
-use Rattle.implib_tool.specs.Run.{FirstRefused, IsRefused, Lists, MembersOf}
+use Rattle.implib_tool.specs.Run.{Devices, FirstRefused, IsRefused, Lists, MembersOf}
 use Rattle.implib_tool.specs.Views.{ListsOnto, OnPartFault, OnTextFault, PartsLeft, WrittenSoFar}
+use Rattle.implib_tool.specs.Words.{Answers, Performs, TurnsDown, asked}
 use Rattle.implib_tool.proofs.Dividing.{parting, parts_more}
+
+-- a beginning of what follows, after what was written
+pub beginning_more : (before middle after : Option (List ℕ)) (written block rest : List ℕ) → Appends before middle written → AppendsBeginning middle after block → AppendsBeginning before after (written ++ (block ++ rest))
+beginning_more before middle after written block rest moved b = record {
+  taken = written ++ b.taken;
+  left = b.left ++ rest;
+  whole = ap (λ t. written ++ (t ++ rest)) b.whole ∙ ap (λ t. written ++ t) (append_assoc b.taken b.left rest)
+      ∙ sym (append_assoc written b.taken (b.left ++ rest));
+  written = Appends-trans before middle after written b.taken moved b.written;
+}
+
+-- blocks up to an index, the block there, and the rest
+pub block_between : {T : Type 0} (bytes : T → List ℕ) (blocks : List T) (last : List ℕ) (index : ℕ) (block : T) → index < length blocks → block ≡ get_or blocks index block
+    → flat_map bytes blocks ++ last ≡ flat_map bytes (take index blocks) ++ (bytes block ++ (flat_map bytes (drop (suc index) blocks) ++ last))
+block_between bytes blocks last index block within is =
+    ap (λ t. flat_map bytes t ++ last) (split_at blocks index block within ∙ ap (λ t. take index blocks ++ t ∷ drop (suc index) blocks) (sym is))
+    ∙ ap (λ t. t ++ last) (flat_map-append bytes (take index blocks) (block ∷ drop (suc index) blocks))
+    ∙ append_assoc (flat_map bytes (take index blocks)) (bytes block ++ flat_map bytes (drop (suc index) blocks)) last
+    ∙ ap (λ t. flat_map bytes (take index blocks) ++ t) (append_assoc (bytes block) (flat_map bytes (drop (suc index) blocks)) last)
 
 -- one more write
 pub written_more : (before middle after : Option (List ℕ)) (bytes rest : List ℕ) (count : ℕ) → WrittenSoFar before middle bytes rest → Appends middle after (take count rest)
@@ -115,3 +138,27 @@ module _ (machine : MachineType) (flavor : Flavor) where
   part_fault text listed left part after Read l d h = h
   part_fault text listed left part after Write l d h = h
   part_fault text listed left part after OutOfMemory l d h = h
+
+-- what `command` answers, as what the program does with words that ask for this
+answered : (wanted : Option (MachineType × Flavor)) (before after : Devices) (status : ℕ) → ((status ≡ 2) ↔ IsNone wanted) → (IsNone wanted → after ≡ before)
+    → IfSome wanted (λ w. Answers w.0 w.1 before after status) → MatchOption wanted (TurnsDown before after status) (λ w. Answers w.0 w.1 before after status)
+answered None before after status other untouched run = record { answer = inl (other.1 refl); untouched = untouched refl }
+answered (Some wanted) before after status other untouched run = run
+
+-- what the program does with words that ask for this, where memory for them is refused
+refused : (wanted : Option (MachineType × Flavor)) (before : Devices) → before.reader_failed ≡ false → before.writer_failed ≡ false
+    → MatchOption wanted (TurnsDown before before 3) (λ w. Answers w.0 w.1 before before 3)
+refused None before reader writer = record { answer = inr refl; untouched = refl }
+refused (Some wanted) before reader writer = record {
+  answer = Err OutOfMemory;
+  runs = record { done = tt; fault = record { reader = reader; writer = writer; unwritten = Keeps-refl before.contents } };
+  is = refl;
+}
+
+-- both, for any words
+pub words_answered : (words : List (List ℕ)) (before after : Devices) (status : ℕ) → ((status ≡ 2) ↔ IsNone (asked words)) → (IsNone (asked words) → after ≡ before)
+    → IfSome (asked words) (λ w. Answers w.0 w.1 before after status) → Performs words before after status
+words_answered words before after status other untouched run = answered (asked words) before after status other untouched run
+
+pub words_refused : (words : List (List ℕ)) (before : Devices) → before.reader_failed ≡ false → before.writer_failed ≡ false → Performs words before before 3
+words_refused words before reader writer = refused (asked words) before reader writer

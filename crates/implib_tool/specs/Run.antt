@@ -1,26 +1,55 @@
 -- What a run of the program does with its devices.
-use Rattle.std.specs.Prelude.{◌≡◌, ◌⊎◌, ℕ, Bool, true, false, List, [], ◌∷◌, ◌++◌, Option, Some, Result, IfSome, OnOk, IfErr, flat_map}
+use Rattle.std.specs.Prelude.{◌≡◌, ◌⊎◌, ℕ, Bool, true, false, List, [], ◌∷◌, ◌++◌, map, reverse, drop, Option, Some, Result, IfSome, OnOk, IfErr, flat_map}
+use Rattle.std.specs.List.{filter_map}
+use Rattle.std.specs.Option.{option_and_then}
 use Rattle.std.specs.Io.KnownBytes.{Appends, IsAtEnd, Keeps}
 use Rattle.std.specs.Str.{IsUtf8}
+use Rattle.implib.specs.declared.error.Error.{Error}
+use Rattle.implib.specs.declared.error.Error.TheVariants as error
 use Rattle.implib.specs.declared.library.Flavor.{Flavor}
+use Rattle.implib.specs.declared.library.Flavor.TheVariants.{Msvc, Gnu}
 use Rattle.implib.specs.declared.machine.MachineType.{MachineType}
 use Rattle.implib.specs.Definition.{DefinitionView}
 use Rattle.implib.specs.Fault.{Cause, cause_of}
+use Rattle.implib.specs.File.{File, Meaning, file_in, meaning_in}
+use Rattle.implib.specs.GnuReading.{meaning_with}
+use Rattle.implib.specs.Import.{aliases_of, imports_of}
 use Rattle.implib.specs.Made.{Made, MemberView, refusal}
 use Rattle.implib.specs.Parses.{Parses, Refuses}
-use Rattle.implib.specs.Reads.{Reads}
+use Rattle.implib.specs.Reads.{Reads, alias_among, file_at, import_among}
 use Rattle.implib.specs.Renaming.{renamed}
 use Rattle.implib_tool.specs.declared.run.RunError.{RunError}
 use Rattle.implib_tool.specs.declared.run.RunError.TheVariants.{Refused, NotUtf8, Read, Write, OutOfMemory}
+use Rattle.implib_tool.specs.Device.{AppendsBeginning}
 use Rattle.implib_tool.specs.Listing.{listing_of}
 use Rattle.implib_tool.specs.Parts.{Parts}
 
--- the members are those of the definition that the text means, renamed, and are read as what it means
+-- the first two members for GNU's linker, the tail and the head, are these files
+pub record BeginWith (members : List MemberView) (tail head : File) : Type 0 where
+  pub tail_read : file_at members 0 ≡ Some tail
+  pub head_read : file_at members 1 ≡ Some head
+
+-- what the members are read as, in the definition's order: for Microsoft's linker each after the first three by itself, for GNU's each after the tail and the head, with these two, from the last to the first
+abbrev pub AreReadAs : Flavor → List MemberView → List Meaning → Type 0
+AreReadAs Msvc members meanings = map (λ m. meaning_in m.bytes) (drop 3 members) ≡ map Some meanings
+AreReadAs Gnu members meanings =
+    (tail : File) × (head : File) × BeginWith members tail head
+    × (map (λ m. option_and_then (meaning_with head tail) (file_in m.bytes)) (reverse (drop 2 members)) ≡ map Some meanings)
+
+-- the members are read as the imports and the aliases of a definition, each once and in order, and as nothing else
+pub record ReadAsMeant (meant : DefinitionView) (machine : MachineType) (flavor : Flavor) (members : List MemberView) : Type 0 where
+  pub meanings : List Meaning
+  pub read : AreReadAs flavor members meanings
+  pub imports : filter_map import_among meanings ≡ imports_of machine meant
+  pub aliases : filter_map alias_among meanings ≡ aliases_of meant
+
+-- the members are those of the definition that the text means, renamed, and are read as the imports and the aliases that it means
 pub record MembersOf (text : List ℕ) (machine : MachineType) (flavor : Flavor) (members : List MemberView) : Type 0 where
   pub meant : DefinitionView
   pub parses : Parses text machine meant
   pub made : Made (renamed meant) machine flavor members
   pub reads : Reads (renamed meant) machine flavor members
+  pub read_as_meant : ReadAsMeant meant machine flavor members
 
 -- the definition that the text means, renamed, has no members, for this cause
 pub record HasNoMembers (text : List ℕ) (machine : MachineType) (flavor : Flavor) (cause : Cause) : Type 0 where
@@ -79,6 +108,11 @@ pub record NothingWritten (before after : Devices) : Type 0 where
   pub writer : after.writer_failed ≡ false
   pub unwritten : Keeps before.contents after.contents
 
+-- what an error of the library becomes
+abbrev pub run_error : Error → RunError
+run_error (error.Invalid fault) = Refused fault
+run_error (error.OutOfMemory refused) = OutOfMemory
+
 -- when each error comes, and what it leaves
 abbrev pub HasCause : MachineType → Flavor → Devices → Devices → RunError → Type 0
 HasCause machine flavor before after (Refused fault) =
@@ -87,7 +121,10 @@ HasCause machine flavor before after (Refused fault) =
 HasCause machine flavor before after NotUtf8 = NothingWritten before after × IfSome before.remaining (λ text. ¬ (IsUtf8 text))
 HasCause machine flavor before after Read =
     (after.reader_failed ≡ true) × (after.writer_failed ≡ false) × Keeps before.contents after.contents
-HasCause machine flavor before after Write = (after.reader_failed ≡ false) × (after.writer_failed ≡ true)
+HasCause machine flavor before after Write =
+    (after.reader_failed ≡ false) × (after.writer_failed ≡ true) × IfSome before.remaining IsUtf8
+    × IfSome before.remaining (λ text.
+    (listing : List ℕ) × Lists text machine flavor listing × AppendsBeginning before.contents after.contents listing)
 HasCause machine flavor before after OutOfMemory = NothingWritten before after
 
 -- what a run answers, and what it does

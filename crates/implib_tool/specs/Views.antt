@@ -2,8 +2,6 @@
 use Rattle.std.specs.Prelude.{◌≡◌, ◌≢◌, ◌⊎◌, ℕ, ◌+◌, ◌<◌, ◌≤◌, Bool, true, List, [], ◌++◌, Option, None, Some, length, slice_index}
 use Rattle.std.specs.Borrow.{Bor}
 use Rattle.std.specs.Io.KnownBytes.{Appends}
-use Rattle.implib.specs.declared.error.Error.{Error}
-use Rattle.implib.specs.declared.error.Error.TheVariants as error
 use Rattle.implib.specs.declared.library.Flavor.{Flavor}
 use Rattle.implib.specs.declared.machine.MachineType.{MachineType}
 use Rattle.implib.specs.Fault.{Cause, cause_of}
@@ -25,11 +23,6 @@ pub record ListsOnto (text : List ℕ) (machine : MachineType) (flavor : Flavor)
   pub members : List MemberView
   pub made : MembersOf text machine flavor members
   pub listed : new ≡ old ++ listing_of members
-
--- what an error of the library becomes
-abbrev pub run_error : Error → RunError
-run_error (error.Invalid fault) = Refused fault
-run_error (error.OutOfMemory refused) = OutOfMemory
 
 -- the reader failed, or memory was refused and it has not
 abbrev pub OnReadFault : Bool → Bool → RunError → Type 0

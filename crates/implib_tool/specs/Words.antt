@@ -1,6 +1,10 @@
 -- The words of the command line, and the status that answers them (this project's layout).
-use Rattle.std.specs.Prelude.{◌≡◌, ℕ, List, [], ◌∷◌, Option, None, Some, Result, Ok, Err, codes, if◌then◌else◌}
+use Rattle.std.specs.Prelude.{◌≡◌, ◌⊎◌, ℕ, List, [], ◌∷◌, map, drop, Option, None, Some, MatchOption, Result, Ok, Err, codes, if◌then◌else◌}
 use Rattle.std.specs.Str.{bytes_eq}
+use Rattle.std.specs.String.{string_bytes}
+use Rattle.std.specs.declared.io.ErrorKind.{ErrorKind}
+use Rattle.std.specs.declared.io.ErrorKind.TheVariants as io
+use Rattle.std.specs.declared.string.String.{String}
 use Rattle.implib.specs.declared.library.Flavor.{Flavor}
 use Rattle.implib.specs.declared.library.Flavor.TheVariants.{Msvc, Gnu}
 use Rattle.implib.specs.declared.machine.MachineType.{MachineType}
@@ -8,6 +12,10 @@ use Rattle.implib.specs.declared.machine.MachineType.TheVariants.{I386, ARMNT, A
 use Rattle.implib_tool.specs.declared.run.RunError.{RunError}
 use Rattle.implib_tool.specs.declared.run.RunError.TheVariants.{Refused, NotUtf8, Read, Write, OutOfMemory}
 use Rattle.implib_tool.specs.Run.{Devices, Runs}
+
+-- the words of a command line: its arguments but for the first, which is the program's name
+abbrev pub words_of : {A : Type 0} → List (String A) → List (List ℕ)
+words_of arguments = map string_bytes (drop 1 arguments)
 
 -- the machine with a name
 abbrev pub machine_named : List ℕ → Option MachineType
@@ -50,3 +58,17 @@ pub record Answers (machine : MachineType) (flavor : Flavor) (before after : Dev
   pub answer : Result (Unit {0}) RunError
   pub runs : Runs machine flavor before after answer
   pub is : status ≡ status_of answer
+
+-- there is no machine and flavour to run for: the status is 2, or 3 where memory for the words was refused, and the devices stay as they were
+pub record TurnsDown (before after : Devices) (status : ℕ) : Type 0 where
+  pub answer : (status ≡ 2) ⊎ (status ≡ 3)
+  pub untouched : after ≡ before
+
+-- what the program does with its words
+abbrev pub Performs : List (List ℕ) → Devices → Devices → ℕ → Type 0
+Performs words before after status = MatchOption (asked words) (TurnsDown before after status) (λ wanted. Answers wanted.0 wanted.1 before after status)
+
+-- the status where the arguments cannot be read: 3 for want of memory, else that of other words
+abbrev pub status_unread : ErrorKind → ℕ
+status_unread io.OutOfMemory = 3
+status_unread _ = 2

@@ -1,5 +1,6 @@
 //! A long text that grows at its end.
 
+ghost use Rattle.implib_tool.specs.Device.{AppendsBeginning};
 ghost use Rattle.std.specs.Io.KnownBytes.{Appends};
 ghost use Rattle.std.specs.Prelude.{◌≡◌, [], ◌++◌, OnErr, OnOk, true};
 
@@ -59,10 +60,11 @@ impl TextBlocks {
         Ok(())
     }
 
-    /// Writes all of it. Where that fails, of how much went out nothing is said.
+    /// Writes all of it. Where that fails, a beginning of it is written.
     pub fn write_to<W: Sink>(&self, writer: &mut W) -> Result<(), DeviceFault>
         ensures moved { OnOk result (Appends (W.contents writer.old) (W.contents writer.new) self.now) }
         ensures sound { OnOk result (W.failed writer.new ≡ W.failed writer.old) }
+        ensures beginning { OnErr result (AppendsBeginning (W.contents writer.old) (W.contents writer.new) self.now) }
         ensures fault { OnErr result (W.failed writer.new ≡ true) }
     {
         for block in &self.full {

@@ -72,9 +72,17 @@ fn status(error: &RunError) -> u8
     }
 }
 
-/// Writes the line that says which words there are, and gives its status.
-///
-/// A fault of `faults` is not told.
+/// Writes the line of an error, and gives its status. A fault of `faults` is not told.
+pub fn fault<E: Sink>(faults: &mut E, error: &RunError) -> u8
+    ensures { result ≡ status_of (Err error.now) }
+{
+    let mut lines = Lines { sink: faults };
+    let _ = writeln!(lines, "implib: {error}");
+    status(error)
+}
+
+/// Writes the line that says which words there are, and gives its status. A fault of `faults` is not
+/// told.
 pub fn usage<E: Sink>(faults: &mut E) -> u8
     ensures { result ≡ 2 }
 {
@@ -108,14 +116,13 @@ pub fn command<R: Source, W: Sink, E: Sink>(
     let Some((machine, flavor)) = asked_by(words) else {
         return usage(faults);
     };
-    let Err(error) = run(alloc, reader, writer, machine, flavor) else {
-        return 0;
-    };
-    let status = status(&error);
-    let mut lines = Lines { sink: faults };
-    let _ = writeln!(lines, "implib: {error}");
-    status
+    match run(alloc, reader, writer, machine, flavor) {
+        Ok(()) => 0,
+        Err(error) => fault(faults, &error),
+    }
 }
 
 #[cfg(test)]
 mod tests;
+#[cfg(test)]
+mod texts;

@@ -1,6 +1,7 @@
 //! What `run` reads from and writes to.
 
-ghost use Rattle.std.specs.Io.KnownBytes.{Appends, Consumes, IsAtEnd};
+ghost use Rattle.implib_tool.specs.Device.{AppendsBeginning};
+ghost use Rattle.std.specs.Io.KnownBytes.{Appends, Consumes, IsAtEnd, Keeps};
 ghost use Rattle.std.specs.Prelude.{◌≡◌, ◌<◌, ◌≤◌, ◌⊎◌, Bool, IfOk, List, Ok, OnErr, OnOk, Option, length, take, true, ℕ};
 
 /// A device did not do what was asked.
@@ -44,20 +45,21 @@ pub trait Sink {
 
     /// Takes bytes from the front of `buf` and answers how many.
     ///
-    /// To take none of a `buf` that is not empty is a failure, too. Of a fault's bytes nothing is
-    /// said.
+    /// To take none of a `buf` that is not empty is a failure, too. A write that fails takes none.
     fn write(&mut self, buf: &[u8]) -> Result<usize, DeviceFault>
         ensures bound { IfOk result (λ n. n ≤ length buf.now) }
         ensures moved { IfOk result (λ n. Appends (contents self.old) (contents self.new) (take n buf.now)) }
         ensures sound { IfOk result (λ n. (0 < n) ⊎ (length buf.now ≡ 0) → failed self.new ≡ failed self.old) }
         ensures none { result ≡ Ok 0 → 0 < length buf.now → failed self.new ≡ true }
+        ensures kept { OnErr result (Keeps (contents self.old) (contents self.new)) }
         ensures fault { OnErr result (failed self.new ≡ true) };
 }
 
-/// Writes all bytes. Where it fails, of how many went out nothing is said.
+/// Writes all bytes. Where it fails, a beginning of them is written.
 pub fn write_all<W: Sink>(writer: &mut W, bytes: &[u8]) -> Result<(), DeviceFault>
     ensures moved { OnOk result (Appends (W.contents writer.old) (W.contents writer.new) bytes.now) }
     ensures sound { OnOk result (W.failed writer.new ≡ W.failed writer.old) }
+    ensures beginning { OnErr result (AppendsBeginning (W.contents writer.old) (W.contents writer.new) bytes.now) }
     ensures fault { OnErr result (W.failed writer.new ≡ true) }
 {
     let mut rest = bytes;

@@ -12,6 +12,7 @@ pub struct MemorySource<'a> {
     step: usize,
     calls: usize,
     has_failed: bool,
+    late_calls: usize,
 }
 
 impl<'a> MemorySource<'a> {
@@ -25,7 +26,13 @@ impl<'a> MemorySource<'a> {
             step,
             calls,
             has_failed: false,
+            late_calls: 0,
         }
+    }
+
+    /// How many calls came after one that failed.
+    pub fn late_calls(&self) -> usize {
+        self.late_calls
     }
 }
 
@@ -39,6 +46,9 @@ impl<'a> Source for MemorySource<'a> {
     }
 
     fn read(&mut self, buf: &mut [u8]) -> Result<usize, DeviceFault> {
+        if self.has_failed {
+            self.late_calls = self.late_calls.saturating_add(1);
+        }
         if self.calls == 0 {
             self.has_failed = true;
             return Err(DeviceFault);
@@ -59,6 +69,7 @@ pub struct MemorySink {
     step: usize,
     calls: usize,
     has_failed: bool,
+    late_calls: usize,
 }
 
 impl MemorySink {
@@ -72,12 +83,18 @@ impl MemorySink {
             step,
             calls,
             has_failed: false,
+            late_calls: 0,
         })
     }
 
     /// What it took.
     pub fn bytes(&self) -> &[u8] {
         self.bytes.as_slice()
+    }
+
+    /// How many calls came after one that failed.
+    pub fn late_calls(&self) -> usize {
+        self.late_calls
     }
 }
 
@@ -91,6 +108,9 @@ impl Sink for MemorySink {
     }
 
     fn write(&mut self, buf: &[u8]) -> Result<usize, DeviceFault> {
+        if self.has_failed {
+            self.late_calls = self.late_calls.saturating_add(1);
+        }
         if self.calls == 0 {
             self.has_failed = true;
             return Err(DeviceFault);

@@ -5,7 +5,7 @@ use std::io;
 
 /// A reader or a writer of std's, with a flag that says whether a call has failed.
 ///
-/// It tells no bytes, and tries nothing a second time.
+/// It tells the bytes that the reader or the writer in it tells, and tries nothing a second time.
 #[derive(Drop)]
 pub struct Host<T> {
     inner: T,
@@ -13,12 +13,13 @@ pub struct Host<T> {
 }
 
 impl<T> Host<T> {
-    ghost use Rattle.implib_tool.specs.Device.{host_failed};
+    ghost use Rattle.implib_tool.specs.Device.{host_failed, host_inner};
     ghost use Rattle.std.specs.Prelude.{◌≡◌, false};
 
     /// A device that has not failed.
     pub fn new(inner: T) -> Self
-        ensures { host_failed result ≡ false }
+        ensures sound { host_failed result ≡ false }
+        ensures inner { host_inner result ≡ inner }
     {
         Host {
             inner,
@@ -28,10 +29,9 @@ impl<T> Host<T> {
 }
 
 impl<T: io::Read> Source for Host<T> {
-    ghost use Rattle.implib_tool.specs.Device.{host_failed};
-    ghost use Rattle.std.specs.Prelude.{None};
+    ghost use Rattle.implib_tool.specs.Device.{host_failed, host_inner};
 
-    ghost remaining = { λ _. None };
+    ghost remaining = { λ host. T.remaining (host_inner host) };
 
     ghost failed = { host_failed };
 
@@ -51,10 +51,9 @@ impl<T: io::Read> Source for Host<T> {
 }
 
 impl<T: io::Write> Sink for Host<T> {
-    ghost use Rattle.implib_tool.specs.Device.{host_failed};
-    ghost use Rattle.std.specs.Prelude.{None};
+    ghost use Rattle.implib_tool.specs.Device.{host_failed, host_inner};
 
-    ghost contents = { λ _. None };
+    ghost contents = { λ host. T.contents (host_inner host) };
 
     ghost failed = { host_failed };
 
@@ -72,3 +71,6 @@ impl<T: io::Write> Sink for Host<T> {
         written.map_err(|_| DeviceFault)
     }
 }
+
+#[cfg(test)]
+mod tests;

@@ -2,11 +2,11 @@
 #![tactic(auto)]
 
 mod blocks;
-mod command;
-mod device;
+pub mod command;
+pub mod device;
 #[cfg(test)]
 mod doubles;
-mod host;
+pub mod host;
 pub mod laws;
 #[cfg(test)]
 mod library_tests;
@@ -16,29 +16,23 @@ mod link_tests;
 mod linked;
 mod listing;
 mod parts;
-mod run;
+pub mod program;
+pub mod run;
 
-use crate::command::{command, usage};
 use crate::host::Host;
+use crate::program::perform_on_system;
 use std::env;
 use std::process::ExitCode;
 
 fn main(rt: HostRuntime) -> ExitCode {
-    let mut faults = Host::new(rt.stderr());
-    let Ok(arguments) = env::args(&rt) else {
-        return ExitCode::from(usage(&mut faults));
-    };
-    let Ok(words) = arguments.skip(1).collect::<Vec<String>>(rt.alloc()) else {
-        return ExitCode::from(usage(&mut faults));
-    };
     let mut reader = Host::new(rt.stdin());
     let mut writer = Host::new(rt.stdout());
-    let status = command(
+    let mut faults = Host::new(rt.stderr());
+    perform_on_system(
         rt.alloc(),
-        words.as_slice(),
+        env::args(&rt),
         &mut reader,
         &mut writer,
         &mut faults,
-    );
-    ExitCode::from(status)
+    )
 }

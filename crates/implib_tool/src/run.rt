@@ -1,16 +1,17 @@
 //! From the bytes that are read to the bytes that are written.
 
-ghost use Rattle.implib_tool.specs.Run.{Lists, Runs};
+ghost use Rattle.implib.specs.Library.{member_view};
+ghost use Rattle.implib_tool.specs.Run.{Lists, MembersOf, Runs};
 ghost use Rattle.implib_tool.specs.Views.{ListsOnto, OnPartFault, OnReadFault, OnTextFault};
 ghost use Rattle.implib_tool.specs.declared.run.RunError.TheVariants.{OutOfMemory};
 ghost use Rattle.std.specs.Io.KnownBytes.{Consumes, IsAtEnd};
-ghost use Rattle.std.specs.Prelude.{◌≡◌, IfErr, IfOk, OnOk, false};
+ghost use Rattle.std.specs.Prelude.{◌≡◌, IfErr, IfOk, OnOk, false, map};
 
 use crate::blocks::TextBlocks;
 use crate::device::{Sink, Source};
 use crate::listing::list_members;
 use crate::parts::divide;
-use implib::{Error, Fault, Flavor, ImportLibrary, MachineType};
+use implib::{Error, Fault, Flavor, ImportLibrary, MachineType, Member};
 use std::alloc::{AllocError, AllocFailed, Global};
 
 /// Why a run ended with nothing done.
@@ -25,7 +26,7 @@ pub enum RunError {
     /// The reader failed.
     #[error("read failed")]
     Read,
-    /// The writer failed. Of how much it took before nothing is said.
+    /// The writer failed. It took a beginning of the listing before.
     #[error("write failed")]
     Write,
     /// Memory was asked for and not given.
@@ -42,7 +43,7 @@ impl From<AllocError> for RunError {
 }
 
 impl From<Error> for RunError {
-    ghost use Rattle.implib_tool.specs.Views.{run_error};
+    ghost use Rattle.implib_tool.specs.Run.{run_error};
 
     ghost from_gives = { λ error given. given ≡ run_error error };
 
@@ -75,6 +76,21 @@ fn read_all<R: Source>(alloc: Global, reader: &mut R) -> Result<Vec<u8>, RunErro
     }
 }
 
+/// The members of the definition that a text means.
+fn members_of(
+    alloc: Global,
+    part: &str,
+    machine: MachineType,
+    flavor: Flavor,
+) -> Result<Vec<Member>, RunError>
+    ensures ok { IfOk result (λ members. MembersOf part.now machine flavor (map member_view members.items)) }
+    ensures fault { IfErr result (OnPartFault part.now machine flavor) }
+{
+    let library = ImportLibrary::new(alloc, part, machine, flavor)?;
+    let members = library.members()?;
+    Ok(members)
+}
+
 /// Appends the listing of the definition that a text means.
 fn list_part(
     alloc: Global,
@@ -86,10 +102,7 @@ fn list_part(
     ensures ok { OnOk result (ListsOnto part.now machine flavor listing.old listing.new) }
     ensures fault { IfErr result (OnPartFault part.now machine flavor) }
 {
-    let members = {
-        let library = ImportLibrary::new(alloc, part, machine, flavor)?;
-        library.members()?
-    };
+    let members = members_of(alloc, part, machine, flavor)?;
     list_members(listing, members)?;
     Ok(())
 }

@@ -1,5 +1,6 @@
 use super::command;
 use crate::doubles::{MemorySink, MemorySource};
+use implib::def::ShortExport;
 use std::alloc::{AllocError, Global};
 use std::process::Abort;
 use std::test::Fail;
@@ -12,6 +13,8 @@ struct Answer {
     status: u8,
     written: String,
     faults: String,
+    /// How many calls of devices came after one that failed.
+    late_calls: usize,
 }
 
 /// How many bytes a device moves in a call, and how many calls succeed.
@@ -45,6 +48,10 @@ fn answered(
         status,
         written: String::from_utf8_lossy(alloc, writer.bytes())?,
         faults: String::from_utf8_lossy(alloc, faults.bytes())?,
+        late_calls: reader
+            .late_calls()
+            .saturating_add(writer.late_calls())
+            .saturating_add(faults.late_calls()),
     })
 }
 
@@ -187,6 +194,69 @@ const BAR_FOR_GNU: &str = "member foo_dll_a_t.o 356\n\
     74 61 24 36 00 00 00 00 07 00 00 00 03 00 1c 00\n\
     00 00 5f 68 65 61 64 5f 66 6f 6f 5f 64 6c 6c 00\n\
     5f 5f 69 6d 70 5f 62 61 72 00\n";
+
+/// The listing of one function for Microsoft's linker.
+const BAR_LISTED: &str = "member foo.dll 358\n\
+    symbol __IMPORT_DESCRIPTOR_foo\n\
+    64 86 02 00 00 00 00 00 9e 00 00 00 07 00 00 00\n\
+    00 00 00 00 2e 69 64 61 74 61 24 32 00 00 00 00\n\
+    00 00 00 00 14 00 00 00 64 00 00 00 78 00 00 00\n\
+    00 00 00 00 03 00 00 00 40 00 30 c0 2e 69 64 61\n\
+    74 61 24 36 00 00 00 00 00 00 00 00 08 00 00 00\n\
+    96 00 00 00 00 00 00 00 00 00 00 00 00 00 00 00\n\
+    40 00 20 c0 00 00 00 00 00 00 00 00 00 00 00 00\n\
+    00 00 00 00 00 00 00 00 0c 00 00 00 02 00 00 00\n\
+    03 00 00 00 00 00 03 00 00 00 03 00 10 00 00 00\n\
+    04 00 00 00 03 00 66 6f 6f 2e 64 6c 6c 00 00 00\n\
+    00 00 04 00 00 00 00 00 00 00 01 00 00 00 02 00\n\
+    2e 69 64 61 74 61 24 32 00 00 00 00 01 00 00 00\n\
+    68 00 2e 69 64 61 74 61 24 36 00 00 00 00 02 00\n\
+    00 00 03 00 2e 69 64 61 74 61 24 34 00 00 00 00\n\
+    00 00 00 00 68 00 2e 69 64 61 74 61 24 35 00 00\n\
+    00 00 00 00 00 00 68 00 00 00 00 00 1c 00 00 00\n\
+    00 00 00 00 00 00 00 00 02 00 00 00 00 00 35 00\n\
+    00 00 00 00 00 00 00 00 00 00 02 00 4a 00 00 00\n\
+    5f 5f 49 4d 50 4f 52 54 5f 44 45 53 43 52 49 50\n\
+    54 4f 52 5f 66 6f 6f 00 5f 5f 4e 55 4c 4c 5f 49\n\
+    4d 50 4f 52 54 5f 44 45 53 43 52 49 50 54 4f 52\n\
+    00 7f 66 6f 6f 5f 4e 55 4c 4c 5f 54 48 55 4e 4b\n\
+    5f 44 41 54 41 00\n\
+    member foo.dll 127\n\
+    symbol __NULL_IMPORT_DESCRIPTOR\n\
+    64 86 01 00 00 00 00 00 50 00 00 00 01 00 00 00\n\
+    00 00 00 00 2e 69 64 61 74 61 24 33 00 00 00 00\n\
+    00 00 00 00 14 00 00 00 3c 00 00 00 00 00 00 00\n\
+    00 00 00 00 00 00 00 00 40 00 30 c0 00 00 00 00\n\
+    00 00 00 00 00 00 00 00 00 00 00 00 00 00 00 00\n\
+    00 00 00 00 04 00 00 00 00 00 00 00 01 00 00 00\n\
+    02 00 1d 00 00 00 5f 5f 4e 55 4c 4c 5f 49 4d 50\n\
+    4f 52 54 5f 44 45 53 43 52 49 50 54 4f 52 00\n\
+    member foo.dll 159\n\
+    symbol \\x7ffoo_NULL_THUNK_DATA\n\
+    64 86 02 00 00 00 00 00 74 00 00 00 01 00 00 00\n\
+    00 00 00 00 2e 69 64 61 74 61 24 35 00 00 00 00\n\
+    00 00 00 00 08 00 00 00 64 00 00 00 00 00 00 00\n\
+    00 00 00 00 00 00 00 00 40 00 40 c0 2e 69 64 61\n\
+    74 61 24 34 00 00 00 00 00 00 00 00 08 00 00 00\n\
+    6c 00 00 00 00 00 00 00 00 00 00 00 00 00 00 00\n\
+    40 00 40 c0 00 00 00 00 00 00 00 00 00 00 00 00\n\
+    00 00 00 00 00 00 00 00 04 00 00 00 00 00 00 00\n\
+    01 00 00 00 02 00 19 00 00 00 7f 66 6f 6f 5f 4e\n\
+    55 4c 4c 5f 54 48 55 4e 4b 5f 44 41 54 41 00\n\
+    member foo.dll 32\n\
+    symbol __imp_bar\n\
+    symbol bar\n\
+    00 00 ff ff 00 00 64 86 00 00 00 00 0c 00 00 00\n\
+    00 00 04 00 62 61 72 00 66 6f 6f 2e 64 6c 6c 00\n";
+
+#[test]
+fn one_function_is_listed(rt: HostRuntime) -> Result<(), Fail> {
+    let got = answered(rt.alloc(), "", BAR.as_bytes(), WHOLE, WHOLE)?;
+    assert_eq!(rt; got.status, 0);
+    assert_eq!(rt; got.written.as_str(), BAR_LISTED);
+    assert_eq!(rt; got.faults.as_str(), "");
+    Ok(())
+}
 
 #[test]
 fn one_function_is_listed_for_gnu(rt: HostRuntime) -> Result<(), Fail> {
@@ -375,6 +445,7 @@ fn a_reader_that_fails_is_answered(rt: HostRuntime) -> Result<(), Fail> {
             assert_eq!(rt; got.status, 3, "{text:?}");
             assert_eq!(rt; got.written.as_str(), "", "{text:?}");
             assert_eq!(rt; got.faults.as_str(), "implib: read failed\n", "{text:?}");
+            assert_eq!(rt; got.late_calls, 0, "{text:?}");
         }
     }
     Ok(())
@@ -393,8 +464,42 @@ fn a_writer_that_fails_is_answered(rt: HostRuntime) -> Result<(), Fail> {
             let got = answered(rt.alloc(), words, text.as_bytes(), WHOLE, pace)?;
             assert_eq!(rt; got.status, 3, "{text:?}");
             assert_eq!(rt; got.faults.as_str(), "implib: write failed\n", "{text:?}");
+            assert_eq!(rt; got.late_calls, 0, "{text:?}");
         }
     }
+    Ok(())
+}
+
+// With ample memory, what is long is read whole, and copied whole what repeats itself.
+#[test]
+fn long_inputs_are_read_whole(rt: HostRuntime) -> Result<(), Fail> {
+    let comment = "; more\n".repeat(rt.alloc(), 150_000)?;
+    let text = format!(in rt.alloc(); "{comment}{BAR}")?;
+    let short = answered(rt.alloc(), "", BAR.as_bytes(), WHOLE, WHOLE)?;
+    let long = answered(rt.alloc(), "", text.as_bytes(), WHOLE, WHOLE)?;
+    assert_eq!(rt; short.status, 0);
+    assert_eq!(rt; long, short);
+    let mut bytes = text.into_bytes();
+    bytes.push(0xff)?;
+    let got = answered(rt.alloc(), "", bytes.as_slice(), WHOLE, (ANY, 0))?;
+    assert_eq!(rt; got.status, 1);
+    assert_eq!(rt; got.faults.as_str(), "implib: input is not UTF-8\n");
+    Ok(())
+}
+
+#[test]
+fn an_export_of_equal_names_is_copied(rt: HostRuntime) -> Result<(), Fail> {
+    let alloc = rt.alloc();
+    let export = ShortExport {
+        name: String::from_str(alloc, "foo")?,
+        ext_name: Some(String::from_str(alloc, "foo")?),
+        symbol_name: String::from_str(alloc, "foo")?,
+        alias_target: String::from_str(alloc, "foo")?,
+        ..ShortExport::empty(alloc)
+    };
+    let copy = export.clone()?;
+    assert_eq!(rt; copy.name.as_str(), "foo");
+    assert_eq!(rt; copy.alias_target.as_str(), "foo");
     Ok(())
 }
 

@@ -1,0 +1,13 @@
+//! The law of the definition that a text means.
+
+ghost use Rattle.implib.specs.Definition.{DefinitionView};
+ghost use Rattle.implib.specs.Parses.{Parses};
+ghost use Rattle.implib.specs.SymbolNames.{LacksSymbolNames};
+
+use crate::machine::MachineType;
+
+/// No export of a text has a symbol name, neither as it is parsed nor under its name to link by: only
+/// a definition that is made by hand has symbol names.
+pub fn parsed_lacks_symbol_names(text: &str, machine: MachineType)
+    ensures { (definition : DefinitionView) → Parses text.now machine definition → LacksSymbolNames definition }
+{}

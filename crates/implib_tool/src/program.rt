@@ -1,0 +1,99 @@
+//! The program, but for its process.
+
+ghost use Rattle.implib_tool.specs.Device.{host_failed};
+ghost use Rattle.implib_tool.specs.Words.{Performs, status_unread, words_of};
+ghost use Rattle.std.specs.IoError.{error_kind};
+ghost use Rattle.std.specs.Prelude.{◌≡◌, IfErr, IfOk, None, OnErr, drop, false};
+ghost use Rattle.std.specs.Process.{exit_status};
+ghost use Rattle.std.specs.Vec.Iter.{into_iter_items};
+
+use crate::command::{command, fault, usage};
+use crate::device::{Sink, Source};
+use crate::host::Host;
+use crate::run::RunError;
+use std::alloc::{AllocError, Global};
+use std::env::Args;
+use std::io::{self, ErrorKind, Stderr, Stdin, Stdout};
+use std::process::ExitCode;
+
+/// The arguments but for the first.
+fn but_the_first(alloc: Global, arguments: Args) -> Result<Vec<String>, AllocError>
+    ensures { IfOk result (λ words. words.items ≡ drop 1 (into_iter_items arguments)) }
+{
+    arguments.skip(1).collect(alloc)
+}
+
+/// Runs what the words ask for: the arguments but for the first. Where memory for them is refused, this
+/// is told as where memory for the listing is.
+fn perform_words<R: Source, W: Sink, E: Sink>(
+    alloc: Global,
+    arguments: Args,
+    reader: &mut R,
+    writer: &mut W,
+    faults: &mut E,
+) -> u8
+    requires reader { R.failed reader.old ≡ false }
+    requires writer { W.failed writer.old ≡ false }
+    ensures { Performs (words_of (into_iter_items arguments))
+        (record { remaining = R.remaining reader.old; contents = W.contents writer.old; reader_failed = R.failed reader.old; writer_failed = W.failed writer.old })
+        (record { remaining = R.remaining reader.new; contents = W.contents writer.new; reader_failed = R.failed reader.new; writer_failed = W.failed writer.new })
+        result }
+{
+    let Ok(words) = but_the_first(alloc, arguments) else {
+        return fault(faults, &RunError::OutOfMemory);
+    };
+    command(alloc, words.as_slice(), reader, writer, faults)
+}
+
+/// Runs what the arguments ask for: the first is the program's name, and the others are the words of
+/// [`command`]. Neither the reader nor the writer has failed before.
+///
+/// Where memory for the arguments is refused, this is told as where memory for the listing is;
+/// arguments that cannot be read are told as other words are.
+pub fn perform<R: Source, W: Sink, E: Sink>(
+    alloc: Global,
+    arguments: io::Result<Args>,
+    reader: &mut R,
+    writer: &mut W,
+    faults: &mut E,
+) -> ExitCode
+    requires reader { R.failed reader.old ≡ false }
+    requires writer { W.failed writer.old ≡ false }
+    ensures words { IfOk arguments (λ list. Performs (words_of (into_iter_items list))
+        (record { remaining = R.remaining reader.old; contents = W.contents writer.old; reader_failed = R.failed reader.old; writer_failed = W.failed writer.old })
+        (record { remaining = R.remaining reader.new; contents = W.contents writer.new; reader_failed = R.failed reader.new; writer_failed = W.failed writer.new })
+        (exit_status result)) }
+    ensures unread { IfErr arguments (λ fault. exit_status result ≡ status_unread (error_kind fault)) }
+    ensures untouched { OnErr arguments ((reader.new ≡ reader.old) × (writer.new ≡ writer.old)) }
+{
+    match arguments {
+        Ok(list) => ExitCode::from(perform_words(alloc, list, reader, writer, faults)),
+        Err(unread) => match unread.kind() {
+            ErrorKind::OutOfMemory => ExitCode::from(fault(faults, &RunError::OutOfMemory)),
+            _ => ExitCode::from(usage(faults)),
+        },
+    }
+}
+
+/// [`perform`] over the three standard devices, each by its own type.
+pub fn perform_on_system(
+    alloc: Global,
+    arguments: io::Result<Args>,
+    reader: &mut Host<Stdin>,
+    writer: &mut Host<Stdout>,
+    faults: &mut Host<Stderr>,
+) -> ExitCode
+    requires reader { host_failed reader.old ≡ false }
+    requires writer { host_failed writer.old ≡ false }
+    ensures words { IfOk arguments (λ list. Performs (words_of (into_iter_items list))
+        (record { remaining = None; contents = None; reader_failed = host_failed reader.old; writer_failed = host_failed writer.old })
+        (record { remaining = None; contents = None; reader_failed = host_failed reader.new; writer_failed = host_failed writer.new })
+        (exit_status result)) }
+    ensures unread { IfErr arguments (λ fault. exit_status result ≡ status_unread (error_kind fault)) }
+    ensures untouched { OnErr arguments ((reader.new ≡ reader.old) × (writer.new ≡ writer.old)) }
+{
+    perform(alloc, arguments, reader, writer, faults)
+}
+
+#[cfg(test)]
+mod tests;
