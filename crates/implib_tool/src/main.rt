@@ -15,8 +15,14 @@ mod link_tests;
 #[cfg(test)]
 mod linked;
 mod listing;
+#[cfg(test)]
+mod member_tests;
 mod parts;
+#[cfg(test)]
+mod readings;
 mod run;
+#[cfg(test)]
+mod run_tests;
 
 use crate::command::{command, usage};
 use crate::host::Host;
