@@ -1,40 +1,43 @@
 //! The calls of the library, from outside: they succeed where there is memory. With each growth of
-//! the last three tests refused in turn (`bench/memory`) they still pass.
+//! the last five tests refused in turn (`bench/memory`) they still pass.
 
 mod lexer;
 mod memory;
 mod parser;
+mod pass;
 mod writer;
 
-use implib::def::ModuleDef;
+use implib::def::{ModuleDef, ShortExport};
 use implib::gnu::GnuImportLibrary;
 use implib::msvc::MsvcImportLibrary;
 use implib::{Error, Fault, Flavor, ImportLibrary, MachineType, Member};
 use std::alloc::Global;
 use std::test::Fail;
 
-// An export with an alias, from a DLL.
-const ALIASED: &str = "LIBRARY foo.dll\nEXPORTS\nfoo = bar == baz";
+// A text for AMD64, with the lengths of its members for Microsoft's linker and for GNU's.
+type Text = (&'static str, &'static [usize], &'static [usize]);
 
-// The lengths of its members for Microsoft's linker on AMD64.
-const FOR_MSVC: [usize; 6] = [358, 127, 159, 162, 174, 32];
+// One function.
+const BAR: Text = (
+    "LIBRARY foo.dll\nEXPORTS\nbar",
+    &[358, 127, 159, 32],
+    &[356, 450, 474],
+);
 
-// The lengths of its members for GNU's linker on AMD64.
-const FOR_GNU: [usize; 5] = [356, 450, 474, 174, 162];
+// An export under another name, with an alias.
+const ALIASED: Text = (
+    "LIBRARY foo.dll\nEXPORTS\nfoo = bar == baz",
+    &[358, 127, 159, 162, 174, 32],
+    &[356, 450, 474, 174, 162],
+);
 
-#[test]
-fn definitions_and_exports_are_cloned(rt: HostRuntime) -> Result<(), Fail> {
-    let def = ModuleDef::parse(rt.alloc(), ALIASED, MachineType::AMD64)?.clone()?;
-    assert_eq!(rt; def.import_name.as_str(), "foo.dll");
-    assert_eq!(rt; def.exports.len(), 1);
-    for export in def.exports.iter() {
-        let export = export.clone()?;
-        assert_eq!(rt; export.name.as_str(), "bar");
-        assert_eq!(rt; export.alias_target.as_str(), "baz");
-        assert!(rt; export.ext_name.is_some());
-    }
-    Ok(())
-}
+// Functions and data, as a tool writes them.
+const PYTHON: Text = (
+    ";\n; Definition file of python310.dll\n;\nLIBRARY \"python310.dll\"\nEXPORTS\n\
+    PyAIter_Check\nPyArg_Parse\nPyByteArray_Type DATA\nPyBytesIter_Type DATA",
+    &[376, 127, 165, 48, 46, 51, 51],
+    &[368, 462, 470, 470, 508, 514],
+);
 
 // Whether members have these lengths.
 fn have_lengths(members: &[Member], lengths: &[usize]) -> bool {
@@ -49,28 +52,15 @@ fn have_lengths(members: &[Member], lengths: &[usize]) -> bool {
     true
 }
 
-// Whether a copy of a library has the import name and members of these lengths.
-fn copy_has(alloc: Global, flavor: Flavor, lengths: &[usize]) -> Result<bool, Error> {
-    let def = ModuleDef::parse(alloc, ALIASED, MachineType::AMD64)?;
-    let copy = ImportLibrary::from_def(def, MachineType::AMD64, flavor).clone()?;
-    Ok(copy.import_name() == "foo.dll" && have_lengths(&copy.members()?, lengths))
-}
-
 #[test]
-fn libraries_for_microsoft_have_members(rt: HostRuntime) -> Result<(), Fail> {
-    assert!(rt; copy_has(rt.alloc(), Flavor::Msvc, FOR_MSVC.as_slice())?);
-    let def = ModuleDef::parse(rt.alloc(), ALIASED, MachineType::AMD64)?;
+fn libraries_for_one_linker_have_members(rt: HostRuntime) -> Result<(), Fail> {
+    let (text, microsoft, gnu) = ALIASED;
+    let def = ModuleDef::parse(rt.alloc(), text, MachineType::AMD64)?;
     let members = MsvcImportLibrary::new(def, MachineType::AMD64).members()?;
-    assert!(rt; have_lengths(&members, FOR_MSVC.as_slice()));
-    Ok(())
-}
-
-#[test]
-fn libraries_for_gnu_have_members(rt: HostRuntime) -> Result<(), Fail> {
-    assert!(rt; copy_has(rt.alloc(), Flavor::Gnu, FOR_GNU.as_slice())?);
-    let def = ModuleDef::parse(rt.alloc(), ALIASED, MachineType::AMD64)?;
+    assert!(rt; have_lengths(&members, microsoft));
+    let def = ModuleDef::parse(rt.alloc(), text, MachineType::AMD64)?;
     let members = GnuImportLibrary::new(def, MachineType::AMD64).members()?;
-    assert!(rt; have_lengths(&members, FOR_GNU.as_slice()));
+    assert!(rt; have_lengths(&members, gnu));
     Ok(())
 }
 
@@ -143,11 +133,9 @@ fn are_same(left: &[Member], right: &[Member]) -> bool {
 }
 
 // Makes a library, once more where memory is refused.
-fn made(alloc: Global, flavor: Flavor) -> Result<ImportLibrary, Error> {
-    match ImportLibrary::new(alloc, ALIASED, MachineType::AMD64, flavor) {
-        Err(Error::OutOfMemory(_)) => {
-            ImportLibrary::new(alloc, ALIASED, MachineType::AMD64, flavor)
-        }
+fn made(alloc: Global, text: &str, flavor: Flavor) -> Result<ImportLibrary, Error> {
+    match ImportLibrary::new(alloc, text, MachineType::AMD64, flavor) {
+        Err(Error::OutOfMemory(_)) => ImportLibrary::new(alloc, text, MachineType::AMD64, flavor),
         answer => answer,
     }
 }
@@ -160,38 +148,153 @@ fn copied(library: &ImportLibrary) -> Result<ImportLibrary, Error> {
     }
 }
 
-// Asks for a library's members, once more where memory is refused.
-fn asked(library: &ImportLibrary) -> Result<Vec<Member>, Error> {
+// Whether a library gives members of these lengths. Where memory is refused, it then gives those that
+// another library of the text gives.
+fn gives(
+    alloc: Global,
+    library: &ImportLibrary,
+    text: &str,
+    flavor: Flavor,
+    lengths: &[usize],
+) -> Result<bool, Error> {
     match library.members() {
-        Err(Error::OutOfMemory(_)) => library.members(),
-        answer => answer,
+        Err(Error::OutOfMemory(_)) => {
+            let members = library.members()?;
+            let other = ImportLibrary::new(alloc, text, MachineType::AMD64, flavor)?;
+            Ok(have_lengths(&members, lengths) && are_same(&members, &other.members()?))
+        }
+        answer => Ok(have_lengths(&answer?, lengths)),
     }
-}
-
-// Whether a library gives members of these lengths, and the same once more.
-fn gives_as_before(alloc: Global, flavor: Flavor, lengths: &[usize]) -> Result<bool, Error> {
-    let library = made(alloc, flavor)?;
-    let before = asked(&library)?;
-    Ok(have_lengths(&before, lengths) && are_same(&before, &asked(&library)?))
 }
 
 #[test]
 fn members_for_microsoft_are_unchanged_by_refused_memory(rt: HostRuntime) -> Result<(), Fail> {
-    assert!(rt; gives_as_before(rt.alloc(), Flavor::Msvc, FOR_MSVC.as_slice())?);
+    for (text, lengths, _) in [BAR, ALIASED, PYTHON] {
+        let library = made(rt.alloc(), text, Flavor::Msvc)?;
+        assert!(rt;
+            gives(rt.alloc(), &library, text, Flavor::Msvc, lengths)?,
+            "{text:?}"
+        );
+    }
     Ok(())
 }
 
 #[test]
 fn members_for_gnu_are_unchanged_by_refused_memory(rt: HostRuntime) -> Result<(), Fail> {
-    assert!(rt; gives_as_before(rt.alloc(), Flavor::Gnu, FOR_GNU.as_slice())?);
+    for (text, _, lengths) in [BAR, ALIASED] {
+        let library = made(rt.alloc(), text, Flavor::Gnu)?;
+        assert!(rt;
+            gives(rt.alloc(), &library, text, Flavor::Gnu, lengths)?,
+            "{text:?}"
+        );
+    }
+    Ok(())
+}
+
+#[test]
+fn many_members_for_gnu_are_unchanged_by_refused_memory(rt: HostRuntime) -> Result<(), Fail> {
+    let (text, _, lengths) = PYTHON;
+    let library = made(rt.alloc(), text, Flavor::Gnu)?;
+    assert!(rt; gives(rt.alloc(), &library, text, Flavor::Gnu, lengths)?);
     Ok(())
 }
 
 #[test]
 fn copies_are_unchanged_by_refused_memory(rt: HostRuntime) -> Result<(), Fail> {
-    let library = made(rt.alloc(), Flavor::Msvc)?;
-    let copy = copied(&library)?;
-    assert_eq!(rt; copy.import_name(), "foo.dll");
-    assert!(rt; are_same(&asked(&copy)?, &asked(&library)?));
+    for (text, lengths, _) in [BAR, ALIASED, PYTHON] {
+        let copy = copied(&made(rt.alloc(), text, Flavor::Msvc)?)?;
+        assert!(rt;
+            gives(rt.alloc(), &copy, text, Flavor::Msvc, lengths)?,
+            "{text:?}"
+        );
+    }
+    Ok(())
+}
+
+// Parses a text, once more where memory is refused.
+fn parsed(alloc: Global, text: &str) -> Result<ModuleDef, Error> {
+    match ModuleDef::parse(alloc, text, MachineType::AMD64) {
+        Err(Error::OutOfMemory(_)) => ModuleDef::parse(alloc, text, MachineType::AMD64),
+        answer => answer,
+    }
+}
+
+// Copies a definition, once more where memory is refused.
+fn definition_copied(def: &ModuleDef) -> Result<ModuleDef, Error> {
+    match def.clone() {
+        Err(Error::OutOfMemory(_)) => def.clone(),
+        answer => answer,
+    }
+}
+
+// Copies an export, once more where memory is refused.
+fn export_copied(export: &ShortExport) -> Result<ShortExport, Error> {
+    match export.clone() {
+        Err(Error::OutOfMemory(_)) => export.clone(),
+        answer => answer,
+    }
+}
+
+// An export: its name, its name outside, its alias target, and whether it is data.
+type Expected = (&'static str, Option<&'static str>, &'static str, bool);
+
+// The texts, each with its import name and its exports.
+const DEFINITIONS: [(Text, &str, &[Expected]); 3] = [
+    (BAR, "foo.dll", &[("bar", None, "", false)]),
+    (ALIASED, "foo.dll", &[("bar", Some("foo"), "baz", false)]),
+    (
+        PYTHON,
+        "python310.dll",
+        &[
+            ("PyAIter_Check", None, "", false),
+            ("PyArg_Parse", None, "", false),
+            ("PyByteArray_Type", None, "", true),
+            ("PyBytesIter_Type", None, "", true),
+        ],
+    ),
+];
+
+// Whether an export is the expected one, and has no more set.
+fn is_expected(export: &ShortExport, row: &Expected) -> bool {
+    let (name, outside, alias_target, is_data) = *row;
+    let is_outside = match (&export.ext_name, outside) {
+        (Some(name), Some(outside)) => name.as_str() == outside,
+        (None, None) => true,
+        _ => false,
+    };
+    let more = export.ordinal != 0 || export.no_name || export.private || export.constant;
+    is_outside
+        && export.name.as_str() == name
+        && export.alias_target.as_str() == alias_target
+        && export.is_data == is_data
+        && export.symbol_name.is_empty()
+        && !more
+}
+
+// Whether a definition has the expected import name and exports.
+fn has_expected(def: &ModuleDef, import_name: &str, rows: &[Expected]) -> bool {
+    if def.import_name.as_str() != import_name || def.exports.len() != rows.len() {
+        return false;
+    }
+    for (export, row) in def.exports.iter().zip(rows.iter()) {
+        if !is_expected(export, row) {
+            return false;
+        }
+    }
+    true
+}
+
+#[test]
+fn definitions_are_unchanged_by_refused_memory(rt: HostRuntime) -> Result<(), Fail> {
+    for ((text, _, _), import_name, rows) in DEFINITIONS {
+        let def = parsed(rt.alloc(), text)?;
+        assert!(rt; has_expected(&def, import_name, rows), "{text:?}");
+        let copy = definition_copied(&def)?;
+        assert!(rt; has_expected(&copy, import_name, rows), "{text:?}");
+        for (export, row) in def.exports.iter().zip(rows.iter()) {
+            assert!(rt; is_expected(&export_copied(export)?, row), "{text:?}");
+        }
+        assert!(rt; has_expected(&def, import_name, rows), "{text:?}");
+    }
     Ok(())
 }

@@ -2,11 +2,15 @@
 //! places their sections of import tables and relocates them, and says what a loader finds. The
 //! rules are those of the PE/COFF specification and, for the places, of `docs/FORMATS.md`.
 
+mod file;
 mod image;
 mod object;
+mod record;
 
+pub use file::{File, Purpose, file_in};
 use image::Image;
 use object::{Object, Section, Symbol, object_in, u32_at};
+pub use record::Ask;
 use std::alloc::{AllocError, Global};
 use std::test::Fail;
 
@@ -127,8 +131,7 @@ fn relocate_section(
 ) -> Result<(), Fail> {
     for relocation in section.relocations.iter() {
         if relocation.kind == image_relative(placed.object.machine)? {
-            let symbol = placed.object.symbols.get(relocation.symbol);
-            let symbol = symbol.copied().flatten().ok_or("an index has no symbol")?;
+            let symbol = placed.object.symbol(relocation.symbol)?;
             let target = if symbol.is_undefined() {
                 defined_address(objects, symbol.name)?
             } else {

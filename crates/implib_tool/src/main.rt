@@ -15,9 +15,15 @@ mod link_tests;
 #[cfg(test)]
 mod linked;
 mod listing;
+#[cfg(test)]
+mod member_tests;
 mod parts;
 pub mod program;
+#[cfg(test)]
+mod readings;
 pub mod run;
+#[cfg(test)]
+mod run_tests;
 
 use crate::host::Host;
 use crate::program::perform_on_system;

@@ -20,6 +20,30 @@ const PLACE: Relocation = Relocation {
     kind: 2,
 };
 
+// An object of nothing.
+const NOTHING: &[u8] = b"\x64\xaa\0\0\0\0\0\0\x14\0\0\0\0\0\0\0\0\0\0\0\x04\0\0\0";
+
+// Then with a section.
+const ONE_SECTION: &[u8] = b"\x64\xaa\x01\0\0\0\0\0\x50\0\0\0\0\0\0\0\0\0\0\0\
+    .idata$2\0\0\0\0\0\0\0\0\x14\0\0\0\x3c\0\0\0\0\0\0\0\0\0\0\0\0\0\0\0\x40\0\x30\xc0\
+    \0\0\0\0\0\0\0\0\0\0\0\0\0\0\0\0\0\0\0\0\
+    \x04\0\0\0";
+
+// Then with a symbol.
+const ONE_SYMBOL: &[u8] = b"\x64\xaa\x01\0\0\0\0\0\x50\0\0\0\x01\0\0\0\0\0\0\0\
+    .idata$2\0\0\0\0\0\0\0\0\x14\0\0\0\x3c\0\0\0\0\0\0\0\0\0\0\0\0\0\0\0\x40\0\x30\xc0\
+    \0\0\0\0\0\0\0\0\0\0\0\0\0\0\0\0\0\0\0\0\
+    \0\0\0\0\x04\0\0\0\0\0\0\0\0\0\0\0\x02\0\
+    \x0e\0\0\0abcdefghi\0";
+
+// Then with a relocation.
+const ONE_RELOCATION: &[u8] = b"\x64\xaa\x01\0\0\0\0\0\x5a\0\0\0\x01\0\0\0\0\0\0\0\
+    .idata$2\0\0\0\0\0\0\0\0\x14\0\0\0\x3c\0\0\0\x50\0\0\0\0\0\0\0\x01\0\0\0\x40\0\x30\xc0\
+    \0\0\0\0\0\0\0\0\0\0\0\0\0\0\0\0\0\0\0\0\
+    \x10\0\0\0\0\0\0\0\x02\0\
+    \0\0\0\0\x04\0\0\0\0\0\0\0\0\0\0\0\x02\0\
+    \x0e\0\0\0abcdefghi\0";
+
 // Whether it was memory that was refused.
 fn is_memory(refused: &Error) -> bool {
     matches!(refused, Error::OutOfMemory(_))
@@ -55,14 +79,17 @@ fn refused_growth_changes_nothing(rt: HostRuntime) -> Result<(), Fail> {
     let mut writer = ObjectWriter::new(alloc, MachineType::ARM64);
     if let Err(refused) = add_data(alloc, &mut writer) {
         assert!(rt; is_memory(&refused));
+        assert_eq!(rt; writer.write()?.as_slice(), NOTHING);
         add_data(alloc, &mut writer)?;
     }
     if let Err(refused) = add_name(alloc, &mut writer) {
         assert!(rt; is_memory(&refused));
+        assert_eq!(rt; writer.write()?.as_slice(), ONE_SECTION);
         add_name(alloc, &mut writer)?;
     }
     if let Err(refused) = writer.add_relocation(1, PLACE) {
         assert!(rt; is_memory(&refused));
+        assert_eq!(rt; writer.write()?.as_slice(), ONE_SYMBOL);
         writer.add_relocation(1, PLACE)?;
     }
     let bytes = match writer.write() {
@@ -72,16 +99,7 @@ fn refused_growth_changes_nothing(rt: HostRuntime) -> Result<(), Fail> {
             writer.write()?
         }
     };
-    assert_eq!(rt;
-        bytes.as_slice(),
-        b"\x64\xaa\x01\0\0\0\0\0\x5a\0\0\0\x01\0\0\0\0\0\0\0\
-        .idata$2\0\0\0\0\0\0\0\0\x14\0\0\0\x3c\0\0\0\x50\0\0\0\0\0\0\0\x01\0\0\0\x40\0\x30\xc0\
-        \0\0\0\0\0\0\0\0\0\0\0\0\0\0\0\0\0\0\0\0\
-        \x10\0\0\0\0\0\0\0\x02\0\
-        \0\0\0\0\x04\0\0\0\0\0\0\0\0\0\0\0\x02\0\
-        \x0e\0\0\0abcdefghi\0"
-            .as_slice()
-    );
+    assert_eq!(rt; bytes.as_slice(), ONE_RELOCATION);
     Ok(())
 }
 

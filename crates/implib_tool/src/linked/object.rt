@@ -14,6 +14,7 @@ pub struct Object<'a> {
     pub sections: Vec<Section<'a>>,
     /// By index. An auxiliary record has an index and is no symbol.
     pub symbols: Vec<Option<Symbol<'a>>>,
+    records: &'a [u8],
 }
 
 /// A section with its data and its relocations.
@@ -53,9 +54,49 @@ impl Symbol<'_> {
         self.is_external() && self.section >= 1 && self.section <= 0x7FFF
     }
 
+    /// Whether another may stand for it.
+    pub fn is_weak(&self) -> bool {
+        self.class == 105
+    }
+
     /// Whether it is one that another object defines.
     pub fn is_undefined(&self) -> bool {
         self.is_external() && self.section == 0
+    }
+}
+
+impl<'a> Object<'a> {
+    /// The symbol of an index.
+    pub fn symbol(&self, index: usize) -> Result<Symbol<'a>, Fail> {
+        let symbol = self.symbols.get(index).copied().flatten();
+        Ok(symbol.ok_or("an index has no symbol")?)
+    }
+
+    /// The section that has a symbol.
+    pub fn section_of(&self, symbol: Symbol) -> Result<&Section<'a>, Fail> {
+        let index = usize::from(symbol.section).checked_sub(1);
+        let section = self.sections.get(index.ok_or("a symbol has no section")?);
+        Ok(section.ok_or("a symbol has a section that is not there")?)
+    }
+
+    /// The symbol that it makes weak, if there is one, and the symbol for which. An auxiliary record
+    /// says that it is an alias.
+    pub fn weak(&self) -> Result<Option<(Symbol<'a>, Symbol<'a>)>, Fail> {
+        for (index, symbol) in self.symbols.iter().enumerate() {
+            if let Some(symbol) = symbol
+                && symbol.is_weak()
+            {
+                let auxiliary = bytes_from(
+                    self.records,
+                    18usize.saturating_mul(index).saturating_add(18),
+                )?;
+                if u32_at(auxiliary, 4)? != 3 {
+                    return Err(Fail::new("a weak symbol is no alias"));
+                }
+                return Ok(Some((*symbol, self.symbol(place_at(auxiliary, 0)?)?)));
+            }
+        }
+        Ok(None)
     }
 }
 
@@ -111,15 +152,19 @@ pub fn place_at(bytes: &[u8], place: usize) -> Result<usize, Fail>
 /// The text that a NUL ends.
 pub fn text_in(bytes: &[u8]) -> Result<&str, Fail> {
     let end = bytes.iter().position(|byte| *byte == 0);
-    let text = bytes_at(bytes, 0, end.ok_or("a text has no end")?)?;
-    Ok(str::from_utf8(text)?)
+    text_of(bytes_at(bytes, 0, end.ok_or("a text has no end")?)?)
+}
+
+/// The text that bytes are.
+pub fn text_of(bytes: &[u8]) -> Result<&str, Fail> {
+    Ok(str::from_utf8(bytes)?)
 }
 
 /// The text in a field of eight bytes, which NULs fill.
 fn filled_text(record: &[u8]) -> Result<&str, Fail> {
     let field = bytes_at(record, 0, 8)?;
     let end = field.iter().position(|byte| *byte == 0).unwrap_or(8);
-    Ok(str::from_utf8(bytes_at(field, 0, end)?)?)
+    text_of(bytes_at(field, 0, end)?)
 }
 
 /// The object in a file's bytes.
@@ -139,6 +184,7 @@ pub fn object_in(alloc: Global, bytes: &[u8]) -> Result<Object<'_>, Fail> {
         machine: u16_at(bytes, 0)?,
         sections,
         symbols: symbols_in(alloc, records, strings)?,
+        records,
     })
 }
 

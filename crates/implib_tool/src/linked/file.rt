@@ -1,0 +1,137 @@
+//! What the members of a library are for, read from their bytes alone.
+
+use super::object::{Object, Section, Symbol, bytes_from, object_in, text_in, u16_at};
+use super::record::{Ask, Record, is_record, record_in};
+use std::alloc::Global;
+use std::test::Fail;
+
+/// A member's file.
+#[derive(Drop)]
+pub enum File<'a> {
+    Record(Record<'a>),
+    Object(Object<'a>),
+}
+
+/// What a file is for.
+#[derive(Clone, Copy)]
+pub enum Purpose<'a> {
+    /// It asks a DLL for an export.
+    Import(&'a str, Ask<'a>),
+    /// It makes a symbol weak for another.
+    Weak(&'a str, &'a str),
+    /// Neither.
+    Other,
+}
+
+/// The file in bytes.
+pub fn file_in(alloc: Global, bytes: &[u8]) -> Result<File<'_>, Fail> {
+    if is_record(bytes) {
+        Ok(File::Record(record_in(bytes)?))
+    } else {
+        Ok(File::Object(object_in(alloc, bytes)?))
+    }
+}
+
+impl<'a> File<'a> {
+    /// The number of its machine.
+    pub fn machine(&self) -> u16 {
+        match self {
+            File::Record(record) => record.machine,
+            File::Object(object) => object.machine,
+        }
+    }
+
+    /// Whether it declares a symbol: defines it for others, or makes it weak.
+    pub fn declares(&self, name: &str) -> bool {
+        match self {
+            File::Record(record) => record.declares(name),
+            File::Object(object) => object.symbols.iter().flatten().any(|symbol| {
+                symbol.name == name && (symbol.is_defined() || symbol.is_weak())
+            }),
+        }
+    }
+
+    /// What it is for, among the files of a library.
+    pub fn purpose(&self, files: &[File<'a>]) -> Result<Purpose<'a>, Fail> {
+        match self {
+            File::Record(record) => Ok(Purpose::Import(record.dll, record.ask()?)),
+            File::Object(object) => object_purpose(object, files),
+        }
+    }
+}
+
+/// What an object is for. That of an export has a field that leads to the head.
+fn object_purpose<'a>(object: &Object<'a>, files: &[File<'a>]) -> Result<Purpose<'a>, Fail> {
+    if let Some((weak, target)) = object.weak()? {
+        return Ok(Purpose::Weak(weak.name, target.name));
+    }
+    for section in object.sections.iter() {
+        if section.name == ".idata$7"
+            && let Some(relocation) = section.relocations.first()
+        {
+            let head = object.symbol(relocation.symbol)?;
+            return Ok(Purpose::Import(dll_of(head, files)?, ask_of(object)?));
+        }
+    }
+    Ok(Purpose::Other)
+}
+
+/// The section of an object that defines a symbol for others.
+fn defining<'b, 'a>(
+    name: &str,
+    files: &'b [File<'a>],
+) -> Result<(&'b Object<'a>, &'b Section<'a>), Fail> {
+    for file in files {
+        if let File::Object(object) = file {
+            for symbol in object.symbols.iter().flatten() {
+                if symbol.is_defined() && symbol.name == name {
+                    return Ok((object, object.section_of(*symbol)?));
+                }
+            }
+        }
+    }
+    Err(Fail::new(format_args!("{name} is not defined")))
+}
+
+/// The DLL whose descriptor a symbol names: its name is that of the text to which the descriptor
+/// leads.
+fn dll_of<'a>(head: Symbol, files: &[File<'a>]) -> Result<&'a str, Fail> {
+    let (object, descriptor) = defining(head.name, files)?;
+    if descriptor.name != ".idata$2" {
+        return Err(Fail::new("a head defines no descriptor"));
+    }
+    for relocation in descriptor.relocations.iter() {
+        if relocation.offset == 12 {
+            let symbol = object.symbol(relocation.symbol)?;
+            let (_, section) = defining(symbol.name, files)?;
+            return text_in(section.data);
+        }
+    }
+    Err(Fail::new("a descriptor has no name"))
+}
+
+/// What the entry of an export in the address table asks for: by a relocation a hint and a name, by
+/// its own bits an ordinal.
+fn ask_of<'a>(object: &Object<'a>) -> Result<Ask<'a>, Fail> {
+    for section in object.sections.iter() {
+        if section.name == ".idata$5" {
+            let Some(relocation) = section.relocations.first() else {
+                return ordinal_in(section.data);
+            };
+            let symbol = object.symbol(relocation.symbol)?;
+            let text = object.section_of(symbol)?.data;
+            return Ok(Ask::Name(text_in(bytes_from(text, 2)?)?, u16_at(text, 0)?));
+        }
+    }
+    Err(Fail::new("an export has no entry"))
+}
+
+/// The ordinal in a thunk whose first bit is set.
+fn ordinal_in<'a>(thunk: &[u8]) -> Result<Ask<'a>, Fail> {
+    match thunk {
+        [first, second, middle @ .., 0x80] if middle.iter().all(|byte| *byte == 0) => {
+            Ok(Ask::Ordinal(u16::from_le_bytes([*first, *second])))
+        }
+        _ => Err(Fail::new("a thunk has no ordinal")),
+    }
+}

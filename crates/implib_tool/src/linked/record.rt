@@ -1,0 +1,86 @@
+//! Reads short import records, by the PE/COFF specification and, for what is asked for by the name
+//! types, by `docs/FORMATS.md`.
+
+use super::object::{bytes_from, place_at, text_in, text_of, u16_at};
+use std::test::Fail;
+
+/// A short import record.
+#[derive(Clone, Copy)]
+pub struct Record<'a> {
+    pub machine: u16,
+    pub dll: &'a str,
+    symbol: &'a str,
+    ordinal: u16,
+    types: u16,
+}
+
+/// What a DLL is asked for.
+#[derive(Clone, Copy)]
+pub enum Ask<'a> {
+    Ordinal(u16),
+    /// A name, with the hint where it may stand.
+    Name(&'a str, u16),
+}
+
+/// Whether a file is a short import record, and no object.
+pub fn is_record(bytes: &[u8]) -> bool {
+    bytes.starts_with(&[0, 0, 0xFF, 0xFF])
+}
+
+/// The record in a file's bytes: a header, and two texts to the end.
+pub fn record_in(bytes: &[u8]) -> Result<Record<'_>, Fail> {
+    let texts = bytes_from(bytes, 20)?;
+    let symbol = text_in(texts)?;
+    let rest = bytes_from(texts, symbol.len().saturating_add(1))?;
+    let dll = text_in(rest)?;
+    if place_at(bytes, 12)? != texts.len() || dll.len().saturating_add(1) != rest.len() {
+        return Err(Fail::new("a record has another size"));
+    }
+    if u16_at(bytes, 4)? != 0 {
+        return Err(Fail::new("a record has another version"));
+    }
+    Ok(Record {
+        machine: u16_at(bytes, 6)?,
+        dll,
+        symbol,
+        ordinal: u16_at(bytes, 16)?,
+        types: u16_at(bytes, 18)?,
+    })
+}
+
+impl<'a> Record<'a> {
+    /// Whether it declares a symbol: its own, but for data, and that of its address.
+    pub fn declares(&self, symbol: &str) -> bool {
+        let is_data = self.types % 4 == 1;
+        let address = symbol.strip_prefix("__imp_") == Some(self.symbol);
+        address || !is_data && symbol == self.symbol
+    }
+
+    /// What it asks for, by its name type.
+    pub fn ask(&self) -> Result<Ask<'a>, Fail> {
+        let name = match self.types / 4 {
+            0 => return Ok(Ask::Ordinal(self.ordinal)),
+            1 => self.symbol,
+            2 => without_prefix(self.symbol)?,
+            3 => undecorated(without_prefix(self.symbol)?),
+            _ => return Err(Fail::new("a record has another name type")),
+        };
+        Ok(Ask::Name(name, self.ordinal))
+    }
+}
+
+/// A name without its first character, if that is one of three.
+fn without_prefix(name: &str) -> Result<&str, Fail> {
+    match name.as_bytes() {
+        [b'?' | b'@' | b'_', rest @ ..] => text_of(rest),
+        _ => Ok(name),
+    }
+}
+
+/// A name up to its first `@`.
+fn undecorated(name: &str) -> &str {
+    match name.split_once('@') {
+        Some((front, _)) => front,
+        None => name,
+    }
+}
