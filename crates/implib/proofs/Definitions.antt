@@ -4,7 +4,7 @@ use Rattle.std.specs.Prelude.{bytes_eq}
 use Rattle.std.specs.List.{AllByRecursion, IsDistinct, filter}
 use Rattle.std.proofs.lemmas.Bool.{false_from_ne_true, true≢false}
 use Rattle.std.proofs.lemmas.Slice.Eq.{bytes_eq-Decides}
-use Rattle.implib.specs.Link.{SymbolDefinition}
+use Rattle.implib.specs.Resolution.{SymbolDefinition}
 use Rattle.implib.proofs.Ranges.{Among}
 
 same_text : (text : List ℕ) → bytes_eq text text ≡ true

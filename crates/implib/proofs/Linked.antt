@@ -9,28 +9,30 @@ use Rattle.implib.specs.Bytes.{u32_bytes}
 use Rattle.implib.specs.Definition.{ExportView}
 use Rattle.implib.specs.Gnu.{export_object, head_object, head_symbol, name_symbol, tail_object}
 use Rattle.implib.specs.Import.{Ask, address_symbol, ask_meant}
-use Rattle.implib.specs.Link.{Addresses, Bases, Descriptors, DllNames, HintNames, Lookups, Piece, Placed, Range, SymbolDefinition, definitions, definitions_of, filled, first_address, next_multiple, pieces, placed_from, range_end, range_of, relocated, with_address}
+use Rattle.implib.specs.Image.{Contribution, Range, filled, contributions, range_end, range_of, relocated, with_address}
+use Rattle.implib.specs.Placement.{Addresses, Bases, Descriptors, DllNames, HintNames, Lookups, Placed, next_multiple, placed_from}
+use Rattle.implib.specs.Resolution.{SymbolDefinition, definitions, definitions_of, first_address}
 use Rattle.implib.specs.Load.{BytesAt, Loads, NumberAt, TableAt, TextAt, number_in}
 use Rattle.implib.specs.MsvcObjects.{relocation, thunk_width, zeros}
 use Rattle.implib.specs.Object.{Object, u32_at}
 use Rattle.implib.specs.Picture.{HasNoNul}
-use Rattle.implib.specs.Theorem.{EntriesAt, IsDefinedOnce, LinksAt, undefined_names}
+use Rattle.implib.specs.Linked.{EntriesAt, IsDefinedOnce, LinksAt, undefined_names}
 use Rattle.implib.proofs.Ranges.{Among, address_bounds, among_back, among_first, among_later, stands_parts}
 use Rattle.implib.proofs.Placement.{AreAligned, descriptors_end, address_definition, after_head, aligned_after, aligned_all, at_least, code_definition, defined_after, definitions-after, ends_of_all, ends_of_export, ends_of_exports, ends_of_head, ends_of_tail, head, placed-export, placed-head, placed-tail, placed_export, placed_head}
 use Rattle.implib.proofs.Tables.{CanBeAsked, addresses_end, addresses_filled, descriptors_filled, filled_first, hint_bytes, hint_names_end, hint_names_filled, lookups_end, lookups_filled, same_number, table_at, thunk_bytes}
 
 -- the first piece stands at its place, and the others after it
-piece_stands : (image : List Range) (a : ℕ) (p : Piece) (rest : List Piece) → a ≤ p.address → BytesAt image a (filled a (p ∷ rest)) →
+contribution_stands : (image : List Range) (a : ℕ) (p : Contribution) (rest : List Contribution) → a ≤ p.address → BytesAt image a (filled a (p ∷ rest)) →
     BytesAt image p.address p.bytes × BytesAt image (p.address + length p.bytes) (filled (p.address + length p.bytes) rest)
-piece_stands image a p rest low stands =
+contribution_stands image a p rest low stands =
     let padding : List ℕ = zeros (p.address - a) in
     let behind = stands_parts image padding (p.bytes ++ filled (p.address + length p.bytes) rest) a stands in
     let place : a + length padding ≡ p.address = rw (length-replicate {A = ℕ} (p.address - a) 0) (omega arith) in
     stands_parts image p.bytes (filled (p.address + length p.bytes) rest) p.address
     (subst (λ n. BytesAt image n (p.bytes ++ filled (p.address + length p.bytes) rest)) place behind.1)
 
--- the ranges of pieces are in the image, and begin at their bases
-pub bases_of_ranges : (base : ℕ) (ps : List Piece) → 0 < base → AllByRecursion (λ r. 0 < r.start) (range_of base ps)
+-- the ranges of contributions are in the image, and begin at their bases
+pub bases_of_ranges : (base : ℕ) (ps : List Contribution) → 0 < base → AllByRecursion (λ r. 0 < r.start) (range_of base ps)
 bases_of_ranges base [] low = tt
 bases_of_ranges base (p ∷ ps) low = (low, tt)
 
@@ -69,24 +71,24 @@ module _ (machine : MachineType) (dll : List ℕ) (linked : List Placed) where
 
   -- where the DLL's name stands, and what is filled in after it
   name_stands : (image : List Range) (es : List ExportView) (b : Bases) (rest : List Object) → AreAligned b →
-      BytesAt image b.dll_names (filled b.dll_names (pieces machine linked DllNames (placed_from b (after_head machine dll es rest)))) →
+      BytesAt image b.dll_names (filled b.dll_names (contributions machine linked DllNames (placed_from b (after_head machine dll es rest)))) →
       BytesAt image (next_multiple 4 (ends_of_exports machine dll b es).dll_names) (dll ++ 0 ∷ [])
-      × BytesAt image (ends_of_all machine dll b es).dll_names (filled (ends_of_all machine dll b es).dll_names (pieces machine linked DllNames (placed_from (ends_of_all machine dll b es) rest)))
+      × BytesAt image (ends_of_all machine dll b es).dll_names (filled (ends_of_all machine dll b es).dll_names (contributions machine linked DllNames (placed_from (ends_of_all machine dll b es) rest)))
   unfolding ends_of_exports tail_object export_object with_address u32_bytes u32_at
   name_stands image [] b rest even stands =
-      let others : List Piece = pieces machine linked DllNames (placed_from (ends_of_tail machine dll b) rest) in
-      let own : Piece = record { address = next_multiple 4 b.dll_names; bytes = dll ++ 0 ∷ [] } in
+      let others : List Contribution = contributions machine linked DllNames (placed_from (ends_of_tail machine dll b) rest) in
+      let own : Contribution = record { address = next_multiple 4 b.dll_names; bytes = dll ++ 0 ∷ [] } in
       let here : BytesAt image b.dll_names (filled b.dll_names (own ∷ others)) =
-      subst (λ ps. BytesAt image b.dll_names (filled b.dll_names (pieces machine linked DllNames ps))) (placed-tail machine dll b rest even) stands in
-      piece_stands image b.dll_names own others (at_least 4 b.dll_names) here
+      subst (λ ps. BytesAt image b.dll_names (filled b.dll_names (contributions machine linked DllNames ps))) (placed-tail machine dll b rest even) stands in
+      contribution_stands image b.dll_names own others (at_least 4 b.dll_names) here
   name_stands image (e ∷ es) b rest even stands =
       let later : Bases = ends_of_export machine dll b e in
-      let others : List Piece = pieces machine linked DllNames (placed_from later (after_head machine dll es rest)) in
+      let others : List Contribution = contributions machine linked DllNames (placed_from later (after_head machine dll es rest)) in
       let bytes : List ℕ = relocated machine linked (placed_export machine dll b e) (relocation machine 0 0 ∷ []) (zeros 4) in
       let four : length bytes ≡ 4 = rw (same_number machine) refl in
       let here : BytesAt image b.dll_names (filled b.dll_names (record { address = next_multiple 4 b.dll_names; bytes = bytes } ∷ others)) =
-      subst (λ ps. BytesAt image b.dll_names (filled b.dll_names (pieces machine linked DllNames ps))) (placed-export machine dll b e (after_head machine dll es rest) even) stands in
-      let after = (piece_stands image b.dll_names (record { address = next_multiple 4 b.dll_names; bytes = bytes }) others (at_least 4 b.dll_names) here).1 in
+      subst (λ ps. BytesAt image b.dll_names (filled b.dll_names (contributions machine linked DllNames ps))) (placed-export machine dll b e (after_head machine dll es rest) even) stands in
+      let after = (contribution_stands image b.dll_names (record { address = next_multiple 4 b.dll_names; bytes = bytes }) others (at_least 4 b.dll_names) here).1 in
       name_stands image es later rest (aligned_after machine dll b e even)
       (subst (λ n. BytesAt image (next_multiple 4 b.dll_names + n) (filled (next_multiple 4 b.dll_names + n) others)) four after)
 
@@ -131,11 +133,11 @@ module _ (machine : MachineType) (dll : List ℕ) (linked : List Placed) where
 
 -- what is filled in from ends on stands in an image
 pub record StandsFrom (machine : MachineType) (linked : List Placed) (image : List Range) (b : Bases) (objects : List Object) : Type 0 where
-  pub descriptors : BytesAt image b.descriptors (filled b.descriptors (pieces machine linked Descriptors (placed_from b objects)))
-  pub lookups : BytesAt image b.lookups (filled b.lookups (pieces machine linked Lookups (placed_from b objects)))
-  pub addresses : BytesAt image b.addresses (filled b.addresses (pieces machine linked Addresses (placed_from b objects)))
-  pub hint_names : BytesAt image b.hint_names (filled b.hint_names (pieces machine linked HintNames (placed_from b objects)))
-  pub dll_names : BytesAt image b.dll_names (filled b.dll_names (pieces machine linked DllNames (placed_from b objects)))
+  pub descriptors : BytesAt image b.descriptors (filled b.descriptors (contributions machine linked Descriptors (placed_from b objects)))
+  pub lookups : BytesAt image b.lookups (filled b.lookups (contributions machine linked Lookups (placed_from b objects)))
+  pub addresses : BytesAt image b.addresses (filled b.addresses (contributions machine linked Addresses (placed_from b objects)))
+  pub hint_names : BytesAt image b.hint_names (filled b.hint_names (contributions machine linked HintNames (placed_from b objects)))
+  pub dll_names : BytesAt image b.dll_names (filled b.dll_names (contributions machine linked DllNames (placed_from b objects)))
 
 -- what the objects of one DLL define
 unfoldable pub head_definition : MachineType → List ℕ → Bases → SymbolDefinition
@@ -178,15 +180,15 @@ module _ (machine : MachineType) (dll : List ℕ) (es : List ExportView) (b : Ba
 
   -- a table, and what is filled in after it
   lookups_parts : BytesAt image b.lookups (thunk_bytes machine dll linked later es)
-      × BytesAt image last.lookups (filled last.lookups (pieces machine linked Lookups (placed_from last rest)))
+      × BytesAt image last.lookups (filled last.lookups (contributions machine linked Lookups (placed_from last rest)))
   unfolding head_object
   lookups_parts =
-      let others : List Piece = pieces machine linked Lookups (placed_from later (after_head machine dll es rest)) in
-      let after : List ℕ = filled last.lookups (pieces machine linked Lookups (placed_from last rest)) in
+      let others : List Contribution = contributions machine linked Lookups (placed_from later (after_head machine dll es rest)) in
+      let after : List ℕ = filled last.lookups (contributions machine linked Lookups (placed_from last rest)) in
       let plain : b.lookups + 0 ≡ b.lookups = omega arith in
       let parts = stands_parts image (thunk_bytes machine dll linked later es) after b.lookups
       (subst (BytesAt image b.lookups)
-      (ap (λ ps. filled b.lookups (pieces machine linked Lookups ps)) placed_is
+      (ap (λ ps. filled b.lookups (contributions machine linked Lookups ps)) placed_is
       ∙ filled_first b.lookups 0 [] others refl
       ∙ ap (λ n. filled n others) plain
       ∙ lookups_filled machine dll linked later es rest later_even)
@@ -194,15 +196,15 @@ module _ (machine : MachineType) (dll : List ℕ) (es : List ExportView) (b : Ba
       (parts.0, subst (λ n. BytesAt image n after) (lookups_end machine dll linked later es) parts.1)
 
   addresses_parts : BytesAt image b.addresses (thunk_bytes machine dll linked later es)
-      × BytesAt image last.addresses (filled last.addresses (pieces machine linked Addresses (placed_from last rest)))
+      × BytesAt image last.addresses (filled last.addresses (contributions machine linked Addresses (placed_from last rest)))
   unfolding head_object
   addresses_parts =
-      let others : List Piece = pieces machine linked Addresses (placed_from later (after_head machine dll es rest)) in
-      let after : List ℕ = filled last.addresses (pieces machine linked Addresses (placed_from last rest)) in
+      let others : List Contribution = contributions machine linked Addresses (placed_from later (after_head machine dll es rest)) in
+      let after : List ℕ = filled last.addresses (contributions machine linked Addresses (placed_from last rest)) in
       let plain : b.addresses + 0 ≡ b.addresses = omega arith in
       let parts = stands_parts image (thunk_bytes machine dll linked later es) after b.addresses
       (subst (BytesAt image b.addresses)
-      (ap (λ ps. filled b.addresses (pieces machine linked Addresses ps)) placed_is
+      (ap (λ ps. filled b.addresses (contributions machine linked Addresses ps)) placed_is
       ∙ filled_first b.addresses 0 [] others refl
       ∙ ap (λ n. filled n others) plain
       ∙ addresses_filled machine dll linked later es rest later_even)
@@ -210,13 +212,13 @@ module _ (machine : MachineType) (dll : List ℕ) (es : List ExportView) (b : Ba
       (parts.0, subst (λ n. BytesAt image n after) (addresses_end machine dll linked later es) parts.1)
 
   hints_parts : BytesAt image b.hint_names (hint_bytes machine dll linked later es)
-      × BytesAt image last.hint_names (filled last.hint_names (pieces machine linked HintNames (placed_from last rest)))
+      × BytesAt image last.hint_names (filled last.hint_names (contributions machine linked HintNames (placed_from last rest)))
   unfolding head_object
   hints_parts =
-      let after : List ℕ = filled last.hint_names (pieces machine linked HintNames (placed_from last rest)) in
+      let after : List ℕ = filled last.hint_names (contributions machine linked HintNames (placed_from last rest)) in
       let parts = stands_parts image (hint_bytes machine dll linked later es) after b.hint_names
       (subst (BytesAt image b.hint_names)
-      (ap (λ ps. filled b.hint_names (pieces machine linked HintNames ps)) placed_is
+      (ap (λ ps. filled b.hint_names (contributions machine linked HintNames ps)) placed_is
       ∙ hint_names_filled machine dll linked later es rest later_even)
       stands.hint_names) in
       (parts.0, subst (λ n. BytesAt image n after) (hint_names_end machine dll linked later es) parts.1)
@@ -225,11 +227,11 @@ module _ (machine : MachineType) (dll : List ℕ) (es : List ExportView) (b : Ba
   name_place = next_multiple 4 (ends_of_exports machine dll later es).dll_names
 
   name_parts : BytesAt image name_place (dll ++ 0 ∷ [])
-      × BytesAt image last.dll_names (filled last.dll_names (pieces machine linked DllNames (placed_from last rest)))
+      × BytesAt image last.dll_names (filled last.dll_names (contributions machine linked DllNames (placed_from last rest)))
   unfolding head_object name_place
   name_parts =
       name_stands machine dll linked image es later rest later_even
-      (subst (BytesAt image b.dll_names) (ap (λ ps. filled b.dll_names (pieces machine linked DllNames ps)) placed_is) stands.dll_names)
+      (subst (BytesAt image b.dll_names) (ap (λ ps. filled b.dll_names (contributions machine linked DllNames ps)) placed_is) stands.dll_names)
 
   name_address : first_address (definitions_of (name_symbol machine dll) linked) ≡ Some (name_place + 0)
   unfolding name_place block_definitions
@@ -240,18 +242,18 @@ module _ (machine : MachineType) (dll : List ℕ) (es : List ExportView) (b : Ba
   length-descriptor = ap length (descriptor_is machine dll linked b name_place name_address)
 
   descriptor_parts : BytesAt image (next_multiple 4 b.descriptors) (descriptor_linked machine dll linked b)
-      × BytesAt image last.descriptors (filled last.descriptors (pieces machine linked Descriptors (placed_from last rest)))
+      × BytesAt image last.descriptors (filled last.descriptors (contributions machine linked Descriptors (placed_from last rest)))
   unfolding head_object descriptor_linked
   descriptor_parts =
-      let others : List Piece = pieces machine linked Descriptors (placed_from later (after_head machine dll es rest)) in
-      let own : Piece = record { address = next_multiple 4 b.descriptors; bytes = descriptor_linked machine dll linked b } in
-      let parts = piece_stands image b.descriptors own others (at_least 4 b.descriptors)
-      (subst (BytesAt image b.descriptors) (ap (λ ps. filled b.descriptors (pieces machine linked Descriptors ps)) placed_is) stands.descriptors) in
+      let others : List Contribution = contributions machine linked Descriptors (placed_from later (after_head machine dll es rest)) in
+      let own : Contribution = record { address = next_multiple 4 b.descriptors; bytes = descriptor_linked machine dll linked b } in
+      let parts = contribution_stands image b.descriptors own others (at_least 4 b.descriptors)
+      (subst (BytesAt image b.descriptors) (ap (λ ps. filled b.descriptors (contributions machine linked Descriptors ps)) placed_is) stands.descriptors) in
       let behind : BytesAt image later.descriptors (filled later.descriptors others) =
       subst (λ n. BytesAt image (next_multiple 4 b.descriptors + n) (filled (next_multiple 4 b.descriptors + n) others)) length-descriptor parts.1 in
       let same : later.descriptors ≡ last.descriptors = descriptors_end machine dll later es in (
         parts.0,
-        subst (λ n. BytesAt image n (filled last.descriptors (pieces machine linked Descriptors (placed_from last rest)))) same
+        subst (λ n. BytesAt image n (filled last.descriptors (contributions machine linked Descriptors (placed_from last rest)))) same
             (subst (BytesAt image later.descriptors) (descriptors_filled machine dll linked later es rest later_even) behind),
       )
 

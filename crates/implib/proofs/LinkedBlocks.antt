@@ -6,11 +6,13 @@ use Rattle.std.proofs.lemmas.List.{append-nil, map-append}
 use Rattle.implib.specs.declared.machine.MachineType.{MachineType}
 use Rattle.implib.specs.Definition.{ExportView}
 use Rattle.implib.specs.Gnu.{export_listed, head_symbol, name_symbol}
-use Rattle.implib.specs.Link.{AllApart, Addresses, Bases, Descriptors, DllNames, HintNames, IsAdmissible, Kind, Lookups, Placed, Range, SymbolDefinition, base_of, definitions, definitions_of, filled, image_of, kinds, pieces, placed_from, range_end, range_of}
+use Rattle.implib.specs.Image.{AllApart, IsAdmissible, Range, filled, image_of, contributions, range_end, range_of}
+use Rattle.implib.specs.Placement.{Addresses, Bases, Descriptors, DllNames, HintNames, Group, Lookups, Placed, base_of, groups, placed_from}
+use Rattle.implib.specs.Resolution.{SymbolDefinition, definitions, definitions_of}
 use Rattle.implib.specs.Load.{BytesAt}
 use Rattle.implib.specs.Object.{Object}
 use Rattle.implib.specs.Picture.{HasNoNul}
-use Rattle.implib.specs.Theorem.{IsDefinedOnce, Links, LinksAt, undefined_names}
+use Rattle.implib.specs.Linked.{IsDefinedOnce, Links, LinksAt, undefined_names}
 use Rattle.implib.proofs.Ranges.{Among, among_back, among_flat, among_front, filled_stands}
 use Rattle.implib.proofs.Placement.{AreAligned, after_head, head, names-after}
 use Rattle.implib.proofs.Definitions.{only_definition}
@@ -95,15 +97,15 @@ module _ (machine : MachineType) (b : Bases) (objects : List Object) (admissible
   even : AreAligned b
   even = record { lookups = admissible.lookups.1; addresses = admissible.addresses.1 }
 
-  starts_of : (ks : List Kind) → AllByRecursion (λ k. 0 < base_of k b) ks → AllByRecursion (λ r. 0 < r.start) (flat_map (λ k. range_of (base_of k b) (pieces machine placed k placed)) ks)
+  starts_of : (ks : List Group) → AllByRecursion (λ k. 0 < base_of k b) ks → AllByRecursion (λ r. 0 < r.start) (flat_map (λ k. range_of (base_of k b) (contributions machine placed k placed)) ks)
   starts_of [] low = tt
   starts_of (k ∷ ks) low =
-      all_append (λ r. 0 < r.start) (range_of (base_of k b) (pieces machine placed k placed)) (flat_map (λ k. range_of (base_of k b) (pieces machine placed k placed)) ks)
-      (bases_of_ranges (base_of k b) (pieces machine placed k placed) low.0) (starts_of ks low.1)
+      all_append (λ r. 0 < r.start) (range_of (base_of k b) (contributions machine placed k placed)) (flat_map (λ k. range_of (base_of k b) (contributions machine placed k placed)) ks)
+      (bases_of_ranges (base_of k b) (contributions machine placed k placed) low.0) (starts_of ks low.1)
 
   starts : AllByRecursion (λ r. 0 < r.start) image
   unfolding image
-  starts = starts_of kinds (admissible.descriptors.0, (admissible.lookups.0, (admissible.addresses.0, (admissible.hint_names.0, (admissible.dll_names.0, tt)))))
+  starts = starts_of groups (admissible.descriptors.0, (admissible.lookups.0, (admissible.addresses.0, (admissible.hint_names.0, (admissible.dll_names.0, tt)))))
 
   ends : AllByRecursion (λ r. range_end r < 2 ^ 31) image
   unfolding image placed
@@ -113,20 +115,20 @@ module _ (machine : MachineType) (b : Bases) (objects : List Object) (admissible
   unfolding image placed
   apart = admissible.apart
 
-  kind_stands : (k : Kind) → Among k kinds → BytesAt image (base_of k b) (filled (base_of k b) (pieces machine placed k placed))
+  group_stands : (k : Group) → Among k groups → BytesAt image (base_of k b) (filled (base_of k b) (contributions machine placed k placed))
   unfolding image
-  kind_stands k m =
-      filled_stands (base_of k b) (pieces machine placed k placed) (image_of machine b placed)
-      (λ r held. among_flat (λ k. range_of (base_of k b) (pieces machine placed k placed)) k kinds r m held) apart
+  group_stands k m =
+      filled_stands (base_of k b) (contributions machine placed k placed) (image_of machine b placed)
+      (λ r held. among_flat (λ k. range_of (base_of k b) (contributions machine placed k placed)) k groups r m held) apart
 
   all_stand : StandsFrom machine placed image b objects
   unfolding Among placed
   all_stand = record {
-    descriptors = kind_stands Descriptors (inl refl);
-    lookups = kind_stands Lookups (inr (inl refl));
-    addresses = kind_stands Addresses (inr (inr (inl refl)));
-    hint_names = kind_stands HintNames (inr (inr (inr (inl refl))));
-    dll_names = kind_stands DllNames (inr (inr (inr (inr (inl refl)))));
+    descriptors = group_stands Descriptors (inl refl);
+    lookups = group_stands Lookups (inr (inl refl));
+    addresses = group_stands Addresses (inr (inr (inl refl)));
+    hint_names = group_stands HintNames (inr (inr (inr (inl refl))));
+    dll_names = group_stands DllNames (inr (inr (inr (inr (inl refl)))));
   }
 
 -- the objects of DLLs link

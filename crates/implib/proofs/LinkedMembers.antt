@@ -13,12 +13,14 @@ use Rattle.implib.specs.declared.machine.MachineType.{MachineType}
 use Rattle.implib.specs.Definition.{DefinitionView, ExportView}
 use Rattle.implib.specs.Gnu.{head_symbol, name_symbol, export_listed, export_name, export_object, head_name, head_object, numbered_name, stem, tail_name, tail_object}
 use Rattle.implib.specs.Import.{asked_name, holds, has_underscore, public_exports, without_first}
-use Rattle.implib.specs.Link.{Bases, IsAdmissible}
+use Rattle.implib.specs.Image.{IsAdmissible}
+use Rattle.implib.specs.Placement.{Bases}
 use Rattle.implib.specs.Made.{Made, MemberView, Plan, alias_plans, contents_size, export_plan, gnu_plans, head_plan, is_too_long, member_of, numbered_plans, numbered_plans_of, tail_plan}
 use Rattle.implib.specs.Object.{object_in}
 use Rattle.implib.specs.Picture.{Fits, layout, layout_size}
 use Rattle.implib.specs.Renaming.{renamed}
-use Rattle.implib.specs.Theorem.{AllRise, ComesBefore, Links, chosen_exports, linked_members, linked_plans, objects_in, plan_numbered}
+use Rattle.implib.specs.Linked.{Links}
+use Rattle.implib.specs.LinkedMembers.{AllRise, ComesBefore, chosen_exports, linked_members, linked_plans, objects_in, plan_numbered}
 use Rattle.implib.specs.Writer.{Holding, object_held, picture_of}
 use Rattle.implib.proofs.GnuObjects.{Fits-export_object, Fits-head_object, Fits-tail_object}
 use Rattle.implib.proofs.LinkedBlocks.{linked_objects, linked_symbols, objects_link}

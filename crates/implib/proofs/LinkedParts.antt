@@ -14,10 +14,12 @@ use Rattle.std.proofs.lemmas.List.Elements.{filter_map-append}
 use Rattle.implib.specs.declared.machine.MachineType.{MachineType}
 use Rattle.implib.specs.Definition.{DefinitionView}
 use Rattle.implib.specs.Gnu.{export_name, head_name, stem, tail_name}
-use Rattle.implib.specs.Link.{Bases, IsAdmissible, image_of, placed_from}
+use Rattle.implib.specs.Image.{IsAdmissible, image_of}
+use Rattle.implib.specs.Placement.{Bases, placed_from}
 use Rattle.implib.specs.Made.{MemberView, head_plan}
 use Rattle.implib.specs.Object.{object_in}
-use Rattle.implib.specs.Theorem.{IsLinked, AllLink, AllRise, Begins, ComesBefore, IsPart, LinksAt, NoneBegins, Part, beginning, all_linked, chosen_exports, linked_members, objects_in}
+use Rattle.implib.specs.Linked.{IsLinked, AllLink, LinksAt}
+use Rattle.implib.specs.LinkedMembers.{AllRise, Begins, ComesBefore, IsPart, NoneBegins, Part, beginning, all_linked, chosen_exports, linked_members, objects_in}
 use Rattle.implib.proofs.LinkedBlocks.{Block, CanBeLinked, blocks_link, blocks_objects, linked_objects, linked_symbols}
 use Rattle.implib.proofs.LinkedMembers.{members_among, members_read, members_named, members_rise, same_cmp, dll_free, exports_fit, objects_are, symbols_are}
 use Rattle.implib.proofs.MsvcObjects.{HasNoNul-from_holds}

@@ -4,7 +4,7 @@ use Rattle.std.specs.Prelude.{nat_eq, not}
 use Rattle.std.specs.List.{list_all}
 use Rattle.std.proofs.lemmas.Bool.{and_parts, false≢true}
 use Rattle.implib.specs.Import.{Ask, Name, Ordinal}
-use Rattle.implib.specs.Link.{Range, byte_at}
+use Rattle.implib.specs.Image.{Range, byte_at}
 use Rattle.implib.specs.Load.{AsksFor, BytesAt, Loads, NumberAt, TableAt, number_in}
 use Rattle.implib.specs.Picture.{HasNoNul}
 
@@ -22,7 +22,7 @@ bytes_once image (x ∷ xs) [] a first second long = absurd (omega arith)
 bytes_once image (x ∷ xs) (y ∷ ys) a first second long =
     same_list x y xs ys (same_byte (byte_at image a) x y first.0 second.0) (bytes_once image xs ys (a + 1) first.1 second.1 (omega arith))
 
-number_once : (image : List Range) (width a n m : ℕ) → NumberAt image width a n → NumberAt image width a m → n ≡ m
+pub number_once : (image : List Range) (width a n m : ℕ) → NumberAt image width a n → NumberAt image width a m → n ≡ m
 number_once image width a n m first second =
     sym first.value ∙ ap number_in (bytes_once image first.bytes second.bytes a first.stands second.stands (first.count ∙ sym second.count)) ∙ second.value
 

@@ -9,7 +9,8 @@ use Rattle.implib.specs.Bytes.{u16_bytes}
 use Rattle.implib.specs.Definition.{ExportView}
 use Rattle.implib.specs.Gnu.{export_listed, export_object, head_object, hint_name, name_symbol, tail_object, thunk}
 use Rattle.implib.specs.Import.{address_symbol}
-use Rattle.implib.specs.Link.{Addresses, At, Bases, Descriptors, DllNames, HintNames, Lookups, Nowhere, Placed, SymbolDefinition, defined_by, definitions, next_multiple, placed_from}
+use Rattle.implib.specs.Placement.{Addresses, At, Bases, Descriptors, DllNames, HintNames, Lookups, Nowhere, Placed, next_multiple, placed_from}
+use Rattle.implib.specs.Resolution.{SymbolDefinition, defined_by, definitions}
 use Rattle.implib.specs.MsvcObjects.{thunk_width, zeros}
 use Rattle.implib.specs.Object.{Object}
 use Rattle.implib.specs.Writer.{object_held}

@@ -11,7 +11,9 @@ use Rattle.implib.specs.Constants.{image_relative}
 use Rattle.implib.specs.Definition.{ExportView}
 use Rattle.implib.specs.Gnu.{export_object, hint_name, hint_name_symbol, relocations_of_thunk, tail_object, thunk}
 use Rattle.implib.specs.Import.{Name, Ordinal, ask_meant, asked_name}
-use Rattle.implib.specs.Link.{Addresses, Bases, Descriptors, HintNames, Lookups, Piece, Placed, Range, filled, next_multiple, pieces, placed_from, range_end, relocated, target_address, with_address}
+use Rattle.implib.specs.Image.{Contribution, Range, filled, contributions, range_end, relocated, with_address}
+use Rattle.implib.specs.Placement.{Addresses, Bases, Descriptors, HintNames, Lookups, Placed, next_multiple, placed_from}
+use Rattle.implib.specs.Resolution.{target_address}
 use Rattle.implib.specs.Load.{AsksFor, BytesAt, NumberAt, TableAt, TextAt, ThunkAt, number_in}
 use Rattle.implib.specs.MsvcObjects.{thunk_width, zeros}
 use Rattle.implib.specs.Object.{Object, u32_at}
@@ -25,7 +27,7 @@ pub record CanBeAsked (machine : MachineType) (e : ExportView) : Type 0 where
   pub name : HasNoNul (asked_name machine e.name)
 
 -- bytes at their place are what is filled in first
-pub filled_first : (a n : ℕ) (bytes : List ℕ) (rest : List Piece) → length bytes ≡ n →
+pub filled_first : (a n : ℕ) (bytes : List ℕ) (rest : List Contribution) → length bytes ≡ n →
     filled a (record { address = a; bytes = bytes } ∷ rest) ≡ bytes ++ filled (a + n) rest
 filled_first a n bytes rest long =
     let none : a - a ≡ 0 = omega arith in
@@ -146,55 +148,55 @@ module _ (machine : MachineType) (dll : List ℕ) (linked : List Placed) where
       zeros (next_multiple 2 b.hint_names - b.hint_names) ++ (hint_name machine e ++ hint_bytes (ends_of_export machine dll b e) es)
 
   pub lookups_filled : (b : Bases) (es : List ExportView) (rest : List Object) → AreAligned b →
-      filled b.lookups (pieces machine linked Lookups (placed_from b (after_head machine dll es rest)))
-      ≡ thunk_bytes b es ++ filled (ends_of_all machine dll b es).lookups (pieces machine linked Lookups (placed_from (ends_of_all machine dll b es) rest))
+      filled b.lookups (contributions machine linked Lookups (placed_from b (after_head machine dll es rest)))
+      ≡ thunk_bytes b es ++ filled (ends_of_all machine dll b es).lookups (contributions machine linked Lookups (placed_from (ends_of_all machine dll b es) rest))
   unfolding thunk_bytes tail_object export_object thunk_linked ends_of_exports
   lookups_filled b [] rest even =
-      ap (λ ps. filled b.lookups (pieces machine linked Lookups ps)) (placed-tail machine dll b rest even)
-      ∙ filled_first b.lookups (thunk_width machine) (zeros (thunk_width machine)) (pieces machine linked Lookups (placed_from (ends_of_tail machine dll b) rest)) (length-replicate {A = ℕ} (thunk_width machine) 0)
+      ap (λ ps. filled b.lookups (contributions machine linked Lookups ps)) (placed-tail machine dll b rest even)
+      ∙ filled_first b.lookups (thunk_width machine) (zeros (thunk_width machine)) (contributions machine linked Lookups (placed_from (ends_of_tail machine dll b) rest)) (length-replicate {A = ℕ} (thunk_width machine) 0)
   lookups_filled b (e ∷ es) rest even =
       let later : Bases = ends_of_export machine dll b e in
-      ap (λ ps. filled b.lookups (pieces machine linked Lookups ps)) (placed-export machine dll b e (after_head machine dll es rest) even)
-      ∙ filled_first b.lookups (thunk_width machine) (thunk_linked b e) (pieces machine linked Lookups (placed_from later (after_head machine dll es rest))) (length-thunk_linked b e)
+      ap (λ ps. filled b.lookups (contributions machine linked Lookups ps)) (placed-export machine dll b e (after_head machine dll es rest) even)
+      ∙ filled_first b.lookups (thunk_width machine) (thunk_linked b e) (contributions machine linked Lookups (placed_from later (after_head machine dll es rest))) (length-thunk_linked b e)
       ∙ ap (λ others. thunk_linked b e ++ others) (lookups_filled later es rest (aligned_after machine dll b e even))
-      ∙ sym (append_assoc (thunk_linked b e) (thunk_bytes later es) (filled (ends_of_all machine dll later es).lookups (pieces machine linked Lookups (placed_from (ends_of_all machine dll later es) rest))))
+      ∙ sym (append_assoc (thunk_linked b e) (thunk_bytes later es) (filled (ends_of_all machine dll later es).lookups (contributions machine linked Lookups (placed_from (ends_of_all machine dll later es) rest))))
 
   pub addresses_filled : (b : Bases) (es : List ExportView) (rest : List Object) → AreAligned b →
-      filled b.addresses (pieces machine linked Addresses (placed_from b (after_head machine dll es rest)))
-      ≡ thunk_bytes b es ++ filled (ends_of_all machine dll b es).addresses (pieces machine linked Addresses (placed_from (ends_of_all machine dll b es) rest))
+      filled b.addresses (contributions machine linked Addresses (placed_from b (after_head machine dll es rest)))
+      ≡ thunk_bytes b es ++ filled (ends_of_all machine dll b es).addresses (contributions machine linked Addresses (placed_from (ends_of_all machine dll b es) rest))
   unfolding thunk_bytes tail_object export_object thunk_linked ends_of_exports
   addresses_filled b [] rest even =
-      ap (λ ps. filled b.addresses (pieces machine linked Addresses ps)) (placed-tail machine dll b rest even)
-      ∙ filled_first b.addresses (thunk_width machine) (zeros (thunk_width machine)) (pieces machine linked Addresses (placed_from (ends_of_tail machine dll b) rest)) (length-replicate {A = ℕ} (thunk_width machine) 0)
+      ap (λ ps. filled b.addresses (contributions machine linked Addresses ps)) (placed-tail machine dll b rest even)
+      ∙ filled_first b.addresses (thunk_width machine) (zeros (thunk_width machine)) (contributions machine linked Addresses (placed_from (ends_of_tail machine dll b) rest)) (length-replicate {A = ℕ} (thunk_width machine) 0)
   addresses_filled b (e ∷ es) rest even =
       let later : Bases = ends_of_export machine dll b e in
-      ap (λ ps. filled b.addresses (pieces machine linked Addresses ps)) (placed-export machine dll b e (after_head machine dll es rest) even)
-      ∙ filled_first b.addresses (thunk_width machine) (thunk_linked b e) (pieces machine linked Addresses (placed_from later (after_head machine dll es rest))) (length-thunk_linked b e)
+      ap (λ ps. filled b.addresses (contributions machine linked Addresses ps)) (placed-export machine dll b e (after_head machine dll es rest) even)
+      ∙ filled_first b.addresses (thunk_width machine) (thunk_linked b e) (contributions machine linked Addresses (placed_from later (after_head machine dll es rest))) (length-thunk_linked b e)
       ∙ ap (λ others. thunk_linked b e ++ others) (addresses_filled later es rest (aligned_after machine dll b e even))
-      ∙ sym (append_assoc (thunk_linked b e) (thunk_bytes later es) (filled (ends_of_all machine dll later es).addresses (pieces machine linked Addresses (placed_from (ends_of_all machine dll later es) rest))))
+      ∙ sym (append_assoc (thunk_linked b e) (thunk_bytes later es) (filled (ends_of_all machine dll later es).addresses (contributions machine linked Addresses (placed_from (ends_of_all machine dll later es) rest))))
 
   pub hint_names_filled : (b : Bases) (es : List ExportView) (rest : List Object) → AreAligned b →
-      filled b.hint_names (pieces machine linked HintNames (placed_from b (after_head machine dll es rest)))
-      ≡ hint_bytes b es ++ filled (ends_of_all machine dll b es).hint_names (pieces machine linked HintNames (placed_from (ends_of_all machine dll b es) rest))
+      filled b.hint_names (contributions machine linked HintNames (placed_from b (after_head machine dll es rest)))
+      ≡ hint_bytes b es ++ filled (ends_of_all machine dll b es).hint_names (contributions machine linked HintNames (placed_from (ends_of_all machine dll b es) rest))
   unfolding hint_bytes tail_object export_object ends_of_exports
-  hint_names_filled b [] rest even = ap (λ ps. filled b.hint_names (pieces machine linked HintNames ps)) (placed-tail machine dll b rest even)
+  hint_names_filled b [] rest even = ap (λ ps. filled b.hint_names (contributions machine linked HintNames ps)) (placed-tail machine dll b rest even)
   hint_names_filled b (e ∷ es) rest even =
       let later : Bases = ends_of_export machine dll b e in
       let padding : List ℕ = zeros (next_multiple 2 b.hint_names - b.hint_names) in
-      let others : List ℕ = filled (ends_of_all machine dll later es).hint_names (pieces machine linked HintNames (placed_from (ends_of_all machine dll later es) rest)) in
-      ap (λ ps. filled b.hint_names (pieces machine linked HintNames ps)) (placed-export machine dll b e (after_head machine dll es rest) even)
+      let others : List ℕ = filled (ends_of_all machine dll later es).hint_names (contributions machine linked HintNames (placed_from (ends_of_all machine dll later es) rest)) in
+      ap (λ ps. filled b.hint_names (contributions machine linked HintNames ps)) (placed-export machine dll b e (after_head machine dll es rest) even)
       ∙ ap (λ others. padding ++ (hint_name machine e ++ others)) (hint_names_filled later es rest (aligned_after machine dll b e even))
       ∙ ap (λ others. padding ++ others) (sym (append_assoc (hint_name machine e) (hint_bytes later es) others))
       ∙ sym (append_assoc padding (hint_name machine e ++ hint_bytes later es) others)
 
   -- exports and the tail have no descriptor
   pub descriptors_filled : (b : Bases) (es : List ExportView) (rest : List Object) → AreAligned b →
-      filled b.descriptors (pieces machine linked Descriptors (placed_from b (after_head machine dll es rest)))
-      ≡ filled (ends_of_all machine dll b es).descriptors (pieces machine linked Descriptors (placed_from (ends_of_all machine dll b es) rest))
+      filled b.descriptors (contributions machine linked Descriptors (placed_from b (after_head machine dll es rest)))
+      ≡ filled (ends_of_all machine dll b es).descriptors (contributions machine linked Descriptors (placed_from (ends_of_all machine dll b es) rest))
   unfolding tail_object export_object ends_of_exports
-  descriptors_filled b [] rest even = ap (λ ps. filled b.descriptors (pieces machine linked Descriptors ps)) (placed-tail machine dll b rest even)
+  descriptors_filled b [] rest even = ap (λ ps. filled b.descriptors (contributions machine linked Descriptors ps)) (placed-tail machine dll b rest even)
   descriptors_filled b (e ∷ es) rest even =
-      ap (λ ps. filled b.descriptors (pieces machine linked Descriptors ps)) (placed-export machine dll b e (after_head machine dll es rest) even)
+      ap (λ ps. filled b.descriptors (contributions machine linked Descriptors ps)) (placed-export machine dll b e (after_head machine dll es rest) even)
       ∙ descriptors_filled (ends_of_export machine dll b e) es rest (aligned_after machine dll b e even)
 
   -- the ends after these bytes

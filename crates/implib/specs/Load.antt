@@ -1,7 +1,7 @@
 -- Loading: what a loader finds in an image (PE/COFF specification, "The .idata Section").
 use Rattle.std.specs.Prelude.{◌≡◌, ◌≢◌, ℕ, ◌+◌, ◌*◌, ◌-◌, ◌%◌, ◌^◌, ◌<◌, ◌≤◌, List, [], ◌∷◌, ◌++◌, length, Some}
 use Rattle.implib.specs.Import.{Ask, Ordinal, Name}
-use Rattle.implib.specs.Link.{Range, byte_at}
+use Rattle.implib.specs.Image.{Range, byte_at}
 use Rattle.implib.specs.Picture.{HasNoNul}
 
 -- these bytes stand at an address

@@ -1,4 +1,4 @@
-use Rattle.implib.specs.Theorem.{bases_of}
+use Rattle.implib.specs.LinkedMembers.{bases_of}
 use Rattle.implib.proofs.LinkedParts.{parts_link, parts_rise}
 use Rattle.implib.proofs.laws.link.gnu_links_many.Goals as goal
 

@@ -1,0 +1,4 @@
+//! Laws of linking and loading.
+#![tactic(auto)]
+
+pub mod laws;
