@@ -33,7 +33,7 @@ no_nul_first (suc n) ys free is = omega arith
 no_nul_rest : (y : ℕ) (ys : List ℕ) → HasNoNul (y ∷ ys) → HasNoNul ys
 no_nul_rest y ys free = (and_parts (not (nat_eq y 0)) (list_all (λ byte. not (nat_eq byte 0)) ys) free).1
 
-text_once : (image : List Range) (xs ys : List ℕ) (a : ℕ) → HasNoNul xs → HasNoNul ys → BytesAt image a (xs ++ 0 ∷ []) → BytesAt image a (ys ++ 0 ∷ []) → xs ≡ ys
+pub text_once : (image : List Range) (xs ys : List ℕ) (a : ℕ) → HasNoNul xs → HasNoNul ys → BytesAt image a (xs ++ 0 ∷ []) → BytesAt image a (ys ++ 0 ∷ []) → xs ≡ ys
 unfolding BytesAt
 text_once image [] [] a first_free second_free first second = refl
 text_once image [] (y ∷ ys) a first_free second_free first second = absurd (no_nul_first y ys second_free (same_byte (byte_at image a) 0 y first.0 second.0))
@@ -55,7 +55,7 @@ ask_once image width thunk (Name text hint) (Name other number) first second =
 same_asks : (x y : Ask) (xs ys : List Ask) → x ≡ y → xs ≡ ys → x ∷ xs ≡ y ∷ ys
 same_asks x y xs ys first rest = cc
 
-table_once : (image : List Range) (width : ℕ) (xs ys : List Ask) (a : ℕ) → TableAt image width a xs → TableAt image width a ys → xs ≡ ys
+pub table_once : (image : List Range) (width : ℕ) (xs ys : List Ask) (a : ℕ) → TableAt image width a xs → TableAt image width a ys → xs ≡ ys
 unfolding TableAt
 table_once image width [] [] a first second = refl
 table_once image width [] (y ∷ ys) a first second = absurd (second.0.goes_on (number_once image width a second.0.thunk 0 second.0.stands first))

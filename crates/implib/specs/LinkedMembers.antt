@@ -71,6 +71,10 @@ parts_of (d ∷ definitions) (m ∷ members) [] = []
 parts_of (d ∷ definitions) (m ∷ members) (c ∷ chosen) =
     record { definition = d; members = m; chosen = c } ∷ parts_of definitions members chosen
 
+-- the members are those of the definition
+abbrev pub IsMade : MachineType → Part → Type 0
+IsMade machine p = Made p.definition machine Gnu p.members
+
 -- the members are those of the definition, and the numbers are of exports in the order of their
 -- members' names
 pub record IsPart (machine : MachineType) (p : Part) : Type 0 where
