@@ -43,7 +43,7 @@ blocks_definitions machine b [] = []
 blocks_definitions machine b (k ∷ blocks) = block_definitions machine k.dll b k.exports ++ blocks_definitions machine (ends_of_block machine k.dll b k.exports) blocks
 
 -- the ends after the objects of DLLs
-pub ends_of_blocks : MachineType → Bases → List Block → Bases
+unfoldable pub ends_of_blocks : MachineType → Bases → List Block → Bases
 ends_of_blocks machine b [] = b
 ends_of_blocks machine b (k ∷ blocks) = ends_of_blocks machine (ends_of_block machine k.dll b k.exports) blocks
 

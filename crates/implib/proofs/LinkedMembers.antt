@@ -40,7 +40,7 @@ held_reads h fits short =
     object_in-layout (picture_of h) fits below ∙ ap Some (object_of-picture_of h)
 
 -- what holds of each holds of the one at a place
-all_at : {X : Type 0} (P : X → Type 0) (xs : List X) (n : ℕ) (x : X) → AllByRecursion P xs → slice_get xs n ≡ Some x → P x
+pub all_at : {X : Type 0} (P : X → Type 0) (xs : List X) (n : ℕ) (x : X) → AllByRecursion P xs → slice_get xs n ≡ Some x → P x
 all_at P [] n x all is = cc
 all_at P (y ∷ xs) zero x all is = subst P (let same : y ≡ x = cc in same) all.0
 all_at P (y ∷ xs) (suc n) x all is = all_at P xs n x all.1 is
@@ -57,14 +57,14 @@ among_reverse x [] m = m
 among_reverse x (y ∷ xs) (inl e) = subst (Among x) (sym (reverse-append (y ∷ []) xs)) (among_back x (reverse xs) (y ∷ []) (inl e))
 among_reverse x (y ∷ xs) (inr m) = subst (Among x) (sym (reverse-append (y ∷ []) xs)) (among_front x (reverse xs) (y ∷ []) (among_reverse x xs m))
 
-among_map : {X Y : Type 0} (f : X → Y) (x : X) (xs : List X) → Among x xs → Among (f x) (map f xs)
+pub among_map : {X Y : Type 0} (f : X → Y) (x : X) (xs : List X) → Among x xs → Among (f x) (map f xs)
 unfolding Among
 among_map f x [] m = absurd m
 among_map f x (y ∷ xs) (inl e) = inl (ap f e)
 among_map f x (y ∷ xs) (inr m) = inr (among_map f x xs m)
 
 -- nothing stands past the end
-past_end : {X : Type 0} (xs : List X) (n : ℕ) → slice_get xs n ≡ None → length xs ≤ n
+pub past_end : {X : Type 0} (xs : List X) (n : ℕ) → slice_get xs n ≡ None → length xs ≤ n
 past_end [] n is = omega arith
 past_end (x ∷ xs) zero is = cc
 past_end (x ∷ xs) (suc n) is = let rest = past_end xs n is in omega arith

@@ -1,0 +1,5 @@
+pub mod Others
+pub mod Directory
+pub mod Blocks
+pub mod Program
+pub mod Alone

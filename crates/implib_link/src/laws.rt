@@ -1,8 +1,3 @@
-//! Laws.
+//! Laws: what a caller may conclude from the definitions, each as the contract of an empty function.
 
-ghost use Rattle.implib_link.specs.Probe.{Probe};
-
-/// A probe.
-pub fn probe()
-    ensures { Probe }
-{}
+pub mod program;

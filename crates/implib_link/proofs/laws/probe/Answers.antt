@@ -1,5 +1,0 @@
-use Rattle.implib.proofs.Loading.{number_once}
-use Rattle.implib_link.proofs.laws.probe.Goals as goal
-
-pub returns : goal.returns
-returns c = number_once
