@@ -143,7 +143,7 @@ module _ (machine : MachineType) (dll : List ℕ) (linked : List Placed) where
 
   -- The relocations of an export find their targets: of its own sections, and the head's descriptor.
 
-  address_found : (b : Bases) (e : ExportView) → e.is_data ≡ false →
+  pub address_found : (b : Bases) (e : ExportView) → e.is_data ≡ false →
       option_and_then (symbol_address linked (placed_export machine dll b e)) (slice_get (placed_export machine dll b e).object.entries 2) ≡ Some (b.addresses + 0)
   unfolding export_object
   address_found b e is = rw is refl

@@ -55,7 +55,7 @@ byte_of r (x ∷ xs) a (inr m) apart within =
       | inr is ↦ rw is (byte_of r xs a m apart.1 within)
     ]
 
-is_in_from : (a : ℕ) (r : Range) → r.start ≤ a → a < range_end r → is_in a r ≡ true
+pub is_in_from : (a : ℕ) (r : Range) → r.start ≤ a → a < range_end r → is_in a r ≡ true
 is_in_from a r low high = and_from _ _ (le-leb r.start a low) (lt-ltb a (range_end r) high)
 
 -- whether each range ends before the later ones start, and below a limit

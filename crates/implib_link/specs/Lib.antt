@@ -1,2 +1,6 @@
 pub mod Directory
 pub mod Program
+pub mod Texts
+pub mod Loaded
+pub mod Packed
+pub mod Stub

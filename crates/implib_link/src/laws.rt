@@ -1,3 +1,5 @@
 //! Laws: what a caller may conclude from the definitions, each as the contract of an empty function.
 
+pub mod loaded;
 pub mod program;
+pub mod texts;
