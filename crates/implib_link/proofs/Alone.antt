@@ -44,7 +44,7 @@ blocks_have machine [] rest all = all
 blocks_have machine (k ∷ blocks) rest all =
     (head_has machine k.dll, exports_have machine k.dll k.exports _ (tail_has machine k.dll, blocks_have machine blocks rest all))
 
-all_kept : (objects : List Object) → AllHave objects → filter has_tables objects ≡ objects
+pub all_kept : (objects : List Object) → AllHave objects → filter has_tables objects ≡ objects
 all_kept [] all = refl
 all_kept (o ∷ objects) all = rw all.0 (ap (λ others. o ∷ others) (all_kept objects all.1))
 

@@ -5,3 +5,7 @@ pub mod Program
 pub mod Alone
 pub mod Texts
 pub mod Loaded
+pub mod Sized
+pub mod Packed
+pub mod Jumps
+pub mod Stubs

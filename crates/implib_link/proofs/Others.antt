@@ -20,7 +20,7 @@ other_name name text of_table other =
     false_from_ne_true (bytes_eq name text) (λ same.
     true≢false (sym (subst (λ n. bytes_eq (take 7 n) (codes ".idata$") ≡ true) (sym ((bytes_eq-Decides name text).0 same)) of_table) ∙ other))
 
-no_group : (name : List ℕ) → bytes_eq (take 7 name) (codes ".idata$") ≡ false → group_named name ≡ None
+pub no_group : (name : List ℕ) → bytes_eq (take 7 name) (codes ".idata$") ≡ false → group_named name ≡ None
 no_group name other =
     rw (
       other_name name (codes ".idata$2") refl other,

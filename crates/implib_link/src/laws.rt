@@ -1,5 +1,7 @@
 //! Laws: what a caller may conclude from the definitions, each as the contract of an empty function.
 
 pub mod loaded;
+pub mod packed;
 pub mod program;
+pub mod stubs;
 pub mod texts;
