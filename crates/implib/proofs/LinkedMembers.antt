@@ -104,7 +104,7 @@ numbered_among machine dll (x ∷ exports) start (suc n) e is =
     among_back _ (numbered_plans_of machine dll start x) (numbered_plans machine dll (start + 1) exports)
     (subst (λ n. Among (export_plan machine dll n e) (numbered_plans machine dll (start + 1) exports)) place (numbered_among machine dll exports (start + 1) n e is))
 
-among_contains : {X : Type 0} (x : X) (xs : List X) → Among x xs → Contains xs x
+pub among_contains : {X : Type 0} (x : X) (xs : List X) → Among x xs → Contains xs x
 unfolding Among
 among_contains x [] m = absurd m
 among_contains x (y ∷ xs) (inl e) = (0, omega arith, sym e)

@@ -66,7 +66,7 @@ null_stands machine linked image b even stands =
 plus_sum : (a n m : ℕ) → a + 20 + 20 * n ≡ a + 20 * suc n
 plus_sum a n m = omega arith
 
-table_sum : (a w n m : ℕ) → a + w * n + w * m ≡ a + w * (n + m)
+pub table_sum : (a w n m : ℕ) → a + w * n + w * m ≡ a + w * (n + m)
 table_sum a w n m = let split : w * (n + m) ≡ w * n + w * m = mul-add w n m in omega arith
 
 plus_zero : (a w : ℕ) → a ≡ a + w * 0

@@ -64,10 +64,10 @@ kept_outside (r ∷ written) ranges a none =
 
 -- The entries of one table.
 
-times_next : (a w n : ℕ) → a + w + w * n ≡ a + w * suc n
+pub times_next : (a w n : ℕ) → a + w + w * n ≡ a + w * suc n
 times_next a w n = let product : w * suc n ≡ w * n + w = mul-suc w n in omega arith
 
-times_none : (a w : ℕ) → a ≡ a + w * 0
+pub times_none : (a w : ℕ) → a ≡ a + w * 0
 times_none a w = let none : w * 0 ≡ 0 = mul-zero w in omega arith
 
 module _ (width : ℕ) where
@@ -216,7 +216,7 @@ module _ (machine : MachineType) (gives : List ℕ → Ask → List ℕ) where
         (tables_within parts (next_table a p) low high (omega arith) (omega arith))
 
 -- the j-th entry is the only definition of its symbol
-entry_once : (linked : List Placed) (width a : ℕ) (exports : List ExportView) (j : ℕ) (e : ExportView) → EntriesAt linked width a exports → slice_get exports j ≡ Some e →
+pub entry_once : (linked : List Placed) (width a : ℕ) (exports : List ExportView) (j : ℕ) (e : ExportView) → EntriesAt linked width a exports → slice_get exports j ≡ Some e →
     definitions_of (address_symbol e.name) linked ≡ record { name = address_symbol e.name; address = Some (a + width * j) } ∷ []
 unfolding EntriesAt
 entry_once linked width a [] j e entries is = cc

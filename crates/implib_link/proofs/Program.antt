@@ -129,7 +129,7 @@ module _ (machine : MachineType) (b : Bases) (parts : List Part) (objects : List
       imports_by machine image linked found.0.descriptors (b.descriptors + 20 * i) found.0.addresses (b.addresses + thunk_width machine * thunks_before i parts)
       p.definition.import_name (chosen_exports p.definition p.chosen) found.1.0 found.1.1.0 found.1.1.1.strictly found.1.1.1.addresses
 
-  kept_placed : with_tables (placed_from b objects) ≡ placed_from b (blocks_objects machine dlls behind)
+  pub kept_placed : with_tables (placed_from b objects) ≡ placed_from b (blocks_objects machine (map block_of parts) (null_descriptor ∷ []))
   kept_placed = placed_kept b objects ∙ ap (placed_from b) kept_are
 
 pub program_links : (machine : MachineType) (bases : Bases) (parts : List Part) (objects : List Object) → AllByRecursion (IsMade machine) parts →
