@@ -9,3 +9,4 @@ pub mod Sized
 pub mod Packed
 pub mod Jumps
 pub mod Stubs
+pub mod WorkedPrograms

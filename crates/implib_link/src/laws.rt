@@ -5,3 +5,4 @@ pub mod packed;
 pub mod program;
 pub mod stubs;
 pub mod texts;
+pub mod worked;
