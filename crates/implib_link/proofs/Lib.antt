@@ -10,3 +10,4 @@ pub mod Packed
 pub mod Jumps
 pub mod Stubs
 pub mod WorkedPrograms
+pub mod RefusedLinks

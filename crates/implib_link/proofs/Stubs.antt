@@ -214,7 +214,7 @@ stubs_jump machine image_base bases parts objects i j p e made program can part 
           ∙ jump_by machine image_base bases (thunks_before i parts) j place linked own can near small (target_is machine dll linked found.0 e _ is found.1.1);
     }
 
-same_address : (name : List ℕ) (a b : ℕ) (ds : List SymbolDefinition) → ds ≡ record { name = name; address = Some a } ∷ [] → ds ≡ record { name = name; address = Some b } ∷ [] → a ≡ b
+pub same_address : (name : List ℕ) (a b : ℕ) (ds : List SymbolDefinition) → ds ≡ record { name = name; address = Some a } ∷ [] → ds ≡ record { name = name; address = Some b } ∷ [] → a ≡ b
 same_address name a b ds first second =
     let same : Some a ≡ Some b = ap first_address (sym first ∙ second) in
     cc

@@ -17,7 +17,7 @@ use Rattle.implib.specs.Placement.{Bases, next_multiple}
 use Rattle.implib.specs.Writer.{long_names, name_place, picture_of, symbol_written, with_long_name, with_name}
 use Rattle.implib.proofs.Ranges.{apart_as_they_rise, ends_below, rise_below}
 use Rattle.implib_link.specs.Program.{ClaimsNone, claimed_names, has_tables, linked_symbols}
-use Rattle.implib_link.specs.WorkedPrograms.{WorkedProgram, WorkedPrograms, another, both_parts, caller, expected_4, expected_8, program_image, program_objects, touching_4, touching_8}
+use Rattle.implib_link.specs.WorkedPrograms.{WorkedProgram, WorkedPrograms, WorkedStubs, another, both_parts, caller, expected_4, expected_8, program_image, program_objects, touching_4, touching_8}
 
 -- what the computing has to open
 abbrev opened : Unit {0}
@@ -162,3 +162,7 @@ armnt = record {
 
 pub worked_programs : WorkedPrograms
 worked_programs = record { amd64 = amd64; arm64 = arm64; i386 = i386; armnt = armnt }
+
+pub worked_stubs : WorkedStubs
+unfolding opened
+worked_stubs = record { amd64 = refl; amd64_reads = refl; i386 = refl; i386_reads = refl; arm64 = refl; arm64_reads = refl }

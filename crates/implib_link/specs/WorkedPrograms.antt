@@ -1,8 +1,8 @@
 -- Programs that were linked by hand, on each machine: foo.dll with four exports, chosen in an order of its
 -- own, and zed.dll with one, among a caller and another object, at bases from 4 on whose ranges touch.
-use Rattle.std.specs.Prelude.{◌≡◌, ℕ, ◌+◌, List, [], ◌∷◌, ◌++◌, codes, map, true, Option, Some, None, if◌then◌else◌}
+use Rattle.std.specs.Prelude.{◌≡◌, ℕ, ◌+◌, List, [], ◌∷◌, ◌++◌, codes, map, slice_get, true, Option, Some, None, if◌then◌else◌}
 use Rattle.std.specs.List.{AllByRecursion}
-use Rattle.std.specs.Option.{option_and_then}
+use Rattle.std.specs.Option.{option_and_then, option_map}
 use Rattle.implib.specs.declared.library.Flavor.TheVariants.{Gnu}
 use Rattle.implib.specs.declared.machine.MachineType.{MachineType}
 use Rattle.implib.specs.declared.machine.MachineType.TheVariants.{I386, ARMNT, AMD64, ARM64}
@@ -22,6 +22,7 @@ use Rattle.implib.specs.WorkedLinks.{addresses_of, bytes_from, nameless, numbers
 use Rattle.implib.specs.WorkedMembers.{of_dll}
 use Rattle.implib.specs.WorkedStatements.{plain_export}
 use Rattle.implib_link.specs.Program.{IsProgram, null_descriptor}
+use Rattle.implib_link.specs.Stub.{code_relocated, jump_reads}
 
 -- a name as its symbol has it: on I386 with an underscore in front
 abbrev pub symbol_on : MachineType → List ℕ → List ℕ
@@ -164,3 +165,32 @@ pub record WorkedPrograms : Type 0 where
   pub arm64 : WorkedProgram ARM64 touching_8 expected_8
   pub i386 : WorkedProgram I386 touching_4 expected_4
   pub armnt : WorkedProgram ARMNT touching_4 expected_4
+
+-- the code of `open`, which is the fourth object's, at a place of an image at a base, relocated
+abbrev pub open_code : MachineType → Bases → ℕ → ℕ → Option (List ℕ)
+open_code machine bases image_base place =
+    option_and_then
+    (λ p. option_map
+    (λ s. code_relocated machine image_base (program_placed machine bases) p place s.relocations s.bytes)
+    (slice_get p.object.sections 0))
+    (slice_get (program_placed machine bases) 3)
+
+-- what its jump reads
+abbrev pub open_reads : MachineType → Bases → ℕ → ℕ → Option ℕ
+open_reads machine bases image_base place =
+    option_and_then (jump_reads machine (image_base + place)) (open_code machine bases image_base place)
+
+-- the stubs of `open` in code at 0x1000, its entry being at 0x80 or 0x60
+pub record WorkedStubs : Type 0 where
+  -- jmp [rip - 0xF86]
+  pub amd64 : open_code AMD64 touching_8 0x1_4000_0000 0x1000
+      ≡ Some (0xFF ∷ 0x25 ∷ 0x7A ∷ 0xF0 ∷ 0xFF ∷ 0xFF ∷ 0x90 ∷ 0x90 ∷ [])
+  pub amd64_reads : open_reads AMD64 touching_8 0x1_4000_0000 0x1000 ≡ Some 0x1_4000_0080
+  -- jmp [0x400060]
+  pub i386 : open_code I386 touching_4 0x40_0000 0x1000
+      ≡ Some (0xFF ∷ 0x25 ∷ 0x60 ∷ 0 ∷ 0x40 ∷ 0 ∷ 0x90 ∷ 0x90 ∷ [])
+  pub i386_reads : open_reads I386 touching_4 0x40_0000 0x1000 ≡ Some 0x40_0060
+  -- adrp x16, -0x1000; ldr x16, [x16, 0x80]; br x16
+  pub arm64 : open_code ARM64 touching_8 0x1_4000_0000 0x1000
+      ≡ Some (0xF0 ∷ 0xFF ∷ 0xFF ∷ 0xF0 ∷ 0x10 ∷ 0x42 ∷ 0x40 ∷ 0xF9 ∷ 0 ∷ 2 ∷ 0x1F ∷ 0xD6 ∷ [])
+  pub arm64_reads : open_reads ARM64 touching_8 0x1_4000_0000 0x1000 ≡ Some 0x1_4000_0080
