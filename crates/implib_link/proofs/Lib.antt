@@ -11,3 +11,4 @@ pub mod Jumps
 pub mod Stubs
 pub mod WorkedPrograms
 pub mod RefusedLinks
+pub mod Archive

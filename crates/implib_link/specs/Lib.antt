@@ -6,3 +6,4 @@ pub mod Packed
 pub mod Stub
 pub mod WorkedPrograms
 pub mod RefusedLinks
+pub mod Archive
