@@ -4,13 +4,13 @@ use Rattle.std.specs.Prelude.{bytes_eq}
 use Rattle.std.specs.List.{AllByRecursion, IsDistinct, filter}
 use Rattle.std.proofs.lemmas.Bool.{false_from_ne_true, true≢false}
 use Rattle.std.proofs.lemmas.Slice.Eq.{bytes_eq-Decides}
-use Rattle.implib.specs.Link.{SymbolDefinition}
+use Rattle.implib.specs.Resolution.{SymbolDefinition}
 use Rattle.implib.proofs.Ranges.{Among}
 
-same_text : (text : List ℕ) → bytes_eq text text ≡ true
+pub same_text : (text : List ℕ) → bytes_eq text text ≡ true
 same_text text = (bytes_eq-Decides text text).1 refl
 
-not_same_turned : (first second : List ℕ) → bytes_eq first second ≡ false → bytes_eq second first ≡ false
+pub not_same_turned : (first second : List ℕ) → bytes_eq first second ≡ false → bytes_eq second first ≡ false
 not_same_turned first second differ =
     false_from_ne_true (bytes_eq second first) (λ same. true≢false (sym ((bytes_eq-Decides first second).1 (sym ((bytes_eq-Decides second first).0 same))) ∙ differ))
 

@@ -1,36 +1,44 @@
 -- The objects for GNU's linker link to what their definition means.
 use Rattle.std.proofs.Common.{◌≡◌, ℕ, ◌+◌, ◌-◌, ◌%◌, ◌<◌, ◌≤◌, ◌^◌, List, [], ◌∷◌, ◌++◌, length, map, Some, refl, ap, sym, ◌∙◌, arith, subst, inl, inr}
+use Rattle.std.specs.Prelude.{false, slice_get, true}
 use Rattle.std.specs.List.{AllByRecursion}
+use Rattle.std.specs.Option.{option_and_then}
+use Rattle.implib.specs.declared.coff.object.Relocation.{Relocation}
 use Rattle.std.proofs.lemmas.Bool.{cases_Bool}
 use Rattle.std.proofs.lemmas.List.{length-append, length-replicate}
 use Rattle.implib.specs.declared.machine.MachineType.{MachineType}
 use Rattle.implib.specs.declared.machine.MachineType.TheVariants.{I386, ARMNT, AMD64, ARM64}
 use Rattle.implib.specs.Bytes.{u32_bytes}
 use Rattle.implib.specs.Definition.{ExportView}
-use Rattle.implib.specs.Gnu.{export_object, head_object, head_symbol, name_symbol, tail_object}
+use Rattle.implib.specs.Gnu.{export_object, head_object, head_symbol, hint_name_symbol, name_symbol, relocations_of_stub, relocations_of_thunk, stub_relocations, tail_object}
 use Rattle.implib.specs.Import.{Ask, address_symbol, ask_meant}
-use Rattle.implib.specs.Link.{Addresses, Bases, Descriptors, DllNames, HintNames, Lookups, Piece, Placed, Range, SymbolDefinition, definitions, definitions_of, filled, first_address, next_multiple, pieces, placed_from, range_end, range_of, relocated, with_address}
-use Rattle.implib.specs.Load.{BytesAt, Loads, NumberAt, TableAt, TextAt, number_in}
+use Rattle.implib.specs.Image.{Contribution, Range, filled, contributions, range_end, range_of, relocated, with_address}
+use Rattle.implib.specs.Placement.{Addresses, Bases, Descriptors, DllNames, HintNames, Lookups, Placed, next_multiple, placed_from}
+use Rattle.implib.specs.Resolution.{SymbolDefinition, definitions, definitions_of, first_address, symbol_address}
+use Rattle.implib.specs.Load.{BytesAt, LoadsStrictly, NumberAt, TableAt, TextAt, number_in}
 use Rattle.implib.specs.MsvcObjects.{relocation, thunk_width, zeros}
 use Rattle.implib.specs.Object.{Object, u32_at}
 use Rattle.implib.specs.Picture.{HasNoNul}
-use Rattle.implib.specs.Theorem.{EntriesAt, IsDefinedOnce, LinksAt, undefined_names}
+use Rattle.implib.specs.Linked.{AllFind, EntriesAt, FindsTarget, IsDefinedAt, LinksStrictlyAt, undefined_names}
 use Rattle.implib.proofs.Ranges.{Among, address_bounds, among_back, among_first, among_later, stands_parts}
-use Rattle.implib.proofs.Placement.{AreAligned, descriptors_end, address_definition, after_head, aligned_after, aligned_all, at_least, code_definition, defined_after, definitions-after, ends_of_all, ends_of_export, ends_of_exports, ends_of_head, ends_of_tail, head, placed-export, placed-head, placed-tail, placed_export, placed_head}
-use Rattle.implib.proofs.Tables.{CanBeAsked, addresses_end, addresses_filled, descriptors_filled, filled_first, hint_bytes, hint_names_end, hint_names_filled, lookups_end, lookups_filled, same_number, table_at, thunk_bytes}
+use Rattle.implib.proofs.Placement.{AreAligned, descriptors_end, address_definition, after_head, aligned_after, aligned_all, aligned_head, at_least, code_definition, defined_after, definitions-after, ends_of_all, ends_of_export, ends_of_exports, ends_of_head, ends_of_tail, head, placed-export, placed-head, placed-tail, placed_export, placed_head}
+use Rattle.implib.proofs.Tables.{CanBeAsked, StrictTableAt, addresses_end, addresses_filled, descriptors_filled, filled_first, hint_bytes, hint_names_end, hint_names_filled, lookups_end, lookups_filled, same_number, table_at, thunk_bytes}
 
--- the first piece stands at its place, and the others after it
-piece_stands : (image : List Range) (a : ℕ) (p : Piece) (rest : List Piece) → a ≤ p.address → BytesAt image a (filled a (p ∷ rest)) →
+same_order : (n : ℕ) → n ≤ n
+same_order n = omega arith
+
+-- the first contribution stands at its place, and the others after it
+contribution_stands : (image : List Range) (a : ℕ) (p : Contribution) (rest : List Contribution) → a ≤ p.address → BytesAt image a (filled a (p ∷ rest)) →
     BytesAt image p.address p.bytes × BytesAt image (p.address + length p.bytes) (filled (p.address + length p.bytes) rest)
-piece_stands image a p rest low stands =
+contribution_stands image a p rest low stands =
     let padding : List ℕ = zeros (p.address - a) in
     let behind = stands_parts image padding (p.bytes ++ filled (p.address + length p.bytes) rest) a stands in
     let place : a + length padding ≡ p.address = rw (length-replicate {A = ℕ} (p.address - a) 0) (omega arith) in
     stands_parts image p.bytes (filled (p.address + length p.bytes) rest) p.address
     (subst (λ n. BytesAt image n (p.bytes ++ filled (p.address + length p.bytes) rest)) place behind.1)
 
--- the ranges of pieces are in the image, and begin at their bases
-pub bases_of_ranges : (base : ℕ) (ps : List Piece) → 0 < base → AllByRecursion (λ r. 0 < r.start) (range_of base ps)
+-- the ranges of contributions are in the image, and begin at their bases
+pub bases_of_ranges : (base : ℕ) (ps : List Contribution) → 0 < base → AllByRecursion (λ r. 0 < r.start) (range_of base ps)
 bases_of_ranges base [] low = tt
 bases_of_ranges base (p ∷ ps) low = (low, tt)
 
@@ -57,36 +65,40 @@ field_stands image a n small stands = record {
   value = number-u32 n small;
 }
 
+-- a name has an address
+abbrev HasAddress : List Placed → List ℕ → Type 0
+HasAddress linked name = (address : ℕ) × (first_address (definitions_of name linked) ≡ Some address)
+
 module _ (machine : MachineType) (dll : List ℕ) (linked : List Placed) where
   -- the descriptor, relocated
   descriptor_linked : Bases → List ℕ
   descriptor_linked b = relocated machine linked (placed_head machine dll b) (relocation machine 0 3 ∷ relocation machine 16 2 ∷ relocation machine 12 5 ∷ []) (zeros 20)
 
   descriptor_is : (b : Bases) (n : ℕ) → first_address (definitions_of (name_symbol machine dll) linked) ≡ Some (n + 0) →
-      descriptor_linked b ≡ u32_bytes ((0 + (b.lookups + 0)) % 2 ^ 32) ++ (zeros 8 ++ (u32_bytes ((0 + (n + 0)) % 2 ^ 32) ++ u32_bytes ((0 + (b.addresses + 0)) % 2 ^ 32)))
+      descriptor_linked b ≡ u32_bytes ((0 + (b.lookups + 0)) % 2 ^ 32) ++ (zeros 4 ++ (zeros 4 ++ (u32_bytes ((0 + (n + 0)) % 2 ^ 32) ++ u32_bytes ((0 + (b.addresses + 0)) % 2 ^ 32))))
   unfolding descriptor_linked head_object with_address u32_bytes u32_at
   descriptor_is b n is = rw (same_number machine, is) refl
 
   -- where the DLL's name stands, and what is filled in after it
   name_stands : (image : List Range) (es : List ExportView) (b : Bases) (rest : List Object) → AreAligned b →
-      BytesAt image b.dll_names (filled b.dll_names (pieces machine linked DllNames (placed_from b (after_head machine dll es rest)))) →
+      BytesAt image b.dll_names (filled b.dll_names (contributions machine linked DllNames (placed_from b (after_head machine dll es rest)))) →
       BytesAt image (next_multiple 4 (ends_of_exports machine dll b es).dll_names) (dll ++ 0 ∷ [])
-      × BytesAt image (ends_of_all machine dll b es).dll_names (filled (ends_of_all machine dll b es).dll_names (pieces machine linked DllNames (placed_from (ends_of_all machine dll b es) rest)))
+      × BytesAt image (ends_of_all machine dll b es).dll_names (filled (ends_of_all machine dll b es).dll_names (contributions machine linked DllNames (placed_from (ends_of_all machine dll b es) rest)))
   unfolding ends_of_exports tail_object export_object with_address u32_bytes u32_at
   name_stands image [] b rest even stands =
-      let others : List Piece = pieces machine linked DllNames (placed_from (ends_of_tail machine dll b) rest) in
-      let own : Piece = record { address = next_multiple 4 b.dll_names; bytes = dll ++ 0 ∷ [] } in
+      let others : List Contribution = contributions machine linked DllNames (placed_from (ends_of_tail machine dll b) rest) in
+      let own : Contribution = record { address = next_multiple 4 b.dll_names; bytes = dll ++ 0 ∷ [] } in
       let here : BytesAt image b.dll_names (filled b.dll_names (own ∷ others)) =
-      subst (λ ps. BytesAt image b.dll_names (filled b.dll_names (pieces machine linked DllNames ps))) (placed-tail machine dll b rest even) stands in
-      piece_stands image b.dll_names own others (at_least 4 b.dll_names) here
+      subst (λ ps. BytesAt image b.dll_names (filled b.dll_names (contributions machine linked DllNames ps))) (placed-tail machine dll b rest even) stands in
+      contribution_stands image b.dll_names own others (at_least 4 b.dll_names) here
   name_stands image (e ∷ es) b rest even stands =
       let later : Bases = ends_of_export machine dll b e in
-      let others : List Piece = pieces machine linked DllNames (placed_from later (after_head machine dll es rest)) in
+      let others : List Contribution = contributions machine linked DllNames (placed_from later (after_head machine dll es rest)) in
       let bytes : List ℕ = relocated machine linked (placed_export machine dll b e) (relocation machine 0 0 ∷ []) (zeros 4) in
       let four : length bytes ≡ 4 = rw (same_number machine) refl in
       let here : BytesAt image b.dll_names (filled b.dll_names (record { address = next_multiple 4 b.dll_names; bytes = bytes } ∷ others)) =
-      subst (λ ps. BytesAt image b.dll_names (filled b.dll_names (pieces machine linked DllNames ps))) (placed-export machine dll b e (after_head machine dll es rest) even) stands in
-      let after = (piece_stands image b.dll_names (record { address = next_multiple 4 b.dll_names; bytes = bytes }) others (at_least 4 b.dll_names) here).1 in
+      subst (λ ps. BytesAt image b.dll_names (filled b.dll_names (contributions machine linked DllNames ps))) (placed-export machine dll b e (after_head machine dll es rest) even) stands in
+      let after = (contribution_stands image b.dll_names (record { address = next_multiple 4 b.dll_names; bytes = bytes }) others (at_least 4 b.dll_names) here).1 in
       name_stands image es later rest (aligned_after machine dll b e even)
       (subst (λ n. BytesAt image (next_multiple 4 b.dll_names + n) (filled (next_multiple 4 b.dll_names + n) others)) four after)
 
@@ -118,28 +130,99 @@ module _ (machine : MachineType) (dll : List ℕ) (linked : List Placed) where
   unfolding export_object
   undefined_by_export b e others = elim (cases_Bool e.is_data) [ inl is ↦ rw is refl | inr is ↦ rw is refl ]
 
-  undefined_after : (es : List ExportView) (b : Bases) (rest : List Object) → AreAligned b → IsDefinedOnce linked (head_symbol machine dll) →
-      AllByRecursion (IsDefinedOnce linked) (undefined_names (placed_from (ends_of_all machine dll b es) rest)) →
-      AllByRecursion (IsDefinedOnce linked) (undefined_names (placed_from b (after_head machine dll es rest)))
+  undefined_after : (es : List ExportView) (b : Bases) (rest : List Object) → AreAligned b → IsDefinedAt linked (head_symbol machine dll) →
+      AllByRecursion (IsDefinedAt linked) (undefined_names (placed_from (ends_of_all machine dll b es) rest)) →
+      AllByRecursion (IsDefinedAt linked) (undefined_names (placed_from b (after_head machine dll es rest)))
   unfolding tail_object ends_of_exports
-  undefined_after [] b rest even once others = subst (AllByRecursion (IsDefinedOnce linked)) (sym (ap undefined_names (placed-tail machine dll b rest even))) others
+  undefined_after [] b rest even once others = subst (AllByRecursion (IsDefinedAt linked)) (sym (ap undefined_names (placed-tail machine dll b rest even))) others
   undefined_after (e ∷ es) b rest even once others =
       let later : Bases = ends_of_export machine dll b e in
       let same : undefined_names (placed_from b (after_head machine dll (e ∷ es) rest)) ≡ head_symbol machine dll ∷ undefined_names (placed_from later (after_head machine dll es rest)) =
       ap undefined_names (placed-export machine dll b e (after_head machine dll es rest) even) ∙ undefined_by_export b e (placed_from later (after_head machine dll es rest)) in
-      subst (AllByRecursion (IsDefinedOnce linked)) (sym same) (once, undefined_after es later rest (aligned_after machine dll b e even) once others)
+      subst (AllByRecursion (IsDefinedAt linked)) (sym same) (once, undefined_after es later rest (aligned_after machine dll b e even) once others)
+
+  -- The relocations of an export find their targets: of its own sections, and the head's descriptor.
+
+  pub address_found : (b : Bases) (e : ExportView) → e.is_data ≡ false →
+      option_and_then (symbol_address linked (placed_export machine dll b e)) (slice_get (placed_export machine dll b e).object.entries 2) ≡ Some (b.addresses + 0)
+  unfolding export_object
+  address_found b e is = rw is refl
+
+  hint_name_found : (b : Bases) (e : ExportView) →
+      option_and_then (symbol_address linked (placed_export machine dll b e)) (slice_get (placed_export machine dll b e).object.entries (hint_name_symbol e)) ≡ Some (next_multiple 2 b.hint_names + 0)
+  unfolding export_object
+  hint_name_found b e = elim (cases_Bool e.is_data) [ inl is ↦ rw is refl | inr is ↦ rw is refl ]
+
+  no_stub : (e : ExportView) → e.is_data ≡ true → relocations_of_stub machine e ≡ []
+  unfolding relocations_of_stub
+  no_stub e is = rw is refl
+
+  some_stub : (e : ExportView) → e.is_data ≡ false → relocations_of_stub machine e ≡ stub_relocations machine 2
+  unfolding relocations_of_stub
+  some_stub e is = rw is refl
+
+  all_of_stub : (m : MachineType) (P : Relocation → Type 0) → ((offset type : ℕ) → P (record { offset = offset; symbol = 2; kind = type })) → AllByRecursion P (stub_relocations m 2)
+  all_of_stub I386 P each = (each 2 _, tt)
+  all_of_stub ARMNT P each = (each 8 _, tt)
+  all_of_stub AMD64 P each = (each 2 _, tt)
+  all_of_stub ARM64 P each = (each 0 _, (each 4 _, tt))
+
+  stub_finds : (b : Bases) (e : ExportView) → AllByRecursion (FindsTarget linked (placed_export machine dll b e)) (relocations_of_stub machine e)
+  stub_finds b e =
+      elim (cases_Bool e.is_data) [
+        | inl is ↦ subst (AllByRecursion (FindsTarget linked (placed_export machine dll b e))) (sym (no_stub e is)) tt
+        | inr is ↦ subst (AllByRecursion (FindsTarget linked (placed_export machine dll b e))) (sym (some_stub e is))
+            (all_of_stub machine (FindsTarget linked (placed_export machine dll b e)) (λ offset type. (b.addresses + 0, address_found b e is)))
+      ]
+
+  no_hint_name : (e : ExportView) → e.no_name ≡ true → relocations_of_thunk machine e ≡ []
+  unfolding relocations_of_thunk
+  no_hint_name e is = rw is refl
+
+  some_hint_name : (e : ExportView) → e.no_name ≡ false → relocations_of_thunk machine e ≡ relocation machine 0 (hint_name_symbol e) ∷ []
+  unfolding relocations_of_thunk
+  some_hint_name e is = rw is refl
+
+  thunk_finds : (b : Bases) (e : ExportView) → AllByRecursion (FindsTarget linked (placed_export machine dll b e)) (relocations_of_thunk machine e)
+  thunk_finds b e =
+      elim (cases_Bool e.no_name) [
+        | inl is ↦ subst (AllByRecursion (FindsTarget linked (placed_export machine dll b e))) (sym (no_hint_name e is)) tt
+        | inr is ↦ subst (AllByRecursion (FindsTarget linked (placed_export machine dll b e))) (sym (some_hint_name e is))
+            ((next_multiple 2 b.hint_names + 0, hint_name_found b e), tt)
+      ]
+
+  export_finds : (b : Bases) (e : ExportView) → HasAddress linked (head_symbol machine dll) → AllFind linked (placed_export machine dll b e)
+  unfolding export_object
+  export_finds b e head_at =
+      (stub_finds b e, (tt, (tt, ((head_at, tt), (thunk_finds b e, (thunk_finds b e, (tt, tt)))))))
+
+  targets_after : (es : List ExportView) (b : Bases) (rest : List Object) → AreAligned b → HasAddress linked (head_symbol machine dll) →
+      AllByRecursion (AllFind linked) (placed_from (ends_of_all machine dll b es) rest) →
+      AllByRecursion (AllFind linked) (placed_from b (after_head machine dll es rest))
+  unfolding tail_object ends_of_exports
+  targets_after [] b rest even head_at others =
+      subst (AllByRecursion (AllFind linked)) (sym (placed-tail machine dll b rest even)) ((tt, (tt, (tt, (tt, (tt, (tt, tt)))))), others)
+  targets_after (e ∷ es) b rest even head_at others =
+      subst (AllByRecursion (AllFind linked)) (sym (placed-export machine dll b e (after_head machine dll es rest) even))
+      (export_finds b e head_at, targets_after es (ends_of_export machine dll b e) rest (aligned_after machine dll b e even) head_at others)
+
+-- The objects of one DLL link to an import of these exports at the first descriptor, and their part of
+-- the address tables begins where these begin.
+pub record BlockLinks (machine : MachineType) (linked : List Placed) (image : List Range) (b : Bases) (dll : List ℕ) (es : List ExportView) : Type 0 where
+  pub strictly : LinksStrictlyAt machine image linked b.descriptors dll es
+  pub addresses : strictly.loads.plain.addresses ≡ b.addresses
 
 -- what is filled in from ends on stands in an image
 pub record StandsFrom (machine : MachineType) (linked : List Placed) (image : List Range) (b : Bases) (objects : List Object) : Type 0 where
-  pub descriptors : BytesAt image b.descriptors (filled b.descriptors (pieces machine linked Descriptors (placed_from b objects)))
-  pub lookups : BytesAt image b.lookups (filled b.lookups (pieces machine linked Lookups (placed_from b objects)))
-  pub addresses : BytesAt image b.addresses (filled b.addresses (pieces machine linked Addresses (placed_from b objects)))
-  pub hint_names : BytesAt image b.hint_names (filled b.hint_names (pieces machine linked HintNames (placed_from b objects)))
-  pub dll_names : BytesAt image b.dll_names (filled b.dll_names (pieces machine linked DllNames (placed_from b objects)))
+  pub descriptors : BytesAt image b.descriptors (filled b.descriptors (contributions machine linked Descriptors (placed_from b objects)))
+  pub lookups : BytesAt image b.lookups (filled b.lookups (contributions machine linked Lookups (placed_from b objects)))
+  pub addresses : BytesAt image b.addresses (filled b.addresses (contributions machine linked Addresses (placed_from b objects)))
+  pub hint_names : BytesAt image b.hint_names (filled b.hint_names (contributions machine linked HintNames (placed_from b objects)))
+  pub dll_names : BytesAt image b.dll_names (filled b.dll_names (contributions machine linked DllNames (placed_from b objects)))
 
 -- what the objects of one DLL define
 unfoldable pub head_definition : MachineType → List ℕ → Bases → SymbolDefinition
-head_definition machine dll b = record { name = head_symbol machine dll; address = Some (next_multiple 4 b.descriptors + 0) }
+head_definition machine dll b = record { name = head_symbol machine dll; address = Some (b.descriptors + 0) }
 
 unfoldable pub block_definitions : MachineType → List ℕ → Bases → List ExportView → List SymbolDefinition
 block_definitions machine dll b es = head_definition machine dll b ∷ defined_after machine dll (ends_of_head machine dll b) es
@@ -149,14 +232,14 @@ abbrev pub ends_of_block : MachineType → List ℕ → Bases → List ExportVie
 ends_of_block machine dll b es = ends_of_all machine dll (ends_of_head machine dll b) es
 
 pub aligned_block : (machine : MachineType) (dll : List ℕ) (b : Bases) (es : List ExportView) → AreAligned b → AreAligned (ends_of_block machine dll b es)
-aligned_block machine dll b es even = aligned_all machine dll (ends_of_head machine dll b) es (record { lookups = even.lookups; addresses = even.addresses })
+aligned_block machine dll b es even = aligned_all machine dll (ends_of_head machine dll b) es (aligned_head machine dll b even)
 
 pub definitions-block : (machine : MachineType) (dll : List ℕ) (b : Bases) (es : List ExportView) (rest : List Object) → AreAligned b →
     definitions (placed_from b (head machine dll ∷ after_head machine dll es rest)) ≡ block_definitions machine dll b es ++ definitions (placed_from (ends_of_block machine dll b es) rest)
 unfolding head_object head_definition block_definitions
 definitions-block machine dll b es rest even =
     ap definitions (placed-head machine dll b (after_head machine dll es rest) even)
-    ∙ ap (λ others. head_definition machine dll b ∷ others) (definitions-after machine dll (ends_of_head machine dll b) es rest (record { lookups = even.lookups; addresses = even.addresses }))
+    ∙ ap (λ others. head_definition machine dll b ∷ others) (definitions-after machine dll (ends_of_head machine dll b) es rest (aligned_head machine dll b even))
 
 -- the objects of one DLL among others: they are placed after what ends at b
 module _ (machine : MachineType) (dll : List ℕ) (es : List ExportView) (b : Bases) (rest : List Object) (linked : List Placed) (image : List Range)
@@ -171,22 +254,22 @@ module _ (machine : MachineType) (dll : List ℕ) (es : List ExportView) (b : Ba
   last = ends_of_all machine dll later es
 
   later_even : AreAligned (ends_of_head machine dll b)
-  later_even = record { lookups = even.lookups; addresses = even.addresses }
+  later_even = aligned_head machine dll b even
 
   placed_is : placed_from b (head machine dll ∷ after_head machine dll es rest) ≡ placed_head machine dll b ∷ placed_from later (after_head machine dll es rest)
   placed_is = placed-head machine dll b (after_head machine dll es rest) even
 
   -- a table, and what is filled in after it
   lookups_parts : BytesAt image b.lookups (thunk_bytes machine dll linked later es)
-      × BytesAt image last.lookups (filled last.lookups (pieces machine linked Lookups (placed_from last rest)))
+      × BytesAt image last.lookups (filled last.lookups (contributions machine linked Lookups (placed_from last rest)))
   unfolding head_object
   lookups_parts =
-      let others : List Piece = pieces machine linked Lookups (placed_from later (after_head machine dll es rest)) in
-      let after : List ℕ = filled last.lookups (pieces machine linked Lookups (placed_from last rest)) in
+      let others : List Contribution = contributions machine linked Lookups (placed_from later (after_head machine dll es rest)) in
+      let after : List ℕ = filled last.lookups (contributions machine linked Lookups (placed_from last rest)) in
       let plain : b.lookups + 0 ≡ b.lookups = omega arith in
       let parts = stands_parts image (thunk_bytes machine dll linked later es) after b.lookups
       (subst (BytesAt image b.lookups)
-      (ap (λ ps. filled b.lookups (pieces machine linked Lookups ps)) placed_is
+      (ap (λ ps. filled b.lookups (contributions machine linked Lookups ps)) placed_is
       ∙ filled_first b.lookups 0 [] others refl
       ∙ ap (λ n. filled n others) plain
       ∙ lookups_filled machine dll linked later es rest later_even)
@@ -194,15 +277,15 @@ module _ (machine : MachineType) (dll : List ℕ) (es : List ExportView) (b : Ba
       (parts.0, subst (λ n. BytesAt image n after) (lookups_end machine dll linked later es) parts.1)
 
   addresses_parts : BytesAt image b.addresses (thunk_bytes machine dll linked later es)
-      × BytesAt image last.addresses (filled last.addresses (pieces machine linked Addresses (placed_from last rest)))
+      × BytesAt image last.addresses (filled last.addresses (contributions machine linked Addresses (placed_from last rest)))
   unfolding head_object
   addresses_parts =
-      let others : List Piece = pieces machine linked Addresses (placed_from later (after_head machine dll es rest)) in
-      let after : List ℕ = filled last.addresses (pieces machine linked Addresses (placed_from last rest)) in
+      let others : List Contribution = contributions machine linked Addresses (placed_from later (after_head machine dll es rest)) in
+      let after : List ℕ = filled last.addresses (contributions machine linked Addresses (placed_from last rest)) in
       let plain : b.addresses + 0 ≡ b.addresses = omega arith in
       let parts = stands_parts image (thunk_bytes machine dll linked later es) after b.addresses
       (subst (BytesAt image b.addresses)
-      (ap (λ ps. filled b.addresses (pieces machine linked Addresses ps)) placed_is
+      (ap (λ ps. filled b.addresses (contributions machine linked Addresses ps)) placed_is
       ∙ filled_first b.addresses 0 [] others refl
       ∙ ap (λ n. filled n others) plain
       ∙ addresses_filled machine dll linked later es rest later_even)
@@ -210,13 +293,13 @@ module _ (machine : MachineType) (dll : List ℕ) (es : List ExportView) (b : Ba
       (parts.0, subst (λ n. BytesAt image n after) (addresses_end machine dll linked later es) parts.1)
 
   hints_parts : BytesAt image b.hint_names (hint_bytes machine dll linked later es)
-      × BytesAt image last.hint_names (filled last.hint_names (pieces machine linked HintNames (placed_from last rest)))
+      × BytesAt image last.hint_names (filled last.hint_names (contributions machine linked HintNames (placed_from last rest)))
   unfolding head_object
   hints_parts =
-      let after : List ℕ = filled last.hint_names (pieces machine linked HintNames (placed_from last rest)) in
+      let after : List ℕ = filled last.hint_names (contributions machine linked HintNames (placed_from last rest)) in
       let parts = stands_parts image (hint_bytes machine dll linked later es) after b.hint_names
       (subst (BytesAt image b.hint_names)
-      (ap (λ ps. filled b.hint_names (pieces machine linked HintNames ps)) placed_is
+      (ap (λ ps. filled b.hint_names (contributions machine linked HintNames ps)) placed_is
       ∙ hint_names_filled machine dll linked later es rest later_even)
       stands.hint_names) in
       (parts.0, subst (λ n. BytesAt image n after) (hint_names_end machine dll linked later es) parts.1)
@@ -225,33 +308,36 @@ module _ (machine : MachineType) (dll : List ℕ) (es : List ExportView) (b : Ba
   name_place = next_multiple 4 (ends_of_exports machine dll later es).dll_names
 
   name_parts : BytesAt image name_place (dll ++ 0 ∷ [])
-      × BytesAt image last.dll_names (filled last.dll_names (pieces machine linked DllNames (placed_from last rest)))
+      × BytesAt image last.dll_names (filled last.dll_names (contributions machine linked DllNames (placed_from last rest)))
   unfolding head_object name_place
   name_parts =
       name_stands machine dll linked image es later rest later_even
-      (subst (BytesAt image b.dll_names) (ap (λ ps. filled b.dll_names (pieces machine linked DllNames ps)) placed_is) stands.dll_names)
+      (subst (BytesAt image b.dll_names) (ap (λ ps. filled b.dll_names (contributions machine linked DllNames ps)) placed_is) stands.dll_names)
+
+  name_once : definitions_of (name_symbol machine dll) linked ≡ record { name = name_symbol machine dll; address = Some (name_place + 0) } ∷ []
+  unfolding name_place block_definitions
+  name_once = only _ (among_later _ _ _ (name_defined machine dll linked es later))
 
   name_address : first_address (definitions_of (name_symbol machine dll) linked) ≡ Some (name_place + 0)
-  unfolding name_place block_definitions
-  name_address = ap first_address (only _ (among_later _ _ _ (name_defined machine dll linked es later)))
+  name_address = ap first_address name_once
 
   length-descriptor : length (descriptor_linked machine dll linked b) ≡ 20
   unfolding u32_bytes
   length-descriptor = ap length (descriptor_is machine dll linked b name_place name_address)
 
-  descriptor_parts : BytesAt image (next_multiple 4 b.descriptors) (descriptor_linked machine dll linked b)
-      × BytesAt image last.descriptors (filled last.descriptors (pieces machine linked Descriptors (placed_from last rest)))
+  descriptor_parts : BytesAt image (b.descriptors) (descriptor_linked machine dll linked b)
+      × BytesAt image last.descriptors (filled last.descriptors (contributions machine linked Descriptors (placed_from last rest)))
   unfolding head_object descriptor_linked
   descriptor_parts =
-      let others : List Piece = pieces machine linked Descriptors (placed_from later (after_head machine dll es rest)) in
-      let own : Piece = record { address = next_multiple 4 b.descriptors; bytes = descriptor_linked machine dll linked b } in
-      let parts = piece_stands image b.descriptors own others (at_least 4 b.descriptors)
-      (subst (BytesAt image b.descriptors) (ap (λ ps. filled b.descriptors (pieces machine linked Descriptors ps)) placed_is) stands.descriptors) in
+      let others : List Contribution = contributions machine linked Descriptors (placed_from later (after_head machine dll es rest)) in
+      let own : Contribution = record { address = b.descriptors; bytes = descriptor_linked machine dll linked b } in
+      let parts = contribution_stands image b.descriptors own others (same_order b.descriptors)
+      (subst (BytesAt image b.descriptors) (ap (λ ps. filled b.descriptors (contributions machine linked Descriptors ps)) placed_is) stands.descriptors) in
       let behind : BytesAt image later.descriptors (filled later.descriptors others) =
-      subst (λ n. BytesAt image (next_multiple 4 b.descriptors + n) (filled (next_multiple 4 b.descriptors + n) others)) length-descriptor parts.1 in
+      subst (λ n. BytesAt image (b.descriptors + n) (filled (b.descriptors + n) others)) length-descriptor parts.1 in
       let same : later.descriptors ≡ last.descriptors = descriptors_end machine dll later es in (
         parts.0,
-        subst (λ n. BytesAt image n (filled last.descriptors (pieces machine linked Descriptors (placed_from last rest)))) same
+        subst (λ n. BytesAt image n (filled last.descriptors (contributions machine linked Descriptors (placed_from last rest)))) same
             (subst (BytesAt image later.descriptors) (descriptors_filled machine dll linked later es rest later_even) behind),
       )
 
@@ -264,15 +350,15 @@ module _ (machine : MachineType) (dll : List ℕ) (es : List ExportView) (b : Ba
     dll_names = name_parts.1;
   }
 
-  bytes_bounds : (a : ℕ) (bytes : List ℕ) → 0 < length bytes → BytesAt image a bytes → a < 2 ^ 31
+  first_bounds : (a : ℕ) (bytes : List ℕ) → 0 < length bytes → BytesAt image a bytes → (0 < a) × (a < 2 ^ 31)
   unfolding BytesAt
-  bytes_bounds a [] long held = absurd (omega arith)
-  bytes_bounds a (byte ∷ bytes) long held = (address_bounds image a byte starts ends held.0).1
+  first_bounds a [] long held = absurd (omega arith)
+  first_bounds a (byte ∷ bytes) long held = address_bounds image a byte starts ends held.0
 
-  number_bounds : (a width number : ℕ) → 0 < width → NumberAt image width a number → a < 2 ^ 31
+  number_bounds : (a width number : ℕ) → 0 < width → NumberAt image width a number → (0 < a) × (a < 2 ^ 31)
   number_bounds a width number wide n =
       let count : length n.bytes ≡ width = n.count in
-      bytes_bounds a n.bytes (omega arith) n.stands
+      first_bounds a n.bytes (omega arith) n.stands
 
   wide : (m : MachineType) → 0 < thunk_width m
   wide I386 = omega arith
@@ -280,93 +366,123 @@ module _ (machine : MachineType) (dll : List ℕ) (es : List ExportView) (b : Ba
   wide AMD64 = omega arith
   wide ARM64 = omega arith
 
-  table_bounds : (a : ℕ) (asks : List Ask) → TableAt image (thunk_width machine) a asks → a < 2 ^ 31
+  table_bounds : (a : ℕ) (asks : List Ask) → TableAt image (thunk_width machine) a asks → (0 < a) × (a < 2 ^ 31)
   unfolding TableAt
   table_bounds a [] table = number_bounds a (thunk_width machine) 0 (wide machine) table
   table_bounds a (ask ∷ asks) table = number_bounds a (thunk_width machine) table.0.thunk (wide machine) table.0.stands
 
-  lookup_table : TableAt image (thunk_width machine) b.lookups (map (ask_meant machine) es)
+  lookup_table : StrictTableAt image (thunk_width machine) b.lookups (map (ask_meant machine) es)
   lookup_table = table_at machine dll linked image starts ends es later b.lookups fit lookups_parts.0 hints_parts.0
 
-  address_table : TableAt image (thunk_width machine) b.addresses (map (ask_meant machine) es)
+  address_table : StrictTableAt image (thunk_width machine) b.addresses (map (ask_meant machine) es)
   address_table = table_at machine dll linked image starts ends es later b.addresses fit addresses_parts.0 hints_parts.0
 
   name_text : TextAt image name_place dll
   name_text = record { no_nul = dll_text; stands = name_parts.0 }
 
-  name_bounds : name_place < 2 ^ 31
+  lookups_bounds : (0 < b.lookups) × (b.lookups < 2 ^ 31)
+  lookups_bounds = table_bounds b.lookups (map (ask_meant machine) es) lookup_table.plain
+
+  addresses_bounds : (0 < b.addresses) × (b.addresses < 2 ^ 31)
+  addresses_bounds = table_bounds b.addresses (map (ask_meant machine) es) address_table.plain
+
+  name_bounds : (0 < name_place) × (name_place < 2 ^ 31)
   name_bounds =
       let long : 0 < length (dll ++ 0 ∷ []) = rw (length-append dll (0 ∷ [])) (omega arith) in
-      bytes_bounds name_place (dll ++ 0 ∷ []) long name_parts.0
+      first_bounds name_place (dll ++ 0 ∷ []) long name_parts.0
 
-  abbrev descriptor : ℕ
-  descriptor = next_multiple 4 b.descriptors
-
-  -- the descriptor's three fields
+  -- the descriptor's five fields
   record Fields : Type 0 where
-    lookups : NumberAt image 4 descriptor b.lookups
-    name : NumberAt image 4 (descriptor + 12) name_place
-    addresses : NumberAt image 4 (descriptor + 16) b.addresses
+    lookups : NumberAt image 4 b.descriptors b.lookups
+    time : NumberAt image 4 (b.descriptors + 4) 0
+    forwarder : NumberAt image 4 (b.descriptors + 8) 0
+    name : NumberAt image 4 (b.descriptors + 12) name_place
+    addresses : NumberAt image 4 (b.descriptors + 16) b.addresses
+
+  four_zeros : (a : ℕ) → BytesAt image a (zeros 4) → NumberAt image 4 a 0
+  four_zeros a stands = record { bytes = zeros 4; stands = stands; count = refl; value = refl }
 
   fields : Fields
   fields =
       let first : List ℕ = u32_bytes ((0 + (b.lookups + 0)) % 2 ^ 32) in
       let second : List ℕ = u32_bytes ((0 + (name_place + 0)) % 2 ^ 32) in
       let third : List ℕ = u32_bytes ((0 + (b.addresses + 0)) % 2 ^ 32) in
-      let whole : BytesAt image descriptor (first ++ (zeros 8 ++ (second ++ third))) =
-      subst (BytesAt image descriptor) (descriptor_is machine dll linked b name_place name_address) descriptor_parts.0 in
-      let parts = stands_parts image first (zeros 8 ++ (second ++ third)) descriptor whole in
-      let gap = stands_parts image (zeros 8) (second ++ third) (descriptor + length first) parts.1 in
-      let last = stands_parts image second third (descriptor + length first + 8) gap.1 in
+      let whole : BytesAt image b.descriptors (first ++ (zeros 4 ++ (zeros 4 ++ (second ++ third)))) =
+      subst (BytesAt image b.descriptors) (descriptor_is machine dll linked b name_place name_address) descriptor_parts.0 in
+      let parts = stands_parts image first (zeros 4 ++ (zeros 4 ++ (second ++ third))) b.descriptors whole in
+      let time = stands_parts image (zeros 4) (zeros 4 ++ (second ++ third)) (b.descriptors + length first) parts.1 in
+      let forwarder = stands_parts image (zeros 4) (second ++ third) (b.descriptors + length first + 4) time.1 in
+      let last = stands_parts image second third (b.descriptors + length first + 4 + 4) forwarder.1 in
       let first_long : length first ≡ 4 = length-u32 ((0 + (b.lookups + 0)) % 2 ^ 32) in
       let second_long : length second ≡ 4 = length-u32 ((0 + (name_place + 0)) % 2 ^ 32) in
-      let at_name : descriptor + length first + 8 ≡ descriptor + 12 = rw first_long (omega arith) in
-      let at_addresses : descriptor + length first + 8 + length second ≡ descriptor + 16 = rw (first_long, second_long) (omega arith) in
+      let at_time : b.descriptors + length first ≡ b.descriptors + 4 = rw first_long (omega arith) in
+      let at_forwarder : b.descriptors + length first + 4 ≡ b.descriptors + 8 = rw first_long (omega arith) in
+      let at_name : b.descriptors + length first + 4 + 4 ≡ b.descriptors + 12 = rw first_long (omega arith) in
+      let at_addresses : b.descriptors + length first + 4 + 4 + length second ≡ b.descriptors + 16 = rw (first_long, second_long) (omega arith) in
       record {
-        lookups = field_stands image descriptor b.lookups (table_bounds b.lookups (map (ask_meant machine) es) lookup_table) parts.0;
-        name = field_stands image (descriptor + 12) name_place name_bounds (subst (λ n. BytesAt image n second) at_name last.0);
-        addresses = field_stands image (descriptor + 16) b.addresses (table_bounds b.addresses (map (ask_meant machine) es) address_table)
-            (subst (λ n. BytesAt image n third) at_addresses last.1);
+        lookups = field_stands image b.descriptors b.lookups lookups_bounds.1 parts.0;
+        time = four_zeros (b.descriptors + 4) (subst (λ n. BytesAt image n (zeros 4)) at_time time.0);
+        forwarder = four_zeros (b.descriptors + 8) (subst (λ n. BytesAt image n (zeros 4)) at_forwarder forwarder.0);
+        name = field_stands image (b.descriptors + 12) name_place name_bounds.1 (subst (λ n. BytesAt image n second) at_name last.0);
+        addresses = field_stands image (b.descriptors + 16) b.addresses addresses_bounds.1 (subst (λ n. BytesAt image n third) at_addresses last.1);
       }
 
-  block_loads : Loads image (thunk_width machine) (next_multiple 4 b.descriptors) dll (map (ask_meant machine) es)
+  block_loads : LoadsStrictly image (thunk_width machine) b.descriptors dll (map (ask_meant machine) es)
   block_loads = record {
-    lookups = b.lookups;
-    lookups_field = fields.lookups;
-    lookup_table = lookup_table;
-    name = name_place;
-    name_field = fields.name;
-    name_text = name_text;
-    addresses = b.addresses;
-    addresses_field = fields.addresses;
-    address_table = address_table;
+    plain = record {
+      lookups = b.lookups;
+      lookups_field = fields.lookups;
+      lookup_table = lookup_table.plain;
+      name = name_place;
+      name_field = fields.name;
+      name_text = name_text;
+      addresses = b.addresses;
+      addresses_field = fields.addresses;
+      address_table = address_table.plain;
+    };
+    time = fields.time;
+    forwarder = fields.forwarder;
+    has_lookups = lookups_bounds.0;
+    has_name = name_bounds.0;
+    has_addresses = addresses_bounds.0;
+    whole_lookups = lookup_table.whole;
+    whole_addresses = address_table.whole;
   }
 
   block_entries : EntriesAt linked (thunk_width machine) b.addresses es
   unfolding block_definitions
   block_entries = entries_at machine dll linked es later (λ d m. only d (among_later d _ _ m))
 
-  block_head : definitions_of (head_symbol machine dll) linked ≡ head_definition machine dll b ∷ []
+  block_head : definitions_of (head_symbol machine dll) linked ≡ record { name = head_symbol machine dll; address = Some b.descriptors } ∷ []
   unfolding block_definitions head_definition
-  block_head = only _ (among_first _ _)
+  block_head =
+      let plain : b.descriptors + 0 ≡ b.descriptors = omega arith in
+      only _ (among_first _ _) ∙ ap (λ n. record { name = head_symbol machine dll; address = Some n } ∷ []) plain
 
-  pub block_links : LinksAt machine image linked dll es
-  unfolding block_loads head_definition
-  block_links =
-      let plain : next_multiple 4 b.descriptors + 0 ≡ next_multiple 4 b.descriptors = omega arith in
-      record {
-        descriptor = next_multiple 4 b.descriptors;
-        head = block_head ∙ ap (λ n. record { name = head_symbol machine dll; address = Some n } ∷ []) plain;
-        loads = block_loads;
-        entries = block_entries;
-      }
+  -- the block's descriptor is the first, and its address table stands where the addresses begin
+  pub block_links : BlockLinks machine linked image b dll es
+  unfolding block_loads
+  block_links = record {
+    strictly = record { head = block_head; loads = block_loads; entries = block_entries };
+    addresses = refl;
+  }
 
   -- what the block needs is defined, if what the others need is
-  pub block_defined : AllByRecursion (IsDefinedOnce linked) (undefined_names (placed_from last rest)) →
-      AllByRecursion (IsDefinedOnce linked) (undefined_names (placed_from b (head machine dll ∷ after_head machine dll es rest)))
+  pub block_defined : AllByRecursion (IsDefinedAt linked) (undefined_names (placed_from last rest)) →
+      AllByRecursion (IsDefinedAt linked) (undefined_names (placed_from b (head machine dll ∷ after_head machine dll es rest)))
   unfolding head_object block_definitions
   block_defined others =
-      subst (AllByRecursion (IsDefinedOnce linked)) (sym (ap undefined_names placed_is)) (
-        (_, only _ (among_later _ _ _ (name_defined machine dll linked es later))),
-        undefined_after machine dll linked es later rest later_even (head_definition machine dll b, block_head) others,
+      subst (AllByRecursion (IsDefinedAt linked)) (sym (ap undefined_names placed_is)) (
+        (name_place + 0, name_once),
+        undefined_after machine dll linked es later rest later_even (b.descriptors, block_head) others,
+      )
+
+  -- the block's relocations find their targets, if those of the others do
+  pub block_targets : AllByRecursion (AllFind linked) (placed_from last rest) →
+      AllByRecursion (AllFind linked) (placed_from b (head machine dll ∷ after_head machine dll es rest))
+  unfolding head_object
+  block_targets others =
+      subst (AllByRecursion (AllFind linked)) (sym placed_is) (
+        (tt, (tt, (tt, (((b.lookups + 0, refl), ((b.addresses + 0, refl), ((name_place + 0, name_address), tt))), (tt, (tt, tt)))))),
+        targets_after machine dll linked es later rest later_even (b.descriptors, ap first_address block_head) others,
       )

@@ -1,21 +1,23 @@
 -- The objects for GNU's linker of one DLL, or of several, link to what their definitions mean.
-use Rattle.std.proofs.Common.{◌≡◌, ℕ, ◌<◌, ◌^◌, List, [], ◌∷◌, ◌++◌, map, refl, ap, sym, ◌∙◌, subst, inl, inr}
+use Rattle.std.proofs.Common.{◌≡◌, ℕ, ◌<◌, ◌^◌, List, [], ◌∷◌, ◌++◌, map, Some, refl, ap, sym, ◌∙◌, subst, inl, inr}
 use Rattle.std.specs.Prelude.{bytes_eq}
 use Rattle.std.specs.List.{AllByRecursion, IsDistinct, filter, flat_map}
-use Rattle.std.proofs.lemmas.List.{append-nil, map-append}
+use Rattle.std.proofs.lemmas.List.{append-nil, append_assoc, map-append}
 use Rattle.implib.specs.declared.machine.MachineType.{MachineType}
 use Rattle.implib.specs.Definition.{ExportView}
 use Rattle.implib.specs.Gnu.{export_listed, head_symbol, name_symbol}
-use Rattle.implib.specs.Link.{AllApart, Addresses, Bases, Descriptors, DllNames, HintNames, IsAdmissible, Kind, Lookups, Placed, Range, SymbolDefinition, base_of, definitions, definitions_of, filled, image_of, kinds, pieces, placed_from, range_end, range_of}
+use Rattle.implib.specs.Image.{AllApart, IsAdmissible, Range, filled, image_of, contributions, range_end, range_of}
+use Rattle.implib.specs.Placement.{Addresses, Bases, Descriptors, DllNames, HintNames, Group, Lookups, Placed, base_of, groups, placed_from}
+use Rattle.implib.specs.Resolution.{SymbolDefinition, definitions, definitions_of}
 use Rattle.implib.specs.Load.{BytesAt}
 use Rattle.implib.specs.Object.{Object}
 use Rattle.implib.specs.Picture.{HasNoNul}
-use Rattle.implib.specs.Theorem.{IsDefinedOnce, Links, LinksAt, undefined_names}
+use Rattle.implib.specs.Linked.{AllFind, IsDefinedAt, IsDefinedOnce, Links, LinksAt, LinksStrictlyAt, undefined_names}
 use Rattle.implib.proofs.Ranges.{Among, among_back, among_flat, among_front, filled_stands}
 use Rattle.implib.proofs.Placement.{AreAligned, after_head, head, names-after}
 use Rattle.implib.proofs.Definitions.{only_definition}
 use Rattle.implib.proofs.Tables.{CanBeAsked}
-use Rattle.implib.proofs.Linked.{StandsFrom, aligned_block, all_append, bases_of_ranges, block_defined, block_definitions, block_links, definitions-block, ends_of_block, head_definition, rest_stands}
+use Rattle.implib.proofs.Linked.{BlockLinks, StandsFrom, aligned_block, all_append, bases_of_ranges, block_defined, block_definitions, block_links, block_targets, definitions-block, ends_of_block, head_definition, rest_stands}
 
 -- what a DLL's objects are made of
 pub record Block : Type 0 where
@@ -26,10 +28,10 @@ pub record Block : Type 0 where
 abbrev pub linked_symbols : MachineType → List ℕ → List ExportView → List (List ℕ)
 linked_symbols machine dll es = head_symbol machine dll ∷ (flat_map export_listed es ++ name_symbol machine dll ∷ [])
 
--- the objects of DLLs
-abbrev pub blocks_objects : MachineType → List Block → List Object
-blocks_objects machine [] = []
-blocks_objects machine (k ∷ blocks) = head machine k.dll ∷ after_head machine k.dll k.exports (blocks_objects machine blocks)
+-- the objects of DLLs, and others behind them
+abbrev pub blocks_objects : MachineType → List Block → List Object → List Object
+blocks_objects machine [] rest = rest
+blocks_objects machine (k ∷ blocks) rest = head machine k.dll ∷ after_head machine k.dll k.exports (blocks_objects machine blocks rest)
 
 -- a block whose texts have no NUL and whose exports can be asked
 pub record CanBeLinked (machine : MachineType) (k : Block) : Type 0 where
@@ -40,21 +42,28 @@ pub blocks_definitions : MachineType → Bases → List Block → List SymbolDef
 blocks_definitions machine b [] = []
 blocks_definitions machine b (k ∷ blocks) = block_definitions machine k.dll b k.exports ++ blocks_definitions machine (ends_of_block machine k.dll b k.exports) blocks
 
-definitions-blocks : (machine : MachineType) (b : Bases) (blocks : List Block) → AreAligned b →
-    definitions (placed_from b (blocks_objects machine blocks)) ≡ blocks_definitions machine b blocks
-unfolding blocks_definitions
-definitions-blocks machine b [] even = refl
-definitions-blocks machine b (k ∷ blocks) even =
-    definitions-block machine k.dll b k.exports (blocks_objects machine blocks) even
-    ∙ ap (λ rest. block_definitions machine k.dll b k.exports ++ rest)
-    (definitions-blocks machine (ends_of_block machine k.dll b k.exports) blocks (aligned_block machine k.dll b k.exports even))
+-- the ends after the objects of DLLs
+unfoldable pub ends_of_blocks : MachineType → Bases → List Block → Bases
+ends_of_blocks machine b [] = b
+ends_of_blocks machine b (k ∷ blocks) = ends_of_blocks machine (ends_of_block machine k.dll b k.exports) blocks
+
+pub definitions-blocks : (machine : MachineType) (b : Bases) (blocks : List Block) (rest : List Object) → AreAligned b →
+    definitions (placed_from b (blocks_objects machine blocks rest)) ≡ blocks_definitions machine b blocks ++ definitions (placed_from (ends_of_blocks machine b blocks) rest)
+unfolding blocks_definitions ends_of_blocks
+definitions-blocks machine b [] rest even = refl
+definitions-blocks machine b (k ∷ blocks) rest even =
+    let later : Bases = ends_of_block machine k.dll b k.exports in
+    let others : List SymbolDefinition = definitions (placed_from (ends_of_blocks machine later blocks) rest) in
+    definitions-block machine k.dll b k.exports (blocks_objects machine blocks rest) even
+    ∙ ap (λ ds. block_definitions machine k.dll b k.exports ++ ds) (definitions-blocks machine later blocks rest (aligned_block machine k.dll b k.exports even))
+    ∙ sym (append_assoc (block_definitions machine k.dll b k.exports) (blocks_definitions machine later blocks) others)
 
 names-block : (machine : MachineType) (dll : List ℕ) (b : Bases) (es : List ExportView) →
     map (λ (d : SymbolDefinition). d.name) (block_definitions machine dll b es) ≡ linked_symbols machine dll es
 unfolding block_definitions head_definition
 names-block machine dll b es = ap (λ rest. head_symbol machine dll ∷ rest) (names-after machine dll _ es)
 
-names-blocks : (machine : MachineType) (b : Bases) (blocks : List Block) →
+pub names-blocks : (machine : MachineType) (b : Bases) (blocks : List Block) →
     map (λ (d : SymbolDefinition). d.name) (blocks_definitions machine b blocks) ≡ flat_map (λ (k : Block). linked_symbols machine k.dll k.exports) blocks
 unfolding blocks_definitions
 names-blocks machine b [] = refl
@@ -64,87 +73,127 @@ names-blocks machine b (k ∷ blocks) =
     ∙ ap (λ names. names ++ map (λ (d : SymbolDefinition). d.name) (blocks_definitions machine later blocks)) (names-block machine k.dll b k.exports)
     ∙ ap (λ rest. linked_symbols machine k.dll k.exports ++ rest) (names-blocks machine later blocks)
 
--- each block links, wherever it stands among the others
-module _ (machine : MachineType) (linked : List Placed) (image : List Range)
+-- each block links, with its descriptor behind those before it
+unfoldable pub BlocksLink : MachineType → List Placed → List Range → Bases → List Block → Type 0
+BlocksLink machine linked image b [] = Unit {0}
+BlocksLink machine linked image b (k ∷ blocks) =
+    BlockLinks machine linked image b k.dll k.exports × BlocksLink machine linked image (ends_of_block machine k.dll b k.exports) blocks
+
+-- what is known of blocks among all that is linked, with other objects behind them
+pub record EachLinks (machine : MachineType) (linked : List Placed) (image : List Range) (b : Bases) (blocks : List Block) (rest : List Object) : Type 0 where
+  pub imports : BlocksLink machine linked image b blocks
+  pub defined : AllByRecursion (IsDefinedAt linked) (undefined_names (placed_from (ends_of_blocks machine b blocks) rest)) →
+      AllByRecursion (IsDefinedAt linked) (undefined_names (placed_from b (blocks_objects machine blocks rest)))
+  pub targets : AllByRecursion (AllFind linked) (placed_from (ends_of_blocks machine b blocks) rest) →
+      AllByRecursion (AllFind linked) (placed_from b (blocks_objects machine blocks rest))
+  pub stands : StandsFrom machine linked image (ends_of_blocks machine b blocks) rest
+
+-- each block links, wherever it stands among all that is linked
+module _ (machine : MachineType) (linked : List Placed) (image : List Range) (rest : List Object)
     (starts : AllByRecursion (λ r. 0 < r.start) image) (ends : AllByRecursion (λ r. range_end r < 2 ^ 31) image) where
-  each_links : (blocks : List Block) (b : Bases) → AllByRecursion (CanBeLinked machine) blocks → AreAligned b →
+  pub each_links : (blocks : List Block) (b : Bases) → AllByRecursion (CanBeLinked machine) blocks → AreAligned b →
       ((d : SymbolDefinition) → Among d (blocks_definitions machine b blocks) → definitions_of d.name linked ≡ d ∷ []) →
-      StandsFrom machine linked image b (blocks_objects machine blocks) →
-      AllByRecursion (λ (k : Block). LinksAt machine image linked k.dll k.exports) blocks × AllByRecursion (IsDefinedOnce linked) (undefined_names (placed_from b (blocks_objects machine blocks)))
-  unfolding blocks_definitions
-  each_links [] b fit even only stands = (tt, tt)
+      StandsFrom machine linked image b (blocks_objects machine blocks rest) → EachLinks machine linked image b blocks rest
+  unfolding blocks_definitions ends_of_blocks BlocksLink
+  each_links [] b fit even only stands = record { imports = tt; defined = λ all. all; targets = λ all. all; stands = stands }
   each_links (k ∷ blocks) b fit even only stands =
-      let rest : List Object = blocks_objects machine blocks in
+      let behind : List Object = blocks_objects machine blocks rest in
       let later : Bases = ends_of_block machine k.dll b k.exports in
       let own_only = λ (d : SymbolDefinition) (m : Among d (block_definitions machine k.dll b k.exports)). only d (among_front d (block_definitions machine k.dll b k.exports) (blocks_definitions machine later blocks) m) in
       let others = each_links blocks later fit.1 (aligned_block machine k.dll b k.exports even)
       (λ d m. only d (among_back d (block_definitions machine k.dll b k.exports) (blocks_definitions machine later blocks) m))
-      (rest_stands machine k.dll k.exports b rest linked image starts ends fit.0.dll fit.0.exports even own_only stands) in (
-        (block_links machine k.dll k.exports b rest linked image starts ends fit.0.dll fit.0.exports even own_only stands, others.0),
-        block_defined machine k.dll k.exports b rest linked image starts ends fit.0.dll fit.0.exports even own_only stands others.1,
-      )
+      (rest_stands machine k.dll k.exports b behind linked image starts ends fit.0.dll fit.0.exports even own_only stands) in
+      record {
+        imports = (block_links machine k.dll k.exports b behind linked image starts ends fit.0.dll fit.0.exports even own_only stands, others.imports);
+        defined = λ all. block_defined machine k.dll k.exports b behind linked image starts ends fit.0.dll fit.0.exports even own_only stands (others.defined all);
+        targets = λ all. block_targets machine k.dll k.exports b behind linked image starts ends fit.0.dll fit.0.exports even own_only stands (others.targets all);
+        stands = others.stands;
+      }
 
 -- objects that are placed admissibly stand in their image
 module _ (machine : MachineType) (b : Bases) (objects : List Object) (admissible : IsAdmissible machine b objects) where
-  placed : List Placed
+  abbrev placed : List Placed
   placed = placed_from b objects
 
-  image : List Range
+  abbrev image : List Range
   image = image_of machine b placed
 
-  even : AreAligned b
-  even = record { lookups = admissible.lookups.1; addresses = admissible.addresses.1 }
+  pub even : AreAligned b
+  even = record { descriptors = admissible.descriptors.1; lookups = admissible.lookups.1; addresses = admissible.addresses.1 }
 
-  starts_of : (ks : List Kind) → AllByRecursion (λ k. 0 < base_of k b) ks → AllByRecursion (λ r. 0 < r.start) (flat_map (λ k. range_of (base_of k b) (pieces machine placed k placed)) ks)
+  starts_of : (ks : List Group) → AllByRecursion (λ k. 0 < base_of k b) ks → AllByRecursion (λ r. 0 < r.start) (flat_map (λ k. range_of (base_of k b) (contributions machine placed k placed)) ks)
   starts_of [] low = tt
   starts_of (k ∷ ks) low =
-      all_append (λ r. 0 < r.start) (range_of (base_of k b) (pieces machine placed k placed)) (flat_map (λ k. range_of (base_of k b) (pieces machine placed k placed)) ks)
-      (bases_of_ranges (base_of k b) (pieces machine placed k placed) low.0) (starts_of ks low.1)
+      all_append (λ r. 0 < r.start) (range_of (base_of k b) (contributions machine placed k placed)) (flat_map (λ k. range_of (base_of k b) (contributions machine placed k placed)) ks)
+      (bases_of_ranges (base_of k b) (contributions machine placed k placed) low.0) (starts_of ks low.1)
 
-  starts : AllByRecursion (λ r. 0 < r.start) image
-  unfolding image
-  starts = starts_of kinds (admissible.descriptors.0, (admissible.lookups.0, (admissible.addresses.0, (admissible.hint_names.0, (admissible.dll_names.0, tt)))))
+  pub starts : AllByRecursion (λ r. 0 < r.start) (image_of machine b (placed_from b objects))
+  starts = starts_of groups (admissible.descriptors.0, (admissible.lookups.0, (admissible.addresses.0, (admissible.hint_names.0, (admissible.dll_names.0, tt)))))
 
-  ends : AllByRecursion (λ r. range_end r < 2 ^ 31) image
-  unfolding image placed
+  pub ends : AllByRecursion (λ r. range_end r < 2 ^ 31) (image_of machine b (placed_from b objects))
   ends = admissible.ends
 
-  apart : AllApart image
-  unfolding image placed
+  apart : AllApart (image_of machine b (placed_from b objects))
   apart = admissible.apart
 
-  kind_stands : (k : Kind) → Among k kinds → BytesAt image (base_of k b) (filled (base_of k b) (pieces machine placed k placed))
-  unfolding image
-  kind_stands k m =
-      filled_stands (base_of k b) (pieces machine placed k placed) (image_of machine b placed)
-      (λ r held. among_flat (λ k. range_of (base_of k b) (pieces machine placed k placed)) k kinds r m held) apart
+  group_stands : (k : Group) → Among k groups → BytesAt image (base_of k b) (filled (base_of k b) (contributions machine placed k placed))
+  group_stands k m =
+      filled_stands (base_of k b) (contributions machine placed k placed) (image_of machine b placed)
+      (λ r held. among_flat (λ k. range_of (base_of k b) (contributions machine placed k placed)) k groups r m held) apart
 
-  all_stand : StandsFrom machine placed image b objects
-  unfolding Among placed
+  pub all_stand : StandsFrom machine (placed_from b objects) (image_of machine b (placed_from b objects)) b objects
+  unfolding Among
   all_stand = record {
-    descriptors = kind_stands Descriptors (inl refl);
-    lookups = kind_stands Lookups (inr (inl refl));
-    addresses = kind_stands Addresses (inr (inr (inl refl)));
-    hint_names = kind_stands HintNames (inr (inr (inr (inl refl))));
-    dll_names = kind_stands DllNames (inr (inr (inr (inr (inl refl)))));
+    descriptors = group_stands Descriptors (inl refl);
+    lookups = group_stands Lookups (inr (inl refl));
+    addresses = group_stands Addresses (inr (inr (inl refl)));
+    hint_names = group_stands HintNames (inr (inr (inr (inl refl))));
+    dll_names = group_stands DllNames (inr (inr (inr (inr (inl refl)))));
   }
 
--- the objects of DLLs link
+-- the objects of DLLs link by themselves
+pub defined_once : (linked : List Placed) (names : List (List ℕ)) → AllByRecursion (IsDefinedAt linked) names → AllByRecursion (IsDefinedOnce linked) names
+defined_once linked [] all = tt
+defined_once linked (name ∷ names) all = ((record { name = name; address = Some all.0.0 }, all.0.1), defined_once linked names all.1)
+
+-- what was strict is plain
+pub links_plainly : (machine : MachineType) (linked : List Placed) (image : List Range) (descriptor : ℕ) (dll : List ℕ) (es : List ExportView) →
+    LinksStrictlyAt machine image linked descriptor dll es → LinksAt machine image linked dll es
+links_plainly machine linked ranges descriptor dll es strictly =
+    record { descriptor = descriptor; head = strictly.head; loads = strictly.loads.plain; entries = strictly.entries }
+
+each_plainly : (machine : MachineType) (linked : List Placed) (image : List Range) (b : Bases) (blocks : List Block) →
+    BlocksLink machine linked image b blocks → AllByRecursion (λ (k : Block). LinksAt machine image linked k.dll k.exports) blocks
+unfolding BlocksLink
+each_plainly machine linked ranges b [] link = tt
+each_plainly machine linked ranges b (k ∷ blocks) link = (
+  links_plainly machine linked ranges b.descriptors k.dll k.exports link.0.strictly,
+  each_plainly machine linked ranges (ends_of_block machine k.dll b k.exports) blocks link.1,
+)
+
 module _ (machine : MachineType) (b : Bases) (blocks : List Block) (fit : AllByRecursion (CanBeLinked machine) blocks)
     (distinct : IsDistinct bytes_eq (flat_map (λ (k : Block). linked_symbols machine k.dll k.exports) blocks))
-    (admissible : IsAdmissible machine b (blocks_objects machine blocks)) where
-  only : (d : SymbolDefinition) → Among d (blocks_definitions machine b blocks) → definitions_of d.name (placed_from b (blocks_objects machine blocks)) ≡ d ∷ []
+    (admissible : IsAdmissible machine b (blocks_objects machine blocks [])) where
+  abbrev objects : List Object
+  objects = blocks_objects machine blocks []
+
+  only : (d : SymbolDefinition) → Among d (blocks_definitions machine b blocks) → definitions_of d.name (placed_from b (blocks_objects machine blocks [])) ≡ d ∷ []
   only d m =
-      ap (λ ds. filter (λ (other : SymbolDefinition). bytes_eq d.name other.name) ds) (definitions-blocks machine b blocks (even machine b (blocks_objects machine blocks) admissible))
+      ap (λ ds. filter (λ (other : SymbolDefinition). bytes_eq d.name other.name) ds)
+      (definitions-blocks machine b blocks [] (even machine b objects admissible) ∙ append-nil (blocks_definitions machine b blocks))
       ∙ only_definition d (blocks_definitions machine b blocks) m (subst (IsDistinct bytes_eq) (sym (names-blocks machine b blocks)) distinct)
 
-  pub blocks_link : AllByRecursion (λ (k : Block). LinksAt machine (image_of machine b (placed_from b (blocks_objects machine blocks))) (placed_from b (blocks_objects machine blocks)) k.dll k.exports) blocks
-      × AllByRecursion (IsDefinedOnce (placed_from b (blocks_objects machine blocks))) (undefined_names (placed_from b (blocks_objects machine blocks)))
-  unfolding image placed
-  blocks_link =
-      let objects : List Object = blocks_objects machine blocks in
-      each_links machine (placed_from b objects) (image_of machine b (placed_from b objects)) (starts machine b objects admissible) (ends machine b objects admissible)
+  each : EachLinks machine (placed_from b objects) (image_of machine b (placed_from b objects)) b blocks []
+  each =
+      each_links machine (placed_from b objects) (image_of machine b (placed_from b objects)) [] (starts machine b objects admissible) (ends machine b objects admissible)
       blocks b fit (even machine b objects admissible) only (all_stand machine b objects admissible)
+
+  pub blocks_link : AllByRecursion (λ (k : Block). LinksAt machine (image_of machine b (placed_from b (blocks_objects machine blocks []))) (placed_from b (blocks_objects machine blocks [])) k.dll k.exports) blocks
+      × AllByRecursion (IsDefinedOnce (placed_from b (blocks_objects machine blocks []))) (undefined_names (placed_from b (blocks_objects machine blocks [])))
+  blocks_link = (
+    each_plainly machine (placed_from b objects) (image_of machine b (placed_from b objects)) b blocks each.imports,
+    defined_once (placed_from b objects) (undefined_names (placed_from b objects)) (each.defined tt),
+  )
 
 -- the objects of one DLL
 abbrev pub linked_objects : MachineType → List ℕ → List ExportView → List Object

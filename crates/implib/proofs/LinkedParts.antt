@@ -14,63 +14,65 @@ use Rattle.std.proofs.lemmas.List.Elements.{filter_map-append}
 use Rattle.implib.specs.declared.machine.MachineType.{MachineType}
 use Rattle.implib.specs.Definition.{DefinitionView}
 use Rattle.implib.specs.Gnu.{export_name, head_name, stem, tail_name}
-use Rattle.implib.specs.Link.{Bases, IsAdmissible, image_of, placed_from}
+use Rattle.implib.specs.Image.{IsAdmissible, image_of}
+use Rattle.implib.specs.Placement.{Bases, placed_from}
 use Rattle.implib.specs.Made.{MemberView, head_plan}
 use Rattle.implib.specs.Object.{object_in}
-use Rattle.implib.specs.Theorem.{IsLinked, AllLink, AllRise, Begins, ComesBefore, IsPart, LinksAt, NoneBegins, Part, beginning, all_linked, chosen_exports, linked_members, objects_in}
+use Rattle.implib.specs.Linked.{IsLinked, AllLink, LinksAt}
+use Rattle.implib.specs.LinkedMembers.{IsMade, AllRise, Begins, ComesBefore, IsPart, NoneBegins, Part, beginning, all_linked, chosen_exports, linked_members, objects_in}
 use Rattle.implib.proofs.LinkedBlocks.{Block, CanBeLinked, blocks_link, blocks_objects, linked_objects, linked_symbols}
 use Rattle.implib.proofs.LinkedMembers.{members_among, members_read, members_named, members_rise, same_cmp, dll_free, exports_fit, objects_are, symbols_are}
 use Rattle.implib.proofs.MsvcObjects.{HasNoNul-from_holds}
 use Rattle.implib.proofs.Placement.{export, head, tail}
 
 -- what a part's objects are made of
-abbrev block_of : Part → Block
+abbrev pub block_of : Part → Block
 block_of p = record { dll = p.definition.import_name; exports = chosen_exports p.definition p.chosen }
 
-parts_fit : (machine : MachineType) (ps : List Part) → AllByRecursion (IsPart machine) ps → AllByRecursion (CanBeLinked machine) (map block_of ps)
+pub parts_fit : (machine : MachineType) (ps : List Part) → AllByRecursion (IsMade machine) ps → AllByRecursion (CanBeLinked machine) (map block_of ps)
 parts_fit machine [] are = tt
 parts_fit machine (p ∷ ps) are = (
   record {
-    dll = HasNoNul-from_holds p.definition.import_name (dll_free p.definition machine p.members p.chosen are.0.made);
-    exports = exports_fit p.definition machine p.members p.chosen are.0.made;
+    dll = HasNoNul-from_holds p.definition.import_name (dll_free p.definition machine p.members p.chosen are.0);
+    exports = exports_fit p.definition machine p.members p.chosen are.0;
   },
   parts_fit machine ps are.1,
 )
 
-parts_objects : (machine : MachineType) (ps : List Part) → AllByRecursion (IsPart machine) ps → objects_in (all_linked machine ps) ≡ blocks_objects machine (map block_of ps)
+pub parts_objects : (machine : MachineType) (ps : List Part) → AllByRecursion (IsMade machine) ps → objects_in (all_linked machine ps) ≡ blocks_objects machine (map block_of ps) []
 parts_objects machine [] are = refl
 parts_objects machine (p ∷ ps) are =
     let own : List MemberView = linked_members p.definition machine p.chosen in
     let dll : List ℕ = p.definition.import_name in
     filter_map-append (λ (m : MemberView). object_in m.bytes) own (all_linked machine ps)
-    ∙ ap (λ objects. objects ++ objects_in (all_linked machine ps)) (objects_are p.definition machine p.members p.chosen are.0.made)
+    ∙ ap (λ objects. objects ++ objects_in (all_linked machine ps)) (objects_are p.definition machine p.members p.chosen are.0)
     ∙ ap (λ rest. linked_objects machine dll (chosen_exports p.definition p.chosen) ++ rest) (parts_objects machine ps are.1)
     ∙ ap (λ rest. head machine dll ∷ rest)
-    (append_assoc (map (export machine dll) (chosen_exports p.definition p.chosen)) (tail machine dll ∷ []) (blocks_objects machine (map block_of ps)))
+    (append_assoc (map (export machine dll) (chosen_exports p.definition p.chosen)) (tail machine dll ∷ []) (blocks_objects machine (map block_of ps) []))
 
-parts_symbols : (machine : MachineType) (ps : List Part) → AllByRecursion (IsPart machine) ps →
+pub parts_symbols : (machine : MachineType) (ps : List Part) → AllByRecursion (IsMade machine) ps →
     flat_map (λ (m : MemberView). m.symbols) (all_linked machine ps) ≡ flat_map (λ (k : Block). linked_symbols machine k.dll k.exports) (map block_of ps)
 parts_symbols machine [] are = refl
 parts_symbols machine (p ∷ ps) are =
     flat_map-append (λ (m : MemberView). m.symbols) (linked_members p.definition machine p.chosen) (all_linked machine ps)
-    ∙ ap (λ symbols. symbols ++ flat_map (λ (m : MemberView). m.symbols) (all_linked machine ps)) (symbols_are p.definition machine p.members p.chosen are.0.made)
+    ∙ ap (λ symbols. symbols ++ flat_map (λ (m : MemberView). m.symbols) (all_linked machine ps)) (symbols_are p.definition machine p.members p.chosen are.0)
     ∙ ap (λ rest. linked_symbols machine p.definition.import_name (chosen_exports p.definition p.chosen) ++ rest) (parts_symbols machine ps are.1)
 
-all_of_map : {X Y : Type 0} (f : X → Y) (P : Y → Type 0) (xs : List X) → AllByRecursion P (map f xs) → AllByRecursion (λ x. P (f x)) xs
+pub all_of_map : {X Y : Type 0} (f : X → Y) (P : Y → Type 0) (xs : List X) → AllByRecursion P (map f xs) → AllByRecursion (λ x. P (f x)) xs
 all_of_map f P [] all = tt
 all_of_map f P (x ∷ xs) all = (all.0, all_of_map f P xs all.1)
 
-parts_linked : (machine : MachineType) (ps : List Part) → AllByRecursion (IsPart machine) ps → AllByRecursion (IsLinked machine) ps
+pub parts_linked : (machine : MachineType) (ps : List Part) → AllByRecursion (IsMade machine) ps → AllByRecursion (IsLinked machine) ps
 parts_linked machine [] are = tt
 parts_linked machine (p ∷ ps) are = (
   record {
-    from_members = members_among p.definition machine p.members p.chosen are.0.made;
-    read = members_read p.definition machine p.members p.chosen are.0.made;
+    from_members = members_among p.definition machine p.members p.chosen are.0;
+    read = members_read p.definition machine p.members p.chosen are.0;
   },
   parts_linked machine ps are.1,
 )
 
-pub parts_link : (machine : MachineType) (bases : Bases) (ps : List Part) → AllByRecursion (IsPart machine) ps →
+pub parts_link : (machine : MachineType) (bases : Bases) (ps : List Part) → AllByRecursion (IsMade machine) ps →
     IsDistinct bytes_eq (flat_map (λ (m : MemberView). m.symbols) (all_linked machine ps)) → IsAdmissible machine bases (objects_in (all_linked machine ps)) →
     AllLink machine bases ps (objects_in (all_linked machine ps))
 parts_link machine bases ps are distinct admissible =
@@ -80,10 +82,14 @@ parts_link machine bases ps are distinct admissible =
     subst (AllLink machine bases ps) (sym (parts_objects machine ps are)) (record {
       linked = parts_linked machine ps are;
       imports = all_of_map block_of
-          (λ (k : Block). LinksAt machine (image_of machine bases (placed_from bases (blocks_objects machine blocks))) (placed_from bases (blocks_objects machine blocks)) k.dll k.exports)
+          (λ (k : Block). LinksAt machine (image_of machine bases (placed_from bases (blocks_objects machine blocks []))) (placed_from bases (blocks_objects machine blocks [])) k.dll k.exports)
           ps linked.0;
       defined = linked.1;
     })
+
+pub parts_made : (machine : MachineType) (ps : List Part) → AllByRecursion (IsPart machine) ps → AllByRecursion (IsMade machine) ps
+parts_made machine [] are = tt
+parts_made machine (p ∷ ps) are = (are.0.made, parts_made machine ps are.1)
 
 -- The order of the names of all parts.
 

@@ -4,7 +4,7 @@ use Rattle.std.specs.Prelude.{nat_eq, not}
 use Rattle.std.specs.List.{list_all}
 use Rattle.std.proofs.lemmas.Bool.{and_parts, false≢true}
 use Rattle.implib.specs.Import.{Ask, Name, Ordinal}
-use Rattle.implib.specs.Link.{Range, byte_at}
+use Rattle.implib.specs.Image.{Range, byte_at}
 use Rattle.implib.specs.Load.{AsksFor, BytesAt, Loads, NumberAt, TableAt, number_in}
 use Rattle.implib.specs.Picture.{HasNoNul}
 
@@ -22,7 +22,7 @@ bytes_once image (x ∷ xs) [] a first second long = absurd (omega arith)
 bytes_once image (x ∷ xs) (y ∷ ys) a first second long =
     same_list x y xs ys (same_byte (byte_at image a) x y first.0 second.0) (bytes_once image xs ys (a + 1) first.1 second.1 (omega arith))
 
-number_once : (image : List Range) (width a n m : ℕ) → NumberAt image width a n → NumberAt image width a m → n ≡ m
+pub number_once : (image : List Range) (width a n m : ℕ) → NumberAt image width a n → NumberAt image width a m → n ≡ m
 number_once image width a n m first second =
     sym first.value ∙ ap number_in (bytes_once image first.bytes second.bytes a first.stands second.stands (first.count ∙ sym second.count)) ∙ second.value
 
@@ -33,7 +33,7 @@ no_nul_first (suc n) ys free is = omega arith
 no_nul_rest : (y : ℕ) (ys : List ℕ) → HasNoNul (y ∷ ys) → HasNoNul ys
 no_nul_rest y ys free = (and_parts (not (nat_eq y 0)) (list_all (λ byte. not (nat_eq byte 0)) ys) free).1
 
-text_once : (image : List Range) (xs ys : List ℕ) (a : ℕ) → HasNoNul xs → HasNoNul ys → BytesAt image a (xs ++ 0 ∷ []) → BytesAt image a (ys ++ 0 ∷ []) → xs ≡ ys
+pub text_once : (image : List Range) (xs ys : List ℕ) (a : ℕ) → HasNoNul xs → HasNoNul ys → BytesAt image a (xs ++ 0 ∷ []) → BytesAt image a (ys ++ 0 ∷ []) → xs ≡ ys
 unfolding BytesAt
 text_once image [] [] a first_free second_free first second = refl
 text_once image [] (y ∷ ys) a first_free second_free first second = absurd (no_nul_first y ys second_free (same_byte (byte_at image a) 0 y first.0 second.0))
@@ -55,7 +55,7 @@ ask_once image width thunk (Name text hint) (Name other number) first second =
 same_asks : (x y : Ask) (xs ys : List Ask) → x ≡ y → xs ≡ ys → x ∷ xs ≡ y ∷ ys
 same_asks x y xs ys first rest = cc
 
-table_once : (image : List Range) (width : ℕ) (xs ys : List Ask) (a : ℕ) → TableAt image width a xs → TableAt image width a ys → xs ≡ ys
+pub table_once : (image : List Range) (width : ℕ) (xs ys : List Ask) (a : ℕ) → TableAt image width a xs → TableAt image width a ys → xs ≡ ys
 unfolding TableAt
 table_once image width [] [] a first second = refl
 table_once image width [] (y ∷ ys) a first second = absurd (second.0.goes_on (number_once image width a second.0.thunk 0 second.0.stands first))

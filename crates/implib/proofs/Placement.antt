@@ -9,7 +9,8 @@ use Rattle.implib.specs.Bytes.{u16_bytes}
 use Rattle.implib.specs.Definition.{ExportView}
 use Rattle.implib.specs.Gnu.{export_listed, export_object, head_object, hint_name, name_symbol, tail_object, thunk}
 use Rattle.implib.specs.Import.{address_symbol}
-use Rattle.implib.specs.Link.{Addresses, At, Bases, Descriptors, DllNames, HintNames, Lookups, Nowhere, Placed, SymbolDefinition, defined_by, definitions, next_multiple, placed_from}
+use Rattle.implib.specs.Placement.{Addresses, At, Bases, Descriptors, DllNames, HintNames, Lookups, Nowhere, Placed, next_multiple, placed_from}
+use Rattle.implib.specs.Resolution.{SymbolDefinition, defined_by, definitions}
 use Rattle.implib.specs.MsvcObjects.{thunk_width, zeros}
 use Rattle.implib.specs.Object.{Object}
 use Rattle.implib.specs.Writer.{object_held}
@@ -44,8 +45,9 @@ pub length-thunk : (machine : MachineType) (e : ExportView) → length (thunk ma
 unfolding thunk
 length-thunk machine e = length-thunk_of machine e.ordinal e.no_name
 
--- the ends of the tables are multiples of 4
+-- the ends of the directory and of the tables are multiples of 4
 pub record AreAligned (b : Bases) : Type 0 where
+  pub descriptors : b.descriptors % 4 ≡ 0
   pub lookups : b.lookups % 4 ≡ 0
   pub addresses : b.addresses % 4 ≡ 0
 
@@ -66,11 +68,11 @@ module _ (machine : MachineType) (dll : List ℕ) where
   abbrev pub placed_head : Bases → Placed
   placed_head b = record {
     object = head;
-    places = Nowhere ∷ Nowhere ∷ Nowhere ∷ At Descriptors (next_multiple 4 b.descriptors) ∷ At Addresses b.addresses ∷ At Lookups b.lookups ∷ [];
+    places = Nowhere ∷ Nowhere ∷ Nowhere ∷ At Descriptors b.descriptors ∷ At Addresses b.addresses ∷ At Lookups b.lookups ∷ [];
   }
 
   abbrev pub ends_of_head : Bases → Bases
-  ends_of_head b = record b { descriptors = next_multiple 4 b.descriptors + 20 }
+  ends_of_head b = record b { descriptors = b.descriptors + 20 }
 
   abbrev pub placed_export : Bases → ExportView → Placed
   placed_export b e = record {
@@ -103,7 +105,12 @@ module _ (machine : MachineType) (dll : List ℕ) where
   }
 
   pub aligned_after : (b : Bases) (e : ExportView) → AreAligned b → AreAligned (ends_of_export b e)
-  aligned_after b e even = record { lookups = aligned_thunk machine b.lookups even.lookups; addresses = aligned_thunk machine b.addresses even.addresses }
+  aligned_after b e even = record { descriptors = even.descriptors; lookups = aligned_thunk machine b.lookups even.lookups; addresses = aligned_thunk machine b.addresses even.addresses }
+
+  pub aligned_head : (b : Bases) → AreAligned b → AreAligned (ends_of_head b)
+  aligned_head b even =
+      let whole : b.descriptors % 4 ≡ 0 = even.descriptors in
+      record { descriptors = omega arith; lookups = even.lookups; addresses = even.addresses }
 
   plus_none : (n : ℕ) → n + 0 ≡ n
   plus_none n = omega arith
@@ -111,7 +118,7 @@ module _ (machine : MachineType) (dll : List ℕ) where
   pub placed-head : (b : Bases) (objects : List Object) → AreAligned b →
       placed_from b (head ∷ objects) ≡ placed_head b ∷ placed_from (ends_of_head b) objects
   unfolding head_object
-  placed-head b objects even = rw (aligned b.lookups even.lookups, aligned b.addresses even.addresses, plus_none b.lookups, plus_none b.addresses) refl
+  placed-head b objects even = rw (aligned b.descriptors even.descriptors, aligned b.lookups even.lookups, aligned b.addresses even.addresses, plus_none b.lookups, plus_none b.addresses) refl
 
   pub placed-export : (b : Bases) (e : ExportView) (objects : List Object) → AreAligned b →
       placed_from b (export e ∷ objects) ≡ placed_export b e ∷ placed_from (ends_of_export b e) objects
@@ -133,7 +140,7 @@ module _ (machine : MachineType) (dll : List ℕ) where
 
   pub aligned_all : (b : Bases) (es : List ExportView) → AreAligned b → AreAligned (ends_of_all b es)
   unfolding ends_of_exports
-  aligned_all b [] even = record { lookups = aligned_thunk machine b.lookups even.lookups; addresses = aligned_thunk machine b.addresses even.addresses }
+  aligned_all b [] even = record { descriptors = even.descriptors; lookups = aligned_thunk machine b.lookups even.lookups; addresses = aligned_thunk machine b.addresses even.addresses }
   aligned_all b (e ∷ es) even = aligned_all (ends_of_export b e) es (aligned_after b e even)
 
   pub descriptors_end : (b : Bases) (es : List ExportView) → b.descriptors ≡ (ends_of_all b es).descriptors

@@ -4,7 +4,7 @@ use Rattle.std.specs.Prelude.{Bool, ◌&&◌, nat_le, nat_lt, slice_index}
 use Rattle.std.specs.List.{AllByRecursion, flat_map, list_all}
 use Rattle.std.proofs.lemmas.Bool.{and_from, and_parts, cases_Bool, le-leb, leb-true, lt-ltb, ltb-true}
 use Rattle.std.proofs.lemmas.List.{append_assoc, get_or_at, length-append}
-use Rattle.implib.specs.Link.{AllApart, AreApart, Piece, Range, byte_at, filled, is_in, range_end, range_of}
+use Rattle.implib.specs.Image.{AllApart, AreApart, Contribution, Range, byte_at, filled, is_in, range_end, range_of}
 use Rattle.implib.specs.Load.{BytesAt}
 
 -- a list holds this
@@ -55,7 +55,7 @@ byte_of r (x ∷ xs) a (inr m) apart within =
       | inr is ↦ rw is (byte_of r xs a m apart.1 within)
     ]
 
-is_in_from : (a : ℕ) (r : Range) → r.start ≤ a → a < range_end r → is_in a r ≡ true
+pub is_in_from : (a : ℕ) (r : Range) → r.start ≤ a → a < range_end r → is_in a r ≡ true
 is_in_from a r low high = and_from _ _ (le-leb r.start a low) (lt-ltb a (range_end r) high)
 
 -- whether each range ends before the later ones start, and below a limit
@@ -106,8 +106,8 @@ rest_stands r ranges m apart (b ∷ bytes) front a is at =
 pub range_stands : (r : Range) (ranges : List Range) → Among r ranges → AllApart ranges → BytesAt ranges r.start r.bytes
 range_stands r ranges m apart = rest_stands r ranges m apart r.bytes [] r.start refl (omega arith)
 
--- the pieces of a range stand
-pub filled_stands : (base : ℕ) (ps : List Piece) (ranges : List Range) → ((r : Range) → Among r (range_of base ps) → Among r ranges) → AllApart ranges →
+-- the contributions of a range stand
+pub filled_stands : (base : ℕ) (ps : List Contribution) (ranges : List Range) → ((r : Range) → Among r (range_of base ps) → Among r ranges) → AllApart ranges →
     BytesAt ranges base (filled base ps)
 unfolding BytesAt
 filled_stands base [] ranges sub apart = tt

@@ -10,9 +10,11 @@ use Rattle.implib.specs.Bytes.{u16_bytes, u32_bytes}
 use Rattle.implib.specs.Constants.{image_relative}
 use Rattle.implib.specs.Definition.{ExportView}
 use Rattle.implib.specs.Gnu.{export_object, hint_name, hint_name_symbol, relocations_of_thunk, tail_object, thunk}
-use Rattle.implib.specs.Import.{Name, Ordinal, ask_meant, asked_name}
-use Rattle.implib.specs.Link.{Addresses, Bases, Descriptors, HintNames, Lookups, Piece, Placed, Range, filled, next_multiple, pieces, placed_from, range_end, relocated, target_address, with_address}
-use Rattle.implib.specs.Load.{AsksFor, BytesAt, NumberAt, TableAt, TextAt, ThunkAt, number_in}
+use Rattle.implib.specs.Import.{Ask, Name, Ordinal, ask_meant, asked_name}
+use Rattle.implib.specs.Image.{Contribution, Range, filled, contributions, range_end, relocated, with_address}
+use Rattle.implib.specs.Placement.{Addresses, Bases, Descriptors, HintNames, Lookups, Placed, next_multiple, placed_from}
+use Rattle.implib.specs.Resolution.{target_address}
+use Rattle.implib.specs.Load.{AsksFor, BytesAt, IsWhole, NumberAt, TableAt, TextAt, ThunkAt, WholeTableAt, WholeThunkAt, number_in}
 use Rattle.implib.specs.MsvcObjects.{thunk_width, zeros}
 use Rattle.implib.specs.Object.{Object, u32_at}
 use Rattle.implib.specs.Picture.{HasNoNul}
@@ -24,8 +26,18 @@ pub record CanBeAsked (machine : MachineType) (e : ExportView) : Type 0 where
   pub ordinal : e.ordinal < 2 ^ 16
   pub name : HasNoNul (asked_name machine e.name)
 
+-- a thunk for a loader that is strict
+record StrictThunkAt (image : List Range) (width : ℕ) (a : ℕ) (ask : Ask) : Type 0 where
+  plain : ThunkAt image width a ask
+  whole : WholeThunkAt image width a ask
+
+-- and a table
+pub record StrictTableAt (image : List Range) (width : ℕ) (a : ℕ) (asks : List Ask) : Type 0 where
+  pub plain : TableAt image width a asks
+  pub whole : WholeTableAt image width a asks
+
 -- bytes at their place are what is filled in first
-pub filled_first : (a n : ℕ) (bytes : List ℕ) (rest : List Piece) → length bytes ≡ n →
+pub filled_first : (a n : ℕ) (bytes : List ℕ) (rest : List Contribution) → length bytes ≡ n →
     filled a (record { address = a; bytes = bytes } ∷ rest) ≡ bytes ++ filled (a + n) rest
 filled_first a n bytes rest long =
     let none : a - a ≡ 0 = omega arith in
@@ -79,6 +91,13 @@ ordinal_low I386 n small = omega arith
 ordinal_low ARMNT n small = omega arith
 ordinal_low AMD64 n small = omega arith
 ordinal_low ARM64 n small = omega arith
+
+ordinal_whole : (machine : MachineType) (n : ℕ) → n < 2 ^ 16 → number_in (ordinal_thunk machine n) ≡ 2 ^ (8 * thunk_width machine - 1) + n
+unfolding u16_bytes
+ordinal_whole I386 n small = omega arith
+ordinal_whole ARMNT n small = omega arith
+ordinal_whole AMD64 n small = omega arith
+ordinal_whole ARM64 n small = omega arith
 
 top_nonzero : (machine : MachineType) (n : ℕ) → 2 ^ (8 * thunk_width machine - 1) ≤ n → n ≡ 0 → ⊥
 top_nonzero I386 n high is = omega arith
@@ -146,55 +165,55 @@ module _ (machine : MachineType) (dll : List ℕ) (linked : List Placed) where
       zeros (next_multiple 2 b.hint_names - b.hint_names) ++ (hint_name machine e ++ hint_bytes (ends_of_export machine dll b e) es)
 
   pub lookups_filled : (b : Bases) (es : List ExportView) (rest : List Object) → AreAligned b →
-      filled b.lookups (pieces machine linked Lookups (placed_from b (after_head machine dll es rest)))
-      ≡ thunk_bytes b es ++ filled (ends_of_all machine dll b es).lookups (pieces machine linked Lookups (placed_from (ends_of_all machine dll b es) rest))
+      filled b.lookups (contributions machine linked Lookups (placed_from b (after_head machine dll es rest)))
+      ≡ thunk_bytes b es ++ filled (ends_of_all machine dll b es).lookups (contributions machine linked Lookups (placed_from (ends_of_all machine dll b es) rest))
   unfolding thunk_bytes tail_object export_object thunk_linked ends_of_exports
   lookups_filled b [] rest even =
-      ap (λ ps. filled b.lookups (pieces machine linked Lookups ps)) (placed-tail machine dll b rest even)
-      ∙ filled_first b.lookups (thunk_width machine) (zeros (thunk_width machine)) (pieces machine linked Lookups (placed_from (ends_of_tail machine dll b) rest)) (length-replicate {A = ℕ} (thunk_width machine) 0)
+      ap (λ ps. filled b.lookups (contributions machine linked Lookups ps)) (placed-tail machine dll b rest even)
+      ∙ filled_first b.lookups (thunk_width machine) (zeros (thunk_width machine)) (contributions machine linked Lookups (placed_from (ends_of_tail machine dll b) rest)) (length-replicate {A = ℕ} (thunk_width machine) 0)
   lookups_filled b (e ∷ es) rest even =
       let later : Bases = ends_of_export machine dll b e in
-      ap (λ ps. filled b.lookups (pieces machine linked Lookups ps)) (placed-export machine dll b e (after_head machine dll es rest) even)
-      ∙ filled_first b.lookups (thunk_width machine) (thunk_linked b e) (pieces machine linked Lookups (placed_from later (after_head machine dll es rest))) (length-thunk_linked b e)
+      ap (λ ps. filled b.lookups (contributions machine linked Lookups ps)) (placed-export machine dll b e (after_head machine dll es rest) even)
+      ∙ filled_first b.lookups (thunk_width machine) (thunk_linked b e) (contributions machine linked Lookups (placed_from later (after_head machine dll es rest))) (length-thunk_linked b e)
       ∙ ap (λ others. thunk_linked b e ++ others) (lookups_filled later es rest (aligned_after machine dll b e even))
-      ∙ sym (append_assoc (thunk_linked b e) (thunk_bytes later es) (filled (ends_of_all machine dll later es).lookups (pieces machine linked Lookups (placed_from (ends_of_all machine dll later es) rest))))
+      ∙ sym (append_assoc (thunk_linked b e) (thunk_bytes later es) (filled (ends_of_all machine dll later es).lookups (contributions machine linked Lookups (placed_from (ends_of_all machine dll later es) rest))))
 
   pub addresses_filled : (b : Bases) (es : List ExportView) (rest : List Object) → AreAligned b →
-      filled b.addresses (pieces machine linked Addresses (placed_from b (after_head machine dll es rest)))
-      ≡ thunk_bytes b es ++ filled (ends_of_all machine dll b es).addresses (pieces machine linked Addresses (placed_from (ends_of_all machine dll b es) rest))
+      filled b.addresses (contributions machine linked Addresses (placed_from b (after_head machine dll es rest)))
+      ≡ thunk_bytes b es ++ filled (ends_of_all machine dll b es).addresses (contributions machine linked Addresses (placed_from (ends_of_all machine dll b es) rest))
   unfolding thunk_bytes tail_object export_object thunk_linked ends_of_exports
   addresses_filled b [] rest even =
-      ap (λ ps. filled b.addresses (pieces machine linked Addresses ps)) (placed-tail machine dll b rest even)
-      ∙ filled_first b.addresses (thunk_width machine) (zeros (thunk_width machine)) (pieces machine linked Addresses (placed_from (ends_of_tail machine dll b) rest)) (length-replicate {A = ℕ} (thunk_width machine) 0)
+      ap (λ ps. filled b.addresses (contributions machine linked Addresses ps)) (placed-tail machine dll b rest even)
+      ∙ filled_first b.addresses (thunk_width machine) (zeros (thunk_width machine)) (contributions machine linked Addresses (placed_from (ends_of_tail machine dll b) rest)) (length-replicate {A = ℕ} (thunk_width machine) 0)
   addresses_filled b (e ∷ es) rest even =
       let later : Bases = ends_of_export machine dll b e in
-      ap (λ ps. filled b.addresses (pieces machine linked Addresses ps)) (placed-export machine dll b e (after_head machine dll es rest) even)
-      ∙ filled_first b.addresses (thunk_width machine) (thunk_linked b e) (pieces machine linked Addresses (placed_from later (after_head machine dll es rest))) (length-thunk_linked b e)
+      ap (λ ps. filled b.addresses (contributions machine linked Addresses ps)) (placed-export machine dll b e (after_head machine dll es rest) even)
+      ∙ filled_first b.addresses (thunk_width machine) (thunk_linked b e) (contributions machine linked Addresses (placed_from later (after_head machine dll es rest))) (length-thunk_linked b e)
       ∙ ap (λ others. thunk_linked b e ++ others) (addresses_filled later es rest (aligned_after machine dll b e even))
-      ∙ sym (append_assoc (thunk_linked b e) (thunk_bytes later es) (filled (ends_of_all machine dll later es).addresses (pieces machine linked Addresses (placed_from (ends_of_all machine dll later es) rest))))
+      ∙ sym (append_assoc (thunk_linked b e) (thunk_bytes later es) (filled (ends_of_all machine dll later es).addresses (contributions machine linked Addresses (placed_from (ends_of_all machine dll later es) rest))))
 
   pub hint_names_filled : (b : Bases) (es : List ExportView) (rest : List Object) → AreAligned b →
-      filled b.hint_names (pieces machine linked HintNames (placed_from b (after_head machine dll es rest)))
-      ≡ hint_bytes b es ++ filled (ends_of_all machine dll b es).hint_names (pieces machine linked HintNames (placed_from (ends_of_all machine dll b es) rest))
+      filled b.hint_names (contributions machine linked HintNames (placed_from b (after_head machine dll es rest)))
+      ≡ hint_bytes b es ++ filled (ends_of_all machine dll b es).hint_names (contributions machine linked HintNames (placed_from (ends_of_all machine dll b es) rest))
   unfolding hint_bytes tail_object export_object ends_of_exports
-  hint_names_filled b [] rest even = ap (λ ps. filled b.hint_names (pieces machine linked HintNames ps)) (placed-tail machine dll b rest even)
+  hint_names_filled b [] rest even = ap (λ ps. filled b.hint_names (contributions machine linked HintNames ps)) (placed-tail machine dll b rest even)
   hint_names_filled b (e ∷ es) rest even =
       let later : Bases = ends_of_export machine dll b e in
       let padding : List ℕ = zeros (next_multiple 2 b.hint_names - b.hint_names) in
-      let others : List ℕ = filled (ends_of_all machine dll later es).hint_names (pieces machine linked HintNames (placed_from (ends_of_all machine dll later es) rest)) in
-      ap (λ ps. filled b.hint_names (pieces machine linked HintNames ps)) (placed-export machine dll b e (after_head machine dll es rest) even)
+      let others : List ℕ = filled (ends_of_all machine dll later es).hint_names (contributions machine linked HintNames (placed_from (ends_of_all machine dll later es) rest)) in
+      ap (λ ps. filled b.hint_names (contributions machine linked HintNames ps)) (placed-export machine dll b e (after_head machine dll es rest) even)
       ∙ ap (λ others. padding ++ (hint_name machine e ++ others)) (hint_names_filled later es rest (aligned_after machine dll b e even))
       ∙ ap (λ others. padding ++ others) (sym (append_assoc (hint_name machine e) (hint_bytes later es) others))
       ∙ sym (append_assoc padding (hint_name machine e ++ hint_bytes later es) others)
 
   -- exports and the tail have no descriptor
   pub descriptors_filled : (b : Bases) (es : List ExportView) (rest : List Object) → AreAligned b →
-      filled b.descriptors (pieces machine linked Descriptors (placed_from b (after_head machine dll es rest)))
-      ≡ filled (ends_of_all machine dll b es).descriptors (pieces machine linked Descriptors (placed_from (ends_of_all machine dll b es) rest))
+      filled b.descriptors (contributions machine linked Descriptors (placed_from b (after_head machine dll es rest)))
+      ≡ filled (ends_of_all machine dll b es).descriptors (contributions machine linked Descriptors (placed_from (ends_of_all machine dll b es) rest))
   unfolding tail_object export_object ends_of_exports
-  descriptors_filled b [] rest even = ap (λ ps. filled b.descriptors (pieces machine linked Descriptors ps)) (placed-tail machine dll b rest even)
+  descriptors_filled b [] rest even = ap (λ ps. filled b.descriptors (contributions machine linked Descriptors ps)) (placed-tail machine dll b rest even)
   descriptors_filled b (e ∷ es) rest even =
-      ap (λ ps. filled b.descriptors (pieces machine linked Descriptors ps)) (placed-export machine dll b e (after_head machine dll es rest) even)
+      ap (λ ps. filled b.descriptors (contributions machine linked Descriptors ps)) (placed-export machine dll b e (after_head machine dll es rest) even)
       ∙ descriptors_filled (ends_of_export machine dll b e) es rest (aligned_after machine dll b e even)
 
   -- the ends after these bytes
@@ -236,20 +255,24 @@ module _ (machine : MachineType) (dll : List ℕ) (linked : List Placed) where
   module _ (image : List Range) (starts : AllByRecursion (λ r. 0 < r.start) image) (ends : AllByRecursion (λ r. range_end r < 2 ^ 31) image) where
     -- an export's thunk asks for what is meant
     ordinal_at : (b : Bases) (e : ExportView) (a : ℕ) → CanBeAsked machine e → e.no_name ≡ true → BytesAt image a (thunk_linked b e) →
-        ThunkAt image (thunk_width machine) a (Ordinal e.ordinal)
-    unfolding AsksFor
+        StrictThunkAt image (thunk_width machine) a (Ordinal e.ordinal)
+    unfolding AsksFor IsWhole
     ordinal_at b e a fits is stands =
         let high = ordinal_top machine e.ordinal in
+        let here : NumberAt image (thunk_width machine) a (number_in (ordinal_thunk machine e.ordinal)) = record {
+          bytes = ordinal_thunk machine e.ordinal;
+          stands = subst (BytesAt image a) (thunk_of_ordinal b e is) stands;
+          count = length-thunk_of machine e.ordinal true;
+          value = refl;
+        } in
         record {
-          thunk = number_in (ordinal_thunk machine e.ordinal);
-          stands = record {
-            bytes = ordinal_thunk machine e.ordinal;
-            stands = subst (BytesAt image a) (thunk_of_ordinal b e is) stands;
-            count = length-thunk_of machine e.ordinal true;
-            value = refl;
+          plain = record {
+            thunk = number_in (ordinal_thunk machine e.ordinal);
+            stands = here;
+            goes_on = top_nonzero machine (number_in (ordinal_thunk machine e.ordinal)) high;
+            asks = (high, ordinal_low machine e.ordinal fits.ordinal);
           };
-          goes_on = top_nonzero machine (number_in (ordinal_thunk machine e.ordinal)) high;
-          asks = (high, ordinal_low machine e.ordinal fits.ordinal);
+          whole = record { thunk = number_in (ordinal_thunk machine e.ordinal); stands = here; whole = ordinal_whole machine e.ordinal fits.ordinal };
         }
 
     hint_is : (e : ExportView) → e.no_name ≡ false → hint_name machine e ≡ u16_bytes e.ordinal ++ (asked_name machine e.name ++ 0 ∷ [])
@@ -269,8 +292,8 @@ module _ (machine : MachineType) (dll : List ℕ) (linked : List Placed) where
     length-u16 n = refl
 
     name_at : (b : Bases) (e : ExportView) (a : ℕ) → CanBeAsked machine e → e.no_name ≡ false → BytesAt image a (thunk_linked b e) →
-        BytesAt image (next_multiple 2 b.hint_names) (hint_name machine e) → ThunkAt image (thunk_width machine) a (Name (asked_name machine e.name) e.ordinal)
-    unfolding AsksFor
+        BytesAt image (next_multiple 2 b.hint_names) (hint_name machine e) → StrictThunkAt image (thunk_width machine) a (Name (asked_name machine e.name) e.ordinal)
+    unfolding AsksFor IsWhole
     name_at b e a fits is stands hint_stands =
         let place : ℕ = next_multiple 2 b.hint_names in
         let hint : BytesAt image place (u16_bytes e.ordinal ++ (asked_name machine e.name ++ 0 ∷ [])) = subst (BytesAt image place) (hint_is e is) hint_stands in
@@ -283,36 +306,42 @@ module _ (machine : MachineType) (dll : List ℕ) (linked : List Placed) where
         let low : place ≡ place % 2 ^ 31 = omega arith in
         let text : BytesAt image (place + 2) (asked_name machine e.name ++ 0 ∷ []) =
         subst (λ n. BytesAt image (place + n) (asked_name machine e.name ++ 0 ∷ [])) (length-u16 e.ordinal) parts.1 in
+        let here : NumberAt image (thunk_width machine) a place = record {
+          bytes = u32_bytes place ++ zeros (thunk_width machine - 4);
+          stands = subst (BytesAt image a) thunk_is stands;
+          count = length-address machine place;
+          value = number-address machine place small;
+        } in
         record {
-          thunk = place;
-          stands = record {
-            bytes = u32_bytes place ++ zeros (thunk_width machine - 4);
-            stands = subst (BytesAt image a) thunk_is stands;
-            count = length-address machine place;
-            value = number-address machine place small;
+          plain = record {
+            thunk = place;
+            stands = here;
+            goes_on = λ none. omega arith;
+            asks = (
+              below_top machine place small,
+              subst (λ n. NumberAt image 2 n e.ordinal) low (record { bytes = u16_bytes e.ordinal; stands = parts.0; count = length-u16 e.ordinal; value = number-u16 e.ordinal fits.ordinal }),
+              subst (λ n. TextAt image (n + 2) (asked_name machine e.name)) low (record { no_nul = fits.name; stands = text }),
+            );
           };
-          goes_on = λ none. omega arith;
-          asks = (
-            below_top machine place small,
-            subst (λ n. NumberAt image 2 n e.ordinal) low (record { bytes = u16_bytes e.ordinal; stands = parts.0; count = length-u16 e.ordinal; value = number-u16 e.ordinal fits.ordinal }),
-            subst (λ n. TextAt image (n + 2) (asked_name machine e.name)) low (record { no_nul = fits.name; stands = text }),
-          );
+          whole = record { thunk = place; stands = here; whole = small };
         }
 
     thunk_at : (b : Bases) (e : ExportView) (a : ℕ) → CanBeAsked machine e → BytesAt image a (thunk_linked b e) →
-        BytesAt image (next_multiple 2 b.hint_names) (hint_name machine e) → ThunkAt image (thunk_width machine) a (ask_meant machine e)
+        BytesAt image (next_multiple 2 b.hint_names) (hint_name machine e) → StrictThunkAt image (thunk_width machine) a (ask_meant machine e)
     thunk_at b e a fits stands hint_stands =
         elim (cases_Bool e.no_name) [
-          | inl is ↦ subst (λ test. ThunkAt image (thunk_width machine) a (if test then Ordinal e.ordinal else Name (asked_name machine e.name) e.ordinal)) (sym is) (ordinal_at b e a fits is stands)
-          | inr is ↦ subst (λ test. ThunkAt image (thunk_width machine) a (if test then Ordinal e.ordinal else Name (asked_name machine e.name) e.ordinal)) (sym is) (name_at b e a fits is stands hint_stands)
+          | inl is ↦ subst (λ test. StrictThunkAt image (thunk_width machine) a (if test then Ordinal e.ordinal else Name (asked_name machine e.name) e.ordinal)) (sym is) (ordinal_at b e a fits is stands)
+          | inr is ↦ subst (λ test. StrictThunkAt image (thunk_width machine) a (if test then Ordinal e.ordinal else Name (asked_name machine e.name) e.ordinal)) (sym is) (name_at b e a fits is stands hint_stands)
         ]
 
     -- a table asks for what is meant
     pub table_at : (es : List ExportView) (b : Bases) (a : ℕ) → AllByRecursion (CanBeAsked machine) es → BytesAt image a (thunk_bytes b es) →
-        BytesAt image b.hint_names (hint_bytes b es) → TableAt image (thunk_width machine) a (map (ask_meant machine) es)
-    unfolding TableAt thunk_bytes hint_bytes
-    table_at [] b a fit stands hints =
-        record { bytes = zeros (thunk_width machine); stands = stands; count = length-replicate {A = ℕ} (thunk_width machine) 0; value = zeros_number machine }
+        BytesAt image b.hint_names (hint_bytes b es) → StrictTableAt image (thunk_width machine) a (map (ask_meant machine) es)
+    unfolding TableAt WholeTableAt thunk_bytes hint_bytes
+    table_at [] b a fit stands hints = record {
+      plain = record { bytes = zeros (thunk_width machine); stands = stands; count = length-replicate {A = ℕ} (thunk_width machine) 0; value = zeros_number machine };
+      whole = tt;
+    }
     table_at (e ∷ es) b a fit stands hints =
         let later : Bases = ends_of_export machine dll b e in
         let parts = stands_parts image (thunk_linked b e) (thunk_bytes later es) a stands in
@@ -321,9 +350,8 @@ module _ (machine : MachineType) (dll : List ℕ) (linked : List Placed) where
         let below : b.hint_names ≤ next_multiple 2 b.hint_names = at_least 2 b.hint_names in
         let place : b.hint_names + length padding ≡ next_multiple 2 b.hint_names = rw (length-replicate {A = ℕ} (next_multiple 2 b.hint_names - b.hint_names) 0) (omega arith) in
         let hint_parts = stands_parts image (hint_name machine e) (hint_bytes later es) (next_multiple 2 b.hint_names)
-        (subst (λ n. BytesAt image n (hint_name machine e ++ hint_bytes later es)) place behind.1) in (
-          thunk_at b e a fit.0 parts.0 hint_parts.0,
-          table_at es later (a + thunk_width machine) fit.1
-              (subst (λ n. BytesAt image (a + n) (thunk_bytes later es)) (length-thunk_linked b e) parts.1)
-              hint_parts.1,
-        )
+        (subst (λ n. BytesAt image n (hint_name machine e ++ hint_bytes later es)) place behind.1) in
+        let first = thunk_at b e a fit.0 parts.0 hint_parts.0 in
+        let others = table_at es later (a + thunk_width machine) fit.1
+        (subst (λ n. BytesAt image (a + n) (thunk_bytes later es)) (length-thunk_linked b e) parts.1) hint_parts.1 in
+        record { plain = (first.plain, others.plain); whole = (first.whole, others.whole) }

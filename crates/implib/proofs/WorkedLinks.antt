@@ -5,14 +5,15 @@ use Rattle.std.specs.Fmt.{digits}
 use Rattle.std.specs.List.{IsDistinct}
 use Rattle.implib.specs.Bytes.{u16_bytes, u32_bytes}
 use Rattle.implib.specs.Gnu.{export_object, five_digits, head_name, head_object, head_symbol, hint_name, name_symbol, numbered_name, relocations_of_stub, relocations_of_thunk, stem, stub, tail_name, tail_object, thunk}
-use Rattle.implib.specs.Link.{next_multiple, with_address}
+use Rattle.implib.specs.Image.{with_address}
+use Rattle.implib.specs.Placement.{next_multiple}
 use Rattle.implib.specs.Made.{alias_plans, export_plan, head_plan, refusal, renamed_refusal, tail_plan}
 use Rattle.implib.specs.Object.{before_nul, bytes_at, data_at, each_at, entries_at, name_of, object_in, object_of_header, relocation_at, relocation_of, section_at, section_of, strings_at, symbol_of, u16_at, u32_at, up_to_nul}
 use Rattle.implib.specs.Picture.{auxiliary_bytes, auxiliary_count, contents, contents_place, contents_size, header_bytes, layout, layout_size, name_field, offsets_from, place_of, record_count, records, relocation_bytes, section_header, section_headers, string_bytes_of, string_offsets, string_size, string_table, strings_size, symbol_bytes, symbols_place}
 use Rattle.implib.specs.Writer.{long_names, name_place, picture_of, symbol_written, with_long_name, with_name}
 use Rattle.implib.specs.WorkedLinks.{MayLink, PartsMayLink, WorkedLinks, bases_64, bases_of_two, foo, placed, placed_two, two_parts}
 use Rattle.implib.specs.declared.machine.MachineType.TheVariants.{AMD64}
-use Rattle.implib.specs.Link.{Range, image_of}
+use Rattle.implib.specs.Image.{Range, image_of}
 use Rattle.implib.proofs.Ranges.{apart_as_they_rise, ends_below}
 
 -- what the computing has to open

@@ -32,9 +32,12 @@ pub mod ParserViews
 pub mod Writer
 pub mod Table
 pub mod WriterView
-pub mod Link
+pub mod Placement
+pub mod Resolution
+pub mod Image
 pub mod Load
-pub mod Theorem
+pub mod LinkedMembers
+pub mod Linked
 pub mod WorkedLinks
 pub mod Asked
 pub mod WorkedMembers

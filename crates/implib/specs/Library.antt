@@ -10,7 +10,7 @@ use Rattle.implib.specs.Definition.{DefinitionView, definition_view}
 use Rattle.implib.specs.Made.{MemberView}
 use Rattle.implib.specs.Renaming.{renamed}
 use Rattle.implib.specs.Parses.{Parses}
-use Rattle.implib.specs.Theorem.{Part, parts_of}
+use Rattle.implib.specs.LinkedMembers.{Part, parts_of}
 
 -- a definition, and what its members are made for
 pub record LibraryView : Type 0 where

@@ -1,7 +1,7 @@
 -- Loading: what a loader finds in an image (PE/COFF specification, "The .idata Section").
 use Rattle.std.specs.Prelude.{◌≡◌, ◌≢◌, ℕ, ◌+◌, ◌*◌, ◌-◌, ◌%◌, ◌^◌, ◌<◌, ◌≤◌, List, [], ◌∷◌, ◌++◌, length, Some}
 use Rattle.implib.specs.Import.{Ask, Ordinal, Name}
-use Rattle.implib.specs.Link.{Range, byte_at}
+use Rattle.implib.specs.Image.{Range, byte_at}
 use Rattle.implib.specs.Picture.{HasNoNul}
 
 -- these bytes stand at an address
@@ -46,6 +46,24 @@ unfoldable pub TableAt : List Range → ℕ → ℕ → List Ask → Type 0
 TableAt image width address [] = NumberAt image width address 0
 TableAt image width address (ask ∷ asks) = ThunkAt image width address ask × TableAt image width (address + width) asks
 
+-- A thunk that is written whole, every other bit of it 0 ("Import Lookup Table"): the top bit and the
+-- ordinal, or the address of the hint and the name.
+unfoldable pub IsWhole : ℕ → ℕ → Ask → Type 0
+IsWhole width thunk (Ordinal n) = thunk ≡ 2 ^ (8 * width - 1) + n
+IsWhole width thunk (Name text hint) = thunk < 2 ^ 31
+
+-- a thunk at an address is written whole for an ask
+pub record WholeThunkAt (image : List Range) (width : ℕ) (address : ℕ) (ask : Ask) : Type 0 where
+  pub thunk : ℕ
+  pub stands : NumberAt image width address thunk
+  pub whole : IsWhole width thunk ask
+
+-- thunks one after another are written whole for these asks
+unfoldable pub WholeTableAt : List Range → ℕ → ℕ → List Ask → Type 0
+WholeTableAt image width address [] = Unit {0}
+WholeTableAt image width address (ask ∷ asks) =
+    WholeThunkAt image width address ask × WholeTableAt image width (address + width) asks
+
 -- what the descriptor at an address leads to: the lookup table by its field at 0, the DLL's name by
 -- that at 12, the address table by that at 16 ("Import Directory Table")
 pub record Loads (image : List Range) (width : ℕ) (descriptor : ℕ) (dll : List ℕ) (asks : List Ask) : Type 0 where
@@ -58,3 +76,15 @@ pub record Loads (image : List Range) (width : ℕ) (descriptor : ℕ) (dll : Li
   pub addresses : ℕ
   pub addresses_field : NumberAt image 4 (descriptor + 16) addresses
   pub address_table : TableAt image width addresses asks
+
+-- What a strict loader takes: a descriptor that leads to this, whose time and forwarder chain are 0 (it
+-- is not bound), whose three addresses are not 0, and whose thunks are all written whole.
+pub record LoadsStrictly (image : List Range) (width : ℕ) (descriptor : ℕ) (dll : List ℕ) (asks : List Ask) : Type 0 where
+  pub plain : Loads image width descriptor dll asks
+  pub time : NumberAt image 4 (descriptor + 4) 0
+  pub forwarder : NumberAt image 4 (descriptor + 8) 0
+  pub has_lookups : 0 < plain.lookups
+  pub has_name : 0 < plain.name
+  pub has_addresses : 0 < plain.addresses
+  pub whole_lookups : WholeTableAt image width plain.lookups asks
+  pub whole_addresses : WholeTableAt image width plain.addresses asks

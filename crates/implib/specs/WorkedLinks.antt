@@ -7,12 +7,14 @@ use Rattle.implib.specs.declared.machine.MachineType.{MachineType}
 use Rattle.implib.specs.declared.machine.MachineType.TheVariants.{I386, AMD64}
 use Rattle.implib.specs.Definition.{DefinitionView, ExportView, empty_export}
 use Rattle.implib.specs.Gnu.{export_name, hint_name, thunk}
-use Rattle.implib.specs.Link.{Bases, IsAdmissible, Placed, Range, byte_at, definitions_of, image_of, placed_from}
+use Rattle.implib.specs.Image.{IsAdmissible, Range, byte_at, image_of}
+use Rattle.implib.specs.Placement.{Bases, Placed, placed_from}
+use Rattle.implib.specs.Resolution.{definitions_of}
 use Rattle.implib.specs.Load.{number_in}
 use Rattle.implib.specs.Made.{Made, member_of, plans_of}
 use Rattle.implib.specs.Object.{each_at}
 use Rattle.implib.specs.Renaming.{renamed}
-use Rattle.implib.specs.Theorem.{AllRise, ComesBefore, IsPart, NoneBegins, Part, all_linked, beginning, linked_members, objects_in}
+use Rattle.implib.specs.LinkedMembers.{AllRise, ComesBefore, IsPart, NoneBegins, Part, all_linked, beginning, linked_members, objects_in}
 use Rattle.implib.specs.WorkedMembers.{of_dll}
 use Rattle.implib.specs.WorkedStatements.{plain_export}
 

@@ -1,5 +1,5 @@
 use Rattle.implib.specs.Definition.{definition_view}
-use Rattle.implib.specs.Theorem.{bases_of}
+use Rattle.implib.specs.LinkedMembers.{bases_of}
 use Rattle.implib.proofs.LinkedMembers.{members_among, members_link, members_named, members_read, members_rise}
 use Rattle.implib.proofs.laws.link.gnu_links.Goals as goal
 

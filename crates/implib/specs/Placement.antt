@@ -1,0 +1,109 @@
+-- Placement: where the sections of linked objects stand (this project's model of what linkers do,
+-- docs/FORMATS.md, "Placement").
+use Rattle.std.specs.Prelude.{ℕ, ◌+◌, ◌-◌, ◌/◌, ◌%◌, ◌^◌, Bool, ◌==◌, List, [], ◌∷◌, length, bytes_eq, codes, Option, Some, None, if◌then◌else◌}
+use Rattle.implib.specs.Object.{Object, ObjectSection}
+
+-- The groups of sections that import tables are made of (PE/COFF specification, "The .idata
+-- Section"): descriptors in `.idata$2`, lookup tables in `.idata$4`, address tables in `.idata$5`,
+-- hints and names in `.idata$6`, names of DLLs in `.idata$7`.
+pub data Group : Type 0 where
+  Descriptors : Group
+  Lookups : Group
+  Addresses : Group
+  HintNames : Group
+  DllNames : Group
+
+abbrev pub groups : List Group
+groups = Descriptors ∷ Lookups ∷ Addresses ∷ HintNames ∷ DllNames ∷ []
+
+-- the number after the `$`
+abbrev pub group_number : Group → ℕ
+group_number Descriptors = 2
+group_number Lookups = 4
+group_number Addresses = 5
+group_number HintNames = 6
+group_number DllNames = 7
+
+abbrev pub same_group : Group → Group → Bool
+same_group first second = group_number first == group_number second
+
+-- the group of the section of a name, if it is of one
+abbrev pub group_named : List ℕ → Option Group
+group_named name =
+    if bytes_eq name (codes ".idata$2") then Some Descriptors
+    else if bytes_eq name (codes ".idata$4") then Some Lookups
+    else if bytes_eq name (codes ".idata$5") then Some Addresses
+    else if bytes_eq name (codes ".idata$6") then Some HintNames
+    else if bytes_eq name (codes ".idata$7") then Some DllNames
+    else None
+
+-- an address for each group
+pub record Bases : Type 0 where
+  pub descriptors : ℕ
+  pub lookups : ℕ
+  pub addresses : ℕ
+  pub hint_names : ℕ
+  pub dll_names : ℕ
+
+abbrev pub base_of : Group → Bases → ℕ
+base_of Descriptors b = b.descriptors
+base_of Lookups b = b.lookups
+base_of Addresses b = b.addresses
+base_of HintNames b = b.hint_names
+base_of DllNames b = b.dll_names
+
+abbrev pub with_base : Group → ℕ → Bases → Bases
+with_base Descriptors n b = record b { descriptors = n }
+with_base Lookups n b = record b { lookups = n }
+with_base Addresses n b = record b { addresses = n }
+with_base HintNames n b = record b { hint_names = n }
+with_base DllNames n b = record b { dll_names = n }
+
+-- the alignment that a section's flags say (PE/COFF specification, "Section Flags"): their field of
+-- mask 0xF00000 is 1 more than its exponent
+abbrev pub alignment : ℕ → ℕ
+alignment flags = 2 ^ (flags / 0x0010_0000 % 16 - 1)
+
+-- the first multiple of a step that is not below a number
+unfoldable pub next_multiple : ℕ → ℕ → ℕ
+next_multiple step n = n + (step - n % step) % step
+
+-- where a section stands: nowhere, if it is of no group
+pub data Place : Type 0 where
+  Nowhere : Place
+  At : Group → ℕ → Place
+
+-- the place after the ends of what is placed already
+abbrev pub place_after : Bases → ℕ → Option Group → Place
+place_after ends flags None = Nowhere
+place_after ends flags (Some group) = At group (next_multiple (alignment flags) (base_of group ends))
+
+-- the ends, when so many bytes stand at this place too
+abbrev pub end_after : Bases → Place → ℕ → Bases
+end_after ends Nowhere size = ends
+end_after ends (At group address) size = with_base group (address + size) ends
+
+abbrev pub place_of : Bases → ObjectSection → Place
+place_of ends s = place_after ends s.flags (group_named s.name)
+
+-- the places of sections that are placed one after another, and the ends after them
+abbrev pub places_of : Bases → List ObjectSection → List Place
+places_of ends [] = []
+places_of ends (s ∷ sections) = place_of ends s ∷ places_of (end_after ends (place_of ends s) (length s.bytes)) sections
+
+abbrev pub ends_after : Bases → List ObjectSection → Bases
+ends_after ends [] = ends
+ends_after ends (s ∷ sections) = ends_after (end_after ends (place_of ends s) (length s.bytes)) sections
+
+-- an object with the places of its sections
+pub record Placed : Type 0 where
+  pub object : Object
+  pub places : List Place
+
+-- Objects that are placed in their order. Each group has an address from which on it is free: its base,
+-- and then the end of the last section placed. A section goes there, or as far behind it as its
+-- alignment makes it; a base that the alignment divides is taken as it is.
+abbrev pub placed_from : Bases → List Object → List Placed
+placed_from ends [] = []
+placed_from ends (o ∷ objects) =
+    record { object = o; places = places_of ends o.sections } ∷ placed_from (ends_after ends o.sections) objects

@@ -1,0 +1,62 @@
+-- Resolution: the addresses of the symbols of objects that are placed (PE/COFF specification, "COFF
+-- Symbol Table").
+use Rattle.std.specs.Prelude.{ℕ, zero, suc, ◌+◌, Bool, ◌&&◌, ◌==◌, List, [], ◌∷◌, bytes_eq, slice_get, Option, Some, None, if◌then◌else◌}
+use Rattle.std.specs.List.{filter, filter_map, flat_map}
+use Rattle.std.specs.Option.{option_and_then}
+use Rattle.implib.specs.Constants.{external, undefined}
+use Rattle.implib.specs.File.{is_defined_external}
+use Rattle.implib.specs.Object.{ASymbol, Auxiliary, Entry, ObjectSymbol}
+use Rattle.implib.specs.Placement.{At, Nowhere, Place, Placed}
+
+-- the address of a value at a place
+abbrev pub address_at : Place → ℕ → Option ℕ
+address_at Nowhere value = None
+address_at (At group address) value = Some (address + value)
+
+-- the address of a value in the section of a number, which counts from 1
+abbrev pub address_in : List Place → ℕ → ℕ → Option ℕ
+address_in places zero value = None
+address_in places (suc index) value = option_and_then (λ place. address_at place value) (slice_get places index)
+
+-- a symbol that an object defines for others, with its address, where its section has a place
+pub record SymbolDefinition : Type 0 where
+  pub name : List ℕ
+  pub address : Option ℕ
+
+abbrev pub defined_by_entry : List Place → Entry → Option SymbolDefinition
+defined_by_entry places (Auxiliary bytes) = None
+defined_by_entry places (ASymbol s) =
+    if is_defined_external s then Some (record { name = s.name; address = address_in places s.section s.value }) else None
+
+abbrev pub defined_by : Placed → List SymbolDefinition
+defined_by p = filter_map (defined_by_entry p.places) p.object.entries
+
+-- all that objects define for one another
+abbrev pub definitions : List Placed → List SymbolDefinition
+definitions linked = flat_map defined_by linked
+
+-- the definitions of a name
+abbrev pub definitions_of : List ℕ → List Placed → List SymbolDefinition
+definitions_of name linked = filter (λ d. bytes_eq name d.name) (definitions linked)
+
+abbrev pub first_address : List SymbolDefinition → Option ℕ
+first_address [] = None
+first_address (d ∷ others) = d.address
+
+-- whether a symbol is one of another object
+abbrev pub is_undefined_external : ObjectSymbol → Bool
+is_undefined_external s = (s.class == external) && (s.section == undefined)
+
+-- the address of a symbol of an object: of its own sections, or where another object defines it
+abbrev pub symbol_address : List Placed → Placed → Entry → Option ℕ
+symbol_address linked p (Auxiliary bytes) = None
+symbol_address linked p (ASymbol s) =
+    if is_undefined_external s then first_address (definitions_of s.name linked) else address_in p.places s.section s.value
+
+-- the address of the symbol of an index, 0 where it has none
+abbrev pub address_or_zero : Option ℕ → ℕ
+address_or_zero None = 0
+address_or_zero (Some address) = address
+
+abbrev pub target_address : List Placed → Placed → ℕ → ℕ
+target_address linked p index = address_or_zero (option_and_then (symbol_address linked p) (slice_get p.object.entries index))

@@ -1,0 +1,71 @@
+-- The members and the null descriptor are a program by themselves.
+use Rattle.std.proofs.Common.{◌≡◌, ℕ, false, true, List, [], ◌∷◌, ◌++◌, map, refl, ap, sym, ◌∙◌, subst}
+use Rattle.std.specs.Prelude.{bytes_eq, not}
+use Rattle.std.specs.List.{AllByRecursion, IsDistinct, filter, list_any}
+use Rattle.implib.specs.declared.machine.MachineType.{MachineType}
+use Rattle.implib.specs.Definition.{ExportView}
+use Rattle.implib.specs.Gnu.{export_object, head_object, tail_object}
+use Rattle.implib.specs.Image.{IsAdmissible}
+use Rattle.implib.specs.LinkedMembers.{IsMade, Part, all_linked, objects_in}
+use Rattle.implib.specs.Object.{Object}
+use Rattle.implib.specs.Placement.{Bases}
+use Rattle.implib.proofs.LinkedBlocks.{Block, blocks_objects}
+use Rattle.implib.proofs.LinkedParts.{block_of, parts_objects}
+use Rattle.implib.proofs.Placement.{export, head, tail}
+use Rattle.implib_link.specs.Program.{ClaimsNone, IsProgram, has_tables, linked_symbols, null_descriptor}
+use Rattle.implib_link.proofs.Blocks.{objects_behind}
+
+head_has : (machine : MachineType) (dll : List ℕ) → has_tables (head machine dll) ≡ true
+unfolding has_tables head_object
+head_has machine dll = refl
+
+tail_has : (machine : MachineType) (dll : List ℕ) → has_tables (tail machine dll) ≡ true
+unfolding has_tables tail_object
+tail_has machine dll = refl
+
+export_has : (machine : MachineType) (dll : List ℕ) (e : ExportView) → has_tables (export machine dll e) ≡ true
+unfolding has_tables export_object
+export_has machine dll e = refl
+
+null_has : has_tables null_descriptor ≡ true
+unfolding has_tables
+null_has = refl
+
+-- each object of a list has tables
+abbrev AllHave : List Object → Type 0
+AllHave objects = AllByRecursion (λ o. has_tables o ≡ true) objects
+
+exports_have : (machine : MachineType) (dll : List ℕ) (es : List ExportView) (rest : List Object) → AllHave rest → AllHave (map (export machine dll) es ++ rest)
+exports_have machine dll [] rest all = all
+exports_have machine dll (e ∷ es) rest all = (export_has machine dll e, exports_have machine dll es rest all)
+
+blocks_have : (machine : MachineType) (blocks : List Block) (rest : List Object) → AllHave rest → AllHave (blocks_objects machine blocks rest)
+blocks_have machine [] rest all = all
+blocks_have machine (k ∷ blocks) rest all =
+    (head_has machine k.dll, exports_have machine k.dll k.exports _ (tail_has machine k.dll, blocks_have machine blocks rest all))
+
+pub all_kept : (objects : List Object) → AllHave objects → filter has_tables objects ≡ objects
+all_kept [] all = refl
+all_kept (o ∷ objects) all = rw all.0 (ap (λ others. o ∷ others) (all_kept objects all.1))
+
+none_left : (objects : List Object) → AllHave objects → filter (λ o. not (has_tables o)) objects ≡ []
+none_left [] all = refl
+none_left (o ∷ objects) all = rw all.0 (none_left objects all.1)
+
+pub members_have : (machine : MachineType) (parts : List Part) → AllByRecursion (IsMade machine) parts →
+    AllByRecursion (λ o. has_tables o ≡ true) (objects_in (all_linked machine parts) ++ null_descriptor ∷ [])
+members_have machine parts made =
+    subst AllHave (sym (ap (λ members. members ++ null_descriptor ∷ []) (parts_objects machine parts made) ∙ objects_behind machine (map block_of parts) (null_descriptor ∷ [])))
+    (blocks_have machine (map block_of parts) (null_descriptor ∷ []) (null_has, tt))
+
+pub members_are_program : (machine : MachineType) (bases : Bases) (parts : List Part) → AllByRecursion (IsMade machine) parts →
+    IsDistinct bytes_eq (linked_symbols machine parts) → IsAdmissible machine bases (objects_in (all_linked machine parts) ++ null_descriptor ∷ []) →
+    IsProgram machine bases parts (objects_in (all_linked machine parts) ++ null_descriptor ∷ [])
+members_are_program machine bases parts made distinct admissible =
+    let objects : List Object = objects_in (all_linked machine parts) ++ null_descriptor ∷ [] in
+    record {
+      distinct = distinct;
+      tables = all_kept objects (members_have machine parts made);
+      others = subst (AllByRecursion (ClaimsNone (linked_symbols machine parts))) (sym (none_left objects (members_have machine parts made))) tt;
+      admissible = admissible;
+    }

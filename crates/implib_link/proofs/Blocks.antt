@@ -1,0 +1,110 @@
+-- Where the descriptors and the address tables of blocks stand, and the null descriptor behind them.
+use Rattle.std.proofs.Common.{◌≡◌, ℕ, zero, suc, ◌+◌, ◌*◌, ◌-◌, ◌%◌, ◌≤◌, List, [], ◌∷◌, ◌++◌, length, map, Some, refl, ap, sym, ◌∙◌, subst, arith}
+use Rattle.std.specs.Prelude.{slice_get}
+use Rattle.std.proofs.Math.Nat.{mul-add, mul-suc, mul-zero}
+use Rattle.std.proofs.lemmas.List.{append-nil, append_assoc, length-replicate}
+use Rattle.implib.specs.declared.machine.MachineType.{MachineType}
+use Rattle.implib.specs.Definition.{ExportView}
+use Rattle.implib.specs.Image.{Contribution, Range, filled}
+use Rattle.implib.specs.LinkedMembers.{Part, chosen_exports}
+use Rattle.implib.specs.Load.{BytesAt}
+use Rattle.implib.specs.MsvcObjects.{thunk_width, zeros}
+use Rattle.implib.specs.Object.{Object}
+use Rattle.implib.specs.Placement.{Bases, Descriptors, Placed, next_multiple}
+use Rattle.implib.proofs.LinkedBlocks.{Block, BlocksLink, blocks_objects, ends_of_blocks}
+use Rattle.implib.proofs.LinkedParts.{block_of}
+use Rattle.implib.proofs.Linked.{BlockLinks, StandsFrom, aligned_block, ends_of_block}
+use Rattle.implib.proofs.Placement.{AreAligned, after_head, aligned, descriptors_end, ends_of_all, ends_of_export, ends_of_exports, ends_of_head, export, head, tail}
+use Rattle.implib_link.specs.Directory.{DirectoryAt, imported}
+use Rattle.implib_link.specs.Program.{null_descriptor, thunks_before}
+
+-- objects behind blocks
+pub objects_behind : (machine : MachineType) (blocks : List Block) (rest : List Object) →
+    blocks_objects machine blocks [] ++ rest ≡ blocks_objects machine blocks rest
+objects_behind machine [] rest = refl
+objects_behind machine (k ∷ blocks) rest =
+    ap (λ others. head machine k.dll ∷ others)
+    (append_assoc (map (export machine k.dll) k.exports) (tail machine k.dll ∷ blocks_objects machine blocks []) rest
+    ∙ ap (λ others. map (export machine k.dll) k.exports ++ tail machine k.dll ∷ others) (objects_behind machine blocks rest))
+
+-- the descriptors' end after a block
+pub descriptors_after : (machine : MachineType) (dll : List ℕ) (b : Bases) (es : List ExportView) →
+    b.descriptors + 20 ≡ (ends_of_block machine dll b es).descriptors
+descriptors_after machine dll b es = descriptors_end machine dll (ends_of_head machine dll b) es
+
+plus_twice : (a w m : ℕ) → a + w + m ≡ a + (m + w)
+plus_twice a w m = omega arith
+
+-- the address tables' end after a block's thunks and its null thunk
+pub addresses_after : (machine : MachineType) (dll : List ℕ) (b : Bases) (es : List ExportView) →
+    (ends_of_all machine dll b es).addresses ≡ b.addresses + thunk_width machine * (length es + 1)
+unfolding ends_of_exports
+addresses_after machine dll b [] = omega arith
+addresses_after machine dll b (e ∷ es) =
+    let later = addresses_after machine dll (ends_of_export machine dll b e) es in
+    let count : suc (length es) + 1 ≡ suc (length es + 1) = omega arith in
+    let product : thunk_width machine * (suc (length es) + 1) ≡ thunk_width machine * (length es + 1) + thunk_width machine =
+    ap (λ n. thunk_width machine * n) count ∙ mul-suc (thunk_width machine) (length es + 1) in
+    later ∙ plus_twice b.addresses (thunk_width machine) (thunk_width machine * (length es + 1)) ∙ ap (λ n. b.addresses + n) (sym product)
+
+-- the ends after blocks stay aligned
+pub aligned_blocks : (machine : MachineType) (b : Bases) (blocks : List Block) → AreAligned b → AreAligned (ends_of_blocks machine b blocks)
+unfolding ends_of_blocks
+aligned_blocks machine b [] even = even
+aligned_blocks machine b (k ∷ blocks) even = aligned_blocks machine (ends_of_block machine k.dll b k.exports) blocks (aligned_block machine k.dll b k.exports even)
+
+-- the null descriptor stands where the descriptors end
+pub null_stands : (machine : MachineType) (linked : List Placed) (image : List Range) (b : Bases) → AreAligned b →
+    StandsFrom machine linked image b (null_descriptor ∷ []) → BytesAt image b.descriptors (zeros 20)
+null_stands machine linked image b even stands =
+    let place : next_multiple 4 b.descriptors ≡ b.descriptors = aligned b.descriptors even.descriptors in
+    let none : b.descriptors - b.descriptors ≡ 0 = omega arith in
+    let all : List ℕ = zeros (next_multiple 4 b.descriptors - b.descriptors) ++ (zeros 20 ++ []) in
+    let same : all ≡ zeros 20 = rw (place, none) refl in
+    subst (BytesAt image b.descriptors) same stands.descriptors
+
+plus_sum : (a n m : ℕ) → a + 20 + 20 * n ≡ a + 20 * suc n
+plus_sum a n m = omega arith
+
+pub table_sum : (a w n m : ℕ) → a + w * n + w * m ≡ a + w * (n + m)
+table_sum a w n m = let split : w * (n + m) ≡ w * n + w * m = mul-add w n m in omega arith
+
+plus_zero : (a w : ℕ) → a ≡ a + w * 0
+plus_zero a w = let none : w * 0 ≡ 0 = mul-zero w in omega arith
+
+-- what is known of the i-th block
+pub nth_block : (machine : MachineType) (linked : List Placed) (image : List Range) (parts : List Part) (b : Bases) →
+    BlocksLink machine linked image b (map block_of parts) → (i : ℕ) (p : Part) → slice_get parts i ≡ Some p →
+    (c : Bases) × ((c.descriptors ≡ b.descriptors + 20 * i) × ((c.addresses ≡ b.addresses + thunk_width machine * thunks_before i parts)
+    × BlockLinks machine linked image c p.definition.import_name (chosen_exports p.definition p.chosen)))
+unfolding BlocksLink
+nth_block machine linked image [] b links i p is = cc
+nth_block machine linked image (q ∷ parts) b links zero p is =
+    let same : q ≡ p = cc in
+    (b, (omega arith, (plus_zero b.addresses (thunk_width machine),
+      subst (λ (r : Part). BlockLinks machine linked image b r.definition.import_name (chosen_exports r.definition r.chosen)) same links.0)))
+nth_block machine linked image (q ∷ parts) b links (suc i) p is =
+    let dll : List ℕ = q.definition.import_name in
+    let exports : List ExportView = chosen_exports q.definition q.chosen in
+    let later : Bases = ends_of_block machine dll b exports in
+    let found = nth_block machine linked image parts later links.1 i p is in
+    let at_descriptor : later.descriptors + 20 * i ≡ b.descriptors + 20 * suc i =
+    ap (λ n. n + 20 * i) (sym (descriptors_after machine dll b exports)) ∙ plus_sum b.descriptors i 0 in
+    let at_table : later.addresses + thunk_width machine * thunks_before i parts ≡ b.addresses + thunk_width machine * (length exports + 1 + thunks_before i parts) =
+    ap (λ n. n + thunk_width machine * thunks_before i parts) (addresses_after machine dll (ends_of_head machine dll b) exports)
+    ∙ table_sum b.addresses (thunk_width machine) (length exports + 1) (thunks_before i parts) in
+    (found.0, (found.1.0 ∙ at_descriptor, (found.1.1.0 ∙ at_table, found.1.1.1)))
+
+-- blocks and the null descriptor behind them are a directory
+pub directory_of : (machine : MachineType) (linked : List Placed) (image : List Range) (parts : List Part) (b : Bases) →
+    BlocksLink machine linked image b (map block_of parts) → BytesAt image (ends_of_blocks machine b (map block_of parts)).descriptors (zeros 20) →
+    DirectoryAt image (thunk_width machine) b.descriptors (map (imported machine) parts)
+unfolding BlocksLink DirectoryAt ends_of_blocks
+directory_of machine linked image [] b links null = null
+directory_of machine linked image (p ∷ parts) b links null =
+    let dll : List ℕ = p.definition.import_name in
+    let exports : List ExportView = chosen_exports p.definition p.chosen in (
+      links.0.strictly.loads,
+      subst (λ n. DirectoryAt image (thunk_width machine) n (map (imported machine) parts)) (sym (descriptors_after machine dll b exports))
+          (directory_of machine linked image parts (ends_of_block machine dll b exports) links.1 null),
+    )

@@ -1,0 +1,14 @@
+pub mod Others
+pub mod Directory
+pub mod Blocks
+pub mod Program
+pub mod Alone
+pub mod Texts
+pub mod Loaded
+pub mod Sized
+pub mod Packed
+pub mod Jumps
+pub mod Stubs
+pub mod WorkedPrograms
+pub mod RefusedLinks
+pub mod Archive

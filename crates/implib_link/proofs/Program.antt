@@ -1,0 +1,147 @@
+-- A program links.
+use Rattle.std.proofs.Common.{◌≡◌, ℕ, ◌+◌, ◌*◌, ◌<◌, ◌^◌, true, false, List, [], ◌∷◌, ◌++◌, map, Some, refl, ap, sym, ◌∙◌, subst, inl, inr}
+use Rattle.std.specs.Prelude.{bytes_eq, not, slice_get}
+use Rattle.std.specs.List.{AllByRecursion, Contains, IsDistinct, filter, flat_map, list_any}
+use Rattle.std.proofs.lemmas.List.{append-nil}
+use Rattle.implib.specs.declared.machine.MachineType.{MachineType}
+use Rattle.implib.specs.Definition.{ExportView}
+use Rattle.implib.specs.Image.{IsAdmissible, Range, contributions, filled, image_of}
+use Rattle.implib.specs.Import.{address_symbol}
+use Rattle.implib.specs.Linked.{AllFind, EntriesAt, LinksStrictlyAt, IsDefinedOnce, undefined_names, IsDefinedAt}
+use Rattle.implib.specs.LinkedMembers.{IsMade, Part, all_linked, chosen_exports, objects_in}
+use Rattle.implib.specs.Load.{BytesAt}
+use Rattle.implib.specs.MsvcObjects.{thunk_width, zeros}
+use Rattle.implib.specs.Object.{ASymbol, Object, ObjectSymbol}
+use Rattle.implib.specs.Placement.{Addresses, Bases, Descriptors, DllNames, Group, HintNames, Lookups, Placed, base_of, placed_from}
+use Rattle.implib.specs.Resolution.{SymbolDefinition, definitions_of, first_address, is_undefined_external, symbol_address}
+use Rattle.implib.proofs.Definitions.{only_definition}
+use Rattle.implib.proofs.Linked.{BlockLinks, StandsFrom}
+use Rattle.implib.proofs.LinkedBlocks.{Block, EachLinks, all_stand, blocks_definitions, blocks_objects, definitions-blocks, each_links, ends, ends_of_blocks, even, names-blocks, starts}
+use Rattle.implib.proofs.LinkedMembers.{among_map}
+use Rattle.implib.proofs.LinkedParts.{block_of, parts_fit, parts_linked, parts_objects, parts_symbols}
+use Rattle.implib.proofs.Ranges.{Among, among_first, among_later}
+use Rattle.implib_link.specs.Program.{ClaimsNone, EachGets, GetsAddress, ImportsBy, IsProgram, LinksAmong, claimed_names, has_tables, linked_symbols, null_descriptor, thunks_before, with_tables}
+use Rattle.implib_link.proofs.Others.{contributions_kept, definitions_kept, placed_kept}
+use Rattle.implib_link.proofs.Blocks.{aligned_blocks, directory_of, nth_block, null_stands, objects_behind}
+
+claims_of : (name : List ℕ) (names : List (List ℕ)) → Among name names → (o : Object) → ClaimsNone names o → list_any (bytes_eq name) (claimed_names o) ≡ false
+unfolding Among
+claims_of name [] m o none = absurd m
+claims_of name (n ∷ names) (inl e) o none = subst (λ t. list_any (bytes_eq t) (claimed_names o) ≡ false) (sym e) none.0
+claims_of name (n ∷ names) (inr m) o none = claims_of name names m o none.1
+
+all_claim : (name : List ℕ) (names : List (List ℕ)) → Among name names → (objects : List Object) → AllByRecursion (ClaimsNone names) objects →
+    AllByRecursion (λ o. list_any (bytes_eq name) (claimed_names o) ≡ false) objects
+all_claim name names m [] none = tt
+all_claim name names m (o ∷ objects) none = (claims_of name names m o none.0, all_claim name names m objects none.1)
+
+once_of : (linked : List Placed) (ds : List SymbolDefinition) → ((d : SymbolDefinition) → Among d ds → definitions_of d.name linked ≡ d ∷ []) →
+    AllByRecursion (IsDefinedOnce linked) (map (λ (d : SymbolDefinition). d.name) ds)
+once_of linked [] only = tt
+once_of linked (d ∷ ds) only = ((d, only d (among_first d ds)), once_of linked ds (λ other m. only other (among_later other d ds m)))
+
+-- an undefined symbol has the address of the only definition of its name
+gets_address : (linked : List Placed) (name : List ℕ) (address : ℕ) →
+    definitions_of name linked ≡ record { name = name; address = Some address } ∷ [] → GetsAddress linked name address
+gets_address linked name address once p s held entry undefined named = rw (undefined, named, once) refl
+
+pub each_gets : (linked : List Placed) (width address : ℕ) (exports : List ExportView) → EntriesAt linked width address exports → EachGets linked width address exports
+unfolding EntriesAt EachGets
+each_gets linked width address [] entries = tt
+each_gets linked width address (e ∷ exports) entries =
+    (gets_address linked (address_symbol e.name) address entries.0, each_gets linked width (address + width) exports entries.1)
+
+imports_by : (machine : MachineType) (image : List Range) (linked : List Placed) (own descriptor begin table : ℕ) (dll : List ℕ) (exports : List ExportView) →
+    own ≡ descriptor → begin ≡ table → (strictly : LinksStrictlyAt machine image linked own dll exports) → strictly.loads.plain.addresses ≡ begin →
+    ImportsBy machine image linked descriptor table dll exports
+imports_by machine image linked own descriptor begin table dll exports place begins strictly addresses =
+    subst (λ n. ImportsBy machine image linked n table dll exports) place (record {
+      strictly = strictly;
+      table_stands = addresses ∙ begins;
+      gets = subst (λ n. EachGets linked (thunk_width machine) n exports) (addresses ∙ begins)
+          (each_gets linked (thunk_width machine) strictly.loads.plain.addresses exports strictly.entries);
+    })
+
+module _ (machine : MachineType) (b : Bases) (parts : List Part) (objects : List Object) (made : AllByRecursion (IsMade machine) parts)
+    (program : IsProgram machine b parts objects) where
+  abbrev linked : List Placed
+  linked = placed_from b objects
+
+  abbrev image : List Range
+  image = image_of machine b (placed_from b objects)
+
+  abbrev dlls : List Block
+  dlls = map block_of parts
+
+  abbrev behind : List Object
+  behind = null_descriptor ∷ []
+
+  kept_are : filter has_tables objects ≡ blocks_objects machine dlls behind
+  kept_are =
+      program.tables
+      ∙ ap (λ members. members ++ behind) (parts_objects machine parts made)
+      ∙ objects_behind machine dlls behind
+
+  group_stands : (group : Group) → BytesAt image (base_of group b) (filled (base_of group b) (contributions machine linked group linked)) →
+      BytesAt image (base_of group b) (filled (base_of group b) (contributions machine linked group (placed_from b (blocks_objects machine dlls behind))))
+  group_stands group stands =
+      subst (λ os. BytesAt image (base_of group b) (filled (base_of group b) (contributions machine linked group (placed_from b os)))) kept_are
+      (subst (λ cs. BytesAt image (base_of group b) (filled (base_of group b) cs)) (contributions_kept machine linked group b objects) stands)
+
+  stands : StandsFrom machine linked image b (blocks_objects machine dlls behind)
+  stands =
+      let all = all_stand machine b objects program.admissible in
+      record {
+        descriptors = group_stands Descriptors all.descriptors;
+        lookups = group_stands Lookups all.lookups;
+        addresses = group_stands Addresses all.addresses;
+        hint_names = group_stands HintNames all.hint_names;
+        dll_names = group_stands DllNames all.dll_names;
+      }
+
+  abbrev defined : List SymbolDefinition
+  defined = blocks_definitions machine b dlls
+
+  names_are : map (λ (d : SymbolDefinition). d.name) defined ≡ linked_symbols machine parts
+  names_are = names-blocks machine b dlls ∙ sym (parts_symbols machine parts made)
+
+  only : (d : SymbolDefinition) → Among d (blocks_definitions machine b (map block_of parts)) → definitions_of d.name (placed_from b objects) ≡ d ∷ []
+  only d m =
+      let listed : Among d.name (linked_symbols machine parts) = subst (Among d.name) names_are (among_map (λ (x : SymbolDefinition). x.name) d defined m) in
+      definitions_kept d.name b objects (all_claim d.name (linked_symbols machine parts) listed (filter (λ o. not (has_tables o)) objects) program.others)
+      ∙ ap (λ os. definitions_of d.name (placed_from b os)) kept_are
+      ∙ ap (λ ds. filter (λ (x : SymbolDefinition). bytes_eq d.name x.name) ds)
+      (definitions-blocks machine b dlls behind (even machine b objects program.admissible) ∙ append-nil defined)
+      ∙ only_definition d defined m (subst (IsDistinct bytes_eq) (sym names_are) program.distinct)
+
+  pub each : EachLinks machine (placed_from b objects) (image_of machine b (placed_from b objects)) b (map block_of parts) (null_descriptor ∷ [])
+  each = each_links machine linked image behind (starts machine b objects program.admissible) (ends machine b objects program.admissible)
+      dlls b (parts_fit machine parts made) (even machine b objects program.admissible) only stands
+
+  null : BytesAt image (ends_of_blocks machine b (map block_of parts)).descriptors (zeros 20)
+  null = null_stands machine linked image (ends_of_blocks machine b dlls) (aligned_blocks machine b dlls (even machine b objects program.admissible)) each.stands
+
+  nth_imports : (i : ℕ) (p : Part) → slice_get parts i ≡ Some p →
+      ImportsBy machine (image_of machine b (placed_from b objects)) (placed_from b objects) (b.descriptors + 20 * i) (b.addresses + thunk_width machine * thunks_before i parts)
+      p.definition.import_name (chosen_exports p.definition p.chosen)
+  nth_imports i p is =
+      let found = nth_block machine linked image parts b each.imports i p is in
+      imports_by machine image linked found.0.descriptors (b.descriptors + 20 * i) found.0.addresses (b.addresses + thunk_width machine * thunks_before i parts)
+      p.definition.import_name (chosen_exports p.definition p.chosen) found.1.0 found.1.1.0 found.1.1.1.strictly found.1.1.1.addresses
+
+  pub kept_placed : with_tables (placed_from b objects) ≡ placed_from b (blocks_objects machine (map block_of parts) (null_descriptor ∷ []))
+  kept_placed = placed_kept b objects ∙ ap (placed_from b) kept_are
+
+pub program_links : (machine : MachineType) (bases : Bases) (parts : List Part) (objects : List Object) → AllByRecursion (IsMade machine) parts →
+    IsProgram machine bases parts objects → LinksAmong machine bases parts objects
+program_links machine b parts objects made program =
+    let found = each machine b parts objects made program in
+    record {
+      linked = parts_linked machine parts made;
+      imports = nth_imports machine b parts objects made program;
+      directory = directory_of machine (placed_from b objects) (image_of machine b (placed_from b objects)) parts b found.imports (null machine b parts objects made program);
+      targets = subst (AllByRecursion (AllFind (placed_from b objects))) (sym (kept_placed machine b parts objects made program)) (found.targets ((tt, tt), tt));
+      defined = subst (λ ps. AllByRecursion (IsDefinedAt (placed_from b objects)) (undefined_names ps)) (sym (kept_placed machine b parts objects made program)) (found.defined tt);
+      listed = subst (AllByRecursion (IsDefinedOnce (placed_from b objects))) (names_are machine b parts objects made program)
+          (once_of (placed_from b objects) (defined machine b parts objects made program) (only machine b parts objects made program));
+    }

@@ -1,0 +1,5 @@
+use Rattle.implib_link.proofs.Directory.{directory_walk, walk_once}
+use Rattle.implib_link.proofs.laws.program.directory_once.Goals as goal
+
+pub returns : goal.returns
+returns c = record { walk = directory_walk; once = walk_once }

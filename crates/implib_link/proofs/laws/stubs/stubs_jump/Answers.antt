@@ -1,0 +1,5 @@
+use Rattle.implib_link.proofs.Stubs.{stubs_jump}
+use Rattle.implib_link.proofs.laws.stubs.stubs_jump.Goals as goal
+
+pub returns : goal.returns
+returns c = record { jumps = stubs_jump }

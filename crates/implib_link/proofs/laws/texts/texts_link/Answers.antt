@@ -1,0 +1,5 @@
+use Rattle.implib_link.proofs.Texts.{texts_link}
+use Rattle.implib_link.proofs.laws.texts.texts_link.Goals as goal
+
+pub returns : goal.returns
+returns c = record { links = texts_link }

@@ -1,0 +1,43 @@
+-- The import directory of an image (PE/COFF specification, "Import Directory Table"): a descriptor for
+-- each DLL, one after another, and the null descriptor.
+use Rattle.std.specs.Prelude.{◌≡◌, ℕ, ◌+◌, ◌<◌, ◌⊎◌, List, [], ◌∷◌, map}
+use Rattle.implib.specs.declared.machine.MachineType.{MachineType}
+use Rattle.implib.specs.Image.{Range}
+use Rattle.implib.specs.Import.{Ask, ask_meant}
+use Rattle.implib.specs.LinkedMembers.{Part, chosen_exports}
+use Rattle.implib.specs.Load.{BytesAt, Loads, LoadsStrictly, NumberAt}
+use Rattle.implib.specs.MsvcObjects.{descriptor_size, zeros}
+
+-- a DLL, and all that is asked of it
+pub record Imported : Type 0 where
+  pub dll : List ℕ
+  pub asks : List Ask
+
+-- what a program imports by the chosen exports of a definition
+abbrev pub imported : MachineType → Part → Imported
+imported machine p = record {
+  dll = p.definition.import_name;
+  asks = map (ask_meant machine) (chosen_exports p.definition p.chosen);
+}
+
+-- At an address stands a directory of just these imports, in this order, each by a descriptor that a
+-- strict loader takes; 20 zero bytes end it.
+unfoldable pub DirectoryAt : List Range → ℕ → ℕ → List Imported → Type 0
+DirectoryAt image width address [] = BytesAt image address (zeros 20)
+DirectoryAt image width address (i ∷ others) =
+    LoadsStrictly image width address i.dll i.asks × DirectoryAt image width (address + 20) others
+
+-- a descriptor by which a loader goes on: the addresses of its name and of its address table are not 0
+pub record GoesOnBy (image : List Range) (width : ℕ) (address : ℕ) (i : Imported) : Type 0 where
+  pub loads : Loads image width address i.dll i.asks
+  pub has_name : 0 < loads.name
+  pub has_addresses : 0 < loads.addresses
+
+-- a descriptor at which a loader stops: the address of its name or of its address table is 0
+abbrev pub StopsAt : List Range → ℕ → Type 0
+StopsAt image address = NumberAt image 4 (address + 12) 0 ⊎ NumberAt image 4 (address + 16) 0
+
+-- what a loader finds that walks from an address on and is strict about nothing
+unfoldable pub WalkFinds : List Range → ℕ → ℕ → List Imported → Type 0
+WalkFinds image width address [] = StopsAt image address
+WalkFinds image width address (i ∷ others) = GoesOnBy image width address i × WalkFinds image width (address + 20) others

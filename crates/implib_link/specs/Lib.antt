@@ -1,0 +1,9 @@
+pub mod Directory
+pub mod Program
+pub mod Texts
+pub mod Loaded
+pub mod Packed
+pub mod Stub
+pub mod WorkedPrograms
+pub mod RefusedLinks
+pub mod Archive

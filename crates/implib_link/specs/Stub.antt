@@ -1,0 +1,127 @@
+-- The stubs, by which a call of an export goes through its entry of the address table: how their code is
+-- relocated (PE/COFF specification, "Type Indicators") and what their jump reads, by the processors' rules.
+-- Addresses of code and of its targets count from the image's base.
+use Rattle.std.specs.Prelude.{◌≡◌, ℕ, ◌+◌, ◌-◌, ◌*◌, ◌/◌, ◌%◌, ◌^◌, ◌<◌, ◌≤◌, ◌&&◌, ◌==◌, nat_lt, false, List, [], ◌∷◌, ◌++◌, bytes_eq, drop, slice_get, take, Option, Some, None, if◌then◌else◌}
+use Rattle.std.specs.List.{Contains}
+use Rattle.implib.specs.declared.coff.object.Relocation.{Relocation}
+use Rattle.implib.specs.declared.machine.MachineType.{MachineType}
+use Rattle.implib.specs.declared.machine.MachineType.TheVariants.{I386, ARMNT, AMD64, ARM64}
+use Rattle.implib.specs.Bytes.{u32_bytes}
+use Rattle.implib.specs.Constants.{amd64_rel32, arm64_pagebase_rel21, arm64_pageoffset_12l, external, i386_dir32}
+use Rattle.implib.specs.Definition.{ExportView}
+use Rattle.implib.specs.Image.{Range}
+use Rattle.implib.specs.Import.{address_symbol}
+use Rattle.implib.specs.Load.{BytesAt, number_in}
+use Rattle.implib.specs.Object.{ASymbol, ObjectSection, ObjectSymbol}
+use Rattle.implib.specs.Placement.{Bases, Placed}
+use Rattle.implib.specs.Resolution.{definitions_of, target_address}
+
+-- the four bytes at an offset, as a number, and with another number in their place
+abbrev pub word_at : List ℕ → ℕ → ℕ
+word_at bytes offset = number_in (take 4 (drop offset bytes))
+
+abbrev pub with_word : List ℕ → ℕ → ℕ → List ℕ
+with_word bytes offset word = take offset bytes ++ (u32_bytes word ++ drop (offset + 4) bytes)
+
+-- the field of so many bits from a bit of a word on, and the word with another number in it
+abbrev pub bits_of : ℕ → ℕ → ℕ → ℕ
+bits_of low width word = word / 2 ^ low % 2 ^ width
+
+abbrev pub with_bits : ℕ → ℕ → ℕ → ℕ → ℕ
+with_bits low width n word = word - bits_of low width word * 2 ^ low + n % 2 ^ width * 2 ^ low
+
+-- the page of an address, on ARM64
+abbrev pub page : ℕ → ℕ
+page address = address / 4096
+
+-- the 21 bits of an `adrp`: the low two from bit 29, the others from bit 5
+abbrev pub adrp_immediate : ℕ → ℕ
+adrp_immediate word = bits_of 5 19 word * 4 + bits_of 29 2 word
+
+abbrev pub with_adrp : ℕ → ℕ → ℕ
+with_adrp n word = with_bits 29 2 n (with_bits 5 19 (n / 4) word)
+
+-- the 12 bits of an `ldr` from bit 10 on, which count in what it loads: 8 bytes where its top bits are 3
+abbrev pub ldr_immediate : ℕ → ℕ
+ldr_immediate word = bits_of 10 12 word * 2 ^ bits_of 30 2 word
+
+abbrev pub with_ldr : ℕ → ℕ → ℕ
+with_ldr n word = with_bits 10 12 (n / 2 ^ bits_of 30 2 word) word
+
+-- A word of code that a relocation of this type changes, at a place, for a target:
+-- I386 type 6, the target's address; AMD64 type 4, the target relative to the byte behind the field; ARM64
+-- type 4, the target's page relative to the place's, and type 7, the target's offset in its page.
+abbrev pub code_word : MachineType → ℕ → ℕ → ℕ → ℕ → ℕ → ℕ
+code_word I386 type image_base place target word =
+    if type == i386_dir32 then (word + (image_base + target)) % 2 ^ 32 else word
+code_word ARMNT type image_base place target word = word
+code_word AMD64 type image_base place target word =
+    if type == amd64_rel32 then (word + target + (2 ^ 32 - (place + 4) % 2 ^ 32)) % 2 ^ 32 else word
+code_word ARM64 type image_base place target word =
+    if type == arm64_pagebase_rel21 then
+    with_adrp (page (image_base + target + adrp_immediate word) + (2 ^ 21 - page (image_base + place) % 2 ^ 21)) word
+    else if type == arm64_pageoffset_12l then with_ldr ((image_base + target + ldr_immediate word) % 4096) word
+    else word
+
+-- the code of a placed object's section that stands at a place, relocated
+abbrev pub code_relocated : MachineType → ℕ → List Placed → Placed → ℕ → List Relocation → List ℕ → List ℕ
+code_relocated machine image_base linked p place [] bytes = bytes
+code_relocated machine image_base linked p place (r ∷ relocations) bytes =
+    code_relocated machine image_base linked p place relocations
+    (with_word bytes r.offset
+    (code_word machine r.kind image_base (place + r.offset) (target_address linked p r.symbol) (word_at bytes r.offset)))
+
+-- a number of so many bits and steps, as a signed one, added to an address
+abbrev pub plus_signed : ℕ → ℕ → ℕ → ℕ → ℕ
+plus_signed width step n address =
+    if nat_lt n (2 ^ (width - 1)) then address + n * step else address + n * step - 2 ^ width * step
+
+-- Where the jump that code at an address begins with reads its target, by the rule of its instructions:
+-- I386 `jmp [disp32]`, at the displacement; AMD64 `jmp [rip + disp32]`, that far behind the jump; ARM64
+-- `adrp x16, page`, `ldr x16, [x16, offset]`, `br x16`.
+abbrev pub jump_reads : MachineType → ℕ → List ℕ → Option ℕ
+jump_reads I386 address bytes =
+    if bytes_eq (take 2 bytes) (0xFF ∷ 0x25 ∷ []) then Some (word_at bytes 2) else None
+jump_reads ARMNT address bytes = None
+jump_reads AMD64 address bytes =
+    if bytes_eq (take 2 bytes) (0xFF ∷ 0x25 ∷ []) then Some (plus_signed 32 1 (word_at bytes 2) (address + 6)) else None
+jump_reads ARM64 address bytes =
+    if (with_adrp 0 (word_at bytes 0) == 0x9000_0010) && (with_bits 10 12 0 (word_at bytes 4) == 0xF940_0210)
+    && (word_at bytes 8 == 0xD61F_0200) then
+    Some (plus_signed 21 4096 (adrp_immediate (word_at bytes 0)) (page address * 4096) + ldr_immediate (word_at bytes 4))
+    else None
+
+-- What a machine asks so that its stubs can jump: I386, that the image ends below 2^32; ARM64, that the
+-- image's base and the address tables' are multiples of 8, as thunks are. ARMNT's stubs are A32 code with a
+-- relative field where they load an address: of them nothing is claimed.
+abbrev pub CanJump : MachineType → ℕ → Bases → Type 0
+CanJump I386 image_base bases = image_base + 2 ^ 31 ≤ 2 ^ 32
+CanJump ARMNT image_base bases = ⊥
+CanJump AMD64 image_base bases = Unit {0}
+CanJump ARM64 image_base bases = (image_base % 8 ≡ 0) × (bases.addresses % 8 ≡ 0)
+
+-- A name is that of code which jumps through an entry: an object defines it at the beginning of its first
+-- section, and wherever this section is placed below 2^31, the jump that it begins with reads the entry.
+pub record JumpsThrough (machine : MachineType) (image_base : ℕ) (linked : List Placed) (name : List ℕ) (entry : ℕ) : Type 0 where
+  pub from : Placed
+  pub held : Contains linked from
+  pub symbol : ObjectSymbol
+  pub defined : Contains from.object.entries (ASymbol symbol)
+  pub named : symbol.name ≡ name
+  pub shared : symbol.class ≡ external
+  pub first : symbol.section ≡ 1
+  pub begins : symbol.value ≡ 0
+  pub code : ObjectSection
+  pub here : slice_get from.object.sections 0 ≡ Some code
+  pub jumps : (place : ℕ) → place + 16 ≤ 2 ^ 31 →
+      jump_reads machine (image_base + place) (code_relocated machine image_base linked from place code.relocations code.bytes)
+      ≡ Some (image_base + entry)
+
+-- A call of a name reaches these bytes: its code jumps through an entry, the only definition of its
+-- `__imp_` symbol, and there the bytes stand.
+pub record CallReaches (machine : MachineType) (image_base : ℕ) (image : List Range) (linked : List Placed) (name bytes : List ℕ)
+    : Type 0 where
+  pub entry : ℕ
+  pub once : definitions_of (address_symbol name) linked ≡ record { name = address_symbol name; address = Some entry } ∷ []
+  pub jumps : JumpsThrough machine image_base linked name entry
+  pub stands : BytesAt image entry bytes

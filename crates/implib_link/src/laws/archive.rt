@@ -1,0 +1,30 @@
+//! The law of archives.
+
+ghost use Rattle.implib.specs.Definition.{DefinitionView};
+ghost use Rattle.implib.specs.Import.{is_alias, public_exports};
+ghost use Rattle.implib.specs.LinkedMembers.{linked_members};
+ghost use Rattle.implib.specs.Made.{Made, MemberView};
+ghost use Rattle.implib.specs.Renaming.{renamed};
+ghost use Rattle.implib.specs.declared.library.Flavor.TheVariants.{Gnu};
+ghost use Rattle.implib.specs.declared.machine.MachineType.{MachineType};
+ghost use Rattle.implib_link.specs.Archive.{AreWanted, IsTaken};
+ghost use Rattle.std.specs.List.{AllByRecursion, Contains, IsDistinct, flat_map};
+ghost use Rattle.std.specs.Prelude.{◌≡◌, ℕ, List, bytes_eq, false};
+
+/// Of an archive of all members, a linker takes exactly the head, the tail and the members of the exports
+/// of which a name is wanted.
+pub fn archive_search()
+    ensures taken { (d : DefinitionView) (machine : MachineType) (members : List MemberView) (wanted : List (List ℕ))
+        (chosen : List ℕ) (m : MemberView) →
+        Made d machine Gnu members →
+        AllByRecursion (λ e. is_alias e.alias_target e.name ≡ false) (public_exports (renamed d)) →
+        IsDistinct bytes_eq (flat_map (λ m. m.symbols) members) →
+        AreWanted d wanted chosen →
+        IsTaken members wanted m → Contains (linked_members d machine chosen) m }
+    ensures all { (d : DefinitionView) (machine : MachineType) (members : List MemberView) (wanted : List (List ℕ))
+        (chosen : List ℕ) (m : MemberView) →
+        Made d machine Gnu members →
+        IsDistinct bytes_eq (flat_map (λ m. m.symbols) members) →
+        AreWanted d wanted chosen →
+        Contains (linked_members d machine chosen) m → IsTaken members wanted m }
+{}

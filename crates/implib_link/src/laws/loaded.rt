@@ -1,0 +1,35 @@
+//! The law of loaded programs.
+
+ghost use Rattle.implib.specs.Image.{Range, image_of};
+ghost use Rattle.implib.specs.Import.{Ask};
+ghost use Rattle.implib.specs.LinkedMembers.{IsMade, Part};
+ghost use Rattle.implib.specs.MsvcObjects.{thunk_width};
+ghost use Rattle.implib.specs.Object.{Object};
+ghost use Rattle.implib.specs.Placement.{Bases, placed_from};
+ghost use Rattle.implib.specs.declared.machine.MachineType.{MachineType};
+ghost use Rattle.implib_link.specs.Directory.{imported};
+ghost use Rattle.implib_link.specs.Loaded.{IsLoaded, Writes};
+ghost use Rattle.implib_link.specs.Program.{IsProgram};
+ghost use Rattle.std.specs.List.{AllByRecursion};
+ghost use Rattle.std.specs.Prelude.{◌≡◌, ℕ, List, length, map};
+
+/// Whatever a loader writes that walks the directory of a program: at each `__imp_` symbol stands what the
+/// DLL gives for the export, and no byte outside the address tables changed. There is such a loader's work.
+///
+/// What a DLL gives has as many bytes as an entry.
+pub fn program_loads()
+    ensures loads { (machine : MachineType) (bases : Bases) (parts : List Part) (objects : List Object)
+        (gives : List ℕ → Ask → List ℕ) (written : List Range) →
+        AllByRecursion (IsMade machine) parts →
+        IsProgram machine bases parts objects →
+        ((dll : List ℕ) (ask : Ask) → length (gives dll ask) ≡ thunk_width machine) →
+        Writes (image_of machine bases (placed_from bases objects)) (thunk_width machine) gives bases.descriptors
+        (map (imported machine) parts) written →
+        IsLoaded machine bases parts objects gives written }
+    ensures writes { (machine : MachineType) (bases : Bases) (parts : List Part) (objects : List Object)
+        (gives : List ℕ → Ask → List ℕ) →
+        AllByRecursion (IsMade machine) parts →
+        IsProgram machine bases parts objects →
+        (written : List Range) × Writes (image_of machine bases (placed_from bases objects)) (thunk_width machine) gives
+        bases.descriptors (map (imported machine) parts) written }
+{}

@@ -1,0 +1,28 @@
+//! The law of packed placement.
+
+ghost use Rattle.implib.specs.Image.{IsAdmissible};
+ghost use Rattle.implib.specs.LinkedMembers.{IsMade, Part, all_linked, objects_in};
+ghost use Rattle.implib.specs.Object.{Object};
+ghost use Rattle.implib.specs.declared.machine.MachineType.{MachineType};
+ghost use Rattle.implib_link.specs.Packed.{packed, packed_end};
+ghost use Rattle.implib_link.specs.Program.{IsProgram, has_tables, linked_symbols, null_descriptor};
+ghost use Rattle.std.specs.List.{AllByRecursion, IsDistinct, filter};
+ghost use Rattle.std.specs.Prelude.{◌≡◌, ◌<◌, ◌^◌, ◌++◌, ◌∷◌, ℕ, List, [], bytes_eq};
+
+/// Packed placement from any address on is admissible for members and the null descriptor, other objects
+/// beside or not, where it ends below 2^31: so there is a program of all members whose symbols are distinct.
+pub fn packed_is_program()
+    ensures admissible { (machine : MachineType) (first : ℕ) (parts : List Part) (objects : List Object) →
+        AllByRecursion (IsMade machine) parts →
+        filter has_tables objects ≡ objects_in (all_linked machine parts) ++ null_descriptor ∷ [] →
+        0 < first →
+        packed_end first objects < 2 ^ 31 →
+        IsAdmissible machine (packed first objects) objects }
+    ensures program { (machine : MachineType) (first : ℕ) (parts : List Part) →
+        AllByRecursion (IsMade machine) parts →
+        IsDistinct bytes_eq (linked_symbols machine parts) →
+        0 < first →
+        packed_end first (objects_in (all_linked machine parts) ++ null_descriptor ∷ []) < 2 ^ 31 →
+        IsProgram machine (packed first (objects_in (all_linked machine parts) ++ null_descriptor ∷ [])) parts
+        (objects_in (all_linked machine parts) ++ null_descriptor ∷ []) }
+{}

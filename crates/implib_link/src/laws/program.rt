@@ -1,0 +1,49 @@
+//! Laws of programs that the members for GNU's linker are linked into.
+
+ghost use Rattle.implib.specs.Image.{IsAdmissible, Range};
+ghost use Rattle.implib.specs.Linked.{AllLink};
+ghost use Rattle.implib.specs.LinkedMembers.{IsMade, Part, all_linked, objects_in};
+ghost use Rattle.implib.specs.Object.{Object};
+ghost use Rattle.implib.specs.Placement.{Bases};
+ghost use Rattle.implib.specs.declared.machine.MachineType.{MachineType};
+ghost use Rattle.implib_link.specs.Directory.{DirectoryAt, Imported, WalkFinds};
+ghost use Rattle.implib_link.specs.Program.{IsProgram, LinksAmong, linked_symbols, null_descriptor};
+ghost use Rattle.std.specs.List.{AllByRecursion, IsDistinct};
+ghost use Rattle.std.specs.Prelude.{◌≡◌, ◌++◌, ◌∷◌, ℕ, List, [], bytes_eq};
+
+/// The head, the chosen exports' members and the tail of each DLL, DLLs and exports in any order, link at
+/// any admissible bases, for each DLL to an import of just the chosen exports from it.
+pub fn links_in_any_order()
+    ensures links { (machine : MachineType) (bases : Bases) (parts : List Part) →
+        AllByRecursion (IsMade machine) parts →
+        IsDistinct bytes_eq (linked_symbols machine parts) →
+        IsAdmissible machine bases (objects_in (all_linked machine parts)) →
+        AllLink machine bases parts (objects_in (all_linked machine parts)) }
+{}
+
+/// Members and the null descriptor link among any other objects that hold no import tables and claim no
+/// symbol of theirs: the import directory lists just these DLLs with just the chosen exports, and each
+/// `__imp_` symbol is its export's own entry, from whichever object it is named.
+pub fn links_among_others()
+    ensures links { (machine : MachineType) (bases : Bases) (parts : List Part) (objects : List Object) →
+        AllByRecursion (IsMade machine) parts →
+        IsProgram machine bases parts objects →
+        LinksAmong machine bases parts objects }
+{}
+
+/// The members and the null descriptor alone are such a program.
+pub fn members_are_program()
+    ensures program { (machine : MachineType) (bases : Bases) (parts : List Part) →
+        AllByRecursion (IsMade machine) parts →
+        IsDistinct bytes_eq (linked_symbols machine parts) →
+        IsAdmissible machine bases (objects_in (all_linked machine parts) ++ null_descriptor ∷ []) →
+        IsProgram machine bases parts (objects_in (all_linked machine parts) ++ null_descriptor ∷ []) }
+{}
+
+/// A loader that walks a directory, however lenient, finds what the directory lists, and nothing else.
+pub fn directory_once()
+    ensures walk { (image : List Range) (width address : ℕ) (imports : List Imported) →
+        DirectoryAt image width address imports → WalkFinds image width address imports }
+    ensures once { (image : List Range) (width address : ℕ) (imports others : List Imported) →
+        DirectoryAt image width address imports → WalkFinds image width address others → imports ≡ others }
+{}
