@@ -140,7 +140,9 @@ arm64_code : (image_base place entry : ℕ) (linked : List Placed) (p : Placed) 
 unfolding u32_bytes
 arm64_code image_base place entry linked p target =
     let sums = plain_sums image_base place entry in
-    rw (target, sums.0, sums.1) refl
+    let code : List ℕ = u32_bytes (with_adrp (page (image_base + entry) + (2 ^ 21 - page (image_base + place) % 2 ^ 21)) 0x9000_0010)
+    ++ (u32_bytes (with_ldr ((image_base + entry) % 4096) 0xF940_0210) ++ 0 ∷ 2 ∷ 0x1F ∷ 0xD6 ∷ []) in
+    rw (target, sums.0, sums.1) (refl {a = code})
 
 arm64_leads : (image_base place entry : ℕ) → place + 16 ≤ 2 ^ 31 → entry < 2 ^ 31 → (image_base + entry) % 8 ≡ 0 → (n : ℕ) →
     n ≡ page (image_base + entry) + (2 ^ 21 - page (image_base + place) % 2 ^ 21) →
