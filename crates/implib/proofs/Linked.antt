@@ -161,7 +161,7 @@ module _ (machine : MachineType) (dll : List ℕ) (linked : List Placed) where
   unfolding relocations_of_stub
   some_stub e is = rw is refl
 
-  all_of_stub : (m : MachineType) (P : Relocation → Type 0) → ((offset type : ℕ) → P (record { offset = offset; symbol = 2; kind = type })) → AllByRecursion P (stub_relocations m 2)
+  all_of_stub : (m : MachineType) (P : Relocation → Type 0) → ((offset number : ℕ) → P (record { offset = offset; symbol = 2; kind = number })) → AllByRecursion P (stub_relocations m 2)
   all_of_stub I386 P each = (each 2 _, tt)
   all_of_stub ARMNT P each = (each 8 _, tt)
   all_of_stub AMD64 P each = (each 2 _, tt)
@@ -172,7 +172,7 @@ module _ (machine : MachineType) (dll : List ℕ) (linked : List Placed) where
       elim (cases_Bool e.is_data) [
         | inl is ↦ subst (AllByRecursion (FindsTarget linked (placed_export machine dll b e))) (sym (no_stub e is)) tt
         | inr is ↦ subst (AllByRecursion (FindsTarget linked (placed_export machine dll b e))) (sym (some_stub e is))
-            (all_of_stub machine (FindsTarget linked (placed_export machine dll b e)) (λ offset type. (b.addresses + 0, address_found b e is)))
+            (all_of_stub machine (FindsTarget linked (placed_export machine dll b e)) (λ offset number. (b.addresses + 0, address_found b e is)))
       ]
 
   no_hint_name : (e : ExportView) → e.no_name ≡ true → relocations_of_thunk machine e ≡ []

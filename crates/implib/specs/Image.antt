@@ -21,7 +21,9 @@ abbrev pub relocated : MachineType → List Placed → Placed → List Relocatio
 relocated machine linked p [] bytes = bytes
 relocated machine linked p (r ∷ relocations) bytes =
     relocated machine linked p relocations
-    (if r.kind == image_relative machine then with_address bytes r.offset (target_address linked p r.symbol) else bytes)
+    (if r.kind == image_relative machine
+    then with_address bytes r.offset (target_address linked p r.symbol)
+    else bytes)
 
 -- bytes at an address
 pub record Contribution : Type 0 where
@@ -34,7 +36,8 @@ contribution_at group (At other address) bytes =
     if same_group group other then record { address = address; bytes = bytes } ∷ [] else []
 
 -- the contributions of a group: sections at their places, relocated
-abbrev pub contributions_in : MachineType → List Placed → Placed → Group → List Place → List ObjectSection → List Contribution
+abbrev pub contributions_in : MachineType → List Placed → Placed → Group → List Place → List ObjectSection →
+    List Contribution
 contributions_in machine linked p group [] sections = []
 contributions_in machine linked p group (place ∷ places) [] = []
 contributions_in machine linked p group (place ∷ places) (s ∷ sections) =
@@ -47,7 +50,7 @@ contributions_of machine linked group p = contributions_in machine linked p grou
 abbrev pub contributions : MachineType → List Placed → Group → List Placed → List Contribution
 contributions machine linked group objects = flat_map (contributions_of machine linked group) objects
 
--- the bytes from an address to the last piece's end, zeros where no piece stands
+-- the bytes from an address to the last contribution's end, zeros where there is none
 abbrev pub filled : ℕ → List Contribution → List ℕ
 filled end [] = []
 filled end (p ∷ others) = zeros (p.address - end) ++ (p.bytes ++ filled (p.address + length p.bytes) others)
@@ -64,7 +67,8 @@ range_of base (p ∷ others) = record { start = base; bytes = filled base (p ∷
 
 -- what objects are linked to
 abbrev pub image_of : MachineType → Bases → List Placed → List Range
-image_of machine bases linked = flat_map (λ group. range_of (base_of group bases) (contributions machine linked group linked)) groups
+image_of machine bases linked =
+    flat_map (λ group. range_of (base_of group bases) (contributions machine linked group linked)) groups
 
 abbrev pub range_end : Range → ℕ
 range_end r = r.start + length r.bytes

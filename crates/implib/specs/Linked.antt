@@ -21,7 +21,8 @@ use Rattle.implib.specs.Resolution.{SymbolDefinition, definitions_of, is_undefin
 unfoldable pub EntriesAt : List Placed → ℕ → ℕ → List ExportView → Type 0
 EntriesAt linked width address [] = Unit {0}
 EntriesAt linked width address (e ∷ exports) =
-    (definitions_of (address_symbol e.name) linked ≡ record { name = address_symbol e.name; address = Some address } ∷ [])
+    (definitions_of (address_symbol e.name) linked
+    ≡ record { name = address_symbol e.name; address = Some address } ∷ [])
     × EntriesAt linked width (address + width) exports
 
 -- the name of a symbol that is to be found in another object
@@ -39,12 +40,14 @@ IsDefinedOnce linked name = (d : SymbolDefinition) × (definitions_of name linke
 
 -- just one object defines a name, once, at an address
 abbrev pub IsDefinedAt : List Placed → List ℕ → Type 0
-IsDefinedAt linked name = (address : ℕ) × (definitions_of name linked ≡ record { name = name; address = Some address } ∷ [])
+IsDefinedAt linked name =
+    (address : ℕ) × (definitions_of name linked ≡ record { name = name; address = Some address } ∷ [])
 
 -- the symbol that a relocation of a placed object names has an address
 abbrev pub FindsTarget : List Placed → Placed → Relocation → Type 0
 FindsTarget linked p r =
-    (address : ℕ) × (option_and_then (symbol_address linked p) (slice_get p.object.entries r.symbol) ≡ Some address)
+    (address : ℕ) × (option_and_then (symbol_address linked p) (slice_get p.object.entries r.symbol)
+    ≡ Some address)
 
 -- so has that of each relocation of its sections
 abbrev pub AllFind : List Placed → Placed → Type 0
@@ -54,7 +57,8 @@ AllFind linked p = AllByRecursion (λ s. AllByRecursion (FindsTarget linked p) s
 -- head's symbol stands a descriptor, by which a loader finds these exports from it: at the address of the
 -- head's symbol stands a descriptor, by which a loader finds the DLL's name and twice what the
 -- exports ask for, in their order; each export's address is its own entry of the address table.
-pub record LinksAt (machine : MachineType) (image : List Range) (linked : List Placed) (dll : List ℕ) (exports : List ExportView)
+pub record LinksAt (machine : MachineType) (image : List Range) (linked : List Placed) (dll : List ℕ)
+    (exports : List ExportView)
     : Type 0 where
   pub descriptor : ℕ
   pub head : definitions_of (head_symbol machine dll) linked
@@ -63,7 +67,8 @@ pub record LinksAt (machine : MachineType) (image : List Range) (linked : List P
   pub entries : EntriesAt linked (thunk_width machine) loads.addresses exports
 
 -- The same at this address, for a strict loader.
-pub record LinksStrictlyAt (machine : MachineType) (image : List Range) (linked : List Placed) (descriptor : ℕ) (dll : List ℕ)
+pub record LinksStrictlyAt (machine : MachineType) (image : List Range) (linked : List Placed)
+    (descriptor : ℕ) (dll : List ℕ)
     (exports : List ExportView) : Type 0 where
   pub head : definitions_of (head_symbol machine dll) linked
       ≡ record { name = head_symbol machine dll; address = Some descriptor } ∷ []
@@ -72,10 +77,13 @@ pub record LinksStrictlyAt (machine : MachineType) (image : List Range) (linked 
 
 -- Objects that are placed at bases link to an import of these exports from the DLL, and no symbol
 -- stays undefined or is ambiguous.
-pub record Links (machine : MachineType) (bases : Bases) (dll : List ℕ) (exports : List ExportView) (objects : List Object)
+pub record Links (machine : MachineType) (bases : Bases) (dll : List ℕ) (exports : List ExportView)
+    (objects : List Object)
     : Type 0 where
-  pub imports : LinksAt machine (image_of machine bases (placed_from bases objects)) (placed_from bases objects) dll exports
-  pub defined : AllByRecursion (IsDefinedOnce (placed_from bases objects)) (undefined_names (placed_from bases objects))
+  pub imports : LinksAt machine (image_of machine bases (placed_from bases objects))
+      (placed_from bases objects) dll exports
+  pub defined : AllByRecursion (IsDefinedOnce (placed_from bases objects))
+      (undefined_names (placed_from bases objects))
 
 -- what is linked of a part are members of the part, and each reads as an object
 pub record IsLinked (machine : MachineType) (p : Part) : Type 0 where
@@ -84,10 +92,12 @@ pub record IsLinked (machine : MachineType) (p : Part) : Type 0 where
       ≡ map Some (objects_in (linked_members p.definition machine p.chosen))
 
 -- each part links among the others, and no symbol stays undefined or is ambiguous
-pub record AllLink (machine : MachineType) (bases : Bases) (parts : List Part) (objects : List Object) : Type 0 where
+pub record AllLink (machine : MachineType) (bases : Bases) (parts : List Part) (objects : List Object)
+    : Type 0 where
   pub linked : AllByRecursion (IsLinked machine) parts
   pub imports : AllByRecursion
       (λ p. LinksAt machine (image_of machine bases (placed_from bases objects)) (placed_from bases objects)
-          p.definition.import_name (chosen_exports p.definition p.chosen))
+      p.definition.import_name (chosen_exports p.definition p.chosen))
       parts
-  pub defined : AllByRecursion (IsDefinedOnce (placed_from bases objects)) (undefined_names (placed_from bases objects))
+  pub defined : AllByRecursion (IsDefinedOnce (placed_from bases objects))
+      (undefined_names (placed_from bases objects))

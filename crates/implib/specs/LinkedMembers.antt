@@ -22,13 +22,15 @@ chosen_exports d chosen = filter_map (slice_get (public_exports (renamed d))) ch
 
 -- the plan of the member of the export of a number
 abbrev pub plan_numbered : MachineType → List ℕ → List ExportView → ℕ → Option Plan
-plan_numbered machine dll exports number = option_map (export_plan machine dll number) (slice_get exports number)
+plan_numbered machine dll exports number =
+    option_map (export_plan machine dll number) (slice_get exports number)
 
 -- what is linked: the head, the members of chosen exports, the tail
 abbrev pub linked_plans : DefinitionView → MachineType → List ℕ → List Plan
 linked_plans d machine chosen =
     head_plan machine d.import_name
-    ∷ (filter_map (plan_numbered machine d.import_name (public_exports (renamed d))) chosen ++ tail_plan machine d.import_name ∷ [])
+    ∷ (filter_map (plan_numbered machine d.import_name (public_exports (renamed d))) chosen
+    ++ tail_plan machine d.import_name ∷ [])
 
 abbrev pub linked_members : DefinitionView → MachineType → List ℕ → List MemberView
 linked_members d machine chosen = map member_of (linked_plans d machine chosen)
@@ -47,7 +49,7 @@ AllRise [] = Unit {0}
 AllRise (first ∷ []) = Unit {0}
 AllRise (first ∷ second ∷ others) = ComesBefore first second × AllRise (second ∷ others)
 
--- the bases in the order of the kinds' numbers
+-- the bases in the order of the groups' numbers
 abbrev pub bases_of : List ℕ → Bases
 bases_of bases = record {
   descriptors = slice_index bases 0;
@@ -93,7 +95,8 @@ Begins first second = (rest : List ℕ) × (second ≡ first ++ rest)
 -- no text is the beginning of another
 abbrev pub NoneBegins : List (List ℕ) → Type 0
 NoneBegins [] = Unit {0}
-NoneBegins (text ∷ others) = AllByRecursion (λ other. (Begins text other → ⊥) × (Begins other text → ⊥)) others × NoneBegins others
+NoneBegins (text ∷ others) =
+    AllByRecursion (λ other. (Begins text other → ⊥) × (Begins other text → ⊥)) others × NoneBegins others
 
 -- what is linked of all parts, one after another
 abbrev pub all_linked : MachineType → List Part → List MemberView

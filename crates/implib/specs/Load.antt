@@ -31,7 +31,8 @@ pub record TextAt (image : List Range) (address : ℕ) (text : List ℕ) : Type 
 unfoldable pub AsksFor : List Range → ℕ → ℕ → Ask → Type 0
 AsksFor image width thunk (Ordinal n) = (2 ^ (8 * width - 1) ≤ thunk) × (thunk % 2 ^ 16 ≡ n)
 AsksFor image width thunk (Name text hint) =
-    (thunk < 2 ^ (8 * width - 1)) × NumberAt image 2 (thunk % 2 ^ 31) hint × TextAt image (thunk % 2 ^ 31 + 2) text
+    (thunk < 2 ^ (8 * width - 1)) × NumberAt image 2 (thunk % 2 ^ 31) hint
+    × TextAt image (thunk % 2 ^ 31 + 2) text
 
 -- a thunk at an address that ends no table and asks for this
 pub record ThunkAt (image : List Range) (width : ℕ) (address : ℕ) (ask : Ask) : Type 0 where
@@ -44,7 +45,8 @@ pub record ThunkAt (image : List Range) (width : ℕ) (address : ℕ) (ask : Ask
 -- thunk ends them
 unfoldable pub TableAt : List Range → ℕ → ℕ → List Ask → Type 0
 TableAt image width address [] = NumberAt image width address 0
-TableAt image width address (ask ∷ asks) = ThunkAt image width address ask × TableAt image width (address + width) asks
+TableAt image width address (ask ∷ asks) =
+    ThunkAt image width address ask × TableAt image width (address + width) asks
 
 -- A thunk that is written whole, every other bit of it 0 ("Import Lookup Table"): the top bit and the
 -- ordinal, or the address of the hint and the name.
@@ -66,7 +68,8 @@ WholeTableAt image width address (ask ∷ asks) =
 
 -- what the descriptor at an address leads to: the lookup table by its field at 0, the DLL's name by
 -- that at 12, the address table by that at 16 ("Import Directory Table")
-pub record Loads (image : List Range) (width : ℕ) (descriptor : ℕ) (dll : List ℕ) (asks : List Ask) : Type 0 where
+pub record Loads (image : List Range) (width : ℕ) (descriptor : ℕ) (dll : List ℕ) (asks : List Ask)
+    : Type 0 where
   pub lookups : ℕ
   pub lookups_field : NumberAt image 4 descriptor lookups
   pub lookup_table : TableAt image width lookups asks
@@ -79,7 +82,8 @@ pub record Loads (image : List Range) (width : ℕ) (descriptor : ℕ) (dll : Li
 
 -- What a strict loader takes: a descriptor that leads to this, whose time and forwarder chain are 0 (it
 -- is not bound), whose three addresses are not 0, and whose thunks are all written whole.
-pub record LoadsStrictly (image : List Range) (width : ℕ) (descriptor : ℕ) (dll : List ℕ) (asks : List Ask) : Type 0 where
+pub record LoadsStrictly (image : List Range) (width : ℕ) (descriptor : ℕ) (dll : List ℕ) (asks : List Ask)
+    : Type 0 where
   pub plain : Loads image width descriptor dll asks
   pub time : NumberAt image 4 (descriptor + 4) 0
   pub forwarder : NumberAt image 4 (descriptor + 8) 0

@@ -89,7 +89,8 @@ place_of ends s = place_after ends s.flags (group_named s.name)
 -- the places of sections that are placed one after another, and the ends after them
 abbrev pub places_of : Bases → List ObjectSection → List Place
 places_of ends [] = []
-places_of ends (s ∷ sections) = place_of ends s ∷ places_of (end_after ends (place_of ends s) (length s.bytes)) sections
+places_of ends (s ∷ sections) =
+    place_of ends s ∷ places_of (end_after ends (place_of ends s) (length s.bytes)) sections
 
 abbrev pub ends_after : Bases → List ObjectSection → Bases
 ends_after ends [] = ends
@@ -106,4 +107,5 @@ pub record Placed : Type 0 where
 abbrev pub placed_from : Bases → List Object → List Placed
 placed_from ends [] = []
 placed_from ends (o ∷ objects) =
-    record { object = o; places = places_of ends o.sections } ∷ placed_from (ends_after ends o.sections) objects
+    record { object = o; places = places_of ends o.sections }
+    ∷ placed_from (ends_after ends o.sections) objects

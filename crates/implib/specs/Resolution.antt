@@ -16,7 +16,8 @@ address_at (At group address) value = Some (address + value)
 -- the address of a value in the section of a number, which counts from 1
 abbrev pub address_in : List Place → ℕ → ℕ → Option ℕ
 address_in places zero value = None
-address_in places (suc index) value = option_and_then (λ place. address_at place value) (slice_get places index)
+address_in places (suc index) value =
+    option_and_then (λ place. address_at place value) (slice_get places index)
 
 -- a symbol that an object defines for others, with its address, where its section has a place
 pub record SymbolDefinition : Type 0 where
@@ -26,7 +27,9 @@ pub record SymbolDefinition : Type 0 where
 abbrev pub defined_by_entry : List Place → Entry → Option SymbolDefinition
 defined_by_entry places (Auxiliary bytes) = None
 defined_by_entry places (ASymbol s) =
-    if is_defined_external s then Some (record { name = s.name; address = address_in places s.section s.value }) else None
+    if is_defined_external s
+    then Some (record { name = s.name; address = address_in places s.section s.value })
+    else None
 
 abbrev pub defined_by : Placed → List SymbolDefinition
 defined_by p = filter_map (defined_by_entry p.places) p.object.entries
@@ -51,7 +54,9 @@ is_undefined_external s = (s.class == external) && (s.section == undefined)
 abbrev pub symbol_address : List Placed → Placed → Entry → Option ℕ
 symbol_address linked p (Auxiliary bytes) = None
 symbol_address linked p (ASymbol s) =
-    if is_undefined_external s then first_address (definitions_of s.name linked) else address_in p.places s.section s.value
+    if is_undefined_external s
+    then first_address (definitions_of s.name linked)
+    else address_in p.places s.section s.value
 
 -- the address of the symbol of an index, 0 where it has none
 abbrev pub address_or_zero : Option ℕ → ℕ
@@ -59,4 +64,5 @@ address_or_zero None = 0
 address_or_zero (Some address) = address
 
 abbrev pub target_address : List Placed → Placed → ℕ → ℕ
-target_address linked p index = address_or_zero (option_and_then (symbol_address linked p) (slice_get p.object.entries index))
+target_address linked p index =
+    address_or_zero (option_and_then (symbol_address linked p) (slice_get p.object.entries index))

@@ -34,7 +34,7 @@ numbers_from image width count address = each_at (λ place. option_map number_in
 abbrev pub addresses_of : List ℕ → List Placed → List (Option ℕ)
 addresses_of name linked = map (λ d. d.address) (definitions_of name linked)
 
--- what a linked image is asked: its kinds' bases, the width of a thunk, how many thunks a table has
+-- what a linked image is asked: its groups' bases, the width of a thunk, how many thunks a table has
 -- with the last one, how many bytes the hints and names have, and where the DLL's name stands
 pub record Layout : Type 0 where
   pub bases : Bases

@@ -269,15 +269,23 @@ module _ (d : DefinitionView) (machine : MachineType) (members : List MemberView
   head_taken =
       let n : ℕ = are.some.0 in
       let own = are.only n are.some.1 in
-      let e : ExportView = own.0 in
-      (export_member n e, (export_taken n e own.1.0 (among_from n chosen are.some.1),
-        (head_symbol machine dll, (subst (λ names. Contains names (head_symbol machine dll)) (sym (export_leaves n e own.1.0)) (among_contains _ _ (among_first (head_symbol machine dll) [])), head_found))))
+      let e : ExportView = own.0 in (
+        export_member n e,
+        (
+          export_taken n e own.1.0 (among_from n chosen are.some.1),
+          (head_symbol machine dll, (subst (λ names. Contains names (head_symbol machine dll)) (sym (export_leaves n e own.1.0)) (among_contains _ _ (among_first (head_symbol machine dll) [])), head_found)),
+        ),
+      )
 
   tail_taken : TakenAfter members wanted (suc (suc zero)) tail_member
   unfolding TakenAfter head_taken
-  tail_taken =
-      (head_member, (head_taken,
-        (name_symbol machine dll, (subst (λ names. Contains names (name_symbol machine dll)) (sym head_leaves) (among_contains _ _ (among_first (name_symbol machine dll) [])), tail_found))))
+  tail_taken = (
+    head_member,
+    (
+      head_taken,
+      (name_symbol machine dll, (subst (λ names. Contains names (name_symbol machine dll)) (sym head_leaves) (among_contains _ _ (among_first (name_symbol machine dll) [])), tail_found)),
+    ),
+  )
 
   linked_taken : (m : MemberView) → Among m (linked_members d machine chosen) → IsTaken members wanted m
   unfolding Among

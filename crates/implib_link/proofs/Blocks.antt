@@ -80,9 +80,16 @@ pub nth_block : (machine : MachineType) (linked : List Placed) (image : List Ran
 unfolding BlocksLink
 nth_block machine linked image [] b links i p is = cc
 nth_block machine linked image (q ∷ parts) b links zero p is =
-    let same : q ≡ p = cc in
-    (b, (omega arith, (plus_zero b.addresses (thunk_width machine),
-      subst (λ (r : Part). BlockLinks machine linked image b r.definition.import_name (chosen_exports r.definition r.chosen)) same links.0)))
+    let same : q ≡ p = cc in (
+      b,
+      (
+        omega arith,
+        (
+          plus_zero b.addresses (thunk_width machine),
+          subst (λ (r : Part). BlockLinks machine linked image b r.definition.import_name (chosen_exports r.definition r.chosen)) same links.0,
+        ),
+      ),
+    )
 nth_block machine linked image (q ∷ parts) b links (suc i) p is =
     let dll : List ℕ = q.definition.import_name in
     let exports : List ExportView = chosen_exports q.definition q.chosen in

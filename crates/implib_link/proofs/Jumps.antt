@@ -140,7 +140,9 @@ arm64_code : (image_base place entry : ℕ) (linked : List Placed) (p : Placed) 
 unfolding u32_bytes
 arm64_code image_base place entry linked p target =
     let sums = plain_sums image_base place entry in
-    rw (target, sums.0, sums.1) refl
+    let code : List ℕ = u32_bytes (with_adrp (page (image_base + entry) + (2 ^ 21 - page (image_base + place) % 2 ^ 21)) 0x9000_0010)
+    ++ (u32_bytes (with_ldr ((image_base + entry) % 4096) 0xF940_0210) ++ 0 ∷ 2 ∷ 0x1F ∷ 0xD6 ∷ []) in
+    rw (target, sums.0, sums.1) (refl {a = code})
 
 arm64_leads : (image_base place entry : ℕ) → place + 16 ≤ 2 ^ 31 → entry < 2 ^ 31 → (image_base + entry) % 8 ≡ 0 → (n : ℕ) →
     n ≡ page (image_base + entry) + (2 ^ 21 - page (image_base + place) % 2 ^ 21) →
@@ -174,9 +176,9 @@ arm64_jumps image_base place entry linked p near small even entries target =
     let high_small : n / 4 % 2 ^ 19 < 2 ^ 19 = omega arith in
     let low_small : n % 4 < 4 = omega arith in
     ap (jump_reads ARM64 (image_base + place)) (
-      arm64_code image_base place entry linked p target
-      ∙ ap (λ w. u32_bytes w ++ (u32_bytes (with_ldr ((image_base + entry) % 4096) 0xF940_0210) ++ 0 ∷ 2 ∷ 0x1F ∷ 0xD6 ∷ [])) (adrp_is n (n / 4 % 2 ^ 19) (n % 4) refl refl)
-      ∙ ap (λ w. u32_bytes (adrp_word (n / 4 % 2 ^ 19) (n % 4)) ++ (u32_bytes w ++ 0 ∷ 2 ∷ 0x1F ∷ 0xD6 ∷ [])) (ldr_is ((image_base + entry) % 4096) offset_small))
+    arm64_code image_base place entry linked p target
+    ∙ ap (λ w. u32_bytes w ++ (u32_bytes (with_ldr ((image_base + entry) % 4096) 0xF940_0210) ++ 0 ∷ 2 ∷ 0x1F ∷ 0xD6 ∷ [])) (adrp_is n (n / 4 % 2 ^ 19) (n % 4) refl refl)
+    ∙ ap (λ w. u32_bytes (adrp_word (n / 4 % 2 ^ 19) (n % 4)) ++ (u32_bytes w ++ 0 ∷ 2 ∷ 0x1F ∷ 0xD6 ∷ [])) (ldr_is ((image_base + entry) % 4096) offset_small))
     ∙ words_read (image_base + place) (adrp_word (n / 4 % 2 ^ 19) (n % 4)) (ldr_word ((image_base + entry) % 4096 / 8))
-      (adrp_small (n / 4 % 2 ^ 19) (n % 4) high_small low_small) (ldr_small ((image_base + entry) % 4096 / 8) eighth_small)
+    (adrp_small (n / 4 % 2 ^ 19) (n % 4) high_small low_small) (ldr_small ((image_base + entry) % 4096 / 8) eighth_small)
     ∙ arm64_leads image_base place entry near small (sum_of_eights image_base entry even entries) n refl

@@ -177,8 +177,16 @@ module _ (machine : MachineType) (gives : List ℕ → Ask → List ℕ) where
   writes_stand image [] descriptor a fields = refl
   writes_stand image (p ∷ parts) descriptor a fields = (
     a,
-    (first_field image descriptor a p parts fields, (tables_written (next_table a p) parts, (refl,
-      writes_stand image parts (descriptor + 20) (next_table a p) (later_fields image descriptor a p parts fields)))),
+    (
+      first_field image descriptor a p parts fields,
+      (
+        tables_written (next_table a p) parts,
+        (
+          refl,
+          writes_stand image parts (descriptor + 20) (next_table a p) (later_fields image descriptor a p parts fields),
+        ),
+      ),
+    ),
   )
 
   module _ (wide : (dll : List ℕ) (ask : Ask) → length (gives dll ask) ≡ thunk_width machine) where

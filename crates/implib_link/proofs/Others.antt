@@ -116,7 +116,7 @@ definitions_kept name b (o ∷ objects) none =
     let later : List SymbolDefinition = definitions (placed_from (ends_after b o.sections) objects) in
     filter-append (λ (d : SymbolDefinition). bytes_eq name d.name) own later
     ∙ elim (cases_Bool (list_any is_table o.sections)) as (λ _. filter (λ (d : SymbolDefinition). bytes_eq name d.name) own ++ definitions_of name (placed_from (ends_after b o.sections) objects)
-        ≡ definitions_of name (placed_from b (filter has_tables (o ∷ objects)))) [
+    ≡ definitions_of name (placed_from b (filter has_tables (o ∷ objects)))) [
       | inl is ↦
           let none_left : AllByRecursion (λ o. list_any (bytes_eq name) (claimed_names o) ≡ false) (filter (λ o. not (has_tables o)) objects) = rw is at none in
           rw is (ap (λ others. filter (λ (d : SymbolDefinition). bytes_eq name d.name) own ++ others) (definitions_kept name (ends_after b o.sections) objects none_left)

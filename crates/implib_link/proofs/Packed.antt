@@ -291,3 +291,7 @@ packed_is_program machine first parts made distinct above below =
     let objects : List Object = objects_in (all_linked machine parts) ++ null_descriptor ∷ [] in
     members_are_program machine (packed first objects) parts made distinct
     (packed_is_admissible machine first parts objects made (all_kept objects (members_have machine parts made)) above below)
+
+pub packed_eights : (first : ℕ) (objects : List Object) → (packed first objects).addresses % 8 ≡ 0
+unfolding next_multiple
+packed_eights first objects = omega arith

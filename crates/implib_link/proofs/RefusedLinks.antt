@@ -14,7 +14,7 @@ use Rattle.implib.specs.Picture.{HasNoNul}
 use Rattle.implib.specs.Resolution.{SymbolDefinition, definitions_of, first_address}
 use Rattle.implib.proofs.Loading.{dll_once, asks_once, number_once}
 use Rattle.implib_link.specs.Directory.{DirectoryAt}
-use Rattle.implib_link.specs.RefusedLinks.{RefusedLinks, descriptor_bytes, exchanged, exports_by_hand, five_and_six, foo, image_by_hand, linked_by_hand, ordinal_8, right_image, stub_by_hand, table_4_in_8, table_8}
+use Rattle.implib_link.specs.RefusedLinks.{RefusedLinks, descriptor_bytes, endless, exchanged, exports_by_hand, five_and_six, foo, image_by_hand, linked_by_hand, named_otherwise, ordinal_8, right_image, stub_by_hand, table_4_in_8, table_8, timed, wide_image}
 use Rattle.implib_link.specs.Stub.{jump_reads}
 use Rattle.implib_link.proofs.Stubs.{same_address}
 
@@ -98,9 +98,6 @@ strictly_by image lookups addresses dll parts has_lookups has_addresses time for
 
 -- The images' parts.
 
-abbrev right_with : ℕ → List ℕ → List Range
-right_with time dll = image_by_hand (descriptor_bytes 0x1028 time 0x1058 0x1040) table_8 table_8 dll
-
 abbrev zero_8 : List ℕ
 zero_8 = zeros 8
 
@@ -119,34 +116,34 @@ parts_right = record {
   addresses_end = number right_image 8 (0x1040 + 8 + 8) 0 zero_8 refl refl refl;
 }
 
-parts_named : Parts (right_with 0 (codes "bar.dll")) 0x1028 0x1040 (codes "bar.dll")
+parts_named : Parts named_otherwise 0x1028 0x1040 (codes "bar.dll")
 unfolding u32_bytes
 parts_named = record {
-  lookups_field = number (right_with 0 (codes "bar.dll")) 4 0x1000 0x1028 (0x28 ∷ 0x10 ∷ 0 ∷ 0 ∷ []) refl refl refl;
-  name_field = number (right_with 0 (codes "bar.dll")) 4 0x100C 0x1058 (0x58 ∷ 0x10 ∷ 0 ∷ 0 ∷ []) refl refl refl;
-  addresses_field = number (right_with 0 (codes "bar.dll")) 4 0x1010 0x1040 (0x40 ∷ 0x10 ∷ 0 ∷ 0 ∷ []) refl refl refl;
-  name = record { no_nul = refl; stands = stand (right_with 0 (codes "bar.dll")) ((codes "bar.dll") ++ 0 ∷ []) 0x1058 refl };
-  lookups_five = number (right_with 0 (codes "bar.dll")) 8 0x1028 0x8000_0000_0000_0005 (ordinal_8 5) refl refl refl;
-  lookups_six = number (right_with 0 (codes "bar.dll")) 8 (0x1028 + 8) 0x8000_0000_0000_0006 (ordinal_8 6) refl refl refl;
-  lookups_end = number (right_with 0 (codes "bar.dll")) 8 (0x1028 + 8 + 8) 0 zero_8 refl refl refl;
-  addresses_five = number (right_with 0 (codes "bar.dll")) 8 0x1040 0x8000_0000_0000_0005 (ordinal_8 5) refl refl refl;
-  addresses_six = number (right_with 0 (codes "bar.dll")) 8 (0x1040 + 8) 0x8000_0000_0000_0006 (ordinal_8 6) refl refl refl;
-  addresses_end = number (right_with 0 (codes "bar.dll")) 8 (0x1040 + 8 + 8) 0 zero_8 refl refl refl;
+  lookups_field = number named_otherwise 4 0x1000 0x1028 (0x28 ∷ 0x10 ∷ 0 ∷ 0 ∷ []) refl refl refl;
+  name_field = number named_otherwise 4 0x100C 0x1058 (0x58 ∷ 0x10 ∷ 0 ∷ 0 ∷ []) refl refl refl;
+  addresses_field = number named_otherwise 4 0x1010 0x1040 (0x40 ∷ 0x10 ∷ 0 ∷ 0 ∷ []) refl refl refl;
+  name = record { no_nul = refl; stands = stand named_otherwise ((codes "bar.dll") ++ 0 ∷ []) 0x1058 refl };
+  lookups_five = number named_otherwise 8 0x1028 0x8000_0000_0000_0005 (ordinal_8 5) refl refl refl;
+  lookups_six = number named_otherwise 8 (0x1028 + 8) 0x8000_0000_0000_0006 (ordinal_8 6) refl refl refl;
+  lookups_end = number named_otherwise 8 (0x1028 + 8 + 8) 0 zero_8 refl refl refl;
+  addresses_five = number named_otherwise 8 0x1040 0x8000_0000_0000_0005 (ordinal_8 5) refl refl refl;
+  addresses_six = number named_otherwise 8 (0x1040 + 8) 0x8000_0000_0000_0006 (ordinal_8 6) refl refl refl;
+  addresses_end = number named_otherwise 8 (0x1040 + 8 + 8) 0 zero_8 refl refl refl;
 }
 
-parts_timed : Parts (right_with 1 foo) 0x1028 0x1040 foo
+parts_timed : Parts timed 0x1028 0x1040 foo
 unfolding u32_bytes
 parts_timed = record {
-  lookups_field = number (right_with 1 foo) 4 0x1000 0x1028 (0x28 ∷ 0x10 ∷ 0 ∷ 0 ∷ []) refl refl refl;
-  name_field = number (right_with 1 foo) 4 0x100C 0x1058 (0x58 ∷ 0x10 ∷ 0 ∷ 0 ∷ []) refl refl refl;
-  addresses_field = number (right_with 1 foo) 4 0x1010 0x1040 (0x40 ∷ 0x10 ∷ 0 ∷ 0 ∷ []) refl refl refl;
-  name = record { no_nul = refl; stands = stand (right_with 1 foo) (foo ++ 0 ∷ []) 0x1058 refl };
-  lookups_five = number (right_with 1 foo) 8 0x1028 0x8000_0000_0000_0005 (ordinal_8 5) refl refl refl;
-  lookups_six = number (right_with 1 foo) 8 (0x1028 + 8) 0x8000_0000_0000_0006 (ordinal_8 6) refl refl refl;
-  lookups_end = number (right_with 1 foo) 8 (0x1028 + 8 + 8) 0 zero_8 refl refl refl;
-  addresses_five = number (right_with 1 foo) 8 0x1040 0x8000_0000_0000_0005 (ordinal_8 5) refl refl refl;
-  addresses_six = number (right_with 1 foo) 8 (0x1040 + 8) 0x8000_0000_0000_0006 (ordinal_8 6) refl refl refl;
-  addresses_end = number (right_with 1 foo) 8 (0x1040 + 8 + 8) 0 zero_8 refl refl refl;
+  lookups_field = number timed 4 0x1000 0x1028 (0x28 ∷ 0x10 ∷ 0 ∷ 0 ∷ []) refl refl refl;
+  name_field = number timed 4 0x100C 0x1058 (0x58 ∷ 0x10 ∷ 0 ∷ 0 ∷ []) refl refl refl;
+  addresses_field = number timed 4 0x1010 0x1040 (0x40 ∷ 0x10 ∷ 0 ∷ 0 ∷ []) refl refl refl;
+  name = record { no_nul = refl; stands = stand timed (foo ++ 0 ∷ []) 0x1058 refl };
+  lookups_five = number timed 8 0x1028 0x8000_0000_0000_0005 (ordinal_8 5) refl refl refl;
+  lookups_six = number timed 8 (0x1028 + 8) 0x8000_0000_0000_0006 (ordinal_8 6) refl refl refl;
+  lookups_end = number timed 8 (0x1028 + 8 + 8) 0 zero_8 refl refl refl;
+  addresses_five = number timed 8 0x1040 0x8000_0000_0000_0005 (ordinal_8 5) refl refl refl;
+  addresses_six = number timed 8 (0x1040 + 8) 0x8000_0000_0000_0006 (ordinal_8 6) refl refl refl;
+  addresses_end = number timed 8 (0x1040 + 8 + 8) 0 zero_8 refl refl refl;
 }
 
 parts_exchanged : Parts exchanged 0x1040 0x1028 foo
@@ -183,23 +180,19 @@ right_directory : DirectoryAt right_image 8 0x1000 (record { dll = foo; asks = f
 unfolding DirectoryAt u32_bytes
 right_directory = (right, stand right_image (zeros 20) 0x1014 refl)
 
-other_name : LoadsStrictly (right_with 0 (codes "bar.dll")) 8 0x1000 foo five_and_six → ⊥
+other_name : LoadsStrictly named_otherwise 8 0x1000 foo five_and_six → ⊥
 other_name loads =
-    let image : List Range = right_with 0 (codes "bar.dll") in
+    let image : List Range = named_otherwise in
     let same : codes "bar.dll" ≡ foo = dll_once image 8 0x1000 (codes "bar.dll") foo five_and_six five_and_six (loads_by image 0x1028 0x1040 (codes "bar.dll") parts_named) loads.plain in
     let letters : ◌≡◌ {A = ℕ} 98 102 = ap (λ (text : List ℕ). slice_index text 0) same in
     differ 98 102 letters (omega arith)
 
-time_one : NumberAt (right_with 1 foo) 4 0x1004 1
+time_one : NumberAt timed 4 0x1004 1
 unfolding u32_bytes
-time_one = number (right_with 1 foo) 4 0x1004 1 (1 ∷ 0 ∷ 0 ∷ 0 ∷ []) refl refl refl
+time_one = number timed 4 0x1004 1 (1 ∷ 0 ∷ 0 ∷ 0 ∷ []) refl refl refl
 
-time : LoadsStrictly (right_with 1 foo) 8 0x1000 foo five_and_six → ⊥
-time loads = differ 0 1 (number_once (right_with 1 foo) 4 0x1004 0 1 loads.time time_one) (omega arith)
-
--- a lookup table that goes on
-abbrev endless : List Range
-endless = image_by_hand (descriptor_bytes 0x1030 0 0x1058 0x1040) (zeros 8 ++ (ordinal_8 5 ++ ordinal_8 6)) table_8 foo
+time : LoadsStrictly timed 8 0x1000 foo five_and_six → ⊥
+time loads = differ 0 1 (number_once timed 4 0x1004 0 1 loads.time time_one) (omega arith)
 
 endless_field : NumberAt endless 4 0x1000 0x1030
 unfolding u32_bytes
@@ -215,10 +208,6 @@ no_end loads =
     let place : loads.plain.lookups ≡ 0x1030 = number_once endless 4 0x1000 loads.plain.lookups 0x1030 loads.plain.lookups_field endless_field in
     let end : NumberAt endless 8 0x1040 0 = subst (λ n. NumberAt endless 8 (n + 8 + 8) 0) place loads.plain.lookup_table.1.1 in
     differ 0 0x8000_0000_0000_0005 (number_once endless 8 0x1040 0 0x8000_0000_0000_0005 end endless_next) (omega arith)
-
--- thunks of 8 bytes, read as 4
-abbrev wide_image : List Range
-wide_image = image_by_hand (descriptor_bytes 0x1028 0 0x1058 0x1040) table_4_in_8 table_4_in_8 foo
 
 wide_field : NumberAt wide_image 4 0x1000 0x1028
 unfolding u32_bytes
@@ -323,7 +312,7 @@ refused_links = record {
   right_directory = right_directory;
   right_stub = right_stub;
   other_name = other_name;
-  time_taken = loads_by (right_with 1 foo) 0x1028 0x1040 foo parts_timed;
+  time_taken = loads_by timed 0x1028 0x1040 foo parts_timed;
   time = time;
   no_end = no_end;
   wide = wide;

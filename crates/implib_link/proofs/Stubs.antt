@@ -42,18 +42,22 @@ module _ (machine : MachineType) (dll : List ℕ) where
   export_placed (x ∷ es) b rest even zero e is =
       let same : x ≡ e = cc in (
         b,
-        (subst (Among (placed_export machine dll b e)) (sym (placed-export machine dll b x (after_head machine dll es rest) even))
-            (subst (λ (y : ExportView). Among (placed_export machine dll b e) (placed_export machine dll b y ∷ placed_from (ends_of_export machine dll b x) (after_head machine dll es rest))) (sym same)
-            (among_first (placed_export machine dll b e) (placed_from (ends_of_export machine dll b x) (after_head machine dll es rest)))),
-          times_none b.addresses (thunk_width machine)),
+        (
+          subst (Among (placed_export machine dll b e)) (sym (placed-export machine dll b x (after_head machine dll es rest) even))
+              (subst (λ (y : ExportView). Among (placed_export machine dll b e) (placed_export machine dll b y ∷ placed_from (ends_of_export machine dll b x) (after_head machine dll es rest))) (sym same)
+              (among_first (placed_export machine dll b e) (placed_from (ends_of_export machine dll b x) (after_head machine dll es rest)))),
+          times_none b.addresses (thunk_width machine),
+        ),
       )
   export_placed (x ∷ es) b rest even (suc j) e is =
       let later : Bases = ends_of_export machine dll b x in
       let found = export_placed es later rest (aligned_after machine dll b x even) j e is in (
         found.0,
-        (subst (Among (placed_export machine dll found.0 e)) (sym (placed-export machine dll b x (after_head machine dll es rest) even))
-            (among_later (placed_export machine dll found.0 e) (placed_export machine dll b x) (placed_from later (after_head machine dll es rest)) found.1.0),
-          found.1.1 ∙ times_next b.addresses (thunk_width machine) j),
+        (
+          subst (Among (placed_export machine dll found.0 e)) (sym (placed-export machine dll b x (after_head machine dll es rest) even))
+              (among_later (placed_export machine dll found.0 e) (placed_export machine dll b x) (placed_from later (after_head machine dll es rest)) found.1.0),
+          found.1.1 ∙ times_next b.addresses (thunk_width machine) j,
+        ),
       )
 
   behind_exports : (es : List ExportView) (b : Bases) (rest : List Object) (q : Placed) → AreAligned b → Among q (placed_from (ends_of_all machine dll b es) rest) →
@@ -80,9 +84,11 @@ block_placed machine (q ∷ parts) b rest even zero j p e is chosen =
     let found = export_placed machine dll exports (ends_of_head machine dll b) behind (aligned_head machine dll b even) j e
     (subst (λ (r : Part). slice_get (chosen_exports r.definition r.chosen) j ≡ Some e) (sym same) chosen) in (
       found.0,
-      (subst (λ (r : Part). Among (placed_export machine r.definition.import_name found.0 e) (placed_from b (blocks_objects machine (map block_of (q ∷ parts)) rest))) same
-          (subst (Among (placed_export machine dll found.0 e)) (sym (placed-head machine dll b (after_head machine dll exports behind) even)) (among_later (placed_export machine dll found.0 e) _ _ found.1.0)),
-        found.1.1 ∙ sums_join b.addresses (thunk_width machine) 0 j),
+      (
+        subst (λ (r : Part). Among (placed_export machine r.definition.import_name found.0 e) (placed_from b (blocks_objects machine (map block_of (q ∷ parts)) rest))) same
+            (subst (Among (placed_export machine dll found.0 e)) (sym (placed-head machine dll b (after_head machine dll exports behind) even)) (among_later (placed_export machine dll found.0 e) _ _ found.1.0)),
+        found.1.1 ∙ sums_join b.addresses (thunk_width machine) 0 j,
+      ),
     )
 block_placed machine (q ∷ parts) b rest even (suc i) j p e is chosen =
     let dll : List ℕ = q.definition.import_name in
@@ -94,10 +100,12 @@ block_placed machine (q ∷ parts) b rest even (suc i) j p e is chosen =
     ap (λ n. n + thunk_width machine * thunks_before i parts) (addresses_after machine dll (ends_of_head machine dll b) exports)
     ∙ table_sum b.addresses (thunk_width machine) (length exports + 1) (thunks_before i parts) in (
       found.0,
-      (subst (Among (placed_export machine p.definition.import_name found.0 e)) (sym (placed-head machine dll b (after_head machine dll exports behind) even))
-          (among_later (placed_export machine p.definition.import_name found.0 e) _ _
-          (behind_exports machine dll exports (ends_of_head machine dll b) behind (placed_export machine p.definition.import_name found.0 e) (aligned_head machine dll b even) found.1.0)),
-        found.1.1 ∙ ap (λ n. n + thunk_width machine * j) table),
+      (
+        subst (Among (placed_export machine p.definition.import_name found.0 e)) (sym (placed-head machine dll b (after_head machine dll exports behind) even))
+            (among_later (placed_export machine p.definition.import_name found.0 e) _ _
+            (behind_exports machine dll exports (ends_of_head machine dll b) behind (placed_export machine p.definition.import_name found.0 e) (aligned_head machine dll b even) found.1.0)),
+        found.1.1 ∙ ap (λ n. n + thunk_width machine * j) table,
+      ),
     )
 
 among_kept : {X : Type 0} (test : X → Bool) (x y : X) (xs : List X) → Among x (y ∷ filter test xs) → (Among x (filter test xs) → Among x xs) → Among x (y ∷ xs)

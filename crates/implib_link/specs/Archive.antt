@@ -25,7 +25,8 @@ names_left m = names_left_by (object_in m.bytes)
 
 -- a member is taken for a wanted name, or so many steps later for one that a taken member leaves undefined
 unfoldable pub TakenAfter : List MemberView → List (List ℕ) → ℕ → MemberView → Type 0
-TakenAfter archive wanted zero m = (name : List ℕ) × (Contains wanted name × (first_listed archive name ≡ Some m))
+TakenAfter archive wanted zero m =
+    (name : List ℕ) × (Contains wanted name × (first_listed archive name ≡ Some m))
 TakenAfter archive wanted (suc steps) m =
     (by : MemberView) × (TakenAfter archive wanted steps by × ((name : List ℕ) ×
     (Contains (names_left by) name × (first_listed archive name ≡ Some m))))

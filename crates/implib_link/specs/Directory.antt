@@ -40,4 +40,5 @@ StopsAt image address = NumberAt image 4 (address + 12) 0 ⊎ NumberAt image 4 (
 -- what a loader finds that walks from an address on and is strict about nothing
 unfoldable pub WalkFinds : List Range → ℕ → ℕ → List Imported → Type 0
 WalkFinds image width address [] = StopsAt image address
-WalkFinds image width address (i ∷ others) = GoesOnBy image width address i × WalkFinds image width (address + 20) others
+WalkFinds image width address (i ∷ others) =
+    GoesOnBy image width address i × WalkFinds image width (address + 20) others

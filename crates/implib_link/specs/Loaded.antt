@@ -48,7 +48,8 @@ pub record IsLoaded (machine : MachineType) (bases : Bases) (parts : List Part) 
       (address_symbol e.name) (gives p.definition.import_name (ask_meant machine e))
   pub within : AllByRecursion
       (λ r. (bases.addresses ≤ r.start)
-          × (range_end r ≤ bases.addresses + thunk_width machine * thunks_before (length parts) parts)) written
+      × (range_end r ≤ bases.addresses + thunk_width machine * thunks_before (length parts) parts))
+      written
   pub kept : (address : ℕ) → list_any (is_in address) written ≡ false →
       byte_at (written ++ image_of machine bases (placed_from bases objects)) address
       ≡ byte_at (image_of machine bases (placed_from bases objects)) address

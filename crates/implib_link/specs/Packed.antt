@@ -12,7 +12,8 @@ end_with group end s (Some other) =
 -- the end of a group behind an end and sections
 unfoldable pub sections_end : Group → ℕ → List ObjectSection → ℕ
 sections_end group end [] = end
-sections_end group end (s ∷ sections) = sections_end group (end_with group end s (group_named s.name)) sections
+sections_end group end (s ∷ sections) =
+    sections_end group (end_with group end s (group_named s.name)) sections
 
 -- the end of a group that begins at a base
 unfoldable pub group_end : Group → ℕ → List Object → ℕ

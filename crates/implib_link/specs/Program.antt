@@ -65,10 +65,12 @@ linked_symbols machine parts = flat_map (λ m. m.symbols) (all_linked machine pa
 -- What may be linked with the members of these parts: the objects with import tables are the members and,
 -- behind them, the null descriptor; the others may stand anywhere before, between and behind, and claim
 -- none of the members' symbols; no two members are listed for one symbol; the bases are admissible.
-pub record IsProgram (machine : MachineType) (bases : Bases) (parts : List Part) (objects : List Object) : Type 0 where
+pub record IsProgram (machine : MachineType) (bases : Bases) (parts : List Part) (objects : List Object)
+    : Type 0 where
   pub distinct : IsDistinct bytes_eq (linked_symbols machine parts)
   pub tables : filter has_tables objects ≡ objects_in (all_linked machine parts) ++ null_descriptor ∷ []
-  pub others : AllByRecursion (ClaimsNone (linked_symbols machine parts)) (filter (λ o. not (has_tables o)) objects)
+  pub others : AllByRecursion (ClaimsNone (linked_symbols machine parts))
+      (filter (λ o. not (has_tables o)) objects)
   pub admissible : IsAdmissible machine bases objects
 
 -- an undefined symbol of this name, in any object that is linked, has this address
@@ -86,7 +88,8 @@ EachGets linked width address (e ∷ exports) =
 
 -- A DLL's chosen exports are imported by the descriptor at an address: a strict loader finds the DLL and
 -- what they ask for, the address table stands at this address, and `__imp_` symbols are its entries.
-pub record ImportsBy (machine : MachineType) (image : List Range) (linked : List Placed) (descriptor table : ℕ) (dll : List ℕ)
+pub record ImportsBy (machine : MachineType) (image : List Range) (linked : List Placed)
+    (descriptor table : ℕ) (dll : List ℕ)
     (exports : List ExportView) : Type 0 where
   pub strictly : LinksStrictlyAt machine image linked descriptor dll exports
   pub table_stands : strictly.loads.plain.addresses ≡ table
@@ -110,14 +113,16 @@ with_tables linked = filter (λ p. has_tables p.object) linked
 -- `targets`: every relocation of a member finds its target;
 -- `defined`: every symbol that a member leaves to others is defined once, at an address;
 -- `listed`: every symbol that a member is listed for is defined once.
-pub record LinksAmong (machine : MachineType) (bases : Bases) (parts : List Part) (objects : List Object) : Type 0 where
+pub record LinksAmong (machine : MachineType) (bases : Bases) (parts : List Part) (objects : List Object)
+    : Type 0 where
   pub linked : AllByRecursion (IsLinked machine) parts
   pub imports : (i : ℕ) (p : Part) → slice_get parts i ≡ Some p →
       ImportsBy machine (image_of machine bases (placed_from bases objects)) (placed_from bases objects)
       (bases.descriptors + 20 * i) (bases.addresses + thunk_width machine * thunks_before i parts)
       p.definition.import_name (chosen_exports p.definition p.chosen)
-  pub directory : DirectoryAt (image_of machine bases (placed_from bases objects)) (thunk_width machine) bases.descriptors
-      (map (imported machine) parts)
+  pub directory : DirectoryAt (image_of machine bases (placed_from bases objects))
+      (thunk_width machine) bases.descriptors (map (imported machine) parts)
   pub targets : AllByRecursion (AllFind (placed_from bases objects)) (with_tables (placed_from bases objects))
-  pub defined : AllByRecursion (IsDefinedAt (placed_from bases objects)) (undefined_names (with_tables (placed_from bases objects)))
+  pub defined : AllByRecursion (IsDefinedAt (placed_from bases objects))
+      (undefined_names (with_tables (placed_from bases objects)))
   pub listed : AllByRecursion (IsDefinedOnce (placed_from bases objects)) (linked_symbols machine parts)

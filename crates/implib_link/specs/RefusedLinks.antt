@@ -55,6 +55,20 @@ five_and_six = Ordinal 5 ∷ Ordinal 6 ∷ []
 abbrev pub right_image : List Range
 right_image = image_by_hand (descriptor_bytes 0x1028 0 0x1058 0x1040) table_8 table_8 foo
 
+-- with another name, with a time, with a lookup table that lacks its end, with thunks that are too wide
+abbrev pub named_otherwise : List Range
+named_otherwise = image_by_hand (descriptor_bytes 0x1028 0 0x1058 0x1040) table_8 table_8 (codes "bar.dll")
+
+abbrev pub timed : List Range
+timed = image_by_hand (descriptor_bytes 0x1028 1 0x1058 0x1040) table_8 table_8 foo
+
+abbrev pub endless : List Range
+endless =
+    image_by_hand (descriptor_bytes 0x1030 0 0x1058 0x1040) (zeros 8 ++ (ordinal_8 5 ++ ordinal_8 6)) table_8 foo
+
+abbrev pub wide_image : List Range
+wide_image = image_by_hand (descriptor_bytes 0x1028 0 0x1058 0x1040) table_4_in_8 table_4_in_8 foo
+
 -- the lookup table and the address table exchanged
 abbrev pub exchanged : List Range
 exchanged = image_by_hand (descriptor_bytes 0x1040 0 0x1058 0x1028) table_8 table_8 foo
@@ -72,7 +86,9 @@ placed_by_hand entries =
         time = 0;
         optional_header_size = 0;
         characteristics = 0;
-        sections = section (codes ".idata$2") table_flags (zeros 20) [] ∷ section (codes ".idata$5") table_flags table_8 [] ∷ [];
+        sections = section (codes ".idata$2") table_flags (zeros 20) []
+            ∷ section (codes ".idata$5") table_flags table_8 []
+            ∷ [];
         entries = ASymbol (defined_at (head_symbol AMD64 foo) 1 0)
             ∷ ASymbol (defined_at (address_symbol (codes "five")) 2 0)
             ∷ ASymbol (defined_at (address_symbol (codes "six")) 2 8)
@@ -101,20 +117,15 @@ pub record RefusedLinks : Type 0 where
   pub right_directory : DirectoryAt right_image 8 0x1000 (record { dll = foo; asks = five_and_six } ∷ [])
   pub right_stub : jump_reads AMD64 0x40_2000 (stub_by_hand 1) ≡ Some 0x40_1040
   -- another DLL's name
-  pub other_name : LoadsStrictly (image_by_hand (descriptor_bytes 0x1028 0 0x1058 0x1040) table_8 table_8 (codes "bar.dll"))
-      8 0x1000 foo five_and_six → ⊥
+  pub other_name : LoadsStrictly named_otherwise 8 0x1000 foo five_and_six → ⊥
   -- a time, which says that the addresses are bound: a plain loader takes it, a strict one does not
-  pub time_taken : Loads (image_by_hand (descriptor_bytes 0x1028 1 0x1058 0x1040) table_8 table_8 foo) 8 0x1000 foo five_and_six
-  pub time : LoadsStrictly (image_by_hand (descriptor_bytes 0x1028 1 0x1058 0x1040) table_8 table_8 foo)
-      8 0x1000 foo five_and_six → ⊥
+  pub time_taken : Loads timed 8 0x1000 foo five_and_six
+  pub time : LoadsStrictly timed 8 0x1000 foo five_and_six → ⊥
   -- a lookup table that goes on in the address table, for want of its end
-  pub no_end : LoadsStrictly (image_by_hand (descriptor_bytes 0x1030 0 0x1058 0x1040) (zeros 8 ++ (ordinal_8 5 ++ ordinal_8 6)) table_8 foo)
-      8 0x1000 foo five_and_six → ⊥
+  pub no_end : LoadsStrictly endless 8 0x1000 foo five_and_six → ⊥
   -- thunks of 8 bytes where a loader reads 4: it stops at the second
-  pub wide : LoadsStrictly (image_by_hand (descriptor_bytes 0x1028 0 0x1058 0x1040) table_4_in_8 table_4_in_8 foo)
-      4 0x1000 foo five_and_six → ⊥
-  pub wide_stops : Loads (image_by_hand (descriptor_bytes 0x1028 0 0x1058 0x1040) table_4_in_8 table_4_in_8 foo)
-      4 0x1000 foo (Ordinal 5 ∷ [])
+  pub wide : LoadsStrictly wide_image 4 0x1000 foo five_and_six → ⊥
+  pub wide_stops : Loads wide_image 4 0x1000 foo (Ordinal 5 ∷ [])
   -- the tables exchanged: a loader takes them, but the symbols are not at the address table's entries
   pub exchanged_taken : LoadsStrictly exchanged 8 0x1000 foo five_and_six
   pub exchanged_links : LinksStrictlyAt AMD64 exchanged (linked_by_hand 0x1040) 0x1000 foo exports_by_hand → ⊥

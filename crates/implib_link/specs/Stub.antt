@@ -59,8 +59,11 @@ code_word AMD64 type image_base place target word =
     if type == amd64_rel32 then (word + target + (2 ^ 32 - (place + 4) % 2 ^ 32)) % 2 ^ 32 else word
 code_word ARM64 type image_base place target word =
     if type == arm64_pagebase_rel21 then
-    with_adrp (page (image_base + target + adrp_immediate word) + (2 ^ 21 - page (image_base + place) % 2 ^ 21)) word
-    else if type == arm64_pageoffset_12l then with_ldr ((image_base + target + ldr_immediate word) % 4096) word
+    with_adrp
+    (page (image_base + target + adrp_immediate word) + (2 ^ 21 - page (image_base + place) % 2 ^ 21))
+    word
+    else if type == arm64_pageoffset_12l then
+    with_ldr ((image_base + target + ldr_immediate word) % 4096) word
     else word
 
 -- the code of a placed object's section that stands at a place, relocated
@@ -69,7 +72,8 @@ code_relocated machine image_base linked p place [] bytes = bytes
 code_relocated machine image_base linked p place (r ∷ relocations) bytes =
     code_relocated machine image_base linked p place relocations
     (with_word bytes r.offset
-    (code_word machine r.kind image_base (place + r.offset) (target_address linked p r.symbol) (word_at bytes r.offset)))
+    (code_word machine r.kind image_base (place + r.offset)
+    (target_address linked p r.symbol) (word_at bytes r.offset)))
 
 -- a number of so many bits and steps, as a signed one, added to an address
 abbrev pub plus_signed : ℕ → ℕ → ℕ → ℕ → ℕ
@@ -84,11 +88,14 @@ jump_reads I386 address bytes =
     if bytes_eq (take 2 bytes) (0xFF ∷ 0x25 ∷ []) then Some (word_at bytes 2) else None
 jump_reads ARMNT address bytes = None
 jump_reads AMD64 address bytes =
-    if bytes_eq (take 2 bytes) (0xFF ∷ 0x25 ∷ []) then Some (plus_signed 32 1 (word_at bytes 2) (address + 6)) else None
+    if bytes_eq (take 2 bytes) (0xFF ∷ 0x25 ∷ [])
+    then Some (plus_signed 32 1 (word_at bytes 2) (address + 6))
+    else None
 jump_reads ARM64 address bytes =
     if (with_adrp 0 (word_at bytes 0) == 0x9000_0010) && (with_bits 10 12 0 (word_at bytes 4) == 0xF940_0210)
     && (word_at bytes 8 == 0xD61F_0200) then
-    Some (plus_signed 21 4096 (adrp_immediate (word_at bytes 0)) (page address * 4096) + ldr_immediate (word_at bytes 4))
+    Some (plus_signed 21 4096 (adrp_immediate (word_at bytes 0)) (page address * 4096)
+    + ldr_immediate (word_at bytes 4))
     else None
 
 -- What a machine asks so that its stubs can jump: I386, that the image ends below 2^32; ARM64, that the
@@ -102,7 +109,8 @@ CanJump ARM64 image_base bases = (image_base % 8 ≡ 0) × (bases.addresses % 8 
 
 -- A name is that of code which jumps through an entry: an object defines it at the beginning of its first
 -- section, and wherever this section is placed below 2^31, the jump that it begins with reads the entry.
-pub record JumpsThrough (machine : MachineType) (image_base : ℕ) (linked : List Placed) (name : List ℕ) (entry : ℕ) : Type 0 where
+pub record JumpsThrough (machine : MachineType) (image_base : ℕ) (linked : List Placed) (name : List ℕ)
+    (entry : ℕ) : Type 0 where
   pub from : Placed
   pub held : Contains linked from
   pub symbol : ObjectSymbol
@@ -114,14 +122,17 @@ pub record JumpsThrough (machine : MachineType) (image_base : ℕ) (linked : Lis
   pub code : ObjectSection
   pub here : slice_get from.object.sections 0 ≡ Some code
   pub jumps : (place : ℕ) → place + 16 ≤ 2 ^ 31 →
-      jump_reads machine (image_base + place) (code_relocated machine image_base linked from place code.relocations code.bytes)
+      jump_reads machine (image_base + place)
+      (code_relocated machine image_base linked from place code.relocations code.bytes)
       ≡ Some (image_base + entry)
 
 -- A call of a name reaches these bytes: its code jumps through an entry, the only definition of its
 -- `__imp_` symbol, and there the bytes stand.
-pub record CallReaches (machine : MachineType) (image_base : ℕ) (image : List Range) (linked : List Placed) (name bytes : List ℕ)
+pub record CallReaches (machine : MachineType) (image_base : ℕ) (image : List Range) (linked : List Placed)
+    (name bytes : List ℕ)
     : Type 0 where
   pub entry : ℕ
-  pub once : definitions_of (address_symbol name) linked ≡ record { name = address_symbol name; address = Some entry } ∷ []
+  pub once : definitions_of (address_symbol name) linked
+      ≡ record { name = address_symbol name; address = Some entry } ∷ []
   pub jumps : JumpsThrough machine image_base linked name entry
   pub stands : BytesAt image entry bytes

@@ -54,26 +54,35 @@ chosen_stated d statements chosen =
 
 -- what a statement asks the DLL for: an ordinal, or its first word with the ordinal as hint
 abbrev pub ask_stated : Stated → Ask
-ask_stated s = if s.export.no_name then Ordinal s.export.ordinal else Name (external_word s.statement) s.export.ordinal
+ask_stated s =
+    if s.export.no_name then Ordinal s.export.ordinal else Name (external_word s.statement) s.export.ordinal
 
 -- A text's chosen exports are imported by the descriptor at an address, with the address table at this
 -- address, and each asks for the word of its own statement.
-pub record TextLinks (machine : MachineType) (image : List Range) (linked : List Placed) (descriptor table : ℕ) (s : Source)
+pub record TextLinks (machine : MachineType) (image : List Range) (linked : List Placed)
+    (descriptor table : ℕ) (s : Source)
     : Type 0 where
   pub meant : DefinitionView
   pub parses : Parses s.text machine meant
-  pub imports : ImportsBy machine image linked descriptor table meant.import_name (chosen_exports meant s.chosen)
+  pub imports : ImportsBy machine image linked descriptor table meant.import_name
+      (chosen_exports meant s.chosen)
   pub statements : map (λ t. t.export) (chosen_stated meant (exports_of_text parses.statements) s.chosen)
       ≡ chosen_exports meant s.chosen
   pub asks : map (ask_meant machine) (chosen_exports meant s.chosen)
       ≡ map ask_stated (chosen_stated meant (exports_of_text parses.statements) s.chosen)
 
 -- What linking texts' members among objects gives: the program's link, and that of each text.
-pub record TextsLink (machine : MachineType) (bases : Bases) (sources : List Source) (objects : List Object) : Type 0 where
+pub record TextsLink (machine : MachineType) (bases : Bases) (sources : List Source)
+    (objects : List Object) : Type 0 where
   pub among : LinksAmong machine bases (map part_of sources) objects
   pub imports : (i : ℕ) (s : Source) → slice_get sources i ≡ Some s →
       TextLinks machine (image_of machine bases (placed_from bases objects)) (placed_from bases objects)
-      (bases.descriptors + 20 * i) (bases.addresses + thunk_width machine * thunks_before i (map part_of sources)) s
+      (bases.descriptors + 20 * i)
+      (bases.addresses + thunk_width machine * thunks_before i (map part_of sources)) s
+
+abbrev pub source_of : List ℕ → LibraryView → List MemberView → List ℕ → Source
+source_of text library members chosen =
+    record { text = text; library = library; members = members; chosen = chosen }
 
 -- Members are those of a text, and link as it says: whichever exports are chosen, at whichever bases, among
 -- whichever objects of a program.
@@ -81,5 +90,5 @@ abbrev pub LinkAsStated : List ℕ → MachineType → List MemberView → Type 
 LinkAsStated text machine members =
     (library : LibraryView) × (LibraryOf text machine Gnu library ×
     ((chosen : List ℕ) (bases : Bases) (objects : List Object) →
-    IsProgram machine bases (part_of (record { text = text; library = library; members = members; chosen = chosen }) ∷ []) objects →
-    TextsLink machine bases (record { text = text; library = library; members = members; chosen = chosen } ∷ []) objects))
+    IsProgram machine bases (part_of (source_of text library members chosen) ∷ []) objects →
+    TextsLink machine bases (source_of text library members chosen ∷ []) objects))

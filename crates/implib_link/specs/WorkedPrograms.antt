@@ -34,7 +34,9 @@ foo_exports machine =
     record (plain_export (symbol_on machine (codes "open"))) { ordinal = 258 }
     ∷ record (plain_export (symbol_on machine (codes "stat"))) { is_data = true }
     ∷ nameless (symbol_on machine (codes "nine")) 9
-    ∷ record (plain_export (symbol_on machine (codes "move"))) { alias_target = symbol_on machine (codes "open") }
+    ∷ record (plain_export (symbol_on machine (codes "move"))) {
+      alias_target = symbol_on machine (codes "open");
+    }
     ∷ []
 
 abbrev pub foo_dll : MachineType → DefinitionView
@@ -79,9 +81,9 @@ code_object symbols = record {
 -- as an export is
 abbrev pub caller : MachineType → Object
 caller machine = code_object (
-  symbol_of_class (codes "main") 1 external
-  ∷ symbol_of_class (address_symbol (symbol_on machine (codes "open"))) 0 external
-  ∷ [])
+    symbol_of_class (codes "main") 1 external
+    ∷ symbol_of_class (address_symbol (symbol_on machine (codes "open"))) 0 external
+    ∷ [])
 
 abbrev pub another : MachineType → Object
 another machine = code_object (symbol_of_class (symbol_on machine (codes "stat")) 1 static ∷ [])
@@ -148,16 +150,22 @@ pub record WorkedProgram (machine : MachineType) (bases : Bases) (expected : Exp
   pub made : AllByRecursion (IsMade machine) (both_parts machine)
   pub program : IsProgram machine bases (both_parts machine) (program_objects machine)
   pub descriptors : numbers_from (program_image machine bases) 4 15 4 ≡ Some expected.descriptors
-  pub lookups : numbers_from (program_image machine bases) (thunk_width machine) 7 bases.lookups ≡ Some expected.thunks
-  pub addresses : numbers_from (program_image machine bases) (thunk_width machine) 7 bases.addresses ≡ Some expected.thunks
+  pub lookups : numbers_from (program_image machine bases) (thunk_width machine) 7 bases.lookups
+      ≡ Some expected.thunks
+  pub addresses : numbers_from (program_image machine bases) (thunk_width machine) 7 bases.addresses
+      ≡ Some expected.thunks
   pub hints : bytes_from (program_image machine bases) 32 bases.hint_names ≡ Some expected_hints
-  pub foo : bytes_from (program_image machine bases) 8 (bases.dll_names + 16) ≡ Some (codes "foo.dll" ++ 0 ∷ [])
-  pub zed : bytes_from (program_image machine bases) 8 (bases.dll_names + 28) ≡ Some (codes "zed.dll" ++ 0 ∷ [])
-  pub entries : map (λ name. addresses_of (address_symbol (symbol_on machine name)) (program_placed machine bases))
+  pub foo : bytes_from (program_image machine bases) 8 (bases.dll_names + 16)
+      ≡ Some (codes "foo.dll" ++ 0 ∷ [])
+  pub zed : bytes_from (program_image machine bases) 8 (bases.dll_names + 28)
+      ≡ Some (codes "zed.dll" ++ 0 ∷ [])
+  pub entries : map
+      (λ name. addresses_of (address_symbol (symbol_on machine name)) (program_placed machine bases))
       (codes "nine" ∷ codes "open" ∷ codes "stat" ∷ codes "move" ∷ codes "queue" ∷ []) ≡ expected.entries
   pub named : symbol_address (program_placed machine bases)
       (record { object = caller machine; places = [] })
-      (ASymbol (symbol_of_class (address_symbol (symbol_on machine (codes "open"))) 0 external)) ≡ expected.named
+      (ASymbol (symbol_of_class (address_symbol (symbol_on machine (codes "open"))) 0 external))
+      ≡ expected.named
 
 -- on all four machines
 pub record WorkedPrograms : Type 0 where

@@ -4,14 +4,16 @@ ghost use Rattle.implib.specs.Library.{member_view};
 ghost use Rattle.implib_link.specs.Texts.{LinkAsStated};
 ghost use Rattle.std.specs.Prelude.{IfOk, map};
 
+use crate::laws::texts::texts_link;
+use implib::{Error, Flavor, ImportLibrary, MachineType, Member};
 use std::alloc::Global;
 
-use implib::{Error, Flavor, ImportLibrary, MachineType, Member};
-
-use crate::laws::texts::texts_link;
-
 /// The members of a text for GNU's linker, which link as the text states.
-pub fn members_of_text(alloc: Global, text: &str, machine: MachineType) -> Result<Vec<Member>, Error>
+pub fn members_of_text(
+    alloc: Global,
+    text: &str,
+    machine: MachineType,
+) -> Result<Vec<Member>, Error>
     ensures links { IfOk result (λ members. LinkAsStated text.now machine (map member_view members.items)) }
 {
     let library = ImportLibrary::new(alloc, text, machine, Flavor::Gnu)?;

@@ -14,7 +14,7 @@ ghost use Rattle.std.specs.List.{AllByRecursion};
 ghost use Rattle.std.specs.Prelude.{◌≡◌, ℕ, List, length, map};
 
 /// Whatever a loader writes that walks the directory of a program: at each `__imp_` symbol stands what the
-/// DLL gives for the export, and no byte outside the address tables changed. There is such a loader's work.
+/// DLL gives for the export, and no byte outside the address tables changed. Such a loader can write.
 ///
 /// What a DLL gives has as many bytes as an entry.
 pub fn program_loads()

@@ -7,10 +7,11 @@ ghost use Rattle.implib.specs.declared.machine.MachineType.{MachineType};
 ghost use Rattle.implib_link.specs.Packed.{packed, packed_end};
 ghost use Rattle.implib_link.specs.Program.{IsProgram, has_tables, linked_symbols, null_descriptor};
 ghost use Rattle.std.specs.List.{AllByRecursion, IsDistinct, filter};
-ghost use Rattle.std.specs.Prelude.{◌≡◌, ◌<◌, ◌^◌, ◌++◌, ◌∷◌, ℕ, List, [], bytes_eq};
+ghost use Rattle.std.specs.Prelude.{◌≡◌, ◌<◌, ◌%◌, ◌^◌, ◌++◌, ◌∷◌, ℕ, List, [], bytes_eq};
 
 /// Packed placement from any address on is admissible for members and the null descriptor, other objects
 /// beside or not, where it ends below 2^31: so there is a program of all members whose symbols are distinct.
+/// The address tables begin at a multiple of 8.
 pub fn packed_is_program()
     ensures admissible { (machine : MachineType) (first : ℕ) (parts : List Part) (objects : List Object) →
         AllByRecursion (IsMade machine) parts →
@@ -25,4 +26,5 @@ pub fn packed_is_program()
         packed_end first (objects_in (all_linked machine parts) ++ null_descriptor ∷ []) < 2 ^ 31 →
         IsProgram machine (packed first (objects_in (all_linked machine parts) ++ null_descriptor ∷ [])) parts
         (objects_in (all_linked machine parts) ++ null_descriptor ∷ []) }
+    ensures eights { (first : ℕ) (objects : List Object) → (packed first objects).addresses % 8 ≡ 0 }
 {}

@@ -6,13 +6,19 @@ use Rattle.implib_link.proofs.members.members_of_text.Goals as goal
 
 pub returns : goal.returns
 returns c = record {
-  links = (c.in_ok-library.library, (c.in_ok-library.ensures.ok, λ chosen bases objects program.
-      let source : Source = record {
-        text = c.args.text.now;
-        library = c.in_ok-library.library;
-        members = map member_view c.in_ok-members.members.items;
-        chosen = chosen;
-      } in
-      let is : IsSource c.args.machine source = record { of_text = c.in_ok-library.ensures.ok; made = c.in_ok-members.ensures.ok } in
-      c.texts_link.ensures.links c.args.machine bases (source ∷ []) objects (is, tt) program));
+  links = (
+    c.in_ok-library.library,
+    (
+      c.in_ok-library.ensures.ok,
+      λ chosen bases objects program.
+          let source : Source = record {
+            text = c.args.text.now;
+            library = c.in_ok-library.library;
+            members = map member_view c.in_ok-members.members.items;
+            chosen = chosen;
+          } in
+          let is : IsSource c.args.machine source = record { of_text = c.in_ok-library.ensures.ok; made = c.in_ok-members.ensures.ok } in
+          c.texts_link.ensures.links c.args.machine bases (source ∷ []) objects (is, tt) program,
+    ),
+  );
 }
