@@ -5,7 +5,7 @@ use Rattle.implib.specs.declared.machine.MachineType.{MachineType}
 use Rattle.implib.specs.Definition.{DefinitionView, ExportView}
 use Rattle.implib.specs.Grammar.{Export}
 use Rattle.implib.specs.Import.{is_empty_text}
-use Rattle.implib.specs.Meaning.{export_meaning, exports_in, meaning}
+use Rattle.implib.specs.Meaning.{export_meaning, exports_in}
 use Rattle.implib.specs.Parses.{Parses}
 use Rattle.implib.specs.Renaming.{renamed_export}
 use Rattle.implib.specs.SymbolNames.{LacksSymbolNames}

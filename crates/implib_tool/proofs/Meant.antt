@@ -7,7 +7,6 @@ use Rattle.implib.specs.Definition.{DefinitionView}
 use Rattle.implib.specs.Import.{aliases_for, import_meant, public_exports}
 use Rattle.implib.specs.Library.{LibraryOf, LibraryView}
 use Rattle.implib.specs.Made.{Made, MemberView}
-use Rattle.implib.specs.Parses.{Parses}
 use Rattle.implib.specs.Reads.{Reads}
 use Rattle.implib.specs.Renaming.{renamed}
 use Rattle.implib.proofs.Renaming.{renamed_twice}
