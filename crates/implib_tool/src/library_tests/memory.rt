@@ -8,6 +8,7 @@ use super::writer::{section, symbol};
 use implib::coff::{ObjectWriter, Place, Relocation, Section, class};
 use implib::{Error, MachineType};
 use std::alloc::Global;
+use std::process::Abort;
 use std::test::Fail;
 
 const NAME: [u8; 8] = *b".idata$2";
@@ -73,23 +74,29 @@ fn add_name(alloc: Global, writer: &mut ObjectWriter) -> Result<(), Error>
     Ok(())
 }
 
+// Holds that a writer writes this object.
+fn expect_object(rt: &impl Abort, writer: &ObjectWriter, want: &[u8]) -> Result<(), Error> {
+    assert_eq!(rt; writer.write()?.as_slice(), want);
+    Ok(())
+}
+
 #[test]
 fn refused_growth_changes_nothing(rt: HostRuntime) -> Result<(), Fail> {
     let alloc = rt.alloc();
     let mut writer = ObjectWriter::new(alloc, MachineType::ARM64);
     if let Err(refused) = add_data(alloc, &mut writer) {
         assert!(rt; is_memory(&refused));
-        assert_eq!(rt; writer.write()?.as_slice(), NOTHING);
+        expect_object(&rt, &writer, NOTHING)?;
         add_data(alloc, &mut writer)?;
     }
     if let Err(refused) = add_name(alloc, &mut writer) {
         assert!(rt; is_memory(&refused));
-        assert_eq!(rt; writer.write()?.as_slice(), ONE_SECTION);
+        expect_object(&rt, &writer, ONE_SECTION)?;
         add_name(alloc, &mut writer)?;
     }
     if let Err(refused) = writer.add_relocation(1, PLACE) {
         assert!(rt; is_memory(&refused));
-        assert_eq!(rt; writer.write()?.as_slice(), ONE_SYMBOL);
+        expect_object(&rt, &writer, ONE_SYMBOL)?;
         writer.add_relocation(1, PLACE)?;
     }
     let bytes = match writer.write() {
