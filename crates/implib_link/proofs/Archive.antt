@@ -1,9 +1,9 @@
 -- What a linker takes of an archive.
-use Rattle.std.proofs.Common.{◌≡◌, ℕ, zero, suc, ◌+◌, ◌<◌, Bool, true, false, List, [], ◌∷◌, ◌++◌, length, map, Option, Some, None, refl, ap, sym, ◌∙◌, subst, inl, inr, ◌⊎◌, arith}
-use Rattle.std.specs.Prelude.{◌||◌, bytes_eq, reverse, slice_get, slice_index_or}
-use Rattle.std.specs.List.{AllByRecursion, Contains, IsDistinct, cons_option, filter_map, find, flat_map, list_any}
+use Rattle.std.proofs.Common.{◌≡◌, ℕ, zero, suc, ◌+◌, ◌<◌, true, false, List, [], ◌∷◌, ◌++◌, length, map, Option, Some, None, refl, ap, sym, ◌∙◌, subst, inl, inr, ◌⊎◌, arith}
+use Rattle.std.specs.Prelude.{bytes_eq, reverse, slice_get, slice_index_or}
+use Rattle.std.specs.List.{AllByRecursion, Contains, IsDistinct, cons_option, filter_map, flat_map, list_any}
 use Rattle.std.specs.Option.{option_map}
-use Rattle.std.proofs.lemmas.Bool.{cases_Bool, true≢false}
+use Rattle.std.proofs.lemmas.Bool.{cases_Bool}
 use Rattle.std.proofs.lemmas.List.{reverse-reverse}
 use Rattle.std.proofs.lemmas.Slice.Eq.{bytes_eq-Decides}
 use Rattle.implib.specs.declared.library.Flavor.TheVariants.{Gnu}
@@ -13,7 +13,6 @@ use Rattle.implib.specs.Gnu.{export_listed, export_object, head_object, head_sym
 use Rattle.implib.specs.Import.{is_alias, public_exports}
 use Rattle.implib.specs.LinkedMembers.{linked_members, linked_plans, plan_numbered}
 use Rattle.implib.specs.Made.{Made, MemberView, Plan, alias_plans, export_plan, gnu_plans, head_plan, member_of, numbered_plans, numbered_plans_of, tail_plan}
-use Rattle.implib.specs.Object.{Object, object_in}
 use Rattle.implib.specs.Renaming.{renamed}
 use Rattle.implib.proofs.Definitions.{not_same_turned, same_text}
 use Rattle.implib.proofs.LinkedMembers.{among_contains, among_map, among_reverse, dll_free, export_among, export_reads, head_among, head_reads, not_long, sound, tail_among, tail_reads}

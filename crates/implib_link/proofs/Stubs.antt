@@ -1,5 +1,5 @@
 -- Stubs jump through their own entries.
-use Rattle.std.proofs.Common.{◌≡◌, ℕ, zero, suc, ◌+◌, ◌*◌, ◌%◌, ◌^◌, ◌<◌, ◌≤◌, Bool, true, false, List, [], ◌∷◌, ◌++◌, length, map, Some, refl, ap, sym, ◌∙◌, subst, inl, inr, arith}
+use Rattle.std.proofs.Common.{◌≡◌, ℕ, zero, suc, ◌+◌, ◌*◌, ◌%◌, ◌^◌, ◌<◌, ◌≤◌, Bool, false, List, [], ◌∷◌, ◌++◌, length, map, Some, refl, ap, sym, ◌∙◌, subst, inl, inr, arith}
 use Rattle.std.specs.Prelude.{option_map, slice_get}
 use Rattle.std.specs.List.{AllByRecursion, filter}
 use Rattle.std.proofs.lemmas.Bool.{cases_Bool}
@@ -13,9 +13,9 @@ use Rattle.implib.specs.Image.{Range, image_of, range_end}
 use Rattle.implib.specs.Import.{Ask, address_symbol, ask_meant}
 use Rattle.implib.specs.Linked.{EntriesAt}
 use Rattle.implib.specs.LinkedMembers.{IsMade, Part, chosen_exports}
-use Rattle.implib.specs.Load.{BytesAt, NumberAt, TableAt}
+use Rattle.implib.specs.Load.{BytesAt, TableAt}
 use Rattle.implib.specs.MsvcObjects.{thunk_width}
-use Rattle.implib.specs.Object.{ASymbol, Object, ObjectSymbol}
+use Rattle.implib.specs.Object.{ASymbol, Object}
 use Rattle.implib.specs.Placement.{Bases, Placed, placed_from}
 use Rattle.implib.specs.Resolution.{SymbolDefinition, address_or_zero, definitions_of, first_address, target_address}
 use Rattle.implib.proofs.Linked.{address_found, aligned_block, ends_of_block}
