@@ -1,7 +1,7 @@
 -- What a linker takes of an archive.
 use Rattle.std.proofs.Common.{◌≡◌, ℕ, zero, suc, ◌+◌, ◌<◌, true, false, List, [], ◌∷◌, ◌++◌, length, map, Option, Some, None, refl, ap, sym, ◌∙◌, subst, inl, inr, ◌⊎◌, arith}
-use Rattle.std.specs.Prelude.{bytes_eq, reverse, slice_get, slice_index_or}
-use Rattle.std.specs.List.{AllByRecursion, Contains, IsDistinct, cons_option, filter_map, flat_map, list_any}
+use Rattle.std.specs.Prelude.{not, bytes_eq, reverse, slice_get, slice_index_or}
+use Rattle.std.specs.List.{AllByRecursion, Contains, IsDistinct, cons_option, filter, filter_map, flat_map, list_any}
 use Rattle.std.specs.Option.{option_map}
 use Rattle.std.specs.Cmp.Lexicographic.{slice_cmp}
 use Rattle.std.specs.Ordering.{nat_cmp, ordering_reverse}
@@ -10,20 +10,25 @@ use Rattle.std.specs.declared.cmp.Ordering.TheVariants.{Greater, Less}
 use Rattle.std.proofs.lemmas.Cmp.{nat_list_cmp_total}
 use Rattle.std.proofs.lemmas.Option.{slice_get_within}
 use Rattle.std.proofs.lemmas.Bool.{cases_Bool}
-use Rattle.std.proofs.lemmas.List.{reverse-reverse}
+use Rattle.std.proofs.lemmas.List.{append-nil, reverse-reverse}
 use Rattle.std.proofs.lemmas.Slice.Eq.{bytes_eq-Decides}
 use Rattle.implib.specs.declared.library.Flavor.TheVariants.{Gnu}
 use Rattle.implib.specs.declared.machine.MachineType.{MachineType}
 use Rattle.implib.specs.Definition.{DefinitionView, ExportView}
 use Rattle.implib.specs.Gnu.{export_listed, export_name, export_object, head_object, head_symbol, name_symbol, tail_object}
 use Rattle.implib.specs.Import.{is_alias, public_exports}
-use Rattle.implib.specs.LinkedMembers.{AllRise, ComesBefore, linked_members, linked_plans, plan_numbered}
+use Rattle.implib.specs.LinkedMembers.{AllRise, ComesBefore, Part, all_linked, linked_members, objects_in, linked_plans, plan_numbered}
 use Rattle.implib.specs.Made.{Made, MemberView, Plan, alias_plans, export_plan, gnu_plans, head_plan, member_of, numbered_plans, numbered_plans_of, tail_plan}
+use Rattle.implib.specs.Image.{IsAdmissible}
+use Rattle.implib.specs.Object.{Object}
+use Rattle.implib.specs.Placement.{Bases}
 use Rattle.implib.specs.Renaming.{renamed}
 use Rattle.implib.proofs.Definitions.{not_same_turned, same_text}
 use Rattle.implib.proofs.LinkedMembers.{among_contains, among_map, among_reverse, dll_free, export_among, export_reads, head_among, head_reads, members_rise, not_long, sound, tail_among, tail_reads}
 use Rattle.implib.proofs.Placement.{export, head, tail}
 use Rattle.implib.proofs.Ranges.{Among, among_back, among_first, among_front, among_later, all_among}
+use Rattle.implib_link.specs.Program.{ClaimsNone, LinksAmong, has_tables, null_descriptor}
+use Rattle.implib_link.proofs.Program.{program_links}
 use Rattle.implib_link.specs.Archive.{AreWanted, IsTaken, TakenAfter, first_listed, names_left, names_left_by}
 
 -- Elements of lists.
@@ -444,3 +449,22 @@ taken_in_order d machine members wanted chosen taken made none distinct are rise
     sorted_same taken (linked_members d machine chosen) sorted (members_rise d machine members chosen made within rise)
     (λ m held. among_from m (linked_members d machine chosen) (only_taken d machine members wanted chosen m made none distinct are (only m (among_contains m taken held))))
     (λ m held. among_from m taken (all m (all_taken d machine members wanted chosen m made distinct are (among_contains m (linked_members d machine chosen) held))))
+
+-- what is taken, in order, links
+pub archive_links : (d : DefinitionView) (machine : MachineType) (members : List MemberView) (wanted : List (List ℕ)) (chosen : List ℕ) (taken : List MemberView) (bases : Bases) (objects : List Object) →
+    Made d machine Gnu members → AllByRecursion (λ e. is_alias e.alias_target e.name ≡ false) (public_exports (renamed d)) → IsDistinct bytes_eq (flat_map (λ (x : MemberView). x.symbols) members) →
+    AreWanted d wanted chosen → AllRise (map (export_name d.import_name) chosen) → ((m : MemberView) → Contains taken m → IsTaken members wanted m) →
+    ((m : MemberView) → IsTaken members wanted m → Contains taken m) → AllRise (map (λ (m : MemberView). m.name) taken) →
+    IsDistinct bytes_eq (flat_map (λ (x : MemberView). x.symbols) taken) → filter has_tables objects ≡ objects_in taken ++ null_descriptor ∷ [] →
+    AllByRecursion (ClaimsNone (flat_map (λ (x : MemberView). x.symbols) taken)) (filter (λ o. not (has_tables o)) objects) → IsAdmissible machine bases objects →
+    LinksAmong machine bases (record { definition = d; members = members; chosen = chosen } ∷ []) objects
+archive_links d machine members wanted chosen taken bases objects made none distinct are rise only all sorted taken_distinct tables others admissible =
+    let part : Part = record { definition = d; members = members; chosen = chosen } in
+    let whole : taken ≡ all_linked machine (part ∷ []) =
+    taken_in_order d machine members wanted chosen taken made none distinct are rise only all sorted ∙ sym (append-nil (linked_members d machine chosen)) in
+    program_links machine bases (part ∷ []) objects (made, tt) (record {
+      distinct = subst (λ (ms : List MemberView). IsDistinct bytes_eq (flat_map (λ (x : MemberView). x.symbols) ms)) whole taken_distinct;
+      tables = tables ∙ ap (λ (ms : List MemberView). objects_in ms ++ null_descriptor ∷ []) whole;
+      others = subst (λ (ms : List MemberView). AllByRecursion (ClaimsNone (flat_map (λ (x : MemberView). x.symbols) ms)) (filter (λ o. not (has_tables o)) objects)) whole others;
+      admissible = admissible;
+    })
