@@ -1,24 +1,34 @@
 -- What a linker takes of an archive.
-use Rattle.std.proofs.Common.{◌≡◌, ℕ, zero, suc, ◌+◌, ◌<◌, Bool, true, false, List, [], ◌∷◌, ◌++◌, length, map, Option, Some, None, refl, ap, sym, ◌∙◌, subst, inl, inr, ◌⊎◌, arith}
-use Rattle.std.specs.Prelude.{◌||◌, bytes_eq, reverse, slice_get, slice_index_or}
-use Rattle.std.specs.List.{AllByRecursion, Contains, IsDistinct, cons_option, filter_map, find, flat_map, list_any}
+use Rattle.std.proofs.Common.{◌≡◌, ℕ, zero, suc, ◌+◌, ◌<◌, true, false, List, [], ◌∷◌, ◌++◌, length, map, Option, Some, None, refl, ap, sym, ◌∙◌, subst, inl, inr, ◌⊎◌, arith}
+use Rattle.std.specs.Prelude.{not, bytes_eq, reverse, slice_get, slice_index_or}
+use Rattle.std.specs.List.{AllByRecursion, Contains, IsDistinct, cons_option, filter, filter_map, flat_map, list_any}
 use Rattle.std.specs.Option.{option_map}
-use Rattle.std.proofs.lemmas.Bool.{cases_Bool, true≢false}
-use Rattle.std.proofs.lemmas.List.{reverse-reverse}
+use Rattle.std.specs.Cmp.Lexicographic.{slice_cmp}
+use Rattle.std.specs.Ordering.{nat_cmp, ordering_reverse}
+use Rattle.std.specs.declared.cmp.Ordering.{Ordering}
+use Rattle.std.specs.declared.cmp.Ordering.TheVariants.{Greater, Less}
+use Rattle.std.proofs.lemmas.Cmp.{nat_list_cmp_total}
+use Rattle.std.proofs.lemmas.Option.{slice_get_within}
+use Rattle.std.proofs.lemmas.Bool.{cases_Bool}
+use Rattle.std.proofs.lemmas.List.{append-nil, reverse-reverse}
 use Rattle.std.proofs.lemmas.Slice.Eq.{bytes_eq-Decides}
 use Rattle.implib.specs.declared.library.Flavor.TheVariants.{Gnu}
 use Rattle.implib.specs.declared.machine.MachineType.{MachineType}
 use Rattle.implib.specs.Definition.{DefinitionView, ExportView}
-use Rattle.implib.specs.Gnu.{export_listed, export_object, head_object, head_symbol, name_symbol, tail_object}
+use Rattle.implib.specs.Gnu.{export_listed, export_name, export_object, head_object, head_symbol, name_symbol, tail_object}
 use Rattle.implib.specs.Import.{is_alias, public_exports}
-use Rattle.implib.specs.LinkedMembers.{linked_members, linked_plans, plan_numbered}
+use Rattle.implib.specs.LinkedMembers.{AllRise, ComesBefore, Part, all_linked, linked_members, objects_in, linked_plans, plan_numbered}
 use Rattle.implib.specs.Made.{Made, MemberView, Plan, alias_plans, export_plan, gnu_plans, head_plan, member_of, numbered_plans, numbered_plans_of, tail_plan}
-use Rattle.implib.specs.Object.{Object, object_in}
+use Rattle.implib.specs.Image.{IsAdmissible}
+use Rattle.implib.specs.Object.{Object}
+use Rattle.implib.specs.Placement.{Bases}
 use Rattle.implib.specs.Renaming.{renamed}
 use Rattle.implib.proofs.Definitions.{not_same_turned, same_text}
-use Rattle.implib.proofs.LinkedMembers.{among_contains, among_map, among_reverse, dll_free, export_among, export_reads, head_among, head_reads, not_long, sound, tail_among, tail_reads}
+use Rattle.implib.proofs.LinkedMembers.{among_contains, among_map, among_reverse, dll_free, export_among, export_reads, head_among, head_reads, members_rise, not_long, sound, tail_among, tail_reads}
 use Rattle.implib.proofs.Placement.{export, head, tail}
 use Rattle.implib.proofs.Ranges.{Among, among_back, among_first, among_front, among_later, all_among}
+use Rattle.implib_link.specs.Program.{ClaimsNone, LinksAmong, has_tables, null_descriptor}
+use Rattle.implib_link.proofs.Program.{program_links}
 use Rattle.implib_link.specs.Archive.{AreWanted, IsTaken, TakenAfter, first_listed, names_left, names_left_by}
 
 -- Elements of lists.
@@ -373,3 +383,88 @@ pub all_taken : (d : DefinitionView) (machine : MachineType) (members : List Mem
     IsDistinct bytes_eq (flat_map (λ (x : MemberView). x.symbols) members) → AreWanted d wanted chosen → Contains (linked_members d machine chosen) m → IsTaken members wanted m
 all_taken d machine members wanted chosen m made distinct are c =
     linked_taken d machine members wanted chosen made distinct are m (among_from m (linked_members d machine chosen) c)
+
+-- Members in the order of their names.
+
+-- no text comes before itself
+before_itself : (o : Ordering) → o ≡ ordering_reverse o → o ≡ Less → ⊥
+before_itself o turned less = let is : Less ≡ Greater = subst (λ (x : Ordering). x ≡ ordering_reverse x) less turned in cc
+
+irreflexive : (name : List ℕ) → ComesBefore name name → ⊥
+irreflexive name before = before_itself (slice_cmp nat_cmp name name) (nat_list_cmp_total.antisymm name name) before
+
+rises_over : (first : List ℕ) (names : List (List ℕ)) → AllRise (first ∷ names) → (name : List ℕ) → Among name names → ComesBefore first name
+unfolding Among
+rises_over first [] rise name m = absurd m
+rises_over first (second ∷ names) rise name (inl e) = subst (ComesBefore first) (sym e) rise.0
+rises_over first (second ∷ names) rise name (inr m) = nat_list_cmp_total.trans first second name rise.0 (rises_over second names rise.1 name m)
+
+rise_rest : (first : List ℕ) (names : List (List ℕ)) → AllRise (first ∷ names) → AllRise names
+rise_rest first [] rise = tt
+rise_rest first (second ∷ names) rise = rise.1
+
+abbrev names_of : List MemberView → List (List ℕ)
+names_of members = map (λ (m : MemberView). m.name) members
+
+over_first : (x m : MemberView) (xs : List MemberView) → AllRise (names_of (x ∷ xs)) → Among m xs → ComesBefore x.name m.name
+over_first x m xs rise held = rises_over x.name (names_of xs) rise m.name (among_map (λ (y : MemberView). y.name) m xs held)
+
+same_first : (x y : MemberView) (xs ys : List MemberView) → AllRise (names_of (x ∷ xs)) → AllRise (names_of (y ∷ ys)) → Among x (y ∷ ys) → Among y (x ∷ xs) → x ≡ y
+unfolding Among
+same_first x y xs ys first second (inl e) m = e
+same_first x y xs ys first second (inr n) (inl e) = sym e
+same_first x y xs ys first second (inr n) (inr m) =
+    absurd (irreflexive y.name (nat_list_cmp_total.trans y.name x.name y.name (over_first y x ys second n) (over_first x y xs first m)))
+
+behind_first : (x y m : MemberView) (xs ys : List MemberView) → AllRise (names_of (x ∷ xs)) → x ≡ y → Among m xs → Among m (y ∷ ys) → Among m ys
+unfolding Among
+behind_first x y m xs ys rise same held (inl e) =
+    absurd (irreflexive m.name (subst (λ (z : MemberView). ComesBefore z.name m.name) (same ∙ sym e) (over_first x m xs rise held)))
+behind_first x y m xs ys rise same held (inr n) = n
+
+sorted_same : (xs ys : List MemberView) → AllRise (names_of xs) → AllRise (names_of ys) → ((m : MemberView) → Among m xs → Among m ys) → ((m : MemberView) → Among m ys → Among m xs) → xs ≡ ys
+sorted_same [] [] first second into from = refl
+sorted_same [] (y ∷ ys) first second into from = absurd (among_nothing y (from y (among_first y ys)))
+sorted_same (x ∷ xs) [] first second into from = absurd (among_nothing x (into x (among_first x xs)))
+sorted_same (x ∷ xs) (y ∷ ys) first second into from =
+    let same : x ≡ y = same_first x y xs ys first second (into x (among_first x xs)) (from y (among_first y ys)) in
+    let rest : xs ≡ ys =
+    sorted_same xs ys (rise_rest x.name (names_of xs) first) (rise_rest y.name (names_of ys) second)
+    (λ m held. behind_first x y m xs ys first same held (into m (among_later m x xs held)))
+    (λ m held. behind_first y x m ys xs second (sym same) held (from m (among_later m y ys held))) in
+    ap (λ z. z ∷ xs) same ∙ ap (λ zs. y ∷ zs) rest
+
+all_from : {X : Type 0} (P : X → Type 0) (xs : List X) → ((x : X) → Among x xs → P x) → AllByRecursion P xs
+all_from P [] each = tt
+all_from P (x ∷ xs) each = (each x (among_first x xs), all_from P xs (λ y m. each y (among_later y x xs m)))
+
+pub taken_in_order : (d : DefinitionView) (machine : MachineType) (members : List MemberView) (wanted : List (List ℕ)) (chosen : List ℕ) (taken : List MemberView) → Made d machine Gnu members →
+    AllByRecursion (λ e. is_alias e.alias_target e.name ≡ false) (public_exports (renamed d)) → IsDistinct bytes_eq (flat_map (λ (x : MemberView). x.symbols) members) → AreWanted d wanted chosen →
+    AllRise (map (export_name d.import_name) chosen) → ((m : MemberView) → Contains taken m → IsTaken members wanted m) → ((m : MemberView) → IsTaken members wanted m → Contains taken m) →
+    AllRise (map (λ (m : MemberView). m.name) taken) → taken ≡ linked_members d machine chosen
+taken_in_order d machine members wanted chosen taken made none distinct are rise only all sorted =
+    let within : AllByRecursion (λ n. n < length (public_exports (renamed d))) chosen =
+    all_from (λ n. n < length (public_exports (renamed d))) chosen
+    (λ n m. let own = are.only n (among_contains n chosen m) in slice_get_within (public_exports (renamed d)) n own.0 own.1.0) in
+    sorted_same taken (linked_members d machine chosen) sorted (members_rise d machine members chosen made within rise)
+    (λ m held. among_from m (linked_members d machine chosen) (only_taken d machine members wanted chosen m made none distinct are (only m (among_contains m taken held))))
+    (λ m held. among_from m taken (all m (all_taken d machine members wanted chosen m made distinct are (among_contains m (linked_members d machine chosen) held))))
+
+-- what is taken, in order, links
+pub archive_links : (d : DefinitionView) (machine : MachineType) (members : List MemberView) (wanted : List (List ℕ)) (chosen : List ℕ) (taken : List MemberView) (bases : Bases) (objects : List Object) →
+    Made d machine Gnu members → AllByRecursion (λ e. is_alias e.alias_target e.name ≡ false) (public_exports (renamed d)) → IsDistinct bytes_eq (flat_map (λ (x : MemberView). x.symbols) members) →
+    AreWanted d wanted chosen → AllRise (map (export_name d.import_name) chosen) → ((m : MemberView) → Contains taken m → IsTaken members wanted m) →
+    ((m : MemberView) → IsTaken members wanted m → Contains taken m) → AllRise (map (λ (m : MemberView). m.name) taken) →
+    IsDistinct bytes_eq (flat_map (λ (x : MemberView). x.symbols) taken) → filter has_tables objects ≡ objects_in taken ++ null_descriptor ∷ [] →
+    AllByRecursion (ClaimsNone (flat_map (λ (x : MemberView). x.symbols) taken)) (filter (λ o. not (has_tables o)) objects) → IsAdmissible machine bases objects →
+    LinksAmong machine bases (record { definition = d; members = members; chosen = chosen } ∷ []) objects
+archive_links d machine members wanted chosen taken bases objects made none distinct are rise only all sorted taken_distinct tables others admissible =
+    let part : Part = record { definition = d; members = members; chosen = chosen } in
+    let whole : taken ≡ all_linked machine (part ∷ []) =
+    taken_in_order d machine members wanted chosen taken made none distinct are rise only all sorted ∙ sym (append-nil (linked_members d machine chosen)) in
+    program_links machine bases (part ∷ []) objects (made, tt) (record {
+      distinct = subst (λ (ms : List MemberView). IsDistinct bytes_eq (flat_map (λ (x : MemberView). x.symbols) ms)) whole taken_distinct;
+      tables = tables ∙ ap (λ (ms : List MemberView). objects_in ms ++ null_descriptor ∷ []) whole;
+      others = subst (λ (ms : List MemberView). AllByRecursion (ClaimsNone (flat_map (λ (x : MemberView). x.symbols) ms)) (filter (λ o. not (has_tables o)) objects)) whole others;
+      admissible = admissible;
+    })

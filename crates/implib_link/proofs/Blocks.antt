@@ -1,20 +1,20 @@
 -- Where the descriptors and the address tables of blocks stand, and the null descriptor behind them.
-use Rattle.std.proofs.Common.{◌≡◌, ℕ, zero, suc, ◌+◌, ◌*◌, ◌-◌, ◌%◌, ◌≤◌, List, [], ◌∷◌, ◌++◌, length, map, Some, refl, ap, sym, ◌∙◌, subst, arith}
+use Rattle.std.proofs.Common.{◌≡◌, ℕ, zero, suc, ◌+◌, ◌*◌, ◌-◌, List, [], ◌∷◌, ◌++◌, length, map, Some, refl, ap, sym, ◌∙◌, subst, arith}
 use Rattle.std.specs.Prelude.{slice_get}
 use Rattle.std.proofs.Math.Nat.{mul-add, mul-suc, mul-zero}
-use Rattle.std.proofs.lemmas.List.{append-nil, append_assoc, length-replicate}
+use Rattle.std.proofs.lemmas.List.{append_assoc}
 use Rattle.implib.specs.declared.machine.MachineType.{MachineType}
 use Rattle.implib.specs.Definition.{ExportView}
-use Rattle.implib.specs.Image.{Contribution, Range, filled}
+use Rattle.implib.specs.Image.{Range}
 use Rattle.implib.specs.LinkedMembers.{Part, chosen_exports}
 use Rattle.implib.specs.Load.{BytesAt}
 use Rattle.implib.specs.MsvcObjects.{thunk_width, zeros}
 use Rattle.implib.specs.Object.{Object}
-use Rattle.implib.specs.Placement.{Bases, Descriptors, Placed, next_multiple}
+use Rattle.implib.specs.Placement.{Bases, Placed, next_multiple}
 use Rattle.implib.proofs.LinkedBlocks.{Block, BlocksLink, blocks_objects, ends_of_blocks}
 use Rattle.implib.proofs.LinkedParts.{block_of}
 use Rattle.implib.proofs.Linked.{BlockLinks, StandsFrom, aligned_block, ends_of_block}
-use Rattle.implib.proofs.Placement.{AreAligned, after_head, aligned, descriptors_end, ends_of_all, ends_of_export, ends_of_exports, ends_of_head, export, head, tail}
+use Rattle.implib.proofs.Placement.{AreAligned, aligned, descriptors_end, ends_of_all, ends_of_export, ends_of_exports, ends_of_head, export, head, tail}
 use Rattle.implib_link.specs.Directory.{DirectoryAt, imported}
 use Rattle.implib_link.specs.Program.{null_descriptor, thunks_before}
 

@@ -1,5 +1,5 @@
 -- A directory has one reading.
-use Rattle.std.proofs.Common.{◌≡◌, ℕ, ◌+◌, ◌<◌, ◌≤◌, List, [], ◌∷◌, refl, ap, sym, ◌∙◌, subst, inl, inr, arith}
+use Rattle.std.proofs.Common.{◌≡◌, ℕ, ◌+◌, ◌<◌, List, [], ◌∷◌, refl, ap, ◌∙◌, inl, inr, arith}
 use Rattle.implib.specs.Image.{Range}
 use Rattle.implib.specs.Load.{BytesAt, LoadsStrictly, NumberAt}
 use Rattle.implib.specs.MsvcObjects.{zeros}

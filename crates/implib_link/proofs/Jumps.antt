@@ -1,15 +1,14 @@
 -- What the relocated stubs read.
-use Rattle.std.proofs.Common.{◌≡◌, ℕ, ◌+◌, ◌-◌, ◌*◌, ◌/◌, ◌%◌, ◌^◌, ◌<◌, ◌≤◌, true, false, List, [], ◌∷◌, ◌++◌, length, take, drop, Option, None, Some, refl, ap, sym, ◌∙◌, subst, inl, inr, arith}
+use Rattle.std.proofs.Common.{◌≡◌, ℕ, ◌+◌, ◌-◌, ◌*◌, ◌/◌, ◌%◌, ◌^◌, ◌<◌, ◌≤◌, true, List, [], ◌∷◌, ◌++◌, Option, None, Some, refl, ap, ◌∙◌, inl, inr, arith}
 use Rattle.std.specs.Prelude.{◌&&◌, ◌==◌, if◌then◌else◌, nat_lt}
 use Rattle.std.proofs.lemmas.Bool.{cases_Bool, ltb-false, ltb-true}
-use Rattle.implib.specs.declared.machine.MachineType.{MachineType}
-use Rattle.implib.specs.declared.machine.MachineType.TheVariants.{I386, ARMNT, AMD64, ARM64}
+use Rattle.implib.specs.declared.machine.MachineType.TheVariants.{I386, AMD64, ARM64}
 use Rattle.implib.specs.Bytes.{u32_bytes}
 use Rattle.implib.specs.Gnu.{stub_bytes, stub_relocations}
 use Rattle.implib.specs.Load.{number_in}
-use Rattle.implib.specs.Placement.{Bases, Placed}
+use Rattle.implib.specs.Placement.{Placed}
 use Rattle.implib.specs.Resolution.{target_address}
-use Rattle.implib_link.specs.Stub.{CanJump, adrp_immediate, bits_of, code_relocated, code_word, jump_reads, ldr_immediate, page, plus_signed, with_adrp, with_bits, with_ldr, word_at}
+use Rattle.implib_link.specs.Stub.{adrp_immediate, bits_of, code_relocated, jump_reads, ldr_immediate, page, plus_signed, with_adrp, with_bits, with_ldr}
 
 number-u32 : (n : ℕ) → number_in (u32_bytes n) ≡ n % 2 ^ 32
 unfolding u32_bytes

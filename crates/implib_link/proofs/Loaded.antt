@@ -1,9 +1,9 @@
 -- What a loader writes stands at the entries of the address tables, and nowhere else.
-use Rattle.std.proofs.Common.{◌≡◌, ℕ, zero, suc, ◌+◌, ◌*◌, ◌-◌, ◌<◌, ◌≤◌, Bool, true, false, List, [], ◌∷◌, ◌++◌, length, map, Some, refl, ap, sym, ◌∙◌, subst, inl, inr, arith}
-use Rattle.std.specs.Prelude.{◌&&◌, nat_le, nat_lt, slice_get, slice_index, option_map}
+use Rattle.std.proofs.Common.{◌≡◌, ℕ, zero, suc, ◌+◌, ◌*◌, ◌-◌, ◌≤◌, true, false, List, [], ◌∷◌, ◌++◌, length, map, Some, refl, ap, sym, ◌∙◌, subst, arith}
+use Rattle.std.specs.Prelude.{nat_le, nat_lt, slice_get, slice_index, option_map}
 use Rattle.std.specs.List.{AllByRecursion, list_any}
 use Rattle.std.proofs.Math.Nat.{mul-add, mul-suc, mul-zero}
-use Rattle.std.proofs.lemmas.Bool.{and_parts, cases_Bool, false_from_ne_true, leb-true, ltb-true, or_parts}
+use Rattle.std.proofs.lemmas.Bool.{and_parts, false_from_ne_true, ltb-true, or_parts}
 use Rattle.std.proofs.lemmas.List.{append_assoc, get_or_at, length-append, length-map}
 use Rattle.std.proofs.lemmas.Option.{slice_get-map}
 use Rattle.implib.specs.declared.machine.MachineType.{MachineType}
@@ -20,8 +20,8 @@ use Rattle.implib.specs.Resolution.{definitions_of}
 use Rattle.implib.proofs.Linked.{all_append}
 use Rattle.implib.proofs.Loading.{number_once}
 use Rattle.implib.proofs.Ranges.{is_in_from}
-use Rattle.implib_link.specs.Directory.{Imported, imported}
-use Rattle.implib_link.specs.Loaded.{HoldsAt, IsLoaded, Writes, entries_written}
+use Rattle.implib_link.specs.Directory.{imported}
+use Rattle.implib_link.specs.Loaded.{IsLoaded, Writes, entries_written}
 use Rattle.implib_link.specs.Program.{IsProgram, LinksAmong, thunks_before}
 use Rattle.implib_link.proofs.Program.{program_links}
 

@@ -1,7 +1,7 @@
 -- Objects without import tables change nothing of those that have them.
-use Rattle.std.proofs.Common.{◌≡◌, ℕ, ◌≤◌, arith, Bool, true, false, List, [], ◌∷◌, ◌++◌, length, map, Some, None, refl, ap, sym, ◌∙◌, subst, inl, inr, codes, bytes_eq}
-use Rattle.std.specs.Prelude.{◌==◌, ◌&&◌, ◌||◌, nat_le, not, take}
-use Rattle.std.specs.List.{AllByRecursion, cons_option, filter, filter_map, flat_map, list_any}
+use Rattle.std.proofs.Common.{◌≡◌, ℕ, ◌≤◌, arith, true, false, List, [], ◌∷◌, ◌++◌, None, refl, ap, sym, ◌∙◌, subst, inl, inr, codes, bytes_eq}
+use Rattle.std.specs.Prelude.{◌==◌, ◌&&◌, nat_le, not, take}
+use Rattle.std.specs.List.{AllByRecursion, filter, filter_map, list_any}
 use Rattle.std.proofs.lemmas.Bool.{and_parts, cases_Bool, false_from_ne_true, leb-true, ne_eqb, or_parts, true≢false}
 use Rattle.std.proofs.lemmas.List.Elements.{filter-append}
 use Rattle.std.proofs.lemmas.Slice.Eq.{bytes_eq-Decides}
@@ -11,7 +11,7 @@ use Rattle.implib.specs.File.{is_defined_external}
 use Rattle.implib.specs.Image.{contributions, contributions_in}
 use Rattle.implib.specs.Object.{ASymbol, Auxiliary, Entry, Object, ObjectSection, ObjectSymbol}
 use Rattle.implib.specs.Placement.{Bases, Group, Nowhere, Place, Placed, ends_after, group_named, place_of, placed_from, places_of}
-use Rattle.implib.specs.Resolution.{SymbolDefinition, defined_by, defined_by_entry, definitions, definitions_of}
+use Rattle.implib.specs.Resolution.{SymbolDefinition, defined_by_entry, definitions, definitions_of}
 use Rattle.implib_link.specs.Program.{claimed_name, claimed_names, has_tables, is_reference, is_shared, is_table}
 
 -- a name that begins otherwise is that of no group

@@ -1,19 +1,18 @@
 -- Packed placement is admissible.
 use Rattle.std.proofs.Common.{◌≡◌, ℕ, ◌+◌, ◌-◌, ◌%◌, ◌^◌, ◌<◌, ◌≤◌, true, false, List, [], ◌∷◌, ◌++◌, length, map, Option, Some, None, refl, ap, sym, ◌∙◌, subst, inl, inr, arith}
 use Rattle.std.specs.Prelude.{bytes_eq, if◌then◌else◌, nat_le, nat_lt}
-use Rattle.std.specs.List.{AllByRecursion, IsDistinct, filter, flat_map, list_any}
+use Rattle.std.specs.List.{AllByRecursion, IsDistinct, filter, list_any}
 use Rattle.std.proofs.lemmas.Bool.{and_parts, cases_Bool, leb-true, ltb-true, or_parts}
 use Rattle.std.proofs.lemmas.List.{append_assoc, length-append, length-replicate}
 use Rattle.implib.specs.declared.machine.MachineType.{MachineType}
-use Rattle.implib.specs.Image.{AllApart, AreApart, Contribution, IsAdmissible, IsBase, Range, contribution_at, contributions, contributions_in, filled, image_of, is_in, range_end, range_of, relocated}
+use Rattle.implib.specs.Image.{AllApart, AreApart, Contribution, IsAdmissible, IsBase, Range, contribution_at, contributions, contributions_in, filled, image_of, range_end, range_of, relocated}
 use Rattle.implib.specs.LinkedMembers.{IsMade, Part, all_linked, objects_in}
 use Rattle.implib.specs.MsvcObjects.{zeros}
 use Rattle.implib.specs.Object.{Object, ObjectSection}
 use Rattle.implib.specs.Placement.{Addresses, Bases, Descriptors, DllNames, Group, HintNames, Lookups, Placed, alignment, base_of, end_after, ends_after, group_named, next_multiple, place_after, place_of, placed_from, places_of, same_group, with_base}
-use Rattle.implib.proofs.LinkedBlocks.{blocks_objects}
 use Rattle.implib.proofs.LinkedParts.{block_of, parts_objects}
 use Rattle.implib.proofs.Placement.{at_least}
-use Rattle.implib_link.specs.Packed.{base_behind, end_with, group_end, packed, packed_addresses, packed_descriptors, packed_dll_names, packed_end, packed_hint_names, packed_lookups, sections_end}
+use Rattle.implib_link.specs.Packed.{end_with, group_end, packed, packed_addresses, packed_descriptors, packed_dll_names, packed_end, packed_hint_names, packed_lookups, sections_end}
 use Rattle.implib_link.specs.Program.{IsProgram, has_tables, is_table, linked_symbols, null_descriptor}
 use Rattle.implib_link.proofs.Alone.{all_kept, members_are_program, members_have}
 use Rattle.implib_link.proofs.Blocks.{objects_behind}

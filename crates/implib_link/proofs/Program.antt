@@ -1,21 +1,21 @@
 -- A program links.
-use Rattle.std.proofs.Common.{◌≡◌, ℕ, ◌+◌, ◌*◌, ◌<◌, ◌^◌, true, false, List, [], ◌∷◌, ◌++◌, map, Some, refl, ap, sym, ◌∙◌, subst, inl, inr}
+use Rattle.std.proofs.Common.{◌≡◌, ℕ, ◌+◌, ◌*◌, false, List, [], ◌∷◌, ◌++◌, map, Some, refl, ap, sym, ◌∙◌, subst, inl, inr}
 use Rattle.std.specs.Prelude.{bytes_eq, not, slice_get}
-use Rattle.std.specs.List.{AllByRecursion, Contains, IsDistinct, filter, flat_map, list_any}
+use Rattle.std.specs.List.{AllByRecursion, IsDistinct, filter, list_any}
 use Rattle.std.proofs.lemmas.List.{append-nil}
 use Rattle.implib.specs.declared.machine.MachineType.{MachineType}
 use Rattle.implib.specs.Definition.{ExportView}
-use Rattle.implib.specs.Image.{IsAdmissible, Range, contributions, filled, image_of}
+use Rattle.implib.specs.Image.{Range, contributions, filled, image_of}
 use Rattle.implib.specs.Import.{address_symbol}
 use Rattle.implib.specs.Linked.{AllFind, EntriesAt, LinksStrictlyAt, IsDefinedOnce, undefined_names, IsDefinedAt}
-use Rattle.implib.specs.LinkedMembers.{IsMade, Part, all_linked, chosen_exports, objects_in}
+use Rattle.implib.specs.LinkedMembers.{IsMade, Part, chosen_exports}
 use Rattle.implib.specs.Load.{BytesAt}
 use Rattle.implib.specs.MsvcObjects.{thunk_width, zeros}
-use Rattle.implib.specs.Object.{ASymbol, Object, ObjectSymbol}
+use Rattle.implib.specs.Object.{Object}
 use Rattle.implib.specs.Placement.{Addresses, Bases, Descriptors, DllNames, Group, HintNames, Lookups, Placed, base_of, placed_from}
-use Rattle.implib.specs.Resolution.{SymbolDefinition, definitions_of, first_address, is_undefined_external, symbol_address}
+use Rattle.implib.specs.Resolution.{SymbolDefinition, definitions_of}
 use Rattle.implib.proofs.Definitions.{only_definition}
-use Rattle.implib.proofs.Linked.{BlockLinks, StandsFrom}
+use Rattle.implib.proofs.Linked.{StandsFrom}
 use Rattle.implib.proofs.LinkedBlocks.{Block, EachLinks, all_stand, blocks_definitions, blocks_objects, definitions-blocks, each_links, ends, ends_of_blocks, even, names-blocks, starts}
 use Rattle.implib.proofs.LinkedMembers.{among_map}
 use Rattle.implib.proofs.LinkedParts.{block_of, parts_fit, parts_linked, parts_objects, parts_symbols}

@@ -1,20 +1,19 @@
 -- The images by hand, by computing.
-use Rattle.std.proofs.Common.{◌≡◌, ℕ, ◌+◌, ◌<◌, ◌≤◌, ◌^◌, ◌%◌, Bool, true, false, List, [], ◌∷◌, ◌++◌, length, codes, Option, None, Some, refl, ap, sym, ◌∙◌, arith, subst}
-use Rattle.std.specs.Prelude.{◌&&◌, nat_eq, slice_index, ◌≢◌}
+use Rattle.std.proofs.Common.{◌≡◌, ℕ, ◌+◌, ◌<◌, ◌^◌, Bool, true, false, List, [], ◌∷◌, ◌++◌, length, codes, Option, None, Some, refl, ap, sym, ◌∙◌, arith, subst}
+use Rattle.std.specs.Prelude.{◌&&◌, nat_eq, slice_index}
 use Rattle.std.proofs.lemmas.Bool.{and_parts, eqb-true}
 use Rattle.implib.specs.declared.machine.MachineType.TheVariants.{AMD64}
 use Rattle.implib.specs.Bytes.{u32_bytes}
 use Rattle.implib.specs.Gnu.{head_symbol, stem}
 use Rattle.implib.specs.Image.{Range, byte_at}
-use Rattle.implib.specs.Import.{Ask, Ordinal, address_symbol}
+use Rattle.implib.specs.Import.{Ordinal, address_symbol}
 use Rattle.implib.specs.Linked.{EntriesAt, LinksStrictlyAt}
 use Rattle.implib.specs.Load.{AsksFor, BytesAt, IsWhole, Loads, LoadsStrictly, NumberAt, TableAt, TextAt, ThunkAt, WholeTableAt, WholeThunkAt, number_in}
 use Rattle.implib.specs.MsvcObjects.{zeros}
-use Rattle.implib.specs.Picture.{HasNoNul}
-use Rattle.implib.specs.Resolution.{SymbolDefinition, definitions_of, first_address}
-use Rattle.implib.proofs.Loading.{dll_once, asks_once, number_once}
+use Rattle.implib.specs.Resolution.{definitions_of}
+use Rattle.implib.proofs.Loading.{dll_once, number_once}
 use Rattle.implib_link.specs.Directory.{DirectoryAt}
-use Rattle.implib_link.specs.RefusedLinks.{RefusedLinks, descriptor_bytes, endless, exchanged, exports_by_hand, five_and_six, foo, image_by_hand, linked_by_hand, named_otherwise, ordinal_8, right_image, stub_by_hand, table_4_in_8, table_8, timed, wide_image}
+use Rattle.implib_link.specs.RefusedLinks.{RefusedLinks, endless, exchanged, exports_by_hand, five_and_six, foo, linked_by_hand, named_otherwise, ordinal_8, right_image, stub_by_hand, timed, wide_image}
 use Rattle.implib_link.specs.Stub.{jump_reads}
 use Rattle.implib_link.proofs.Stubs.{same_address}
 

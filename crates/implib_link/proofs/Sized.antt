@@ -1,5 +1,5 @@
 -- Relocations leave the lengths of sections as they are.
-use Rattle.std.proofs.Common.{◌≡◌, ℕ, ◌+◌, ◌-◌, ◌%◌, ◌^◌, ◌<◌, ◌≤◌, true, false, List, [], ◌∷◌, ◌++◌, length, map, take, drop, refl, ap, sym, ◌∙◌, subst, inl, inr, arith}
+use Rattle.std.proofs.Common.{◌≡◌, ℕ, ◌+◌, ◌-◌, ◌%◌, ◌^◌, ◌≤◌, List, [], ◌∷◌, ◌++◌, length, map, take, drop, ◌∙◌, inl, inr, arith}
 use Rattle.std.specs.Prelude.{◌==◌}
 use Rattle.std.specs.List.{AllByRecursion}
 use Rattle.std.proofs.lemmas.Bool.{cases_Bool}
@@ -13,7 +13,7 @@ use Rattle.implib.specs.Definition.{ExportView}
 use Rattle.implib.specs.Gnu.{export_object, head_object, relocations_of_stub, relocations_of_thunk, stub, tail_object, thunk}
 use Rattle.implib.specs.Image.{relocated, with_address}
 use Rattle.implib.specs.MsvcObjects.{thunk_width}
-use Rattle.implib.specs.Object.{Object, ObjectSection, u32_at}
+use Rattle.implib.specs.Object.{Object, u32_at}
 use Rattle.implib.specs.Placement.{Placed}
 use Rattle.implib.specs.Resolution.{target_address}
 use Rattle.implib.proofs.LinkedBlocks.{Block, blocks_objects}

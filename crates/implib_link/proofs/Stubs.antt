@@ -1,5 +1,5 @@
 -- Stubs jump through their own entries.
-use Rattle.std.proofs.Common.{◌≡◌, ℕ, zero, suc, ◌+◌, ◌*◌, ◌%◌, ◌^◌, ◌<◌, ◌≤◌, Bool, true, false, List, [], ◌∷◌, ◌++◌, length, map, Some, refl, ap, sym, ◌∙◌, subst, inl, inr, arith}
+use Rattle.std.proofs.Common.{◌≡◌, ℕ, zero, suc, ◌+◌, ◌*◌, ◌%◌, ◌^◌, ◌<◌, ◌≤◌, Bool, false, List, [], ◌∷◌, ◌++◌, length, map, Some, refl, ap, sym, ◌∙◌, subst, inl, inr, arith}
 use Rattle.std.specs.Prelude.{option_map, slice_get}
 use Rattle.std.specs.List.{AllByRecursion, filter}
 use Rattle.std.proofs.lemmas.Bool.{cases_Bool}
@@ -13,9 +13,9 @@ use Rattle.implib.specs.Image.{Range, image_of, range_end}
 use Rattle.implib.specs.Import.{Ask, address_symbol, ask_meant}
 use Rattle.implib.specs.Linked.{EntriesAt}
 use Rattle.implib.specs.LinkedMembers.{IsMade, Part, chosen_exports}
-use Rattle.implib.specs.Load.{BytesAt, NumberAt, TableAt}
+use Rattle.implib.specs.Load.{BytesAt, TableAt}
 use Rattle.implib.specs.MsvcObjects.{thunk_width}
-use Rattle.implib.specs.Object.{ASymbol, Object, ObjectSymbol}
+use Rattle.implib.specs.Object.{ASymbol, Object}
 use Rattle.implib.specs.Placement.{Bases, Placed, placed_from}
 use Rattle.implib.specs.Resolution.{SymbolDefinition, address_or_zero, definitions_of, first_address, target_address}
 use Rattle.implib.proofs.Linked.{address_found, aligned_block, ends_of_block}
@@ -68,8 +68,11 @@ module _ (machine : MachineType) (dll : List ℕ) where
       subst (Among q) (sym (placed-export machine dll b e (after_head machine dll es rest) even))
       (among_later q _ _ (behind_exports es (ends_of_export machine dll b e) rest q (aligned_after machine dll b e even) m))
 
-sums_join : (a w n m : ℕ) → a + w * m ≡ a + w * 0 + w * m
-sums_join a w n m = ap (λ k. k + w * m) (times_none a w)
+first_sum : (c a w m : ℕ) → c ≡ a + w * m → c ≡ a + w * 0 + w * m
+first_sum c a w m is = is ∙ ap (λ k. k + w * m) (times_none a w)
+
+later_sum : (c a b w m : ℕ) → c ≡ a + w * m → a ≡ b → c ≡ b + w * m
+later_sum c a b w m is same = is ∙ ap (λ n. n + w * m) same
 
 block_placed : (machine : MachineType) (parts : List Part) (b : Bases) (rest : List Object) → AreAligned b → (i j : ℕ) (p : Part) (e : ExportView) → slice_get parts i ≡ Some p →
     slice_get (chosen_exports p.definition p.chosen) j ≡ Some e →
@@ -87,7 +90,7 @@ block_placed machine (q ∷ parts) b rest even zero j p e is chosen =
       (
         subst (λ (r : Part). Among (placed_export machine r.definition.import_name found.0 e) (placed_from b (blocks_objects machine (map block_of (q ∷ parts)) rest))) same
             (subst (Among (placed_export machine dll found.0 e)) (sym (placed-head machine dll b (after_head machine dll exports behind) even)) (among_later (placed_export machine dll found.0 e) _ _ found.1.0)),
-        found.1.1 ∙ sums_join b.addresses (thunk_width machine) 0 j,
+        first_sum found.0.addresses b.addresses (thunk_width machine) j found.1.1,
       ),
     )
 block_placed machine (q ∷ parts) b rest even (suc i) j p e is chosen =
@@ -104,7 +107,7 @@ block_placed machine (q ∷ parts) b rest even (suc i) j p e is chosen =
         subst (Among (placed_export machine p.definition.import_name found.0 e)) (sym (placed-head machine dll b (after_head machine dll exports behind) even))
             (among_later (placed_export machine p.definition.import_name found.0 e) _ _
             (behind_exports machine dll exports (ends_of_head machine dll b) behind (placed_export machine p.definition.import_name found.0 e) (aligned_head machine dll b even) found.1.0)),
-        found.1.1 ∙ ap (λ n. n + thunk_width machine * j) table,
+        later_sum found.0.addresses (later.addresses + thunk_width machine * thunks_before i parts) (b.addresses + thunk_width machine * (length exports + 1 + thunks_before i parts)) (thunk_width machine) j found.1.1 table,
       ),
     )
 

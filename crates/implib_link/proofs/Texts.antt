@@ -7,11 +7,11 @@ use Rattle.std.proofs.lemmas.Option.{slice_get-map}
 use Rattle.implib.specs.declared.library.Flavor.{Flavor}
 use Rattle.implib.specs.declared.library.Flavor.TheVariants.{Gnu}
 use Rattle.implib.specs.declared.machine.MachineType.{MachineType}
-use Rattle.implib.specs.Asked.{AsksFor, EachAsksForItsWord, exports_of_text, external_word}
+use Rattle.implib.specs.Asked.{EachAsksForItsWord, exports_of_text, external_word}
 use Rattle.implib.specs.Definition.{DefinitionView, ExportView}
 use Rattle.implib.specs.Grammar.{Export}
 use Rattle.implib.specs.Image.{Range, image_of}
-use Rattle.implib.specs.Import.{Ask, Name, Ordinal, ask_meant, public_exports}
+use Rattle.implib.specs.Import.{Name, Ordinal, ask_meant, public_exports}
 use Rattle.implib.specs.Library.{LibraryView}
 use Rattle.implib.specs.LinkedMembers.{IsMade, chosen_exports}
 use Rattle.implib.specs.Made.{Made}
@@ -23,7 +23,7 @@ use Rattle.implib.proofs.Asked.{asks_for_words}
 use Rattle.implib.proofs.LinkedMembers.{all_at}
 use Rattle.implib.proofs.Renaming.{renamed_twice}
 use Rattle.implib_link.specs.Program.{ImportsBy, IsProgram, thunks_before}
-use Rattle.implib_link.specs.Texts.{IsSource, LinkAsStated, Source, Stated, TextLinks, TextsLink, ask_stated, chosen_stated, part_of, stated}
+use Rattle.implib_link.specs.Texts.{IsSource, Source, Stated, TextLinks, TextsLink, ask_stated, chosen_stated, part_of, stated}
 use Rattle.implib_link.proofs.Program.{program_links}
 
 -- the exports of a list that is stated are those of the list

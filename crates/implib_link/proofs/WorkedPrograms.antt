@@ -1,23 +1,22 @@
 -- The programs that were linked by hand, by computing.
-use Rattle.std.proofs.Common.{◌≡◌, ℕ, ◌^◌, ◌<◌, Bool, true, false, List, [], ◌∷◌, refl, arith}
+use Rattle.std.proofs.Common.{◌≡◌, ℕ, ◌^◌, Bool, true, false, List, [], ◌∷◌, refl, arith}
 use Rattle.std.specs.Prelude.{◌&&◌, bytes_eq, not}
 use Rattle.std.specs.Fmt.{digits}
 use Rattle.std.specs.List.{AllByRecursion, IsDistinct, list_all, list_any}
 use Rattle.std.proofs.lemmas.Bool.{and_parts, not-true}
-use Rattle.implib.specs.declared.machine.MachineType.{MachineType}
 use Rattle.implib.specs.declared.machine.MachineType.TheVariants.{I386, ARMNT, AMD64, ARM64}
 use Rattle.implib.specs.Bytes.{u16_bytes, u32_bytes}
 use Rattle.implib.specs.Gnu.{export_object, five_digits, head_name, head_object, head_symbol, hint_name, name_symbol, numbered_name, relocations_of_stub, relocations_of_thunk, stem, stub, tail_name, tail_object, thunk}
-use Rattle.implib.specs.Image.{IsAdmissible, with_address}
+use Rattle.implib.specs.Image.{with_address}
 use Rattle.implib.specs.Made.{alias_plans, export_plan, head_plan, refusal, renamed_refusal, tail_plan}
 use Rattle.implib.specs.MsvcObjects.{weak_object}
 use Rattle.implib.specs.Object.{Object, before_nul, bytes_at, data_at, each_at, entries_at, name_of, object_in, object_of_header, relocation_at, relocation_of, section_at, section_of, strings_at, symbol_of, u16_at, u32_at, up_to_nul}
 use Rattle.implib.specs.Picture.{auxiliary_bytes, auxiliary_count, contents, contents_place, contents_size, header_bytes, layout, layout_size, name_field, offsets_from, place_of, record_count, records, relocation_bytes, section_header, section_headers, string_bytes_of, string_offsets, string_size, string_table, strings_size, symbol_bytes, symbols_place}
-use Rattle.implib.specs.Placement.{Bases, next_multiple}
+use Rattle.implib.specs.Placement.{next_multiple}
 use Rattle.implib.specs.Writer.{long_names, name_place, picture_of, symbol_written, with_long_name, with_name}
-use Rattle.implib.proofs.Ranges.{apart_as_they_rise, ends_below, rise_below}
+use Rattle.implib.proofs.Ranges.{apart_as_they_rise, ends_below}
 use Rattle.implib_link.specs.Program.{ClaimsNone, claimed_names, has_tables, linked_symbols}
-use Rattle.implib_link.specs.WorkedPrograms.{WorkedProgram, WorkedPrograms, WorkedStubs, another, both_parts, caller, expected_4, expected_8, program_image, program_objects, touching_4, touching_8}
+use Rattle.implib_link.specs.WorkedPrograms.{WorkedProgram, WorkedPrograms, WorkedStubs, another, both_parts, caller, expected_4, expected_8, program_image, touching_4, touching_8}
 
 -- what the computing has to open
 abbrev opened : Unit {0}

@@ -1,12 +1,12 @@
 -- The import directory of an image (PE/COFF specification, "Import Directory Table"): a descriptor for
 -- each DLL, one after another, and the null descriptor.
-use Rattle.std.specs.Prelude.{◌≡◌, ℕ, ◌+◌, ◌<◌, ◌⊎◌, List, [], ◌∷◌, map}
+use Rattle.std.specs.Prelude.{ℕ, ◌+◌, ◌<◌, ◌⊎◌, List, [], ◌∷◌, map}
 use Rattle.implib.specs.declared.machine.MachineType.{MachineType}
 use Rattle.implib.specs.Image.{Range}
 use Rattle.implib.specs.Import.{Ask, ask_meant}
 use Rattle.implib.specs.LinkedMembers.{Part, chosen_exports}
 use Rattle.implib.specs.Load.{BytesAt, Loads, LoadsStrictly, NumberAt}
-use Rattle.implib.specs.MsvcObjects.{descriptor_size, zeros}
+use Rattle.implib.specs.MsvcObjects.{zeros}
 
 -- a DLL, and all that is asked of it
 pub record Imported : Type 0 where

@@ -1,6 +1,5 @@
 -- Images by hand, a right one and others that are wrong in one way: what the definitions take and refuse.
-use Rattle.std.specs.Prelude.{◌≡◌, ℕ, ◌+◌, List, [], ◌∷◌, ◌++◌, codes, Some}
-use Rattle.implib.specs.declared.machine.MachineType.{MachineType}
+use Rattle.std.specs.Prelude.{◌≡◌, ℕ, List, [], ◌∷◌, ◌++◌, codes, Some}
 use Rattle.implib.specs.declared.machine.MachineType.TheVariants.{AMD64}
 use Rattle.implib.specs.Bytes.{u32_bytes}
 use Rattle.implib.specs.Constants.{amd64_rel32, external}
@@ -11,7 +10,7 @@ use Rattle.implib.specs.Import.{Ask, Ordinal, address_symbol}
 use Rattle.implib.specs.Linked.{LinksStrictlyAt}
 use Rattle.implib.specs.Load.{Loads, LoadsStrictly}
 use Rattle.implib.specs.MsvcObjects.{zeros}
-use Rattle.implib.specs.Object.{ASymbol, Object, ObjectSymbol}
+use Rattle.implib.specs.Object.{ASymbol, ObjectSymbol}
 use Rattle.implib.specs.Placement.{Addresses, At, Descriptors, Placed}
 use Rattle.implib.specs.WorkedLinks.{nameless}
 use Rattle.implib_link.specs.Directory.{DirectoryAt}

@@ -1,14 +1,13 @@
 -- The stubs, by which a call of an export goes through its entry of the address table: how their code is
 -- relocated (PE/COFF specification, "Type Indicators") and what their jump reads, by the processors' rules.
 -- Addresses of code and of its targets count from the image's base.
-use Rattle.std.specs.Prelude.{◌≡◌, ℕ, ◌+◌, ◌-◌, ◌*◌, ◌/◌, ◌%◌, ◌^◌, ◌<◌, ◌≤◌, ◌&&◌, ◌==◌, nat_lt, false, List, [], ◌∷◌, ◌++◌, bytes_eq, drop, slice_get, take, Option, Some, None, if◌then◌else◌}
+use Rattle.std.specs.Prelude.{◌≡◌, ℕ, ◌+◌, ◌-◌, ◌*◌, ◌/◌, ◌%◌, ◌^◌, ◌≤◌, ◌&&◌, ◌==◌, nat_lt, List, [], ◌∷◌, ◌++◌, bytes_eq, drop, slice_get, take, Option, Some, None, if◌then◌else◌}
 use Rattle.std.specs.List.{Contains}
 use Rattle.implib.specs.declared.coff.object.Relocation.{Relocation}
 use Rattle.implib.specs.declared.machine.MachineType.{MachineType}
 use Rattle.implib.specs.declared.machine.MachineType.TheVariants.{I386, ARMNT, AMD64, ARM64}
 use Rattle.implib.specs.Bytes.{u32_bytes}
 use Rattle.implib.specs.Constants.{amd64_rel32, arm64_pagebase_rel21, arm64_pageoffset_12l, external, i386_dir32}
-use Rattle.implib.specs.Definition.{ExportView}
 use Rattle.implib.specs.Image.{Range}
 use Rattle.implib.specs.Import.{address_symbol}
 use Rattle.implib.specs.Load.{BytesAt, number_in}

@@ -1,7 +1,7 @@
 -- Programs from texts: what linking the members of module definition files gives, in the words of their
 -- statements.
 use Rattle.std.specs.Prelude.{◌≡◌, ℕ, ◌+◌, ◌*◌, not, List, [], ◌∷◌, map, slice_get, Some, if◌then◌else◌}
-use Rattle.std.specs.List.{AllByRecursion, filter, filter_map}
+use Rattle.std.specs.List.{filter, filter_map}
 use Rattle.implib.specs.declared.library.Flavor.TheVariants.{Gnu}
 use Rattle.implib.specs.declared.machine.MachineType.{MachineType}
 use Rattle.implib.specs.Asked.{exports_of_text, external_word}

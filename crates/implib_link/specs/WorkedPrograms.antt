@@ -1,6 +1,6 @@
 -- Programs that were linked by hand, on each machine: foo.dll with four exports, chosen in an order of its
 -- own, and zed.dll with one, among a caller and another object, at bases from 4 on whose ranges touch.
-use Rattle.std.specs.Prelude.{◌≡◌, ℕ, ◌+◌, List, [], ◌∷◌, ◌++◌, codes, map, slice_get, true, Option, Some, None, if◌then◌else◌}
+use Rattle.std.specs.Prelude.{◌≡◌, ℕ, ◌+◌, List, [], ◌∷◌, ◌++◌, codes, map, slice_get, true, Option, Some, if◌then◌else◌}
 use Rattle.std.specs.List.{AllByRecursion}
 use Rattle.std.specs.Option.{option_and_then, option_map}
 use Rattle.implib.specs.declared.library.Flavor.TheVariants.{Gnu}
@@ -8,7 +8,7 @@ use Rattle.implib.specs.declared.machine.MachineType.{MachineType}
 use Rattle.implib.specs.declared.machine.MachineType.TheVariants.{I386, ARMNT, AMD64, ARM64}
 use Rattle.implib.specs.Constants.{align_16, code, execute_read, external, static}
 use Rattle.implib.specs.Definition.{DefinitionView, ExportView}
-use Rattle.implib.specs.Gnu.{head_symbol, section, text_name}
+use Rattle.implib.specs.Gnu.{section, text_name}
 use Rattle.implib.specs.Image.{Range, image_of}
 use Rattle.implib.specs.Import.{address_symbol, is_i386, underscore}
 use Rattle.implib.specs.LinkedMembers.{IsMade, Part, linked_members, objects_in}

@@ -1,5 +1,5 @@
 -- What the two calls promise is what the law asks for.
-use Rattle.std.proofs.Common.{List, ℕ, [], ◌∷◌, map}
+use Rattle.std.proofs.Common.{[], ◌∷◌, map}
 use Rattle.implib.specs.Library.{member_view}
 use Rattle.implib_link.specs.Texts.{IsSource, Source}
 use Rattle.implib_link.proofs.members.members_of_text.Goals as goal
