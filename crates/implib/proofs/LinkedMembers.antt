@@ -51,7 +51,7 @@ none_among test x [] m none = absurd m
 none_among test x (y ∷ xs) (inl e) none = rw e (or_parts (test y) (list_any test xs) none).0
 none_among test x (y ∷ xs) (inr m) none = none_among test x xs m (or_parts (test y) (list_any test xs) none).1
 
-among_reverse : {X : Type 0} (x : X) (xs : List X) → Among x xs → Among x (reverse xs)
+pub among_reverse : {X : Type 0} (x : X) (xs : List X) → Among x xs → Among x (reverse xs)
 unfolding Among
 among_reverse x [] m = m
 among_reverse x (y ∷ xs) (inl e) = subst (Among x) (sym (reverse-append (y ∷ []) xs)) (among_back x (reverse xs) (y ∷ []) (inl e))
@@ -104,7 +104,7 @@ numbered_among machine dll (x ∷ exports) start (suc n) e is =
     among_back _ (numbered_plans_of machine dll start x) (numbered_plans machine dll (start + 1) exports)
     (subst (λ n. Among (export_plan machine dll n e) (numbered_plans machine dll (start + 1) exports)) place (numbered_among machine dll exports (start + 1) n e is))
 
-among_contains : {X : Type 0} (x : X) (xs : List X) → Among x xs → Contains xs x
+pub among_contains : {X : Type 0} (x : X) (xs : List X) → Among x xs → Contains xs x
 unfolding Among
 among_contains x [] m = absurd m
 among_contains x (y ∷ xs) (inl e) = (0, omega arith, sym e)
@@ -115,10 +115,10 @@ among_contains x (y ∷ xs) (inr m) =
 -- the chosen exports of a list, which breaks no rule
 module _ (machine : MachineType) (dll : List ℕ) (exports : List ExportView) (dll_free : holds 0 dll ≡ false) (sound : AllByRecursion Sound exports)
     (short : list_any is_too_long (gnu_plans machine dll exports) ≡ false) where
-  tail_among : Among (tail_plan machine dll) (gnu_plans machine dll exports)
+  pub tail_among : Among (tail_plan machine dll) (gnu_plans machine dll exports)
   tail_among = among_first _ _
 
-  head_among : Among (head_plan machine dll) (gnu_plans machine dll exports)
+  pub head_among : Among (head_plan machine dll) (gnu_plans machine dll exports)
   head_among = among_later _ _ _ (among_first _ _)
 
   export_among : (n : ℕ) (e : ExportView) → slice_get exports n ≡ Some e → Among (export_plan machine dll n e) (gnu_plans machine dll exports)
@@ -130,15 +130,15 @@ module _ (machine : MachineType) (dll : List ℕ) (exports : List ExportView) (d
   size_of : (p : Plan) → Among p (gnu_plans machine dll exports) → contents_size p.contents ≤ 0xFFFF_FFFF
   size_of p m = short_enough p (none_among is_too_long p (gnu_plans machine dll exports) m short)
 
-  tail_reads : object_in (member_of (tail_plan machine dll)).bytes ≡ Some (tail machine dll)
+  pub tail_reads : object_in (member_of (tail_plan machine dll)).bytes ≡ Some (tail machine dll)
   unfolding tail_plan
   tail_reads = held_reads (tail_object machine dll) (Fits-tail_object machine dll dll_free) (size_of (tail_plan machine dll) tail_among)
 
-  head_reads : object_in (member_of (head_plan machine dll)).bytes ≡ Some (head machine dll)
+  pub head_reads : object_in (member_of (head_plan machine dll)).bytes ≡ Some (head machine dll)
   unfolding head_plan
   head_reads = held_reads (head_object machine dll) (Fits-head_object machine dll dll_free) (size_of (head_plan machine dll) head_among)
 
-  export_reads : (n : ℕ) (e : ExportView) → slice_get exports n ≡ Some e → object_in (member_of (export_plan machine dll n e)).bytes ≡ Some (export machine dll e)
+  pub export_reads : (n : ℕ) (e : ExportView) → slice_get exports n ≡ Some e → object_in (member_of (export_plan machine dll n e)).bytes ≡ Some (export machine dll e)
   unfolding export_plan
   export_reads n e is =
       let good = all_at Sound exports n e sound is in
@@ -251,10 +251,10 @@ module _ (d : DefinitionView) (machine : MachineType) (members : List MemberView
   pub dll_free : holds 0 d.import_name ≡ false
   dll_free = import_name_is_free d machine Gnu members made
 
-  sound : AllByRecursion Sound public
+  pub sound : AllByRecursion Sound public
   sound = exports_sound d machine Gnu members made
 
-  not_long : list_any is_too_long (gnu_plans machine d.import_name public) ≡ false
+  pub not_long : list_any is_too_long (gnu_plans machine d.import_name public) ≡ false
   not_long = none_long d machine Gnu members made
 
   pub members_among : AllByRecursion (Contains members) (linked_members d machine chosen)

@@ -9,3 +9,5 @@ pub mod Sized
 pub mod Packed
 pub mod Jumps
 pub mod Stubs
+pub mod SearchLists
+pub mod Search

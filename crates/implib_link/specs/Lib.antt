@@ -4,3 +4,4 @@ pub mod Texts
 pub mod Loaded
 pub mod Packed
 pub mod Stub
+pub mod Search

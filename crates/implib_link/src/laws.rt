@@ -3,5 +3,6 @@
 pub mod loaded;
 pub mod packed;
 pub mod program;
+pub mod search;
 pub mod stubs;
 pub mod texts;
