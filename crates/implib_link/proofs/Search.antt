@@ -24,7 +24,7 @@ use Rattle.implib_link.proofs.SearchLists.{all_listed, among_any, among_either, 
 -- What plans there are.
 
 -- one export's plans are among those of all
-numbered_in : (machine : MachineType) (dll : List ℕ) (exports : List ExportView) (start n : ℕ) (e : ExportView) (p : Plan) → slice_get exports n ≡ Some e →
+pub numbered_in : (machine : MachineType) (dll : List ℕ) (exports : List ExportView) (start n : ℕ) (e : ExportView) (p : Plan) → slice_get exports n ≡ Some e →
     Among p (numbered_plans_of machine dll (start + n) e) → Among p (numbered_plans machine dll start exports)
 numbered_in machine dll [] start n e p is held = cc
 numbered_in machine dll (x ∷ exports) start zero e p is held =
@@ -38,11 +38,11 @@ numbered_in machine dll (x ∷ exports) start (suc n) e p is held =
     (numbered_in machine dll exports (start + 1) n e p is (subst (λ n. Among p (numbered_plans_of machine dll n e)) place held))
 
 -- a plan of an export: of its member, or it has an alias
-abbrev OfExport : MachineType → List ℕ → List ExportView → ℕ → Plan → Type 0
+abbrev pub OfExport : MachineType → List ℕ → List ExportView → ℕ → Plan → Type 0
 OfExport machine dll exports start p =
     (n : ℕ) × (e : ExportView) × (slice_get exports n ≡ Some e) × ((p ≡ export_plan machine dll (start + n) e) ⊎ (is_alias e.alias_target e.name ≡ true))
 
-numbered_is : (machine : MachineType) (dll : List ℕ) (exports : List ExportView) (start : ℕ) (p : Plan) → Among p (numbered_plans machine dll start exports) →
+pub numbered_is : (machine : MachineType) (dll : List ℕ) (exports : List ExportView) (start : ℕ) (p : Plan) → Among p (numbered_plans machine dll start exports) →
     OfExport machine dll exports start p
 unfolding Among alias_plans
 numbered_is machine dll [] start p held = absurd held
@@ -67,12 +67,12 @@ numbered_is machine dll (x ∷ exports) start p held =
           ])
     ]
 
-name_differs : (n m : ℕ) → n ≡ m → m < n → ⊥
+pub name_differs : (n m : ℕ) → n ≡ m → m < n → ⊥
 name_differs n m same below = omega arith
 
 -- The numbers of wanted exports.
 
-number_wanted : (wanted : List (List ℕ)) (exports : List ExportView) (start n : ℕ) (e : ExportView) → slice_get exports n ≡ Some e → is_wanted wanted e ≡ true →
+pub number_wanted : (wanted : List (List ℕ)) (exports : List ExportView) (start n : ℕ) (e : ExportView) → slice_get exports n ≡ Some e → is_wanted wanted e ≡ true →
     Among (start + n) (numbers_wanted wanted start exports)
 unfolding Among
 number_wanted wanted [] start n e is want = cc
@@ -86,7 +86,7 @@ number_wanted wanted (x ∷ exports) start (suc n) e is want =
     subst (λ n. Among n (numbers_wanted wanted (start + 1) exports)) place (number_wanted wanted exports (start + 1) n e is want) in
     elim (cases_Bool (is_wanted wanted x)) [ inl here ↦ rw here (inr later) | inr none ↦ rw none later ]
 
-wanted_number : (wanted : List (List ℕ)) (exports : List ExportView) (start k : ℕ) → Among k (numbers_wanted wanted start exports) →
+pub wanted_number : (wanted : List (List ℕ)) (exports : List ExportView) (start k : ℕ) → Among k (numbers_wanted wanted start exports) →
     (n : ℕ) × (e : ExportView) × (k ≡ start + n) × (slice_get exports n ≡ Some e) × (is_wanted wanted e ≡ true)
 unfolding Among
 wanted_number wanted [] start k held = absurd held
@@ -106,14 +106,14 @@ wanted_number wanted (x ∷ exports) start k held =
     next later = let place : start + 1 + later.0 ≡ start + suc later.0 = omega arith in (suc later.0, later.1, later.2 ∙ place, later.3, later.4)
 
 -- a name of some names is wanted
-wants : (wanted names : List (List ℕ)) (name : List ℕ) → Among name names → Among name wanted → list_any (λ n. list_any (bytes_eq n) wanted) names ≡ true
+pub wants : (wanted names : List (List ℕ)) (name : List ℕ) → Among name names → Among name wanted → list_any (λ n. list_any (bytes_eq n) wanted) names ≡ true
 unfolding Among
 wants wanted [] name held want = absurd held
 wants wanted (n ∷ names) name (inl e) want = rw (among_any n wanted (subst (λ t. Among t wanted) e want)) refl
 wants wanted (n ∷ names) name (inr held) want =
     elim (cases_Bool (list_any (bytes_eq n) wanted)) [ inl is ↦ rw is refl | inr none ↦ rw none (wants wanted names name held want) ]
 
-wanted_name : (wanted names : List (List ℕ)) → list_any (λ n. list_any (bytes_eq n) wanted) names ≡ true → (name : List ℕ) × Among name names × Among name wanted
+pub wanted_name : (wanted names : List (List ℕ)) → list_any (λ n. list_any (bytes_eq n) wanted) names ≡ true → (name : List ℕ) × Among name names × Among name wanted
 unfolding Among
 wanted_name wanted [] is = absurd (true≢false (sym is))
 wanted_name wanted (n ∷ names) is =
@@ -129,7 +129,7 @@ unfolding Among
 among_option x None xs held = held
 among_option x (Some y) xs held = inr held
 
-plan_chosen : (machine : MachineType) (dll : List ℕ) (exports : List ExportView) (chosen : List ℕ) (n : ℕ) (e : ExportView) → Among n chosen →
+pub plan_chosen : (machine : MachineType) (dll : List ℕ) (exports : List ExportView) (chosen : List ℕ) (n : ℕ) (e : ExportView) → Among n chosen →
     slice_get exports n ≡ Some e → Among (export_plan machine dll n e) (filter_map (plan_numbered machine dll exports) chosen)
 unfolding Among
 plan_chosen machine dll exports [] n e held is = absurd held
@@ -141,7 +141,7 @@ plan_chosen machine dll exports (k ∷ chosen) n e (inr held) is =
     (plan_chosen machine dll exports chosen n e held is)
 
 -- a plan of a chosen export
-abbrev Chosen : MachineType → List ℕ → List ExportView → List ℕ → Plan → Type 0
+abbrev pub Chosen : MachineType → List ℕ → List ExportView → List ℕ → Plan → Type 0
 Chosen machine dll exports chosen p =
     (n : ℕ) × (e : ExportView) × Among n chosen × (slice_get exports n ≡ Some e) × (p ≡ export_plan machine dll n e)
 
@@ -153,7 +153,7 @@ first_chosen machine dll exports k chosen p None is next held = let later = next
 first_chosen machine dll exports k chosen p (Some e) is next (inl same) = (k, e, inl refl, is, same)
 first_chosen machine dll exports k chosen p (Some e) is next (inr held) = let later = next held in (later.0, later.1, inr later.2, later.3, later.4)
 
-chosen_plan : (machine : MachineType) (dll : List ℕ) (exports : List ExportView) (chosen : List ℕ) (p : Plan) →
+pub chosen_plan : (machine : MachineType) (dll : List ℕ) (exports : List ExportView) (chosen : List ℕ) (p : Plan) →
     Among p (filter_map (plan_numbered machine dll exports) chosen) → Chosen machine dll exports chosen p
 unfolding Among
 chosen_plan machine dll exports [] p held = absurd held
@@ -166,11 +166,11 @@ left_tail : (machine : MachineType) (dll : List ℕ) → left_by (tail machine d
 unfolding left_by tail_object
 left_tail machine dll = refl
 
-left_head : (machine : MachineType) (dll : List ℕ) → left_by (head machine dll) ≡ name_symbol machine dll ∷ []
+pub left_head : (machine : MachineType) (dll : List ℕ) → left_by (head machine dll) ≡ name_symbol machine dll ∷ []
 unfolding left_by head_object
 left_head machine dll = refl
 
-left_export : (machine : MachineType) (dll : List ℕ) (e : ExportView) → left_by (export machine dll e) ≡ head_symbol machine dll ∷ []
+pub left_export : (machine : MachineType) (dll : List ℕ) (e : ExportView) → left_by (export machine dll e) ≡ head_symbol machine dll ∷ []
 unfolding left_by export_object
 left_export machine dll e = elim (cases_Bool e.is_data) [ inl is ↦ rw is refl | inr is ↦ rw is refl ]
 
@@ -190,28 +190,28 @@ listed_tail : (machine : MachineType) (dll : List ℕ) → (member_of (tail_plan
 unfolding tail_plan
 listed_tail machine dll = refl
 
-listed_head : (machine : MachineType) (dll : List ℕ) → (member_of (head_plan machine dll)).symbols ≡ head_symbol machine dll ∷ []
+pub listed_head : (machine : MachineType) (dll : List ℕ) → (member_of (head_plan machine dll)).symbols ≡ head_symbol machine dll ∷ []
 unfolding head_plan
 listed_head machine dll = refl
 
-listed_export : (machine : MachineType) (dll : List ℕ) (n : ℕ) (e : ExportView) → (member_of (export_plan machine dll n e)).symbols ≡ export_listed e
+pub listed_export : (machine : MachineType) (dll : List ℕ) (n : ℕ) (e : ExportView) → (member_of (export_plan machine dll n e)).symbols ≡ export_listed e
 unfolding export_plan
 listed_export machine dll n e = refl
 
-address_listed : (e : ExportView) → Among (address_symbol e.name) (export_listed e)
+pub address_listed : (e : ExportView) → Among (address_symbol e.name) (export_listed e)
 unfolding Among
 address_listed e = elim (cases_Bool e.is_data) [ inl is ↦ rw is (inl refl) | inr is ↦ rw is (inr (inl refl)) ]
 
-only_one : {X : Type 0} (x y : X) → Among x (y ∷ []) → x ≡ y
+pub only_one : {X : Type 0} (x y : X) → Among x (y ∷ []) → x ≡ y
 unfolding Among
 only_one x y (inl e) = e
 only_one x y (inr nothing) = absurd nothing
 
-in_nothing : {X : Type 0} (x : X) → Among x [] → ⊥
+pub in_nothing : {X : Type 0} (x : X) → Among x [] → ⊥
 unfolding Among
 in_nothing x held = held
 
-same_export : (e other : ExportView) → Some e ≡ Some other → e ≡ other
+pub same_export : (e other : ExportView) → Some e ≡ Some other → e ≡ other
 same_export e other same = cc
 
 same_object : (o other : Object) → Some o ≡ Some other → o ≡ other
@@ -222,56 +222,56 @@ unfolding numbered_name
 names_apart dll n same = name_differs 0x78 0x73 (ap (λ text. slice_index text 3) (append_cancel_left (stem dll) _ _ same)) (omega arith)
 
 -- some export is wanted
-record AnyWanted (exports : List ExportView) (wanted : List (List ℕ)) : Type 0 where
-  number : ℕ
-  export : ExportView
-  is : slice_get exports number ≡ Some export
-  want : is_wanted wanted export ≡ true
+pub record AnyWanted (exports : List ExportView) (wanted : List (List ℕ)) : Type 0 where
+  pub number : ℕ
+  pub export : ExportView
+  pub is : slice_get exports number ≡ Some export
+  pub want : is_wanted wanted export ≡ true
 
 -- a member is that of an export
-record IsExport (machine : MachineType) (dll : List ℕ) (exports : List ExportView) (m : MemberView) : Type 0 where
-  number : ℕ
-  export : ExportView
-  is : slice_get exports number ≡ Some export
-  same : m ≡ member_of (export_plan machine dll number export)
+pub record IsExport (machine : MachineType) (dll : List ℕ) (exports : List ExportView) (m : MemberView) : Type 0 where
+  pub number : ℕ
+  pub export : ExportView
+  pub is : slice_get exports number ≡ Some export
+  pub same : m ≡ member_of (export_plan machine dll number export)
 
-data Kind (machine : MachineType) (dll : List ℕ) (exports : List ExportView) (m : MemberView) : Type 0 where
+pub data Kind (machine : MachineType) (dll : List ℕ) (exports : List ExportView) (m : MemberView) : Type 0 where
   IsTail : m ≡ member_of (tail_plan machine dll) → Kind machine dll exports m
   IsHead : m ≡ member_of (head_plan machine dll) → Kind machine dll exports m
   OfAnExport : IsExport machine dll exports m → Kind machine dll exports m
 
 -- a member that is needed for wanted names
-data Needed (machine : MachineType) (dll : List ℕ) (exports : List ExportView) (wanted : List (List ℕ)) (m : MemberView) : Type 0 where
+pub data Needed (machine : MachineType) (dll : List ℕ) (exports : List ExportView) (wanted : List (List ℕ)) (m : MemberView) : Type 0 where
   TheTail : m ≡ member_of (tail_plan machine dll) → AnyWanted exports wanted → Needed machine dll exports wanted m
   TheHead : m ≡ member_of (head_plan machine dll) → AnyWanted exports wanted → Needed machine dll exports wanted m
   AnExport : (x : IsExport machine dll exports m) → is_wanted wanted x.export ≡ true → Needed machine dll exports wanted m
 
-any_wanted : (machine : MachineType) (dll : List ℕ) (exports : List ExportView) (wanted : List (List ℕ)) (m : MemberView) → Needed machine dll exports wanted m → AnyWanted exports wanted
+pub any_wanted : (machine : MachineType) (dll : List ℕ) (exports : List ExportView) (wanted : List (List ℕ)) (m : MemberView) → Needed machine dll exports wanted m → AnyWanted exports wanted
 any_wanted machine dll exports wanted m (TheTail same any) = any
 any_wanted machine dll exports wanted m (TheHead same any) = any
 any_wanted machine dll exports wanted m (AnExport x want) = record { number = x.number; export = x.export; is = x.is; want = want }
 
 module _ (d : DefinitionView) (machine : MachineType) (members : List MemberView) (made : Made d machine Gnu members)
     (distinct : IsDistinct bytes_eq (all_listed members)) where
-  abbrev public : List ExportView
+  abbrev pub public : List ExportView
   public = public_exports (renamed d)
 
-  abbrev the_head : MemberView
+  abbrev pub the_head : MemberView
   the_head = member_of (head_plan machine d.import_name)
 
-  abbrev the_tail : MemberView
+  abbrev pub the_tail : MemberView
   the_tail = member_of (tail_plan machine d.import_name)
 
-  abbrev the_export : ℕ → ExportView → MemberView
+  abbrev pub the_export : ℕ → ExportView → MemberView
   the_export n e = member_of (export_plan machine d.import_name n e)
 
   planned : (p : Plan) → Among p (gnu_plans machine d.import_name public) → Among (member_of p) members
   planned p held = subst (Among (member_of p)) (sym made.made) (among_map member_of p (gnu_plans machine d.import_name public) held)
 
-  tail_held : Among the_tail members
+  pub tail_held : Among the_tail members
   tail_held = planned (tail_plan machine d.import_name) (among_first _ _)
 
-  head_held : Among the_head members
+  pub head_held : Among the_head members
   head_held = planned (head_plan machine d.import_name) (among_later _ _ _ (among_first _ _))
 
   plan_held : (n : ℕ) (e : ExportView) (p : Plan) → slice_get public n ≡ Some e → Among p (numbered_plans_of machine d.import_name n e) → Among (member_of p) members
@@ -280,7 +280,7 @@ module _ (d : DefinitionView) (machine : MachineType) (members : List MemberView
       planned p (among_later _ _ _ (among_later _ _ _ (among_reverse p (numbered_plans machine d.import_name 0 public)
       (numbered_in machine d.import_name public 0 n e p is (subst (λ k. Among p (numbered_plans_of machine d.import_name k e)) place held)))))
 
-  export_held : (n : ℕ) (e : ExportView) → slice_get public n ≡ Some e → Among (the_export n e) members
+  pub export_held : (n : ℕ) (e : ExportView) → slice_get public n ≡ Some e → Among (the_export n e) members
   export_held n e is =
       plan_held n e (export_plan machine d.import_name n e) is
       (among_back (export_plan machine d.import_name n e) (alias_plans machine d.import_name n e) (export_plan machine d.import_name n e ∷ []) (among_first _ _))
@@ -313,7 +313,7 @@ module _ (d : DefinitionView) (machine : MachineType) (members : List MemberView
         | inr alias ↦ absurd (no_alias own.0 own.1 own.2 alias)
       ]
 
-  kind : (m : MemberView) → Among m members → Kind machine d.import_name public m
+  pub kind : (m : MemberView) → Among m members → Kind machine d.import_name public m
   kind m held =
       let p = among_mapped member_of m (gnu_plans machine d.import_name public) (subst (Among m) made.made held) in
       kind_planned m p.0 p.2 p.1
@@ -321,10 +321,10 @@ module _ (d : DefinitionView) (machine : MachineType) (members : List MemberView
   tail_is : object_in the_tail.bytes ≡ Some (tail machine d.import_name)
   tail_is = tail_reads machine d.import_name public (dll_free d machine members [] made) (sound d machine members [] made) (not_long d machine members [] made)
 
-  head_is : object_in the_head.bytes ≡ Some (head machine d.import_name)
+  pub head_is : object_in the_head.bytes ≡ Some (head machine d.import_name)
   head_is = head_reads machine d.import_name public (dll_free d machine members [] made) (sound d machine members [] made) (not_long d machine members [] made)
 
-  export_is : (n : ℕ) (e : ExportView) → slice_get public n ≡ Some e → object_in (the_export n e).bytes ≡ Some (export machine d.import_name e)
+  pub export_is : (n : ℕ) (e : ExportView) → slice_get public n ≡ Some e → object_in (the_export n e).bytes ≡ Some (export machine d.import_name e)
   export_is n e is = export_reads machine d.import_name public (dll_free d machine members [] made) (sound d machine members [] made) (not_long d machine members [] made) n e is
 
   object_of : (m x : MemberView) (o own : Object) → m ≡ x → object_in x.bytes ≡ Some own → object_in m.bytes ≡ Some o → o ≡ own
@@ -342,7 +342,7 @@ module _ (d : DefinitionView) (machine : MachineType) (members : List MemberView
       (subst (λ o. Among name (left_by o)) (object_of m (the_export x.number x.export) o (export machine d.import_name x.export) x.same (export_is x.number x.export x.is) read) left)))
 
   -- a member claims only what it is listed for
-  claims : (m : MemberView) (o : Object) (name : List ℕ) → Kind machine d.import_name public m → object_in m.bytes ≡ Some o → Among name (claimed_names o) → Among name m.symbols
+  pub claims : (m : MemberView) (o : Object) (name : List ℕ) → Kind machine d.import_name public m → object_in m.bytes ≡ Some o → Among name (claimed_names o) → Among name m.symbols
   claims m o name (IsTail same) read claimed =
       subst (λ (y : MemberView). Among name y.symbols) (sym same) (subst (Among name) (claimed_tail machine d.import_name ∙ sym (listed_tail machine d.import_name))
       (subst (λ o. Among name (claimed_names o)) (object_of m the_tail o (tail machine d.import_name) same tail_is read) claimed))
@@ -353,14 +353,14 @@ module _ (d : DefinitionView) (machine : MachineType) (members : List MemberView
       subst (λ (y : MemberView). Among name y.symbols) (sym x.same) (subst (Among name) (claimed_export machine d.import_name x.export ∙ sym (listed_export machine d.import_name x.number x.export))
       (subst (λ o. Among name (claimed_names o)) (object_of m (the_export x.number x.export) o (export machine d.import_name x.export) x.same (export_is x.number x.export x.is) read) claimed))
 
-  head_listed : Among (head_symbol machine d.import_name) the_head.symbols
+  pub head_listed : Among (head_symbol machine d.import_name) the_head.symbols
   head_listed = subst (Among (head_symbol machine d.import_name)) (sym (listed_head machine d.import_name)) (among_first _ _)
 
-  tail_listed : Among (name_symbol machine d.import_name) the_tail.symbols
+  pub tail_listed : Among (name_symbol machine d.import_name) the_tail.symbols
   tail_listed = subst (Among (name_symbol machine d.import_name)) (sym (listed_tail machine d.import_name)) (among_first _ _)
 
   module _ (wanted : List (List ℕ)) (plain : NamesNoLinkage machine d.import_name wanted) where
-    taken_held : (taken : List MemberView) → IsTakenInTurn members wanted taken → (m : MemberView) → Among m taken → Among m members
+    pub taken_held : (taken : List MemberView) → IsTakenInTurn members wanted taken → (m : MemberView) → Among m taken → Among m members
     unfolding Among IsTakenInTurn
     taken_held [] turn m held = absurd held
     taken_held (t ∷ earlier) turn m (inl e) = subst (λ x. Among x members) (sym e) (listed_is members turn.0.0 t turn.0.1.listed).0
@@ -388,40 +388,53 @@ module _ (d : DefinitionView) (machine : MachineType) (members : List MemberView
     needed_next name m held listed any (inr is) =
         TheTail (one_member members (name_symbol machine d.import_name) m the_tail distinct held tail_held (subst (λ n. Among n m.symbols) is listed) tail_listed) any
 
-    needed : (taken : List MemberView) → IsTakenInTurn members wanted taken → (m : MemberView) → Among m taken → Needed machine d.import_name public wanted m
-    unfolding Among IsTakenInTurn names_left
+    -- a member that an undefined name asks for
+    pub asked_needed : (earlier : List MemberView) → ((m : MemberView) → Among m earlier → Among m members) →
+        ((m : MemberView) → Among m earlier → Needed machine d.import_name public wanted m) →
+        (name : List ℕ) (t : MemberView) → Asks members wanted earlier name t → Needed machine d.import_name public wanted t
+    unfolding names_left
+    asked_needed earlier held all name t asks =
+        let found = listed_is members name t asks.listed in
+        elim (among_either name wanted (flat_map left_by (objects_in earlier)) (contains_among name _ asks.named)) [
+          | inl want ↦ needed_first name t found.1 want (kind t found.0)
+          | inr left ↦
+              let from = name_read left_by name earlier left in
+              needed_next name t found.0 found.1 (any_wanted machine d.import_name public wanted from.0 (all from.0 from.2))
+              (leaves from.0 from.1 name (kind from.0 (held from.0 from.2)) from.3 from.4)
+        ]
+
+    pub needed : (taken : List MemberView) → IsTakenInTurn members wanted taken → (m : MemberView) → Among m taken → Needed machine d.import_name public wanted m
+    unfolding Among IsTakenInTurn
     needed [] turn m held = absurd held
     needed (t ∷ earlier) turn m (inr held) = needed earlier turn.1 m held
     needed (t ∷ earlier) turn m (inl e) =
-        let name : List ℕ = turn.0.0 in
-        let found = listed_is members name t turn.0.1.listed in
-        subst (Needed machine d.import_name public wanted) (sym e) (
-          elim (among_either name wanted (flat_map left_by (objects_in earlier)) (contains_among name _ turn.0.1.named)) [
-            | inl want ↦ needed_first name t found.1 want (kind t found.0)
-            | inr left ↦
-                let from = name_read left_by name earlier left in
-                needed_next name t found.0 found.1 (any_wanted machine d.import_name public wanted from.0 (needed earlier turn.1 from.0 from.2))
-                (leaves from.0 from.1 name (kind from.0 (taken_held earlier turn.1 from.0 from.2)) from.3 from.4)
-          ]
-        )
+        subst (Needed machine d.import_name public wanted) (sym e)
+        (asked_needed earlier (taken_held earlier turn.1) (needed earlier turn.1) turn.0.0 t turn.0.1)
+
+    -- an undefined name that is listed for a member asks for it where it is not taken
+    pub asks_for : (earlier : List MemberView) → ((m : MemberView) → Among m earlier → Among m members) → (name : List ℕ) (m : MemberView) →
+        Among m members → Among name m.symbols → Among name (wanted ++ names_left earlier) → (Among m earlier → ⊥) → Asks members wanted earlier name m
+    unfolding names_claimed
+    asks_for earlier held name m own listed named new = record {
+      named = among_contains name (wanted ++ names_left earlier) named;
+      undefined = false_from_ne_true (list_any (bytes_eq name) (flat_map claimed_names (objects_in earlier))) (λ claimed.
+          let by = name_read claimed_names name earlier (any_among name _ claimed) in
+          let same : m ≡ by.0 = one_member members name m by.0 distinct own (held by.0 by.2) listed (claims by.0 by.1 name (kind by.0 (held by.0 by.2)) by.3 by.4) in
+          new (subst (λ x. Among x earlier) (sym same) by.2));
+      listed = listed_once members name m distinct own listed;
+      new = λ has. new (contains_among m earlier has);
+    }
 
     module _ (taken : List MemberView) (takes : Takes members wanted taken) where
       -- a member is taken where a name of its is undefined
-      reached : (name : List ℕ) (m : MemberView) → Among m members → Among name m.symbols → Among name (wanted ++ names_left taken) → Among m taken
-      unfolding names_claimed
+      pub reached : (name : List ℕ) (m : MemberView) → Among m members → Among name m.symbols → Among name (wanted ++ names_left taken) → Among m taken
       reached name m held listed named =
           elim (cases_Bool (list_any (is_listed_for name) taken)) [
             | inl is ↦
                 let t = any_member name taken is in
                 subst (λ x. Among x taken) (sym (one_member members name m t.0 distinct held (taken_held taken takes.in_turn t.0 t.1) listed t.2)) t.1
-            | inr none ↦ absurd (takes.ended name m (record {
-              named = among_contains name (wanted ++ names_left taken) named;
-              undefined = false_from_ne_true (list_any (bytes_eq name) (flat_map claimed_names (objects_in taken))) (λ claimed.
-                  let by = name_read claimed_names name taken (any_among name _ claimed) in
-                  none_listed name by.0 taken none by.2 (claims by.0 by.1 name (kind by.0 (taken_held taken takes.in_turn by.0 by.2)) by.3 by.4));
-              listed = listed_once members name m distinct held listed;
-              new = λ has. none_listed name m taken none (contains_among m taken has) listed;
-            }))
+            | inr none ↦ absurd (takes.ended name m (asks_for taken (taken_held taken takes.in_turn) name m held listed named
+                (λ has. none_listed name m taken none has listed)))
           ]
 
       export_taken : (n : ℕ) (e : ExportView) → slice_get public n ≡ Some e → is_wanted wanted e ≡ true → Among (the_export n e) taken
@@ -445,7 +458,7 @@ module _ (d : DefinitionView) (machine : MachineType) (members : List MemberView
           (among_back _ wanted (flat_map left_by (objects_in taken)) (read_name left_by _ taken the_head (head machine d.import_name) (head_taken any) head_is
           (subst (Among (name_symbol machine d.import_name)) (sym (left_head machine d.import_name)) (among_first _ _))))
 
-      taken_if_needed : (m : MemberView) → Needed machine d.import_name public wanted m → Among m taken
+      pub taken_if_needed : (m : MemberView) → Needed machine d.import_name public wanted m → Among m taken
       taken_if_needed m (TheTail same any) = subst (λ x. Among x taken) (sym same) (tail_taken any)
       taken_if_needed m (TheHead same any) = subst (λ x. Among x taken) (sym same) (head_taken any)
       taken_if_needed m (AnExport x want) = subst (λ y. Among y taken) (sym x.same) (export_taken x.number x.export x.is want)
@@ -493,10 +506,10 @@ linked_some d machine [] m held = absurd (in_nothing m held)
 linked_some d machine (n ∷ chosen) m held = (n, among_first n chosen, held)
 
 module _ (d : DefinitionView) (machine : MachineType) (wanted : List (List ℕ)) (chosen : List ℕ) (are : AreWanted (public_exports (renamed d)) wanted chosen) where
-  plan_in : (p : Plan) → Among p (plans_linked machine d.import_name (public_exports (renamed d)) chosen) → Among (member_of p) (linked_members d machine chosen)
+  pub plan_in : (p : Plan) → Among p (plans_linked machine d.import_name (public_exports (renamed d)) chosen) → Among (member_of p) (linked_members d machine chosen)
   plan_in p held = among_map member_of p (plans_linked machine d.import_name (public_exports (renamed d)) chosen) held
 
-  linked_if_needed : (m : MemberView) → Needed machine d.import_name (public_exports (renamed d)) wanted m → Among m (linked_if_any d machine chosen)
+  pub linked_if_needed : (m : MemberView) → Needed machine d.import_name (public_exports (renamed d)) wanted m → Among m (linked_if_any d machine chosen)
   linked_if_needed m (TheTail same any) =
       some_chosen d machine chosen any.number m (are.all any.number any.export any.is any.want) (subst (λ x. Among x (linked_members d machine chosen)) (sym same)
       (plan_in (tail_plan machine d.import_name) (among_later _ _ _
@@ -523,7 +536,7 @@ module _ (d : DefinitionView) (machine : MachineType) (wanted : List (List ℕ))
       let own : c.1 ≡ found.0 = same_export c.1 found.0 (sym c.3 ∙ found.1) in
       AnExport (record { number = c.0; export = c.1; is = c.3; same = same ∙ ap member_of c.4 }) (subst (λ e. is_wanted wanted e ≡ true) (sym own) found.2)
 
-  needed_if_linked : (m : MemberView) → Among m (linked_if_any d machine chosen) → Needed machine d.import_name (public_exports (renamed d)) wanted m
+  pub needed_if_linked : (m : MemberView) → Among m (linked_if_any d machine chosen) → Needed machine d.import_name (public_exports (renamed d)) wanted m
   needed_if_linked m held =
       let some = linked_some d machine chosen m held in
       let p = among_mapped member_of m (plans_linked machine d.import_name (public_exports (renamed d)) chosen) some.2 in

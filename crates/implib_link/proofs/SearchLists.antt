@@ -2,12 +2,14 @@
 use Rattle.std.proofs.Common.{◌≡◌, ℕ, zero, suc, ◌<◌, Bool, true, false, List, [], ◌∷◌, ◌++◌, length, map, Option, Some, None, refl, ap, sym, ◌∙◌, subst, inl, inr, ◌⊎◌, arith}
 use Rattle.std.specs.Prelude.{bytes_eq, reverse, slice_get}
 use Rattle.std.specs.List.{AllByRecursion, Contains, IsDistinct, cons_option, filter_map, flat_map, list_any}
-use Rattle.std.proofs.lemmas.Bool.{cases_Bool, or_parts, true≢false}
+use Rattle.std.proofs.lemmas.Bool.{cases_Bool, false_from_ne_true, or_parts, true≢false}
 use Rattle.std.proofs.lemmas.List.{reverse-append}
+use Rattle.std.proofs.lemmas.Grind.{flat_map-append}
 use Rattle.std.proofs.lemmas.Slice.Eq.{bytes_eq-Decides}
 use Rattle.implib.specs.LinkedMembers.{objects_in}
 use Rattle.implib.specs.Made.{MemberView}
 use Rattle.implib.specs.Object.{Object, object_in}
+use Rattle.implib.proofs.LinkedMembers.{among_map, among_reverse}
 use Rattle.implib.proofs.Ranges.{Among, all_among, among_back, among_front}
 use Rattle.implib_link.specs.Search.{first_listed, is_listed_for}
 
@@ -63,12 +65,12 @@ pub apart_none : (name : List ℕ) (names : List (List ℕ)) → Among name name
 apart_none name names m apart =
     true≢false (sym ((bytes_eq-Decides name name).1 refl) ∙ all_among (λ other. bytes_eq name other ≡ false) name names m apart)
 
-distinct_later : (first later : List (List ℕ)) → IsDistinct bytes_eq (first ++ later) → IsDistinct bytes_eq later
+pub distinct_later : (first later : List (List ℕ)) → IsDistinct bytes_eq (first ++ later) → IsDistinct bytes_eq later
 unfolding IsDistinct
 distinct_later [] later distinct = distinct
 distinct_later (x ∷ first) later distinct = distinct_later first later distinct.1
 
-distinct_apart : (first later : List (List ℕ)) (name : List ℕ) → IsDistinct bytes_eq (first ++ later) → Among name first → Among name later → ⊥
+pub distinct_apart : (first later : List (List ℕ)) (name : List ℕ) → IsDistinct bytes_eq (first ++ later) → Among name first → Among name later → ⊥
 unfolding IsDistinct Among
 distinct_apart [] later name distinct m behind = absurd m
 distinct_apart (x ∷ first) later name distinct (inl e) behind =
@@ -174,3 +176,80 @@ none_listed name m (x ∷ members) none (inl e) is =
     true≢false (sym (among_any name x.symbols (subst (λ (y : MemberView). Among name y.symbols) e is)) ∙ here)
 none_listed name m (x ∷ members) none (inr held) is =
     none_listed name m members (or_parts (is_listed_for name x) (list_any (is_listed_for name) members) none).1 held is
+
+-- Names that differ, put together and apart.
+
+all_first : (first later : List (List ℕ)) (P : List ℕ → Type 0) → AllByRecursion P (first ++ later) → AllByRecursion P first
+all_first [] later P all = tt
+all_first (x ∷ first) later P all = (all.0, all_first first later P all.1)
+
+distinct_first : (first later : List (List ℕ)) → IsDistinct bytes_eq (first ++ later) → IsDistinct bytes_eq first
+unfolding IsDistinct
+distinct_first [] later distinct = tt
+distinct_first (x ∷ first) later distinct = (all_first first later (λ other. bytes_eq x other ≡ false) distinct.0, distinct_first first later distinct.1)
+
+none_same : (x : List ℕ) (names : List (List ℕ)) → (Among x names → ⊥) → AllByRecursion (λ other. bytes_eq x other ≡ false) names
+unfolding Among
+none_same x [] none = tt
+none_same x (n ∷ names) none =
+    (false_from_ne_true (bytes_eq x n) (λ same. none (inl ((bytes_eq-Decides x n).0 same))), none_same x names (λ held. none (inr held)))
+
+pub distinct_join : (first later : List (List ℕ)) → IsDistinct bytes_eq first → IsDistinct bytes_eq later →
+    ((name : List ℕ) → Among name first → Among name later → ⊥) → IsDistinct bytes_eq (first ++ later)
+unfolding IsDistinct Among
+distinct_join [] later own behind apart = behind
+distinct_join (x ∷ first) later own behind apart =
+    let none : Among x (first ++ later) → ⊥ = λ held. elim (among_either x first later held) [
+      | inl here ↦ apart_none x first here own.0
+      | inr there ↦ apart x (inl refl) there
+    ] in
+    (none_same x (first ++ later) none, distinct_join first later own.1 behind (λ name held. apart name (inr held)))
+
+pub among_flat_map : {X : Type 0} (f : X → List (List ℕ)) (name : List ℕ) (xs : List X) → Among name (flat_map f xs) → (x : X) × Among x xs × Among name (f x)
+unfolding Among
+among_flat_map f name [] held = absurd held
+among_flat_map f name (x ∷ xs) held =
+    elim (among_either name (f x) (flat_map f xs) held) [
+      | inl here ↦ (x, inl refl, here)
+      | inr behind ↦ let later = among_flat_map f name xs behind in (later.0, inr later.1, later.2)
+    ]
+
+pub flat_map_among : {X : Type 0} (f : X → List (List ℕ)) (name : List ℕ) (xs : List X) (x : X) → Among x xs → Among name (f x) → Among name (flat_map f xs)
+unfolding Among
+flat_map_among f name [] x held is = absurd held
+flat_map_among f name (y ∷ xs) x (inl e) is = among_front name (f y) (flat_map f xs) (subst (λ z. Among name (f z)) e is)
+flat_map_among f name (y ∷ xs) x (inr held) is = among_back name (f y) (flat_map f xs) (flat_map_among f name xs x held is)
+
+-- names of a list in the other order
+pub distinct_reversed : {X : Type 0} (f : X → List (List ℕ)) (xs : List X) → IsDistinct bytes_eq (flat_map f (reverse xs)) → IsDistinct bytes_eq (flat_map f xs)
+distinct_reversed f [] distinct = distinct
+distinct_reversed f (x ∷ xs) distinct =
+    let parts : IsDistinct bytes_eq (flat_map f (reverse xs) ++ (f x ++ [])) =
+    subst (IsDistinct bytes_eq) (ap (flat_map f) (reverse-append (x ∷ []) xs) ∙ flat_map-append f (reverse xs) (x ∷ [])) distinct in
+    distinct_join (f x) (flat_map f xs) (distinct_first (f x) [] (distinct_later (flat_map f (reverse xs)) (f x ++ []) parts))
+    (distinct_reversed f xs (distinct_first (flat_map f (reverse xs)) (f x ++ []) parts))
+    (λ name here there.
+    let from = among_flat_map f name xs there in
+    distinct_apart (flat_map f (reverse xs)) (f x ++ []) name parts
+    (flat_map_among f name (reverse xs) from.0 (among_reverse from.0 xs from.1) from.2) (among_front name (f x) [] here))
+
+-- the symbols of one member differ
+pub own_distinct : (archive : List MemberView) (m : MemberView) → IsDistinct bytes_eq (all_listed archive) → Among m archive → IsDistinct bytes_eq m.symbols
+unfolding Among
+own_distinct [] m distinct held = absurd held
+own_distinct (x ∷ archive) m distinct (inl e) = subst (λ (y : MemberView). IsDistinct bytes_eq y.symbols) (sym e) (distinct_first x.symbols (all_listed archive) distinct)
+own_distinct (x ∷ archive) m distinct (inr held) = own_distinct archive m (distinct_later x.symbols (all_listed archive) distinct) held
+
+-- so do those of members of an archive that have names of their own
+pub some_distinct : (archive some : List MemberView) → IsDistinct bytes_eq (all_listed archive) → ((m : MemberView) → Among m some → Among m archive) →
+    IsDistinct bytes_eq (map (λ (m : MemberView). m.name) some) → IsDistinct bytes_eq (all_listed some)
+unfolding IsDistinct Among
+some_distinct archive [] distinct held once = tt
+some_distinct archive (x ∷ some) distinct held once =
+    distinct_join x.symbols (all_listed some) (own_distinct archive x distinct (held x (inl refl)))
+    (some_distinct archive some distinct (λ m there. held m (inr there)) once.1)
+    (λ name here there.
+    let from = among_flat_map (λ (m : MemberView). m.symbols) name some there in
+    let same : x ≡ from.0 = one_member archive name x from.0 distinct (held x (inl refl)) (held from.0 (inr from.1)) here from.2 in
+    apart_none x.name (map (λ (m : MemberView). m.name) some)
+    (subst (λ (y : MemberView). Among y.name (map (λ (m : MemberView). m.name) some)) (sym same) (among_map (λ (m : MemberView). m.name) from.0 some from.1)) once.0)
