@@ -11,3 +11,5 @@ pub mod Jumps
 pub mod Stubs
 pub mod SearchLists
 pub mod Search
+pub mod SearchExists
+pub mod Searched

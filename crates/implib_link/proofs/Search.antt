@@ -60,11 +60,15 @@ numbered_is machine dll (x ∷ exports) start p held =
       ]
       | inr behind ↦
           let later = numbered_is machine dll exports (start + 1) p behind in
-          let place : start + 1 + later.0 ≡ start + suc later.0 = omega arith in
-          (suc later.0, later.1, later.2, elim later.3 [
-            | inl is ↦ inl (subst (λ n. p ≡ export_plan machine dll n later.1) place is)
-            | inr alias ↦ inr alias
-          ])
+          let place : start + 1 + later.0 ≡ start + suc later.0 = omega arith in (
+            suc later.0,
+            later.1,
+            later.2,
+            elim later.3 [
+              | inl is ↦ inl (subst (λ n. p ≡ export_plan machine dll n later.1) place is)
+              | inr alias ↦ inr alias
+            ],
+          )
     ]
 
 pub name_differs : (n m : ℕ) → n ≡ m → m < n → ⊥

@@ -1,18 +1,20 @@
 -- Archive search: which members of an archive a linker takes for the names that are undefined. The archive
 -- lists symbols for each member; what a member leaves to others is read in its bytes. Nothing in the search
 -- knows who wrote the members.
-use Rattle.std.specs.Prelude.{◌≡◌, ℕ, ◌+◌, Bool, false, List, [], ◌∷◌, ◌++◌, bytes_eq, Option, Some, None, if◌then◌else◌}
-use Rattle.std.specs.List.{Contains, filter_map, flat_map, list_any}
+use Rattle.std.specs.Prelude.{◌≡◌, ℕ, ◌+◌, Bool, false, List, [], ◌∷◌, ◌++◌, bytes_eq, map, not, Option, Some, None, if◌then◌else◌}
+use Rattle.std.specs.List.{AllByRecursion, Contains, IsDistinct, filter, filter_map, flat_map, list_any}
 use Rattle.implib.specs.declared.machine.MachineType.{MachineType}
 use Rattle.implib.specs.Definition.{DefinitionView, ExportView}
 use Rattle.implib.specs.Gnu.{export_listed, head_symbol, name_symbol}
 use Rattle.implib.specs.Import.{public_exports}
+use Rattle.implib.specs.Image.{IsAdmissible}
 use Rattle.implib.specs.Linked.{undefined_name}
-use Rattle.implib.specs.LinkedMembers.{linked_members, objects_in}
-use Rattle.implib.specs.Made.{MemberView}
+use Rattle.implib.specs.LinkedMembers.{Part, linked_members, objects_in}
+use Rattle.implib.specs.Made.{MemberView, head_plan, member_of, tail_plan}
 use Rattle.implib.specs.Object.{Object}
+use Rattle.implib.specs.Placement.{Bases}
 use Rattle.implib.specs.Renaming.{renamed}
-use Rattle.implib_link.specs.Program.{claimed_names}
+use Rattle.implib_link.specs.Program.{ClaimsNone, LinksAmong, claimed_names, has_tables, null_descriptor}
 
 -- whether the archive lists a name for a member
 abbrev pub is_listed_for : List ℕ → MemberView → Bool
@@ -85,3 +87,34 @@ pub record NamesNoLinkage (machine : MachineType) (dll : List ℕ) (wanted : Lis
 -- two lists have the same elements
 abbrev pub HaveSame : {X : Type 0} → List X → List X → Type 0
 HaveSame {X} first second = (x : X) → (Contains first x → Contains second x) × (Contains second x → Contains first x)
+
+-- what is taken, each member once, in an order in which the head stands first and the tail last, as linkers have
+-- it that sort by member name
+pub record IsArranged (machine : MachineType) (dll : List ℕ) (taken arranged : List MemberView) : Type 0 where
+  pub between : List MemberView
+  pub order : arranged ≡ member_of (head_plan machine dll) ∷ (between ++ member_of (tail_plan machine dll) ∷ [])
+  pub same : HaveSame taken arranged
+  pub once : IsDistinct bytes_eq (map (λ m. m.name) arranged)
+
+-- members are what is linked of just the wanted exports, in some order
+pub record IsLinkedOfWanted (machine : MachineType) (d : DefinitionView) (wanted : List (List ℕ)) (arranged : List MemberView) : Type 0 where
+  pub chosen : List ℕ
+  pub same : HaveSame chosen (exports_wanted d wanted)
+  pub linked : arranged ≡ linked_members d machine chosen
+
+-- A program of what a linker took of an archive, in such an order, and of other objects: the objects with import
+-- tables are those members and, behind them, the null descriptor; the others claim no symbol of theirs.
+pub record IsLinkedWith (machine : MachineType) (dll : List ℕ) (bases : Bases) (taken : List MemberView) (objects : List Object)
+    : Type 0 where
+  pub arranged : List MemberView
+  pub is_arranged : IsArranged machine dll taken arranged
+  pub tables : filter has_tables objects ≡ objects_in arranged ++ null_descriptor ∷ []
+  pub others : AllByRecursion (ClaimsNone (flat_map (λ m. m.symbols) arranged)) (filter (λ o. not (has_tables o)) objects)
+  pub admissible : IsAdmissible machine bases objects
+
+-- the objects link to a program that imports just the wanted exports, in some order
+pub record ImportsWanted (machine : MachineType) (d : DefinitionView) (members : List MemberView) (wanted : List (List ℕ)) (bases : Bases)
+    (objects : List Object) : Type 0 where
+  pub chosen : List ℕ
+  pub same : HaveSame chosen (exports_wanted d wanted)
+  pub links : LinksAmong machine bases (record { definition = d; members = members; chosen = chosen } ∷ []) objects
