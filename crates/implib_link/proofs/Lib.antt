@@ -13,3 +13,4 @@ pub mod SearchLists
 pub mod Search
 pub mod SearchExists
 pub mod Searched
+pub mod WorkedSearch

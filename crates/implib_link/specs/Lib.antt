@@ -5,3 +5,4 @@ pub mod Loaded
 pub mod Packed
 pub mod Stub
 pub mod Search
+pub mod WorkedSearch

@@ -6,6 +6,7 @@ ghost use Rattle.implib.specs.Object.{Object};
 ghost use Rattle.implib.specs.Placement.{Bases};
 ghost use Rattle.implib.specs.declared.library.Flavor.TheVariants.{Gnu};
 ghost use Rattle.implib.specs.declared.machine.MachineType.{MachineType};
+ghost use Rattle.implib_link.specs.WorkedSearch.{WorkedSearch};
 ghost use Rattle.implib_link.specs.Search.{HaveSame, ImportsWanted, IsArranged, IsLinkedOfWanted, IsLinkedWith, NamesNoLinkage, Takes, exports_wanted, linked_if_any};
 ghost use Rattle.std.specs.List.{IsDistinct, flat_map};
 ghost use Rattle.std.specs.Prelude.{ℕ, List, bytes_eq};
@@ -45,4 +46,9 @@ pub fn searched_program_links()
         Takes members wanted taken →
         IsLinkedWith machine d.import_name bases taken objects →
         ImportsWanted machine d members wanted bases objects }
+{}
+
+/// A search by hand of the members of three exports.
+pub fn worked_search()
+    ensures { WorkedSearch }
 {}
