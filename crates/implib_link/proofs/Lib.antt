@@ -11,4 +11,8 @@ pub mod Jumps
 pub mod Stubs
 pub mod WorkedPrograms
 pub mod RefusedLinks
-pub mod Archive
+pub mod SearchLists
+pub mod Search
+pub mod SearchExists
+pub mod Searched
+pub mod WorkedSearch

@@ -6,4 +6,5 @@ pub mod Packed
 pub mod Stub
 pub mod WorkedPrograms
 pub mod RefusedLinks
-pub mod Archive
+pub mod Search
+pub mod WorkedSearch

@@ -1,9 +1,9 @@
 //! Laws: what a caller may conclude from the definitions, each as the contract of an empty function.
 
-pub mod archive;
 pub mod loaded;
 pub mod packed;
 pub mod program;
+pub mod search;
 pub mod stubs;
 pub mod texts;
 pub mod worked;

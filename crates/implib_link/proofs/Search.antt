@@ -1,0 +1,560 @@
+-- What a linker takes of the members for GNU's linker.
+use Rattle.std.proofs.Common.{◌≡◌, ℕ, zero, suc, ◌+◌, ◌<◌, Bool, true, false, List, [], ◌∷◌, ◌++◌, length, map, Option, Some, None, refl, ap, sym, ◌∙◌, subst, inl, inr, ◌⊎◌, arith, codes, if◌then◌else◌}
+use Rattle.std.specs.Prelude.{bytes_eq, reverse, slice_get, slice_index}
+use Rattle.std.specs.List.{AllByRecursion, Contains, IsDistinct, cons_option, filter_map, flat_map, list_any}
+use Rattle.std.proofs.lemmas.Bool.{cases_Bool, false_from_ne_true, or_parts, true≢false}
+use Rattle.std.proofs.lemmas.List.{append_cancel_left}
+use Rattle.implib.specs.declared.library.Flavor.TheVariants.{Gnu}
+use Rattle.implib.specs.declared.machine.MachineType.{MachineType}
+use Rattle.implib.specs.Definition.{DefinitionView, ExportView}
+use Rattle.implib.specs.Gnu.{export_listed, export_name, export_object, head_object, head_symbol, name_symbol, numbered_name, stem, tail_object, weak_address_name}
+use Rattle.implib.specs.Import.{address_symbol, is_alias, public_exports}
+use Rattle.implib.specs.LinkedMembers.{linked_members, objects_in, plan_numbered}
+use Rattle.std.specs.Option.{option_map}
+use Rattle.implib.specs.Made.{Made, MemberView, Plan, alias_plan, alias_plans, export_plan, gnu_plans, head_plan, member_of, numbered_plans, numbered_plans_of, tail_plan}
+use Rattle.implib.specs.Object.{Object, object_in}
+use Rattle.implib.specs.Renaming.{renamed}
+use Rattle.implib.proofs.LinkedMembers.{among_contains, among_map, among_reverse, dll_free, export_reads, head_reads, not_long, sound, tail_reads}
+use Rattle.implib.proofs.Placement.{export, head, tail}
+use Rattle.implib.proofs.Ranges.{Among, among_back, among_first, among_front, among_later}
+use Rattle.implib_link.specs.Program.{claimed_names}
+use Rattle.implib_link.specs.Search.{Asks, HaveSame, IsTakenInTurn, is_listed_for, NamesNoLinkage, Takes, exports_wanted, first_listed, is_wanted, left_by, linked_if_any, names_claimed, names_left, numbers_wanted}
+use Rattle.implib_link.proofs.SearchLists.{all_listed, among_any, among_either, among_mapped, among_reversed, any_among, any_member, contains_among, listed_is, listed_once, name_read, none_listed, one_member, read_name}
+
+-- What plans there are.
+
+-- one export's plans are among those of all
+pub numbered_in : (machine : MachineType) (dll : List ℕ) (exports : List ExportView) (start n : ℕ) (e : ExportView) (p : Plan) → slice_get exports n ≡ Some e →
+    Among p (numbered_plans_of machine dll (start + n) e) → Among p (numbered_plans machine dll start exports)
+numbered_in machine dll [] start n e p is held = cc
+numbered_in machine dll (x ∷ exports) start zero e p is held =
+    let same : e ≡ x = cc in
+    let place : start + 0 ≡ start = omega arith in
+    among_front p (numbered_plans_of machine dll start x) (numbered_plans machine dll (start + 1) exports)
+    (subst (λ n. Among p (numbered_plans_of machine dll n x)) place (subst (λ y. Among p (numbered_plans_of machine dll (start + 0) y)) same held))
+numbered_in machine dll (x ∷ exports) start (suc n) e p is held =
+    let place : start + suc n ≡ start + 1 + n = omega arith in
+    among_back p (numbered_plans_of machine dll start x) (numbered_plans machine dll (start + 1) exports)
+    (numbered_in machine dll exports (start + 1) n e p is (subst (λ n. Among p (numbered_plans_of machine dll n e)) place held))
+
+-- a plan of an export: of its member, or it has an alias
+abbrev pub OfExport : MachineType → List ℕ → List ExportView → ℕ → Plan → Type 0
+OfExport machine dll exports start p =
+    (n : ℕ) × (e : ExportView) × (slice_get exports n ≡ Some e) × ((p ≡ export_plan machine dll (start + n) e) ⊎ (is_alias e.alias_target e.name ≡ true))
+
+pub numbered_is : (machine : MachineType) (dll : List ℕ) (exports : List ExportView) (start : ℕ) (p : Plan) → Among p (numbered_plans machine dll start exports) →
+    OfExport machine dll exports start p
+unfolding Among alias_plans
+numbered_is machine dll [] start p held = absurd held
+numbered_is machine dll (x ∷ exports) start p held =
+    elim (among_either p (numbered_plans_of machine dll start x) (numbered_plans machine dll (start + 1) exports) held) [
+      | inl own ↦ elim (cases_Bool (is_alias x.alias_target x.name)) [
+        | inl alias ↦ (0, x, refl, inr alias)
+        | inr none ↦
+            let place : start ≡ start + 0 = omega arith in
+            let only : Among p (export_plan machine dll start x ∷ []) = rw none at own in
+            elim only [
+              | inl is ↦ (0, x, refl, inl (subst (λ n. p ≡ export_plan machine dll n x) place is))
+              | inr nothing ↦ absurd nothing
+            ]
+      ]
+      | inr behind ↦
+          let later = numbered_is machine dll exports (start + 1) p behind in
+          let place : start + 1 + later.0 ≡ start + suc later.0 = omega arith in (
+            suc later.0,
+            later.1,
+            later.2,
+            elim later.3 [
+              | inl is ↦ inl (subst (λ n. p ≡ export_plan machine dll n later.1) place is)
+              | inr alias ↦ inr alias
+            ],
+          )
+    ]
+
+pub name_differs : (n m : ℕ) → n ≡ m → m < n → ⊥
+name_differs n m same below = omega arith
+
+-- The numbers of wanted exports.
+
+pub number_wanted : (wanted : List (List ℕ)) (exports : List ExportView) (start n : ℕ) (e : ExportView) → slice_get exports n ≡ Some e → is_wanted wanted e ≡ true →
+    Among (start + n) (numbers_wanted wanted start exports)
+unfolding Among
+number_wanted wanted [] start n e is want = cc
+number_wanted wanted (x ∷ exports) start zero e is want =
+    let same : e ≡ x = cc in
+    let place : start + 0 ≡ start = omega arith in
+    rw (subst (λ y. is_wanted wanted y ≡ true) same want) (inl place)
+number_wanted wanted (x ∷ exports) start (suc n) e is want =
+    let place : start + 1 + n ≡ start + suc n = omega arith in
+    let later : Among (start + suc n) (numbers_wanted wanted (start + 1) exports) =
+    subst (λ n. Among n (numbers_wanted wanted (start + 1) exports)) place (number_wanted wanted exports (start + 1) n e is want) in
+    elim (cases_Bool (is_wanted wanted x)) [ inl here ↦ rw here (inr later) | inr none ↦ rw none later ]
+
+pub wanted_number : (wanted : List (List ℕ)) (exports : List ExportView) (start k : ℕ) → Among k (numbers_wanted wanted start exports) →
+    (n : ℕ) × (e : ExportView) × (k ≡ start + n) × (slice_get exports n ≡ Some e) × (is_wanted wanted e ≡ true)
+unfolding Among
+wanted_number wanted [] start k held = absurd held
+wanted_number wanted (x ∷ exports) start k held =
+    elim (cases_Bool (is_wanted wanted x)) [
+      | inl here ↦
+          let either : Among k (start ∷ numbers_wanted wanted (start + 1) exports) = rw here at held in
+          elim either [
+            | inl is ↦ let place : start ≡ start + 0 = omega arith in (0, x, is ∙ place, refl, here)
+            | inr behind ↦ next (wanted_number wanted exports (start + 1) k behind)
+          ]
+      | inr none ↦ next (wanted_number wanted exports (start + 1) k (rw none at held))
+    ]
+  where
+    next : ((n : ℕ) × (e : ExportView) × (k ≡ start + 1 + n) × (slice_get exports n ≡ Some e) × (is_wanted wanted e ≡ true)) →
+        (n : ℕ) × (e : ExportView) × (k ≡ start + n) × (slice_get (x ∷ exports) n ≡ Some e) × (is_wanted wanted e ≡ true)
+    next later = let place : start + 1 + later.0 ≡ start + suc later.0 = omega arith in (suc later.0, later.1, later.2 ∙ place, later.3, later.4)
+
+-- a name of some names is wanted
+pub wants : (wanted names : List (List ℕ)) (name : List ℕ) → Among name names → Among name wanted → list_any (λ n. list_any (bytes_eq n) wanted) names ≡ true
+unfolding Among
+wants wanted [] name held want = absurd held
+wants wanted (n ∷ names) name (inl e) want = rw (among_any n wanted (subst (λ t. Among t wanted) e want)) refl
+wants wanted (n ∷ names) name (inr held) want =
+    elim (cases_Bool (list_any (bytes_eq n) wanted)) [ inl is ↦ rw is refl | inr none ↦ rw none (wants wanted names name held want) ]
+
+pub wanted_name : (wanted names : List (List ℕ)) → list_any (λ n. list_any (bytes_eq n) wanted) names ≡ true → (name : List ℕ) × Among name names × Among name wanted
+unfolding Among
+wanted_name wanted [] is = absurd (true≢false (sym is))
+wanted_name wanted (n ∷ names) is =
+    elim (cases_Bool (list_any (bytes_eq n) wanted)) [
+      | inl here ↦ (n, inl refl, any_among n wanted here)
+      | inr none ↦ let later = wanted_name wanted names (rw none at is) in (later.0, inr later.1, later.2)
+    ]
+
+-- The plans of chosen exports.
+
+among_option : {X : Type 0} (x : X) (o : Option X) (xs : List X) → Among x xs → Among x (cons_option o xs)
+unfolding Among
+among_option x None xs held = held
+among_option x (Some y) xs held = inr held
+
+pub plan_chosen : (machine : MachineType) (dll : List ℕ) (exports : List ExportView) (chosen : List ℕ) (n : ℕ) (e : ExportView) → Among n chosen →
+    slice_get exports n ≡ Some e → Among (export_plan machine dll n e) (filter_map (plan_numbered machine dll exports) chosen)
+unfolding Among
+plan_chosen machine dll exports [] n e held is = absurd held
+plan_chosen machine dll exports (k ∷ chosen) n e (inl same) is =
+    let here : slice_get exports k ≡ Some e = subst (λ m. slice_get exports m ≡ Some e) same is in
+    rw here (inl (ap (λ m. export_plan machine dll m e) same))
+plan_chosen machine dll exports (k ∷ chosen) n e (inr held) is =
+    among_option (export_plan machine dll n e) (plan_numbered machine dll exports k) (filter_map (plan_numbered machine dll exports) chosen)
+    (plan_chosen machine dll exports chosen n e held is)
+
+-- a plan of a chosen export
+abbrev pub Chosen : MachineType → List ℕ → List ExportView → List ℕ → Plan → Type 0
+Chosen machine dll exports chosen p =
+    (n : ℕ) × (e : ExportView) × Among n chosen × (slice_get exports n ≡ Some e) × (p ≡ export_plan machine dll n e)
+
+first_chosen : (machine : MachineType) (dll : List ℕ) (exports : List ExportView) (k : ℕ) (chosen : List ℕ) (p : Plan) (o : Option ExportView) → slice_get exports k ≡ o →
+    (Among p (filter_map (plan_numbered machine dll exports) chosen) → Chosen machine dll exports chosen p) →
+    Among p (cons_option (option_map (export_plan machine dll k) o) (filter_map (plan_numbered machine dll exports) chosen)) → Chosen machine dll exports (k ∷ chosen) p
+unfolding Among
+first_chosen machine dll exports k chosen p None is next held = let later = next held in (later.0, later.1, inr later.2, later.3, later.4)
+first_chosen machine dll exports k chosen p (Some e) is next (inl same) = (k, e, inl refl, is, same)
+first_chosen machine dll exports k chosen p (Some e) is next (inr held) = let later = next held in (later.0, later.1, inr later.2, later.3, later.4)
+
+pub chosen_plan : (machine : MachineType) (dll : List ℕ) (exports : List ExportView) (chosen : List ℕ) (p : Plan) →
+    Among p (filter_map (plan_numbered machine dll exports) chosen) → Chosen machine dll exports chosen p
+unfolding Among
+chosen_plan machine dll exports [] p held = absurd held
+chosen_plan machine dll exports (k ∷ chosen) p held =
+    first_chosen machine dll exports k chosen p (slice_get exports k) refl (chosen_plan machine dll exports chosen p) held
+
+-- What the members leave to others, claim, and are listed for.
+
+left_tail : (machine : MachineType) (dll : List ℕ) → left_by (tail machine dll) ≡ []
+unfolding left_by tail_object
+left_tail machine dll = refl
+
+pub left_head : (machine : MachineType) (dll : List ℕ) → left_by (head machine dll) ≡ name_symbol machine dll ∷ []
+unfolding left_by head_object
+left_head machine dll = refl
+
+pub left_export : (machine : MachineType) (dll : List ℕ) (e : ExportView) → left_by (export machine dll e) ≡ head_symbol machine dll ∷ []
+unfolding left_by export_object
+left_export machine dll e = elim (cases_Bool e.is_data) [ inl is ↦ rw is refl | inr is ↦ rw is refl ]
+
+claimed_tail : (machine : MachineType) (dll : List ℕ) → claimed_names (tail machine dll) ≡ name_symbol machine dll ∷ []
+unfolding tail_object
+claimed_tail machine dll = refl
+
+claimed_head : (machine : MachineType) (dll : List ℕ) → claimed_names (head machine dll) ≡ head_symbol machine dll ∷ []
+unfolding head_object
+claimed_head machine dll = refl
+
+claimed_export : (machine : MachineType) (dll : List ℕ) (e : ExportView) → claimed_names (export machine dll e) ≡ export_listed e
+unfolding export_object
+claimed_export machine dll e = elim (cases_Bool e.is_data) [ inl is ↦ rw is refl | inr is ↦ rw is refl ]
+
+listed_tail : (machine : MachineType) (dll : List ℕ) → (member_of (tail_plan machine dll)).symbols ≡ name_symbol machine dll ∷ []
+unfolding tail_plan
+listed_tail machine dll = refl
+
+pub listed_head : (machine : MachineType) (dll : List ℕ) → (member_of (head_plan machine dll)).symbols ≡ head_symbol machine dll ∷ []
+unfolding head_plan
+listed_head machine dll = refl
+
+pub listed_export : (machine : MachineType) (dll : List ℕ) (n : ℕ) (e : ExportView) → (member_of (export_plan machine dll n e)).symbols ≡ export_listed e
+unfolding export_plan
+listed_export machine dll n e = refl
+
+pub address_listed : (e : ExportView) → Among (address_symbol e.name) (export_listed e)
+unfolding Among
+address_listed e = elim (cases_Bool e.is_data) [ inl is ↦ rw is (inl refl) | inr is ↦ rw is (inr (inl refl)) ]
+
+pub only_one : {X : Type 0} (x y : X) → Among x (y ∷ []) → x ≡ y
+unfolding Among
+only_one x y (inl e) = e
+only_one x y (inr nothing) = absurd nothing
+
+pub in_nothing : {X : Type 0} (x : X) → Among x [] → ⊥
+unfolding Among
+in_nothing x held = held
+
+pub same_export : (e other : ExportView) → Some e ≡ Some other → e ≡ other
+same_export e other same = cc
+
+same_object : (o other : Object) → Some o ≡ Some other → o ≡ other
+same_object o other e = cc
+
+names_apart : (dll : List ℕ) (n : ℕ) → weak_address_name dll n ≡ export_name dll n → ⊥
+unfolding numbered_name
+names_apart dll n same = name_differs 0x78 0x73 (ap (λ text. slice_index text 3) (append_cancel_left (stem dll) _ _ same)) (omega arith)
+
+-- some export is wanted
+pub record AnyWanted (exports : List ExportView) (wanted : List (List ℕ)) : Type 0 where
+  pub number : ℕ
+  pub export : ExportView
+  pub is : slice_get exports number ≡ Some export
+  pub want : is_wanted wanted export ≡ true
+
+-- a member is that of an export
+pub record IsExport (machine : MachineType) (dll : List ℕ) (exports : List ExportView) (m : MemberView) : Type 0 where
+  pub number : ℕ
+  pub export : ExportView
+  pub is : slice_get exports number ≡ Some export
+  pub same : m ≡ member_of (export_plan machine dll number export)
+
+pub data Kind (machine : MachineType) (dll : List ℕ) (exports : List ExportView) (m : MemberView) : Type 0 where
+  IsTail : m ≡ member_of (tail_plan machine dll) → Kind machine dll exports m
+  IsHead : m ≡ member_of (head_plan machine dll) → Kind machine dll exports m
+  OfAnExport : IsExport machine dll exports m → Kind machine dll exports m
+
+-- a member that is needed for wanted names
+pub data Needed (machine : MachineType) (dll : List ℕ) (exports : List ExportView) (wanted : List (List ℕ)) (m : MemberView) : Type 0 where
+  TheTail : m ≡ member_of (tail_plan machine dll) → AnyWanted exports wanted → Needed machine dll exports wanted m
+  TheHead : m ≡ member_of (head_plan machine dll) → AnyWanted exports wanted → Needed machine dll exports wanted m
+  AnExport : (x : IsExport machine dll exports m) → is_wanted wanted x.export ≡ true → Needed machine dll exports wanted m
+
+pub any_wanted : (machine : MachineType) (dll : List ℕ) (exports : List ExportView) (wanted : List (List ℕ)) (m : MemberView) → Needed machine dll exports wanted m → AnyWanted exports wanted
+any_wanted machine dll exports wanted m (TheTail same any) = any
+any_wanted machine dll exports wanted m (TheHead same any) = any
+any_wanted machine dll exports wanted m (AnExport x want) = record { number = x.number; export = x.export; is = x.is; want = want }
+
+module _ (d : DefinitionView) (machine : MachineType) (members : List MemberView) (made : Made d machine Gnu members)
+    (distinct : IsDistinct bytes_eq (all_listed members)) where
+  abbrev pub public : List ExportView
+  public = public_exports (renamed d)
+
+  abbrev pub the_head : MemberView
+  the_head = member_of (head_plan machine d.import_name)
+
+  abbrev pub the_tail : MemberView
+  the_tail = member_of (tail_plan machine d.import_name)
+
+  abbrev pub the_export : ℕ → ExportView → MemberView
+  the_export n e = member_of (export_plan machine d.import_name n e)
+
+  planned : (p : Plan) → Among p (gnu_plans machine d.import_name public) → Among (member_of p) members
+  planned p held = subst (Among (member_of p)) (sym made.made) (among_map member_of p (gnu_plans machine d.import_name public) held)
+
+  pub tail_held : Among the_tail members
+  tail_held = planned (tail_plan machine d.import_name) (among_first _ _)
+
+  pub head_held : Among the_head members
+  head_held = planned (head_plan machine d.import_name) (among_later _ _ _ (among_first _ _))
+
+  plan_held : (n : ℕ) (e : ExportView) (p : Plan) → slice_get public n ≡ Some e → Among p (numbered_plans_of machine d.import_name n e) → Among (member_of p) members
+  plan_held n e p is held =
+      let place : n ≡ 0 + n = omega arith in
+      planned p (among_later _ _ _ (among_later _ _ _ (among_reverse p (numbered_plans machine d.import_name 0 public)
+      (numbered_in machine d.import_name public 0 n e p is (subst (λ k. Among p (numbered_plans_of machine d.import_name k e)) place held)))))
+
+  pub export_held : (n : ℕ) (e : ExportView) → slice_get public n ≡ Some e → Among (the_export n e) members
+  export_held n e is =
+      plan_held n e (export_plan machine d.import_name n e) is
+      (among_back (export_plan machine d.import_name n e) (alias_plans machine d.import_name n e) (export_plan machine d.import_name n e ∷ []) (among_first _ _))
+
+  abbrev alias_of : ℕ → ExportView → Plan
+  alias_of n e = alias_plan machine (weak_address_name d.import_name n) (address_symbol e.name) (address_symbol e.alias_target)
+
+  alias_there : (n : ℕ) (e : ExportView) → is_alias e.alias_target e.name ≡ true → Among (alias_of n e) (alias_plans machine d.import_name n e)
+  unfolding alias_plans
+  alias_there n e alias = rw alias (among_later _ _ _ (among_first _ _))
+
+  -- an alias is listed for a symbol of its export
+  no_alias : (n : ℕ) (e : ExportView) → slice_get public n ≡ Some e → is_alias e.alias_target e.name ≡ true → ⊥
+  unfolding export_plan
+  no_alias n e is alias =
+      names_apart d.import_name n (ap (λ (m : MemberView). m.name)
+      (one_member members (address_symbol e.name) (member_of (alias_of n e)) (the_export n e) distinct
+      (plan_held n e (alias_of n e) is (among_front (alias_of n e) (alias_plans machine d.import_name n e) (export_plan machine d.import_name n e ∷ []) (alias_there n e alias)))
+      (export_held n e is) (among_first _ _) (address_listed e)))
+
+  kind_planned : (m : MemberView) (p : Plan) → m ≡ member_of p → Among p (gnu_plans machine d.import_name public) → Kind machine d.import_name public m
+  unfolding Among
+  kind_planned m p same (inl e) = IsTail (same ∙ ap member_of e)
+  kind_planned m p same (inr (inl e)) = IsHead (same ∙ ap member_of e)
+  kind_planned m p same (inr (inr held)) =
+      let own = numbered_is machine d.import_name public 0 p (among_reversed p (numbered_plans machine d.import_name 0 public) held) in
+      let place : 0 + own.0 ≡ own.0 = omega arith in
+      elim own.3 [
+        | inl e ↦ OfAnExport (record { number = own.0; export = own.1; is = own.2; same = same ∙ ap member_of (e ∙ ap (λ n. export_plan machine d.import_name n own.1) place) })
+        | inr alias ↦ absurd (no_alias own.0 own.1 own.2 alias)
+      ]
+
+  pub kind : (m : MemberView) → Among m members → Kind machine d.import_name public m
+  kind m held =
+      let p = among_mapped member_of m (gnu_plans machine d.import_name public) (subst (Among m) made.made held) in
+      kind_planned m p.0 p.2 p.1
+
+  tail_is : object_in the_tail.bytes ≡ Some (tail machine d.import_name)
+  tail_is = tail_reads machine d.import_name public (dll_free d machine members [] made) (sound d machine members [] made) (not_long d machine members [] made)
+
+  pub head_is : object_in the_head.bytes ≡ Some (head machine d.import_name)
+  head_is = head_reads machine d.import_name public (dll_free d machine members [] made) (sound d machine members [] made) (not_long d machine members [] made)
+
+  pub export_is : (n : ℕ) (e : ExportView) → slice_get public n ≡ Some e → object_in (the_export n e).bytes ≡ Some (export machine d.import_name e)
+  export_is n e is = export_reads machine d.import_name public (dll_free d machine members [] made) (sound d machine members [] made) (not_long d machine members [] made) n e is
+
+  object_of : (m x : MemberView) (o own : Object) → m ≡ x → object_in x.bytes ≡ Some own → object_in m.bytes ≡ Some o → o ≡ own
+  object_of m x o own same is read = same_object o own (sym read ∙ ap (λ (y : MemberView). object_in y.bytes) same ∙ is)
+
+  -- a member leaves no name to others but these two
+  leaves : (m : MemberView) (o : Object) (name : List ℕ) → Kind machine d.import_name public m → object_in m.bytes ≡ Some o → Among name (left_by o) →
+      (name ≡ head_symbol machine d.import_name) ⊎ (name ≡ name_symbol machine d.import_name)
+  leaves m o name (IsTail same) read left =
+      absurd (in_nothing name (subst (Among name) (left_tail machine d.import_name) (subst (λ o. Among name (left_by o)) (object_of m the_tail o (tail machine d.import_name) same tail_is read) left)))
+  leaves m o name (IsHead same) read left =
+      inr (only_one name _ (subst (Among name) (left_head machine d.import_name) (subst (λ o. Among name (left_by o)) (object_of m the_head o (head machine d.import_name) same head_is read) left)))
+  leaves m o name (OfAnExport x) read left =
+      inl (only_one name _ (subst (Among name) (left_export machine d.import_name x.export)
+      (subst (λ o. Among name (left_by o)) (object_of m (the_export x.number x.export) o (export machine d.import_name x.export) x.same (export_is x.number x.export x.is) read) left)))
+
+  -- a member claims only what it is listed for
+  pub claims : (m : MemberView) (o : Object) (name : List ℕ) → Kind machine d.import_name public m → object_in m.bytes ≡ Some o → Among name (claimed_names o) → Among name m.symbols
+  claims m o name (IsTail same) read claimed =
+      subst (λ (y : MemberView). Among name y.symbols) (sym same) (subst (Among name) (claimed_tail machine d.import_name ∙ sym (listed_tail machine d.import_name))
+      (subst (λ o. Among name (claimed_names o)) (object_of m the_tail o (tail machine d.import_name) same tail_is read) claimed))
+  claims m o name (IsHead same) read claimed =
+      subst (λ (y : MemberView). Among name y.symbols) (sym same) (subst (Among name) (claimed_head machine d.import_name ∙ sym (listed_head machine d.import_name))
+      (subst (λ o. Among name (claimed_names o)) (object_of m the_head o (head machine d.import_name) same head_is read) claimed))
+  claims m o name (OfAnExport x) read claimed =
+      subst (λ (y : MemberView). Among name y.symbols) (sym x.same) (subst (Among name) (claimed_export machine d.import_name x.export ∙ sym (listed_export machine d.import_name x.number x.export))
+      (subst (λ o. Among name (claimed_names o)) (object_of m (the_export x.number x.export) o (export machine d.import_name x.export) x.same (export_is x.number x.export x.is) read) claimed))
+
+  pub head_listed : Among (head_symbol machine d.import_name) the_head.symbols
+  head_listed = subst (Among (head_symbol machine d.import_name)) (sym (listed_head machine d.import_name)) (among_first _ _)
+
+  pub tail_listed : Among (name_symbol machine d.import_name) the_tail.symbols
+  tail_listed = subst (Among (name_symbol machine d.import_name)) (sym (listed_tail machine d.import_name)) (among_first _ _)
+
+  module _ (wanted : List (List ℕ)) (plain : NamesNoLinkage machine d.import_name wanted) where
+    pub taken_held : (taken : List MemberView) → IsTakenInTurn members wanted taken → (m : MemberView) → Among m taken → Among m members
+    unfolding Among IsTakenInTurn
+    taken_held [] turn m held = absurd held
+    taken_held (t ∷ earlier) turn m (inl e) = subst (λ x. Among x members) (sym e) (listed_is members turn.0.0 t turn.0.1.listed).0
+    taken_held (t ∷ earlier) turn m (inr held) = taken_held earlier turn.1 m held
+
+    -- a member that a wanted name is listed for
+    needed_first : (name : List ℕ) (m : MemberView) → Among name m.symbols → Among name wanted → Kind machine d.import_name public m → Needed machine d.import_name public wanted m
+    needed_first name m listed want (IsTail same) =
+        let is : name ≡ name_symbol machine d.import_name =
+        only_one name _ (subst (Among name) (listed_tail machine d.import_name) (subst (λ (y : MemberView). Among name y.symbols) same listed)) in
+        absurd (true≢false (sym (among_any (name_symbol machine d.import_name) wanted (subst (λ n. Among n wanted) is want)) ∙ plain.name))
+    needed_first name m listed want (IsHead same) =
+        let is : name ≡ head_symbol machine d.import_name =
+        only_one name _ (subst (Among name) (listed_head machine d.import_name) (subst (λ (y : MemberView). Among name y.symbols) same listed)) in
+        absurd (true≢false (sym (among_any (head_symbol machine d.import_name) wanted (subst (λ n. Among n wanted) is want)) ∙ plain.head))
+    needed_first name m listed want (OfAnExport x) =
+        AnExport x (wants wanted (export_listed x.export) name
+        (subst (Among name) (listed_export machine d.import_name x.number x.export) (subst (λ (y : MemberView). Among name y.symbols) x.same listed)) want)
+
+    -- a member that a name is listed for that members leave to others
+    needed_next : (name : List ℕ) (m : MemberView) → Among m members → Among name m.symbols → AnyWanted public wanted →
+        (name ≡ head_symbol machine d.import_name) ⊎ (name ≡ name_symbol machine d.import_name) → Needed machine d.import_name public wanted m
+    needed_next name m held listed any (inl is) =
+        TheHead (one_member members (head_symbol machine d.import_name) m the_head distinct held head_held (subst (λ n. Among n m.symbols) is listed) head_listed) any
+    needed_next name m held listed any (inr is) =
+        TheTail (one_member members (name_symbol machine d.import_name) m the_tail distinct held tail_held (subst (λ n. Among n m.symbols) is listed) tail_listed) any
+
+    -- a member that an undefined name asks for
+    pub asked_needed : (earlier : List MemberView) → ((m : MemberView) → Among m earlier → Among m members) →
+        ((m : MemberView) → Among m earlier → Needed machine d.import_name public wanted m) →
+        (name : List ℕ) (t : MemberView) → Asks members wanted earlier name t → Needed machine d.import_name public wanted t
+    unfolding names_left
+    asked_needed earlier held all name t asks =
+        let found = listed_is members name t asks.listed in
+        elim (among_either name wanted (flat_map left_by (objects_in earlier)) (contains_among name _ asks.named)) [
+          | inl want ↦ needed_first name t found.1 want (kind t found.0)
+          | inr left ↦
+              let from = name_read left_by name earlier left in
+              needed_next name t found.0 found.1 (any_wanted machine d.import_name public wanted from.0 (all from.0 from.2))
+              (leaves from.0 from.1 name (kind from.0 (held from.0 from.2)) from.3 from.4)
+        ]
+
+    pub needed : (taken : List MemberView) → IsTakenInTurn members wanted taken → (m : MemberView) → Among m taken → Needed machine d.import_name public wanted m
+    unfolding Among IsTakenInTurn
+    needed [] turn m held = absurd held
+    needed (t ∷ earlier) turn m (inr held) = needed earlier turn.1 m held
+    needed (t ∷ earlier) turn m (inl e) =
+        subst (Needed machine d.import_name public wanted) (sym e)
+        (asked_needed earlier (taken_held earlier turn.1) (needed earlier turn.1) turn.0.0 t turn.0.1)
+
+    -- an undefined name that is listed for a member asks for it where it is not taken
+    pub asks_for : (earlier : List MemberView) → ((m : MemberView) → Among m earlier → Among m members) → (name : List ℕ) (m : MemberView) →
+        Among m members → Among name m.symbols → Among name (wanted ++ names_left earlier) → (Among m earlier → ⊥) → Asks members wanted earlier name m
+    unfolding names_claimed
+    asks_for earlier held name m own listed named new = record {
+      named = among_contains name (wanted ++ names_left earlier) named;
+      undefined = false_from_ne_true (list_any (bytes_eq name) (flat_map claimed_names (objects_in earlier))) (λ claimed.
+          let by = name_read claimed_names name earlier (any_among name _ claimed) in
+          let same : m ≡ by.0 = one_member members name m by.0 distinct own (held by.0 by.2) listed (claims by.0 by.1 name (kind by.0 (held by.0 by.2)) by.3 by.4) in
+          new (subst (λ x. Among x earlier) (sym same) by.2));
+      listed = listed_once members name m distinct own listed;
+      new = λ has. new (contains_among m earlier has);
+    }
+
+    module _ (taken : List MemberView) (takes : Takes members wanted taken) where
+      -- a member is taken where a name of its is undefined
+      pub reached : (name : List ℕ) (m : MemberView) → Among m members → Among name m.symbols → Among name (wanted ++ names_left taken) → Among m taken
+      reached name m held listed named =
+          elim (cases_Bool (list_any (is_listed_for name) taken)) [
+            | inl is ↦
+                let t = any_member name taken is in
+                subst (λ x. Among x taken) (sym (one_member members name m t.0 distinct held (taken_held taken takes.in_turn t.0 t.1) listed t.2)) t.1
+            | inr none ↦ absurd (takes.ended name m (asks_for taken (taken_held taken takes.in_turn) name m held listed named
+                (λ has. none_listed name m taken none has listed)))
+          ]
+
+      export_taken : (n : ℕ) (e : ExportView) → slice_get public n ≡ Some e → is_wanted wanted e ≡ true → Among (the_export n e) taken
+      export_taken n e is want =
+          let name = wanted_name wanted (export_listed e) want in
+          reached name.0 (the_export n e) (export_held n e is) (subst (Among name.0) (sym (listed_export machine d.import_name n e)) name.1)
+          (among_front name.0 wanted (names_left taken) name.2)
+
+      head_taken : AnyWanted public wanted → Among the_head taken
+      unfolding names_left
+      head_taken any =
+          reached (head_symbol machine d.import_name) the_head head_held head_listed
+          (among_back _ wanted (flat_map left_by (objects_in taken)) (read_name left_by _ taken (the_export any.number any.export) (export machine d.import_name any.export)
+          (export_taken any.number any.export any.is any.want) (export_is any.number any.export any.is)
+          (subst (Among (head_symbol machine d.import_name)) (sym (left_export machine d.import_name any.export)) (among_first _ _))))
+
+      tail_taken : AnyWanted public wanted → Among the_tail taken
+      unfolding names_left
+      tail_taken any =
+          reached (name_symbol machine d.import_name) the_tail tail_held tail_listed
+          (among_back _ wanted (flat_map left_by (objects_in taken)) (read_name left_by _ taken the_head (head machine d.import_name) (head_taken any) head_is
+          (subst (Among (name_symbol machine d.import_name)) (sym (left_head machine d.import_name)) (among_first _ _))))
+
+      pub taken_if_needed : (m : MemberView) → Needed machine d.import_name public wanted m → Among m taken
+      taken_if_needed m (TheTail same any) = subst (λ x. Among x taken) (sym same) (tail_taken any)
+      taken_if_needed m (TheHead same any) = subst (λ x. Among x taken) (sym same) (head_taken any)
+      taken_if_needed m (AnExport x want) = subst (λ y. Among y taken) (sym x.same) (export_taken x.number x.export x.is want)
+
+-- What is linked of chosen exports.
+
+-- numbers are of just the wanted exports
+pub record AreWanted (exports : List ExportView) (wanted : List (List ℕ)) (chosen : List ℕ) : Type 0 where
+  pub only : (k : ℕ) → Among k chosen → (e : ExportView) × (slice_get exports k ≡ Some e) × (is_wanted wanted e ≡ true)
+  pub all : (k : ℕ) (e : ExportView) → slice_get exports k ≡ Some e → is_wanted wanted e ≡ true → Among k chosen
+
+pub numbers_are_wanted : (exports : List ExportView) (wanted : List (List ℕ)) → AreWanted exports wanted (numbers_wanted wanted 0 exports)
+numbers_are_wanted exports wanted = record {
+  only = λ k held.
+      let found = wanted_number wanted exports 0 k held in
+      let same : 0 + found.0 ≡ found.0 = omega arith in
+      (found.1, subst (λ n. slice_get exports n ≡ Some found.1) (sym (found.2 ∙ same)) found.3, found.4);
+  all = λ k e is want.
+      let same : 0 + k ≡ k = omega arith in
+      subst (λ n. Among n (numbers_wanted wanted 0 exports)) same (number_wanted wanted exports 0 k e is want);
+}
+
+abbrev plans_linked : MachineType → List ℕ → List ExportView → List ℕ → List Plan
+plans_linked machine dll exports chosen = head_plan machine dll ∷ (filter_map (plan_numbered machine dll exports) chosen ++ tail_plan machine dll ∷ [])
+
+plan_linked : (machine : MachineType) (dll : List ℕ) (exports : List ExportView) (chosen : List ℕ) (p : Plan) → Among p (plans_linked machine dll exports chosen) →
+    (p ≡ head_plan machine dll) ⊎ ((p ≡ tail_plan machine dll) ⊎ Chosen machine dll exports chosen p)
+unfolding Among
+plan_linked machine dll exports chosen p (inl e) = inl e
+plan_linked machine dll exports chosen p (inr held) =
+    elim (among_either p (filter_map (plan_numbered machine dll exports) chosen) (tail_plan machine dll ∷ []) held) [
+      | inl own ↦ inr (inr (chosen_plan machine dll exports chosen p own))
+      | inr last ↦ inr (inl (only_one p (tail_plan machine dll) last))
+    ]
+
+some_chosen : (d : DefinitionView) (machine : MachineType) (chosen : List ℕ) (k : ℕ) (m : MemberView) → Among k chosen → Among m (linked_members d machine chosen) →
+    Among m (linked_if_any d machine chosen)
+some_chosen d machine [] k m held is = absurd (in_nothing k held)
+some_chosen d machine (n ∷ chosen) k m held is = is
+
+-- what is linked, if any is, and one of the chosen numbers
+linked_some : (d : DefinitionView) (machine : MachineType) (chosen : List ℕ) (m : MemberView) → Among m (linked_if_any d machine chosen) →
+    (k : ℕ) × Among k chosen × Among m (linked_members d machine chosen)
+linked_some d machine [] m held = absurd (in_nothing m held)
+linked_some d machine (n ∷ chosen) m held = (n, among_first n chosen, held)
+
+module _ (d : DefinitionView) (machine : MachineType) (wanted : List (List ℕ)) (chosen : List ℕ) (are : AreWanted (public_exports (renamed d)) wanted chosen) where
+  pub plan_in : (p : Plan) → Among p (plans_linked machine d.import_name (public_exports (renamed d)) chosen) → Among (member_of p) (linked_members d machine chosen)
+  plan_in p held = among_map member_of p (plans_linked machine d.import_name (public_exports (renamed d)) chosen) held
+
+  pub linked_if_needed : (m : MemberView) → Needed machine d.import_name (public_exports (renamed d)) wanted m → Among m (linked_if_any d machine chosen)
+  linked_if_needed m (TheTail same any) =
+      some_chosen d machine chosen any.number m (are.all any.number any.export any.is any.want) (subst (λ x. Among x (linked_members d machine chosen)) (sym same)
+      (plan_in (tail_plan machine d.import_name) (among_later _ _ _
+      (among_back _ (filter_map (plan_numbered machine d.import_name (public_exports (renamed d))) chosen) (tail_plan machine d.import_name ∷ []) (among_first _ _)))))
+  linked_if_needed m (TheHead same any) =
+      some_chosen d machine chosen any.number m (are.all any.number any.export any.is any.want) (subst (λ x. Among x (linked_members d machine chosen)) (sym same)
+      (plan_in (head_plan machine d.import_name) (among_first _ _)))
+  linked_if_needed m (AnExport x want) =
+      some_chosen d machine chosen x.number m (are.all x.number x.export x.is want) (subst (λ y. Among y (linked_members d machine chosen)) (sym x.same)
+      (plan_in (export_plan machine d.import_name x.number x.export) (among_later _ _ _
+      (among_front _ (filter_map (plan_numbered machine d.import_name (public_exports (renamed d))) chosen) (tail_plan machine d.import_name ∷ [])
+      (plan_chosen machine d.import_name (public_exports (renamed d)) chosen x.number x.export (are.all x.number x.export x.is want) x.is)))))
+
+  any_of : (k : ℕ) → Among k chosen → AnyWanted (public_exports (renamed d)) wanted
+  any_of k held = let found = are.only k held in record { number = k; export = found.0; is = found.1; want = found.2 }
+
+  needed_plan : (m : MemberView) (p : Plan) → m ≡ member_of p → AnyWanted (public_exports (renamed d)) wanted →
+      (p ≡ head_plan machine d.import_name) ⊎ ((p ≡ tail_plan machine d.import_name) ⊎ Chosen machine d.import_name (public_exports (renamed d)) chosen p) →
+      Needed machine d.import_name (public_exports (renamed d)) wanted m
+  needed_plan m p same any (inl e) = TheHead (same ∙ ap member_of e) any
+  needed_plan m p same any (inr (inl e)) = TheTail (same ∙ ap member_of e) any
+  needed_plan m p same any (inr (inr c)) =
+      let found = are.only c.0 c.2 in
+      let own : c.1 ≡ found.0 = same_export c.1 found.0 (sym c.3 ∙ found.1) in
+      AnExport (record { number = c.0; export = c.1; is = c.3; same = same ∙ ap member_of c.4 }) (subst (λ e. is_wanted wanted e ≡ true) (sym own) found.2)
+
+  pub needed_if_linked : (m : MemberView) → Among m (linked_if_any d machine chosen) → Needed machine d.import_name (public_exports (renamed d)) wanted m
+  needed_if_linked m held =
+      let some = linked_some d machine chosen m held in
+      let p = among_mapped member_of m (plans_linked machine d.import_name (public_exports (renamed d)) chosen) some.2 in
+      needed_plan m p.0 p.2 (any_of some.0 some.1) (plan_linked machine d.import_name (public_exports (renamed d)) chosen p.0 p.1)
+
+  takes_chosen : (members taken : List MemberView) (made : Made d machine Gnu members) (distinct : IsDistinct bytes_eq (all_listed members))
+      (plain : NamesNoLinkage machine d.import_name wanted) → Takes members wanted taken → HaveSame taken (linked_if_any d machine chosen)
+  takes_chosen members taken made distinct plain takes m = (
+    λ has. among_contains m _ (linked_if_needed m (needed d machine members made distinct wanted plain taken takes.in_turn m (contains_among m taken has))),
+    λ has. among_contains m taken (taken_if_needed d machine members made distinct wanted plain taken takes m (needed_if_linked m (contains_among m _ has))),
+  )
+
+pub takes_wanted : (machine : MachineType) (d : DefinitionView) (members taken : List MemberView) (wanted : List (List ℕ)) → Made d machine Gnu members →
+    IsDistinct bytes_eq (all_listed members) → NamesNoLinkage machine d.import_name wanted → Takes members wanted taken →
+    HaveSame taken (linked_if_any d machine (exports_wanted d wanted))
+takes_wanted machine d members taken wanted made distinct plain takes =
+    takes_chosen d machine wanted (exports_wanted d wanted) (numbers_are_wanted (public_exports (renamed d)) wanted) members taken made distinct plain takes

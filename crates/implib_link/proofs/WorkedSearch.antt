@@ -1,0 +1,125 @@
+-- The search that was done by hand, by computing.
+use Rattle.std.proofs.Common.{◌≡◌, ℕ, Bool, true, false, List, [], ◌∷◌, ◌++◌, map, Some, None, refl, ap, sym, ◌∙◌, subst, inl, inr, codes}
+use Rattle.std.specs.Prelude.{bytes_eq, ◌||◌, is_none}
+use Rattle.std.specs.Fmt.{digits}
+use Rattle.std.specs.List.{Contains, IsDistinct, flat_map, list_all, list_any}
+use Rattle.std.proofs.lemmas.Bool.{and_parts, true≢false}
+use Rattle.implib.specs.declared.machine.MachineType.TheVariants.{AMD64}
+use Rattle.implib.specs.Definition.{ExportView, empty_export}
+use Rattle.implib.specs.WorkedStatements.{plain_export}
+use Rattle.implib.specs.Bytes.{u16_bytes, u32_bytes}
+use Rattle.implib.specs.Gnu.{export_object, five_digits, head_name, head_object, head_symbol, hint_name, name_symbol, numbered_name, relocations_of_stub, relocations_of_thunk, stem, stub, tail_name, tail_object, thunk}
+use Rattle.implib.specs.Made.{MemberView, member_of, alias_plans, export_plan, head_plan, refusal, renamed_refusal, tail_plan}
+use Rattle.implib.specs.Object.{before_nul, bytes_at, data_at, each_at, entries_at, name_of, object_in, object_of_header, relocation_at, relocation_of, section_at, section_of, strings_at, symbol_of, u16_at, u32_at, up_to_nul}
+use Rattle.implib.specs.Picture.{auxiliary_bytes, auxiliary_count, contents, contents_place, contents_size, header_bytes, layout, layout_size, name_field, offsets_from, place_of, record_count, records, relocation_bytes, section_header, section_headers, string_bytes_of, string_offsets, string_size, string_table, strings_size, symbol_bytes, symbols_place}
+use Rattle.implib.specs.Writer.{long_names, name_place, picture_of, symbol_written, with_long_name, with_name}
+use Rattle.implib.proofs.LinkedMembers.{among_contains, among_map}
+use Rattle.implib.proofs.Ranges.{Among}
+use Rattle.implib_link.specs.Search.{Asks, IsTakenInTurn, Takes, first_listed, left_by, names_claimed, names_left}
+use Rattle.implib_link.specs.WorkedSearch.{MayTake, WorkedSearch, aliased, members_of, three, wanted}
+use Rattle.implib_link.proofs.SearchLists.{among_any, any_among, contains_among}
+
+-- whether a name asks for no member any more
+abbrev is_settled : List MemberView → List MemberView → List ℕ → Bool
+is_settled archive taken name = list_any (bytes_eq name) (names_claimed taken) || is_none (first_listed archive name)
+
+all_settled : (P : List ℕ → Bool) (names : List (List ℕ)) (name : List ℕ) → list_all P names ≡ true → Among name names → P name ≡ true
+unfolding Among
+all_settled P [] name all held = absurd held
+all_settled P (n ∷ names) name all (inl e) = subst (λ t. P t ≡ true) (sym e) (and_parts (P n) (list_all P names) all).0
+all_settled P (n ∷ names) name all (inr held) = all_settled P names name (and_parts (P n) (list_all P names) all).1 held
+
+-- a search is at its end where each name is settled
+settled_ends : (archive : List MemberView) (names : List (List ℕ)) (taken : List MemberView) → list_all (is_settled archive taken) (names ++ names_left taken) ≡ true →
+    (name : List ℕ) (m : MemberView) → Asks archive names taken name m → ⊥
+settled_ends archive names taken all name m asks =
+    let settled : is_settled archive taken name ≡ true =
+    all_settled (is_settled archive taken) (names ++ names_left taken) name all (contains_among name (names ++ names_left taken) asks.named) in
+    let is : false ≡ true = rw (asks.undefined, asks.listed) at settled in
+    true≢false (sym is)
+
+-- a name asks for a member by what is computed
+asks_now : (archive : List MemberView) (names : List (List ℕ)) (taken : List MemberView) (name : List ℕ) (m : MemberView) →
+    list_any (bytes_eq name) (names ++ names_left taken) ≡ true → list_any (bytes_eq name) (names_claimed taken) ≡ false → first_listed archive name ≡ Some m →
+    list_any (bytes_eq m.name) (map (λ (x : MemberView). x.name) taken) ≡ false → Asks archive names taken name m
+asks_now archive names taken name m named undefined listed new = record {
+  named = among_contains name (names ++ names_left taken) (any_among name (names ++ names_left taken) named);
+  undefined = undefined;
+  listed = listed;
+  new = λ has. true≢false (sym (among_any m.name (map (λ (x : MemberView). x.name) taken) (among_map (λ (x : MemberView). x.name) m taken (contains_among m taken has))) ∙ new);
+}
+
+-- what the computing has to open
+abbrev opened : Unit {0}
+unfolding digits u16_bytes u32_bytes export_object five_digits head_name head_object head_symbol hint_name name_symbol numbered_name relocations_of_stub relocations_of_thunk stem stub tail_name tail_object thunk export_plan head_plan tail_plan before_nul bytes_at data_at each_at entries_at name_of object_in object_of_header relocation_at relocation_of section_at section_of strings_at symbol_of u16_at u32_at up_to_nul auxiliary_bytes auxiliary_count contents contents_place contents_size header_bytes layout name_field offsets_from place_of record_count records relocation_bytes section_header section_headers string_bytes_of string_offsets string_size string_table strings_size symbol_bytes symbols_place long_names name_place picture_of symbol_written with_long_name with_name
+opened = tt
+
+abbrev the_head : MemberView
+the_head = member_of (head_plan AMD64 (codes "foo.dll"))
+
+abbrev the_tail : MemberView
+the_tail = member_of (tail_plan AMD64 (codes "foo.dll"))
+
+abbrev bar : MemberView
+bar = member_of (export_plan AMD64 (codes "foo.dll") 0 (plain_export (codes "bar")))
+
+abbrev qux : MemberView
+qux = member_of (export_plan AMD64 (codes "foo.dll") 2 (record empty_export { name = codes "qux"; is_data = true }))
+
+takes_three : MayTake three wanted (codes "foo_dll_a_s00002.o" ∷ codes "foo_dll_a_t.o" ∷ codes "foo_dll_a_h.o" ∷ codes "foo_dll_a_s00000.o" ∷ [])
+unfolding opened alias_plans layout_size names_left names_claimed left_by IsTakenInTurn
+takes_three = (
+  qux ∷ the_tail ∷ the_head ∷ bar ∷ [],
+  record {
+    in_turn = (
+      (codes "__imp_qux", asks_now (members_of three) wanted (the_tail ∷ the_head ∷ bar ∷ []) (codes "__imp_qux") qux refl refl refl refl),
+      (
+        (codes "foo_dll_iname", asks_now (members_of three) wanted (the_head ∷ bar ∷ []) (codes "foo_dll_iname") the_tail refl refl refl refl),
+        (
+          (codes "_head_foo_dll", asks_now (members_of three) wanted (bar ∷ []) (codes "_head_foo_dll") the_head refl refl refl refl),
+          (
+            (codes "bar", asks_now (members_of three) wanted [] (codes "bar") bar refl refl refl refl),
+            tt,
+          ),
+        ),
+      ),
+    );
+    ended = settled_ends (members_of three) wanted (qux ∷ the_tail ∷ the_head ∷ bar ∷ []) refl;
+  },
+  refl,
+)
+
+takes_nothing : MayTake three (codes "printf" ∷ []) []
+unfolding opened alias_plans layout_size names_left names_claimed left_by IsTakenInTurn
+takes_nothing = ([], record { in_turn = tt; ended = settled_ends (members_of three) (codes "printf" ∷ []) [] refl }, refl)
+
+takes_linkage : MayTake three (codes "_head_foo_dll" ∷ []) (codes "foo_dll_a_t.o" ∷ codes "foo_dll_a_h.o" ∷ [])
+unfolding opened alias_plans layout_size names_left names_claimed left_by IsTakenInTurn
+takes_linkage = (
+  the_tail ∷ the_head ∷ [],
+  record {
+    in_turn = (
+      (codes "foo_dll_iname", asks_now (members_of three) (codes "_head_foo_dll" ∷ []) (the_head ∷ []) (codes "foo_dll_iname") the_tail refl refl refl refl),
+      (
+        (codes "_head_foo_dll", asks_now (members_of three) (codes "_head_foo_dll" ∷ []) [] (codes "_head_foo_dll") the_head refl refl refl refl),
+        tt,
+      ),
+    );
+    ended = settled_ends (members_of three) (codes "_head_foo_dll" ∷ []) (the_tail ∷ the_head ∷ []) refl;
+  },
+  refl,
+)
+
+pub worked_search : WorkedSearch
+unfolding opened refusal renamed_refusal alias_plans layout_size IsDistinct
+worked_search = record {
+  made = record { accepted = refl; made = refl; ordinals = refl };
+  distinct = ((refl, (refl, (refl, (refl, (refl, (refl, tt)))))), ((refl, (refl, (refl, (refl, (refl, tt))))), ((refl, (refl, (refl, (refl, tt)))), ((refl, (refl, (refl, tt))), ((refl, (refl, tt)), ((refl, tt), (tt, tt)))))));
+  plain = record { head = refl; name = refl };
+  numbers = refl;
+  firsts = refl;
+  takes = takes_three;
+  nothing = takes_nothing;
+  linkage = takes_linkage;
+  alias_first = refl;
+}

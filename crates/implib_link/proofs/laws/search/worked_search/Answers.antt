@@ -1,0 +1,5 @@
+use Rattle.implib_link.proofs.WorkedSearch.{worked_search}
+use Rattle.implib_link.proofs.laws.search.worked_search.Goals as goal
+
+pub returns : goal.returns
+returns c = worked_search

@@ -1,0 +1,54 @@
+//! Laws of archive search.
+
+ghost use Rattle.implib.specs.Definition.{DefinitionView};
+ghost use Rattle.implib.specs.Made.{Made, MemberView};
+ghost use Rattle.implib.specs.Object.{Object};
+ghost use Rattle.implib.specs.Placement.{Bases};
+ghost use Rattle.implib.specs.declared.library.Flavor.TheVariants.{Gnu};
+ghost use Rattle.implib.specs.declared.machine.MachineType.{MachineType};
+ghost use Rattle.implib_link.specs.WorkedSearch.{WorkedSearch};
+ghost use Rattle.implib_link.specs.Search.{HaveSame, ImportsWanted, IsArranged, IsLinkedOfWanted, IsLinkedWith, NamesNoLinkage, Takes, exports_wanted, linked_if_any};
+ghost use Rattle.std.specs.List.{IsDistinct, flat_map};
+ghost use Rattle.std.specs.Prelude.{ℕ, List, bytes_eq};
+
+/// A linker takes of an archive of the members just the head, the members of the exports that are wanted and
+/// the tail, whichever undefined name it takes up first; nothing, where no export is wanted. It comes to an end.
+///
+/// Names that no member is listed for may be wanted, too. All listed symbols differ, so no export has an alias.
+pub fn search_takes_wanted()
+    ensures takes { (machine : MachineType) (d : DefinitionView) (members taken : List MemberView) (wanted : List (List ℕ)) →
+        Made d machine Gnu members → IsDistinct bytes_eq (flat_map (λ m. m.symbols) members) →
+        NamesNoLinkage machine d.import_name wanted → Takes members wanted taken →
+        HaveSame taken (linked_if_any d machine (exports_wanted d wanted)) }
+    ensures ends { (machine : MachineType) (d : DefinitionView) (members : List MemberView) (wanted : List (List ℕ)) →
+        Made d machine Gnu members →
+        IsDistinct bytes_eq (flat_map (λ m. m.symbols) members) →
+        NamesNoLinkage machine d.import_name wanted →
+        (taken : List MemberView) × Takes members wanted taken }
+{}
+
+/// What a linker takes of the archive for wanted names is, in its order, what is linked of just the wanted
+/// exports; a program of it and of any other objects imports just these exports.
+pub fn searched_program_links()
+    ensures chosen { (machine : MachineType) (d : DefinitionView) (members taken arranged : List MemberView)
+        (wanted : List (List ℕ)) →
+        Made d machine Gnu members →
+        IsDistinct bytes_eq (flat_map (λ m. m.symbols) members) →
+        NamesNoLinkage machine d.import_name wanted →
+        Takes members wanted taken →
+        IsArranged machine d.import_name taken arranged →
+        IsLinkedOfWanted machine d wanted arranged }
+    ensures imports { (machine : MachineType) (d : DefinitionView) (members taken : List MemberView) (wanted : List (List ℕ))
+        (bases : Bases) (objects : List Object) →
+        Made d machine Gnu members →
+        IsDistinct bytes_eq (flat_map (λ m. m.symbols) members) →
+        NamesNoLinkage machine d.import_name wanted →
+        Takes members wanted taken →
+        IsLinkedWith machine d.import_name bases taken objects →
+        ImportsWanted machine d members wanted bases objects }
+{}
+
+/// A search by hand of the members of three exports.
+pub fn worked_search()
+    ensures { WorkedSearch }
+{}
