@@ -215,15 +215,15 @@ after_same : (front xs ys : List ℕ) → slice_cmp nat_cmp (front ++ xs) (front
 after_same [] xs ys = refl
 after_same (byte ∷ front) xs ys = rw (same_cmp byte) (after_same front xs ys)
 
-head_first : (dll : List ℕ) (n : ℕ) → ComesBefore (head_name dll) (export_name dll n)
+pub head_first : (dll : List ℕ) (n : ℕ) → ComesBefore (head_name dll) (export_name dll n)
 unfolding head_name numbered_name
 head_first dll n = after_same (stem dll) _ _
 
-tail_last : (dll : List ℕ) (n : ℕ) → ComesBefore (export_name dll n) (tail_name dll)
+pub tail_last : (dll : List ℕ) (n : ℕ) → ComesBefore (export_name dll n) (tail_name dll)
 unfolding tail_name numbered_name
 tail_last dll n = after_same (stem dll) _ _
 
-head_before_tail : (dll : List ℕ) → ComesBefore (head_name dll) (tail_name dll)
+pub head_before_tail : (dll : List ℕ) → ComesBefore (head_name dll) (tail_name dll)
 unfolding head_name tail_name
 head_before_tail dll = after_same (stem dll) _ _
 

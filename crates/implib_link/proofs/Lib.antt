@@ -15,4 +15,5 @@ pub mod SearchLists
 pub mod Search
 pub mod SearchExists
 pub mod Searched
+pub mod SearchSorted
 pub mod WorkedSearch

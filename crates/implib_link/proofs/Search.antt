@@ -1,8 +1,8 @@
 -- What a linker takes of the members for GNU's linker.
-use Rattle.std.proofs.Common.{◌≡◌, ℕ, zero, suc, ◌+◌, ◌<◌, Bool, true, false, List, [], ◌∷◌, ◌++◌, length, map, Option, Some, None, refl, ap, sym, ◌∙◌, subst, inl, inr, ◌⊎◌, arith, codes, if◌then◌else◌}
-use Rattle.std.specs.Prelude.{bytes_eq, reverse, slice_get, slice_index}
-use Rattle.std.specs.List.{AllByRecursion, Contains, IsDistinct, cons_option, filter_map, flat_map, list_any}
-use Rattle.std.proofs.lemmas.Bool.{cases_Bool, false_from_ne_true, or_parts, true≢false}
+use Rattle.std.proofs.Common.{◌≡◌, ℕ, zero, suc, ◌+◌, ◌<◌, true, false, List, [], ◌∷◌, ◌++◌, Option, Some, None, refl, ap, sym, ◌∙◌, subst, inl, inr, ◌⊎◌, arith}
+use Rattle.std.specs.Prelude.{bytes_eq, slice_get, slice_index}
+use Rattle.std.specs.List.{IsDistinct, cons_option, filter_map, flat_map, list_any}
+use Rattle.std.proofs.lemmas.Bool.{cases_Bool, false_from_ne_true, true≢false}
 use Rattle.std.proofs.lemmas.List.{append_cancel_left}
 use Rattle.implib.specs.declared.library.Flavor.TheVariants.{Gnu}
 use Rattle.implib.specs.declared.machine.MachineType.{MachineType}
@@ -18,7 +18,7 @@ use Rattle.implib.proofs.LinkedMembers.{among_contains, among_map, among_reverse
 use Rattle.implib.proofs.Placement.{export, head, tail}
 use Rattle.implib.proofs.Ranges.{Among, among_back, among_first, among_front, among_later}
 use Rattle.implib_link.specs.Program.{claimed_names}
-use Rattle.implib_link.specs.Search.{Asks, HaveSame, IsTakenInTurn, is_listed_for, NamesNoLinkage, Takes, exports_wanted, first_listed, is_wanted, left_by, linked_if_any, names_claimed, names_left, numbers_wanted}
+use Rattle.implib_link.specs.Search.{Asks, HaveSame, IsTakenInTurn, is_listed_for, NamesNoLinkage, Takes, exports_wanted, is_wanted, left_by, linked_if_any, names_claimed, names_left, numbers_wanted}
 use Rattle.implib_link.proofs.SearchLists.{all_listed, among_any, among_either, among_mapped, among_reversed, any_among, any_member, contains_among, listed_is, listed_once, name_read, none_listed, one_member, read_name}
 
 -- What plans there are.

@@ -1,5 +1,5 @@
 -- A search of the members for GNU's linker ends.
-use Rattle.std.proofs.Common.{◌≡◌, ℕ, zero, suc, ◌+◌, ◌<◌, List, [], ◌∷◌, ◌++◌, map, Some, refl, ap, sym, ◌∙◌, subst, inl, inr, arith, true}
+use Rattle.std.proofs.Common.{◌≡◌, ℕ, zero, suc, ◌+◌, List, [], ◌∷◌, ◌++◌, map, Some, refl, ap, sym, ◌∙◌, subst, inl, inr, arith, true}
 use Rattle.std.specs.Prelude.{bytes_eq, reverse, slice_get, slice_index}
 use Rattle.std.specs.List.{IsDistinct, filter_map, flat_map}
 use Rattle.std.proofs.lemmas.Bool.{cases_Bool}

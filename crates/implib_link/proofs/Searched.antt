@@ -1,7 +1,7 @@
 -- What a linker takes of the members links to a program that imports just the wanted exports.
-use Rattle.std.proofs.Common.{◌≡◌, ℕ, zero, suc, List, [], ◌∷◌, ◌++◌, map, Some, refl, ap, sym, ◌∙◌, subst, inl, inr, ◌⊎◌, true}
+use Rattle.std.proofs.Common.{◌≡◌, ℕ, List, [], ◌∷◌, ◌++◌, map, Some, refl, ap, sym, ◌∙◌, subst, inl, inr, true}
 use Rattle.std.specs.Prelude.{bytes_eq, not, slice_get}
-use Rattle.std.specs.List.{AllByRecursion, IsDistinct, filter, filter_map, flat_map}
+use Rattle.std.specs.List.{AllByRecursion, IsDistinct, filter, filter_map}
 use Rattle.std.proofs.lemmas.List.{append-nil, map-append}
 use Rattle.implib.specs.declared.library.Flavor.TheVariants.{Gnu}
 use Rattle.implib.specs.declared.machine.MachineType.{MachineType}
@@ -9,13 +9,13 @@ use Rattle.implib.specs.Definition.{DefinitionView, ExportView}
 use Rattle.implib.specs.Image.{IsAdmissible}
 use Rattle.implib.specs.Import.{public_exports}
 use Rattle.implib.specs.LinkedMembers.{Part, all_linked, linked_members, objects_in, plan_numbered}
-use Rattle.implib.specs.Made.{Made, MemberView, Plan, export_plan, head_plan, member_of, tail_plan}
+use Rattle.implib.specs.Made.{Made, MemberView, export_plan, head_plan, member_of, tail_plan}
 use Rattle.implib.specs.Object.{Object}
 use Rattle.implib.specs.Placement.{Bases}
 use Rattle.implib.specs.Renaming.{renamed}
 use Rattle.implib.proofs.LinkedMembers.{among_contains, among_map}
-use Rattle.implib.proofs.Ranges.{Among, among_back, among_first, among_front, among_later}
-use Rattle.implib_link.specs.Program.{ClaimsNone, IsProgram, has_tables, linked_symbols, null_descriptor}
+use Rattle.implib.proofs.Ranges.{Among, among_first, among_front, among_later}
+use Rattle.implib_link.specs.Program.{ClaimsNone, IsProgram, has_tables, null_descriptor}
 use Rattle.implib_link.specs.Search.{HaveSame, ImportsWanted, IsArranged, IsLinkedOfWanted, IsLinkedWith, NamesNoLinkage, Takes, exports_wanted, is_wanted}
 use Rattle.implib_link.proofs.Program.{program_links}
 use Rattle.implib_link.proofs.SearchLists.{all_listed, among_either, among_mapped, apart_none, contains_among, distinct_apart, some_distinct}

@@ -1,11 +1,11 @@
 -- The search that was done by hand, by computing.
-use Rattle.std.proofs.Common.{◌≡◌, ℕ, Bool, true, false, List, [], ◌∷◌, ◌++◌, map, Some, None, refl, ap, sym, ◌∙◌, subst, inl, inr, codes}
+use Rattle.std.proofs.Common.{◌≡◌, ℕ, Bool, true, false, List, [], ◌∷◌, ◌++◌, map, Some, refl, sym, ◌∙◌, subst, inl, inr, codes}
 use Rattle.std.specs.Prelude.{bytes_eq, ◌||◌, is_none}
 use Rattle.std.specs.Fmt.{digits}
-use Rattle.std.specs.List.{Contains, IsDistinct, flat_map, list_all, list_any}
+use Rattle.std.specs.List.{IsDistinct, list_all, list_any}
 use Rattle.std.proofs.lemmas.Bool.{and_parts, true≢false}
 use Rattle.implib.specs.declared.machine.MachineType.TheVariants.{AMD64}
-use Rattle.implib.specs.Definition.{ExportView, empty_export}
+use Rattle.implib.specs.Definition.{empty_export}
 use Rattle.implib.specs.WorkedStatements.{plain_export}
 use Rattle.implib.specs.Bytes.{u16_bytes, u32_bytes}
 use Rattle.implib.specs.Gnu.{export_object, five_digits, head_name, head_object, head_symbol, hint_name, name_symbol, numbered_name, relocations_of_stub, relocations_of_thunk, stem, stub, tail_name, tail_object, thunk}
@@ -15,8 +15,8 @@ use Rattle.implib.specs.Picture.{auxiliary_bytes, auxiliary_count, contents, con
 use Rattle.implib.specs.Writer.{long_names, name_place, picture_of, symbol_written, with_long_name, with_name}
 use Rattle.implib.proofs.LinkedMembers.{among_contains, among_map}
 use Rattle.implib.proofs.Ranges.{Among}
-use Rattle.implib_link.specs.Search.{Asks, IsTakenInTurn, Takes, first_listed, left_by, names_claimed, names_left}
-use Rattle.implib_link.specs.WorkedSearch.{MayTake, WorkedSearch, aliased, members_of, three, wanted}
+use Rattle.implib_link.specs.Search.{Asks, IsTakenInTurn, first_listed, left_by, names_claimed, names_left}
+use Rattle.implib_link.specs.WorkedSearch.{MayTake, WorkedSearch, members_of, three, wanted}
 use Rattle.implib_link.proofs.SearchLists.{among_any, any_among, contains_among}
 
 -- whether a name asks for no member any more

@@ -9,7 +9,7 @@ use Rattle.implib.specs.Gnu.{export_listed, head_symbol, name_symbol}
 use Rattle.implib.specs.Import.{public_exports}
 use Rattle.implib.specs.Image.{IsAdmissible}
 use Rattle.implib.specs.Linked.{undefined_name}
-use Rattle.implib.specs.LinkedMembers.{Part, linked_members, objects_in}
+use Rattle.implib.specs.LinkedMembers.{linked_members, objects_in}
 use Rattle.implib.specs.Made.{MemberView, head_plan, member_of, tail_plan}
 use Rattle.implib.specs.Object.{Object}
 use Rattle.implib.specs.Placement.{Bases}

@@ -1,10 +1,10 @@
 -- A search of the members for GNU's linker that was done by hand, and what it is without the law's premises.
-use Rattle.std.specs.Prelude.{◌≡◌, ℕ, true, List, [], ◌∷◌, ◌++◌, bytes_eq, codes, map, Option, Some, None}
+use Rattle.std.specs.Prelude.{◌≡◌, ℕ, true, List, [], ◌∷◌, bytes_eq, codes, map, Option, Some, None}
 use Rattle.std.specs.List.{IsDistinct, flat_map}
 use Rattle.std.specs.Option.{option_map}
 use Rattle.implib.specs.declared.library.Flavor.TheVariants.{Gnu}
 use Rattle.implib.specs.declared.machine.MachineType.TheVariants.{AMD64}
-use Rattle.implib.specs.Definition.{DefinitionView, ExportView, empty_export}
+use Rattle.implib.specs.Definition.{DefinitionView, empty_export}
 use Rattle.implib.specs.Made.{Made, MemberView, member_of, plans_of}
 use Rattle.implib.specs.Renaming.{renamed}
 use Rattle.implib.specs.WorkedMembers.{of_dll}

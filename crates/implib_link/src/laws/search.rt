@@ -1,6 +1,7 @@
 //! Laws of archive search.
 
 ghost use Rattle.implib.specs.Definition.{DefinitionView};
+ghost use Rattle.implib.specs.LinkedMembers.{AllRise};
 ghost use Rattle.implib.specs.Made.{Made, MemberView};
 ghost use Rattle.implib.specs.Object.{Object};
 ghost use Rattle.implib.specs.Placement.{Bases};
@@ -8,8 +9,8 @@ ghost use Rattle.implib.specs.declared.library.Flavor.TheVariants.{Gnu};
 ghost use Rattle.implib.specs.declared.machine.MachineType.{MachineType};
 ghost use Rattle.implib_link.specs.WorkedSearch.{WorkedSearch};
 ghost use Rattle.implib_link.specs.Search.{HaveSame, ImportsWanted, IsArranged, IsLinkedOfWanted, IsLinkedWith, NamesNoLinkage, Takes, exports_wanted, linked_if_any};
-ghost use Rattle.std.specs.List.{IsDistinct, flat_map};
-ghost use Rattle.std.specs.Prelude.{ℕ, List, bytes_eq};
+ghost use Rattle.std.specs.List.{Contains, IsDistinct, flat_map};
+ghost use Rattle.std.specs.Prelude.{ℕ, List, bytes_eq, map};
 
 /// A linker takes of an archive of the members just the head, the members of the exports that are wanted and
 /// the tail, whichever undefined name it takes up first; nothing, where no export is wanted. It comes to an end.
@@ -28,7 +29,8 @@ pub fn search_takes_wanted()
 {}
 
 /// What a linker takes of the archive for wanted names is, in its order, what is linked of just the wanted
-/// exports; a program of it and of any other objects imports just these exports.
+/// exports; a program of it and of any other objects imports just these exports. The order of the members'
+/// names is such an order.
 pub fn searched_program_links()
     ensures chosen { (machine : MachineType) (d : DefinitionView) (members taken arranged : List MemberView)
         (wanted : List (List ℕ)) →
@@ -38,6 +40,16 @@ pub fn searched_program_links()
         Takes members wanted taken →
         IsArranged machine d.import_name taken arranged →
         IsLinkedOfWanted machine d wanted arranged }
+    ensures sorted { (machine : MachineType) (d : DefinitionView) (members taken arranged : List MemberView)
+        (wanted : List (List ℕ)) (number : ℕ) →
+        Made d machine Gnu members →
+        IsDistinct bytes_eq (flat_map (λ m. m.symbols) members) →
+        NamesNoLinkage machine d.import_name wanted →
+        Takes members wanted taken →
+        Contains (exports_wanted d wanted) number →
+        HaveSame taken arranged →
+        AllRise (map (λ m. m.name) arranged) →
+        IsArranged machine d.import_name taken arranged }
     ensures imports { (machine : MachineType) (d : DefinitionView) (members taken : List MemberView) (wanted : List (List ℕ))
         (bases : Bases) (objects : List Object) →
         Made d machine Gnu members →

@@ -1,5 +1,6 @@
+use Rattle.implib_link.proofs.SearchSorted.{sorted_is_arranged}
 use Rattle.implib_link.proofs.Searched.{linked_in_order, searched_links}
 use Rattle.implib_link.proofs.laws.search.searched_program_links.Goals as goal
 
 pub returns : goal.returns
-returns c = record { chosen = linked_in_order; imports = searched_links }
+returns c = record { chosen = linked_in_order; sorted = sorted_is_arranged; imports = searched_links }
