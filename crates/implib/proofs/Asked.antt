@@ -11,8 +11,8 @@ use Rattle.implib.specs.Definition.{DefinitionView, ExportView}
 use Rattle.implib.specs.Grammar.{Export}
 use Rattle.implib.specs.Import.{asked_name, Name, Ordinal, holds, begins_with, at_sign, without_first, underscore}
 use Rattle.implib.specs.Meaning.{decorated, export_meaning, question_mark}
-use Rattle.implib.specs.Made.{asked_in}
-use Rattle.implib.specs.Msvc.{asked_by_record}
+use Rattle.implib.specs.NameRules.{asked_in}
+use Rattle.implib.specs.Msvc.{asked_by_short_import}
 use Rattle.implib.specs.Parses.{Parses}
 use Rattle.implib.specs.Renaming.{renamed, renamed_export, name_to_link}
 use Rattle.implib.proofs.Import.{ask_written-meant}
@@ -58,14 +58,14 @@ name_asked_in true ordinal written meant by_name same = cc
 name_asked_in false ordinal written meant by_name same = cc
 
 -- a record without a symbol name asks for what is meant
-asked_by_record-meant : (machine : MachineType) (e : ExportView) → e.symbol_name ≡ [] → e.no_name ≡ false → asked_by_record machine e ≡ asked_name machine e.name
-asked_by_record-meant machine e plain by_name =
-    name_asked_in e.no_name e.ordinal (asked_by_record machine e) (asked_name machine e.name) by_name (ask_written-meant machine e plain)
+asked_by_short_import-meant : (machine : MachineType) (e : ExportView) → e.symbol_name ≡ [] → e.no_name ≡ false → asked_by_short_import machine e ≡ asked_name machine e.name
+asked_by_short_import-meant machine e plain by_name =
+    name_asked_in e.no_name e.ordinal (asked_by_short_import machine e) (asked_name machine e.name) by_name (ask_written-meant machine e plain)
 
 -- in either flavour
 asked_in_each : (machine : MachineType) (e : Export) (flavor : Flavor) → (renamed_export (export_meaning machine e)).no_name ≡ false →
     asked_in flavor machine (renamed_export (export_meaning machine e)) ≡ external_word e
-asked_in_each machine e Msvc by_name = asked_by_record-meant machine (renamed_export (export_meaning machine e)) refl by_name ∙ meant_word machine e
+asked_in_each machine e Msvc by_name = asked_by_short_import-meant machine (renamed_export (export_meaning machine e)) refl by_name ∙ meant_word machine e
 asked_in_each machine e Gnu by_name = meant_word machine e
 
 asks_for_word : (machine : MachineType) (e : Export) → AsksFor machine (renamed_export (export_meaning machine e)) (external_word e)

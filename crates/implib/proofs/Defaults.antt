@@ -4,15 +4,15 @@ use Rattle.std.specs.Prelude.{None}
 use Rattle.std.specs.Borrow.{Bor}
 use Rattle.implib.specs.declared.coff.object.Place.TheVariants.{Undefined}
 use Rattle.implib.specs.declared.coff.object.Relocation.{Relocation}
-use Rattle.implib.specs.declared.coff.picture.PictureSymbol.{PictureSymbol}
-use Rattle.implib.specs.declared.coff.picture.SymbolName.TheVariants.{InRecord}
+use Rattle.implib.specs.declared.coff.layout.LayoutSymbol.{LayoutSymbol}
+use Rattle.implib.specs.declared.coff.layout.SymbolName.TheVariants.{InRecord}
 use Rattle.implib.specs.declared.gnu.table.SectionRow.{SectionRow}
 use Rattle.implib.specs.declared.gnu.table.SymbolRow.{SymbolRow}
 
 abbrev pub no_text : Bor (List ℕ)
 no_text = record { ref_ptr = (0, 0); now = [] }
 
-abbrev pub no_symbol : PictureSymbol
+abbrev pub no_symbol : LayoutSymbol
 no_symbol = record { name = InRecord no_text; value = 0; section = 0; class = 0; aux = None }
 
 abbrev pub no_relocation : Relocation

@@ -8,7 +8,7 @@ use Rattle.std.proofs.lemmas.Nat.{from_le_bytes-to_le_bytes_2, from_le_bytes-to_
 use Rattle.implib.specs.declared.coff.object.Relocation.{Relocation}
 use Rattle.implib.specs.Bytes.{u16_bytes, u32_bytes}
 use Rattle.implib.specs.Object.{ObjectSection, data_at, each_at, relocation_at, relocation_of, section_at, section_of, u16_at, u32_at}
-use Rattle.implib.specs.Picture.{FitsRelocation, FitsSection, Picture, contents, contents_size, header_bytes, place_of, records, relocation_bytes, section_header, symbols_place}
+use Rattle.implib.specs.Layout.{FitsRelocation, FitsSection, ObjectLayout, contents, contents_size, header_bytes, pointer_or_zero, records, relocation_bytes, section_header, symbol_table_offset}
 use Rattle.implib.proofs.Stands.{Stands, bytes_at-stands, each_at-stands, stands_first, stands_second}
 
 -- a field past a front of 8 bytes is that field of the rest
@@ -26,35 +26,35 @@ u32_at-after front rest offset e = ap (λ t. from_le_bytes w32 (take 4 t)) (drop
 
 -- the file header
 
-pub length-header_bytes : (p : Picture) → length (header_bytes p) ≡ 20
+pub length-header_bytes : (p : ObjectLayout) → length (header_bytes p) ≡ 20
 unfolding header_bytes u16_bytes u32_bytes
 length-header_bytes p = refl
 
-pub header-machine : (p : Picture) → p.machine < 2 ^ 16 → u16_at (header_bytes p) 0 ≡ p.machine
+pub header-machine : (p : ObjectLayout) → p.machine < 2 ^ 16 → u16_at (header_bytes p) 0 ≡ p.machine
 unfolding header_bytes u16_bytes u32_bytes u16_at
 header-machine p below = from_le_bytes-to_le_bytes_2 p.machine below
 
-pub header-sections : (p : Picture) → length p.sections < 2 ^ 16 → u16_at (header_bytes p) 2 ≡ length p.sections
+pub header-sections : (p : ObjectLayout) → length p.sections < 2 ^ 16 → u16_at (header_bytes p) 2 ≡ length p.sections
 unfolding header_bytes u16_bytes u32_bytes u16_at
 header-sections p below = from_le_bytes-to_le_bytes_2 (length p.sections) below
 
-pub header-time : (p : Picture) → u32_at (header_bytes p) 4 ≡ 0
+pub header-time : (p : ObjectLayout) → u32_at (header_bytes p) 4 ≡ 0
 unfolding header_bytes u16_bytes u32_bytes u32_at
 header-time p = refl
 
-pub header-symbols_place : (p : Picture) → symbols_place p < 2 ^ 32 → u32_at (header_bytes p) 8 ≡ symbols_place p
+pub header-symbol_table_offset : (p : ObjectLayout) → symbol_table_offset p < 2 ^ 32 → u32_at (header_bytes p) 8 ≡ symbol_table_offset p
 unfolding header_bytes u16_bytes u32_bytes u32_at
-header-symbols_place p below = from_le_bytes-to_le_bytes_4 (symbols_place p) below
+header-symbol_table_offset p below = from_le_bytes-to_le_bytes_4 (symbol_table_offset p) below
 
-pub header-records : (p : Picture) → records p < 2 ^ 32 → u32_at (header_bytes p) 12 ≡ records p
+pub header-records : (p : ObjectLayout) → records p < 2 ^ 32 → u32_at (header_bytes p) 12 ≡ records p
 unfolding header_bytes u16_bytes u32_bytes u32_at
 header-records p below = from_le_bytes-to_le_bytes_4 (records p) below
 
-pub header-optional : (p : Picture) → u16_at (header_bytes p) 16 ≡ 0
+pub header-optional : (p : ObjectLayout) → u16_at (header_bytes p) 16 ≡ 0
 unfolding header_bytes u16_bytes u32_bytes u16_at
 header-optional p = refl
 
-pub header-characteristics : (p : Picture) → p.characteristics < 2 ^ 16 → u16_at (header_bytes p) 18 ≡ p.characteristics
+pub header-characteristics : (p : ObjectLayout) → p.characteristics < 2 ^ 16 → u16_at (header_bytes p) 18 ≡ p.characteristics
 unfolding header_bytes u16_bytes u32_bytes u16_at
 header-characteristics p below = from_le_bytes-to_le_bytes_2 p.characteristics below
 
@@ -93,30 +93,30 @@ relocations_read bytes place rs all s =
     rs place all s
 
 -- a place of nothing is 0
-pub place_of-zero : (place : ℕ) → place_of 0 place ≡ 0
-unfolding place_of
-place_of-zero place = refl
+pub pointer_or_zero-zero : (place : ℕ) → pointer_or_zero 0 place ≡ 0
+unfolding pointer_or_zero
+pointer_or_zero-zero place = refl
 
 -- a place of something is the place
-pub place_of-suc : (count place : ℕ) → place_of (suc count) place ≡ place
-unfolding place_of
-place_of-suc count place = let off : nat_eq (suc count) 0 ≡ false = ne_eqb (suc count) 0 (λ e. absurd (omega (arith, e))) in rw off refl
+pub pointer_or_zero-suc : (count place : ℕ) → pointer_or_zero (suc count) place ≡ place
+unfolding pointer_or_zero
+pointer_or_zero-suc count place = let off : nat_eq (suc count) 0 ≡ false = ne_eqb (suc count) 0 (λ e. absurd (omega (arith, e))) in rw off refl
 
-pub place_of-le : (count place : ℕ) → place_of count place ≤ place
-place_of-le zero place = rw place_of-zero (omega arith)
-place_of-le (suc count) place = rw place_of-suc (omega arith)
+pub pointer_or_zero-le : (count place : ℕ) → pointer_or_zero count place ≤ place
+pointer_or_zero-le zero place = rw pointer_or_zero-zero (omega arith)
+pointer_or_zero-le (suc count) place = rw pointer_or_zero-suc (omega arith)
 
-relocations_at_place : (bytes : List ℕ) (place : ℕ) (rs : List Relocation) → AllByRecursion FitsRelocation rs → Stands bytes place (flat_map relocation_bytes rs) → each_at (relocation_at bytes) (place_of (length rs) place) 10 (length rs) ≡ Some rs
+relocations_at_place : (bytes : List ℕ) (place : ℕ) (rs : List Relocation) → AllByRecursion FitsRelocation rs → Stands bytes place (flat_map relocation_bytes rs) → each_at (relocation_at bytes) (pointer_or_zero (length rs) place) 10 (length rs) ≡ Some rs
 unfolding each_at
 relocations_at_place bytes place [] all s = refl
-relocations_at_place bytes place (r ∷ rs) all s = rw place_of-suc (relocations_read bytes place (r ∷ rs) all s)
+relocations_at_place bytes place (r ∷ rs) all s = rw pointer_or_zero-suc (relocations_read bytes place (r ∷ rs) all s)
 
-data_at_place : (bytes : List ℕ) (place : ℕ) (xs : List ℕ) → 0 < place → Stands bytes place xs → data_at bytes (place_of (length xs) place) (length xs) ≡ Some xs
+data_at_place : (bytes : List ℕ) (place : ℕ) (xs : List ℕ) → 0 < place → Stands bytes place xs → data_at bytes (pointer_or_zero (length xs) place) (length xs) ≡ Some xs
 unfolding data_at
-data_at_place bytes place [] above s = rw place_of-zero refl
+data_at_place bytes place [] above s = rw pointer_or_zero-zero refl
 data_at_place bytes place (x ∷ xs) above s =
     let off : nat_eq place 0 ≡ false = ne_eqb place 0 (λ e. absurd (omega (arith, e))) in
-    rw (place_of-suc, off) (bytes_at-stands (length (x ∷ xs)) refl s)
+    rw (pointer_or_zero-suc, off) (bytes_at-stands (length (x ∷ xs)) refl s)
 
 -- a section header
 
@@ -133,23 +133,23 @@ module _ (place : ℕ) (s : ObjectSection) (fits : FitsSection s) (short : place
   unfolding contents_size
   size_below = omega arith
 
-  place_below : place_of (length s.bytes) place < 2 ^ 32
+  place_below : pointer_or_zero (length s.bytes) place < 2 ^ 32
   unfolding contents_size
-  place_below = omega (arith, place_of-le (length s.bytes) place)
+  place_below = omega (arith, pointer_or_zero-le (length s.bytes) place)
 
-  relocations_below : place_of (length s.relocations) (place + length s.bytes) < 2 ^ 32
+  relocations_below : pointer_or_zero (length s.relocations) (place + length s.bytes) < 2 ^ 32
   unfolding contents_size
-  relocations_below = omega (arith, place_of-le (length s.relocations) (place + length s.bytes))
+  relocations_below = omega (arith, pointer_or_zero-le (length s.relocations) (place + length s.bytes))
 
   header-size : u32_at (section_header place s) 16 ≡ length s.bytes
   unfolding section_header u16_bytes u32_bytes u32_at
   header-size = u32_at-after s.name _ 8 fits.name ∙ from_le_bytes-to_le_bytes_4 (length s.bytes) size_below
 
-  header-place : u32_at (section_header place s) 20 ≡ place_of (length s.bytes) place
+  header-place : u32_at (section_header place s) 20 ≡ pointer_or_zero (length s.bytes) place
   unfolding section_header u16_bytes u32_bytes u32_at
   header-place = u32_at-after s.name _ 12 fits.name ∙ from_le_bytes-to_le_bytes_4 _ place_below
 
-  header-relocations : u32_at (section_header place s) 24 ≡ place_of (length s.relocations) (place + length s.bytes)
+  header-relocations : u32_at (section_header place s) 24 ≡ pointer_or_zero (length s.relocations) (place + length s.bytes)
   unfolding section_header u16_bytes u32_bytes u32_at
   header-relocations = u32_at-after s.name _ 16 fits.name ∙ from_le_bytes-to_le_bytes_4 _ relocations_below
 

@@ -7,15 +7,18 @@ use Rattle.std.proofs.lemmas.List.Folds.{list_any-append}
 use Rattle.implib.specs.declared.library.Flavor.TheVariants.{Gnu}
 use Rattle.implib.specs.declared.machine.MachineType.{MachineType}
 use Rattle.implib.specs.Definition.{ExportView}
-use Rattle.implib.specs.Made.{MemberView, Plan, has_u16_ordinal, is_too_long, member_of, name_refusal, names_refusal, numbered_plans, numbered_plans_of}
+use Rattle.implib.specs.MemberSpec.{MemberView, MemberSpec, member_of}
+use Rattle.implib.specs.Members.{has_u16_ordinal, is_too_long}
+use Rattle.implib.specs.NameRules.{name_refusal, names_refusal}
+use Rattle.implib.specs.GnuMembers.{numbered_specs, numbered_specs_of}
 use Rattle.implib.proofs.NotRefused.{first_none}
 
 -- the members so far and those of the exports that are left, numbered from a number, are all; none so far is too long
 pub record Left (machine : MachineType) (dll : List ℕ) (all : List MemberView) (long sound : Bool)
     (index number : ℕ) (members : List MemberView) (exports : List ExportView) : Type 0 where
   pub named : names_refusal Gnu machine index exports ≡ None
-  pub made : members ++ map member_of (numbered_plans machine dll number (filter (λ e. not e.private) exports)) ≡ all
-  pub fit : list_any is_too_long (numbered_plans machine dll number (filter (λ e. not e.private) exports)) ≡ long
+  pub made : members ++ map member_of (numbered_specs machine dll number (filter (λ e. not e.private) exports)) ≡ all
+  pub fit : list_any is_too_long (numbered_specs machine dll number (filter (λ e. not e.private) exports)) ≡ long
   pub ordinals : list_all has_u16_ordinal (filter (λ e. not e.private) exports) ≡ sound
 
 module _ (machine : MachineType) (dll : List ℕ) (all : List MemberView) (long sound : Bool) (index number : ℕ) (members : List MemberView) (e : ExportView) (exports : List ExportView) where
@@ -32,28 +35,28 @@ module _ (machine : MachineType) (dll : List ℕ) (all : List MemberView) (long 
   pub left_private : e.private ≡ true → Left machine dll all long sound index number members (e ∷ exports) → Left machine dll all long sound (index + 1) number members exports
   left_private private left = record {
     named = rest_named left.named;
-    made = sym (ap (λ (x : List ExportView). members ++ map member_of (numbered_plans machine dll number x)) (passed private)) ∙ left.made;
-    fit = sym (ap (λ (x : List ExportView). list_any is_too_long (numbered_plans machine dll number x)) (passed private)) ∙ left.fit;
+    made = sym (ap (λ (x : List ExportView). members ++ map member_of (numbered_specs machine dll number x)) (passed private)) ∙ left.made;
+    fit = sym (ap (λ (x : List ExportView). list_any is_too_long (numbered_specs machine dll number x)) (passed private)) ∙ left.fit;
     ordinals = sym (ap (list_all has_u16_ordinal) (passed private)) ∙ left.ordinals;
   }
 
   -- after an export whose members are made
   pub left_public : (grown : List MemberView) → e.private ≡ false → Left machine dll all long sound index number members (e ∷ exports) →
-      grown ≡ members ++ map member_of (numbered_plans_of machine dll number e) → list_any is_too_long (numbered_plans_of machine dll number e) ≡ false → has_u16_ordinal e ≡ true →
+      grown ≡ members ++ map member_of (numbered_specs_of machine dll number e) → list_any is_too_long (numbered_specs_of machine dll number e) ≡ false → has_u16_ordinal e ≡ true →
       Left machine dll all long sound (index + 1) (number + 1) grown exports
   left_public grown public left made short ordinal =
-      let others = numbered_plans machine dll (number + 1) (filter (λ x. not x.private) exports) in
+      let others = numbered_specs machine dll (number + 1) (filter (λ x. not x.private) exports) in
       record {
         named = rest_named left.named;
         made =
             ap (λ x. x ++ map member_of others) made
-            ∙ (append_assoc members (map member_of (numbered_plans_of machine dll number e)) (map member_of others)
-            ∙ (ap (λ x. members ++ x) (sym (map-append member_of (numbered_plans_of machine dll number e) others))
-            ∙ (sym (ap (λ (x : List ExportView). members ++ map member_of (numbered_plans machine dll number x)) (kept public)) ∙ left.made)));
+            ∙ (append_assoc members (map member_of (numbered_specs_of machine dll number e)) (map member_of others)
+            ∙ (ap (λ x. members ++ x) (sym (map-append member_of (numbered_specs_of machine dll number e) others))
+            ∙ (sym (ap (λ (x : List ExportView). members ++ map member_of (numbered_specs machine dll number x)) (kept public)) ∙ left.made)));
         fit =
             sym (ap (λ test. test || list_any is_too_long others) short)
-            ∙ (sym (list_any-append is_too_long (numbered_plans_of machine dll number e) others)
-            ∙ (sym (ap (λ (x : List ExportView). list_any is_too_long (numbered_plans machine dll number x)) (kept public)) ∙ left.fit));
+            ∙ (sym (list_any-append is_too_long (numbered_specs_of machine dll number e) others)
+            ∙ (sym (ap (λ (x : List ExportView). list_any is_too_long (numbered_specs machine dll number x)) (kept public)) ∙ left.fit));
         ordinals =
             sym (ap (λ test. test && list_all has_u16_ordinal (filter (λ x. not x.private) exports)) ordinal)
             ∙ (sym (ap (list_all has_u16_ordinal) (kept public)) ∙ left.ordinals);
@@ -86,19 +89,19 @@ pub turned : {X : Type 0} (built : List X) (head tail : X) → reverse (built ++
 turned built head tail = reverse-append built (head ∷ tail ∷ [])
 
 -- what is made, turned round, is the members of the plans turned round
-pub made_turned : (members : List MemberView) (built : List Plan) (head tail : Plan) → members ≡ map member_of built ++ map member_of (head ∷ tail ∷ []) →
+pub made_turned : (members : List MemberView) (built : List MemberSpec) (head tail : MemberSpec) → members ≡ map member_of built ++ map member_of (head ∷ tail ∷ []) →
     reverse members ≡ map member_of (tail ∷ head ∷ reverse built)
 made_turned members built head tail made =
     ap reverse (made ∙ sym (map-append member_of built (head ∷ tail ∷ [])))
     ∙ (sym (map-reverse member_of (built ++ head ∷ tail ∷ [])) ∙ ap (map member_of) (turned built head tail))
 
 -- a plan is too long among them where one is among those that were built
-pub long_turned : (built : List Plan) (head tail : Plan) →
+pub long_turned : (built : List MemberSpec) (head tail : MemberSpec) →
     list_any is_too_long (tail ∷ head ∷ reverse built) ≡ list_any is_too_long built || list_any is_too_long (head ∷ tail ∷ [])
 long_turned built head tail =
     ap (list_any is_too_long) (sym (turned built head tail))
     ∙ (list_any-reverse is_too_long (built ++ head ∷ tail ∷ []) ∙ list_any-append is_too_long built (head ∷ tail ∷ []))
 
 -- so one is where one is among those that were built
-pub long_built : (built : List Plan) (head tail : Plan) → list_any is_too_long built ≡ true → list_any is_too_long (tail ∷ head ∷ reverse built) ≡ true
+pub long_built : (built : List MemberSpec) (head tail : MemberSpec) → list_any is_too_long built ≡ true → list_any is_too_long (tail ∷ head ∷ reverse built) ≡ true
 long_built built head tail long = long_turned built head tail ∙ ap (λ b. b || list_any is_too_long (head ∷ tail ∷ [])) long

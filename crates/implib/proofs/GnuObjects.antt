@@ -8,19 +8,19 @@ use Rattle.implib.specs.declared.coff.object.Place.{Place}
 use Rattle.implib.specs.declared.coff.object.Place.TheVariants.{Undefined, Section}
 use Rattle.implib.specs.declared.machine.MachineType.{MachineType}
 use Rattle.implib.specs.declared.machine.MachineType.TheVariants.{I386, ARMNT, AMD64, ARM64}
-use Rattle.implib.specs.Constants.{external, static}
+use Rattle.implib.specs.Constants.{class_external, class_static}
 use Rattle.implib.specs.Definition.{ExportView}
 use Rattle.implib.specs.Gnu.{added, empty_sections, export_object, export_symbols, file_symbol, full_stop, head_object, head_symbol, head_symbols, hint_name, linkage_symbol, name_symbol, relocations_of_stub, relocations_of_thunk, section, stem, stub, stub_relocations, tail_object, tail_symbols, thunk, without_full_stop, stub_bytes}
 use Rattle.implib.specs.Import.{address_symbol, holds, is_empty_text, underscore}
-use Rattle.implib.specs.MsvcObjects.{relocation, thunk_width, zeros}
+use Rattle.implib.specs.ImportTables.{relocation, thunk_width, zeros}
 use Rattle.implib.specs.Object.{ObjectSection}
-use Rattle.implib.specs.Picture.{Fits}
+use Rattle.implib.specs.Layout.{Fits}
 use Rattle.implib.specs.Table.{CanBeHeld}
-use Rattle.implib.specs.Writer.{AddedSymbol, IsPlaceAmong, all_entries, picture_of}
+use Rattle.implib.specs.Writer.{AddedSymbol, IsPlaceAmong, all_entries, layout_of}
 use Rattle.implib.specs.WriterView.{IsSound, IsSoundSection, IsSoundSymbol}
 use Rattle.implib.proofs.MsvcObjects.{HasNoNul-from_holds, plain_section_fits, relocation_fits}
 use Rattle.implib.proofs.Table.{CanBeHeld-from_sound, LieWithin}
-use Rattle.implib.proofs.WriterPicture.{picture_of-fits}
+use Rattle.implib.proofs.WriterLayout.{layout_of-fits}
 
 -- Names.
 
@@ -119,20 +119,20 @@ IsSound-head_object machine dll free =
       symbols = (
         file_symbol_sound 6,
         (
-          symbol_sound 6 (codes ".idata$5") (Section 5) static (omega arith) refl (omega arith, omega arith),
+          symbol_sound 6 (codes ".idata$5") (Section 5) class_static (omega arith) refl (omega arith, omega arith),
           (
-            symbol_sound 6 (codes ".idata$4") (Section 6) static (omega arith) refl (omega arith, omega arith),
+            symbol_sound 6 (codes ".idata$4") (Section 6) class_static (omega arith) refl (omega arith, omega arith),
             (
-              symbol_sound 6 head (Section 4) external (filled-head_symbol machine dll) (holds-head_symbol machine dll free) (omega arith, omega arith),
-              (symbol_sound 6 name Undefined external (filled-name_symbol machine dll) (holds-name_symbol machine dll free) tt, tt),
+              symbol_sound 6 head (Section 4) class_external (filled-head_symbol machine dll) (holds-head_symbol machine dll free) (omega arith, omega arith),
+              (symbol_sound 6 name Undefined class_external (filled-name_symbol machine dll) (holds-name_symbol machine dll free) tt, tt),
             ),
           ),
         ),
       );
     }
 
-pub Fits-head_object : (machine : MachineType) (dll : List ℕ) → holds 0 dll ≡ false → Fits (picture_of (head_object machine dll))
-Fits-head_object machine dll free = picture_of-fits (head_object machine dll) 6 (IsSound-head_object machine dll free)
+pub Fits-head_object : (machine : MachineType) (dll : List ℕ) → holds 0 dll ≡ false → Fits (layout_of (head_object machine dll))
+Fits-head_object machine dll free = layout_of-fits (head_object machine dll) 6 (IsSound-head_object machine dll free)
 
 head_within : (machine : MachineType) (dll : List ℕ) → AllByRecursion LieWithin (head_object machine dll).sections
 unfolding head_object
@@ -159,12 +159,12 @@ IsSound-tail_object machine dll free =
           (plain_sound symbols (codes ".idata$7") _ _ refl (omega arith));
       symbols = (
         file_symbol_sound 6,
-        (symbol_sound 6 name (Section 6) external (filled-name_symbol machine dll) (holds-name_symbol machine dll free) (omega arith, omega arith), tt),
+        (symbol_sound 6 name (Section 6) class_external (filled-name_symbol machine dll) (holds-name_symbol machine dll free) (omega arith, omega arith), tt),
       );
     }
 
-pub Fits-tail_object : (machine : MachineType) (dll : List ℕ) → holds 0 dll ≡ false → Fits (picture_of (tail_object machine dll))
-Fits-tail_object machine dll free = picture_of-fits (tail_object machine dll) 3 (IsSound-tail_object machine dll free)
+pub Fits-tail_object : (machine : MachineType) (dll : List ℕ) → holds 0 dll ≡ false → Fits (layout_of (tail_object machine dll))
+Fits-tail_object machine dll free = layout_of-fits (tail_object machine dll) 3 (IsSound-tail_object machine dll free)
 
 tail_within : (machine : MachineType) (dll : List ℕ) → AllByRecursion LieWithin (tail_object machine dll).sections
 unfolding tail_object
@@ -179,10 +179,10 @@ CanBeHeld-tail_object machine dll free =
 -- the symbols of an export, by whether it is data
 abbrev symbols_by : Bool → List ℕ → List ℕ → List AddedSymbol
 symbols_by is_data head name =
-    added head Undefined external
-    ∷ ((if is_data then [] else added name (Section 1) external ∷ [])
-    ++ added (address_symbol name) (Section 5) external
-    ∷ added (codes ".idata$6") (Section 7) static
+    added head Undefined class_external
+    ∷ ((if is_data then [] else added name (Section 1) class_external ∷ [])
+    ++ added (address_symbol name) (Section 5) class_external
+    ∷ added (codes ".idata$6") (Section 7) class_static
     ∷ [])
 
 stub_sound : (machine : MachineType) (is_data : Bool) (head name : List ℕ) (contents : List ℕ) (flags : ℕ) → flags < 2 ^ 32 →
@@ -237,19 +237,19 @@ head_entry_sound machine is_data head name section_name contents flags eight fla
 symbols_sound : (is_data : Bool) (head name : List ℕ) → 0 < length head → holds 0 head ≡ false → 0 < length name → holds 0 name ≡ false →
     AllByRecursion (IsSoundSymbol 7) (symbols_by is_data head name)
 symbols_sound true head name head_filled head_free name_filled name_free = (
-  symbol_sound 7 head Undefined external head_filled head_free tt,
+  symbol_sound 7 head Undefined class_external head_filled head_free tt,
   (
-    symbol_sound 7 (address_symbol name) (Section 5) external (omega arith) name_free (omega arith, omega arith),
-    (symbol_sound 7 (codes ".idata$6") (Section 7) static (omega arith) refl (omega arith, omega arith), tt),
+    symbol_sound 7 (address_symbol name) (Section 5) class_external (omega arith) name_free (omega arith, omega arith),
+    (symbol_sound 7 (codes ".idata$6") (Section 7) class_static (omega arith) refl (omega arith, omega arith), tt),
   ),
 )
 symbols_sound false head name head_filled head_free name_filled name_free = (
-  symbol_sound 7 head Undefined external head_filled head_free tt,
+  symbol_sound 7 head Undefined class_external head_filled head_free tt,
   (
-    symbol_sound 7 name (Section 1) external name_filled name_free (omega arith, omega arith),
+    symbol_sound 7 name (Section 1) class_external name_filled name_free (omega arith, omega arith),
     (
-      symbol_sound 7 (address_symbol name) (Section 5) external (omega arith) name_free (omega arith, omega arith),
-      (symbol_sound 7 (codes ".idata$6") (Section 7) static (omega arith) refl (omega arith, omega arith), tt),
+      symbol_sound 7 (address_symbol name) (Section 5) class_external (omega arith) name_free (omega arith, omega arith),
+      (symbol_sound 7 (codes ".idata$6") (Section 7) class_static (omega arith) refl (omega arith, omega arith), tt),
     ),
   ),
 )
@@ -286,9 +286,9 @@ IsSound-export_object machine dll e free name_free filled =
     }
 
 pub Fits-export_object : (machine : MachineType) (dll : List ℕ) (e : ExportView) → holds 0 dll ≡ false → holds 0 e.name ≡ false → is_empty_text e.name ≡ false →
-    Fits (picture_of (export_object machine dll e))
+    Fits (layout_of (export_object machine dll e))
 Fits-export_object machine dll e free name_free filled =
-    picture_of-fits (export_object machine dll e) (length (all_entries (export_symbols (head_symbol machine dll) e))) (IsSound-export_object machine dll e free name_free filled)
+    layout_of-fits (export_object machine dll e) (length (all_entries (export_symbols (head_symbol machine dll) e))) (IsSound-export_object machine dll e free name_free filled)
 
 stub_within : (machine : MachineType) (is_data : Bool) → LieWithin (section [] 0 (if is_data then [] else stub_bytes machine) (if is_data then [] else stub_relocations machine 2))
 stub_within machine true = tt

@@ -16,15 +16,17 @@ use Rattle.implib.specs.Bytes.{u16_bytes, u32_bytes}
 use Rattle.implib.specs.Definition.{DefinitionView, ExportView}
 use Rattle.implib.specs.File.{File, ObjectFile, Meaning, AnImport, AnAlias, alias_of_object, declared_by, file_in}
 use Rattle.implib.specs.Gnu.{export_object, export_listed, head_object, head_symbol, hint_name, name_symbol, relocations_of_stub, relocations_of_thunk, stub, tail_object, thunk}
-use Rattle.implib.specs.GnuReading.{CodeRelocation, alias_or_import, ask_of_export, code_of_export, code_relocations, dll_by_names, externals_in, import_of, meaning_with, text_section}
-use Rattle.implib.specs.Import.{Ordinal, Name, address_symbol, aliases_for, ask_meant, asked_name, has_underscore, holds, import_meant, import_symbols, is_alias, public_exports, without_first}
-use Rattle.implib.specs.Made.{AnObject, Plan, MemberView, Made, alias_plan, alias_plans, contents_bytes, contents_size, export_plan, head_plan, is_too_long, member_of, numbered_plans, numbered_plans_of, plans_of, tail_plan}
-use Rattle.implib.specs.MsvcObjects.{weak_object}
+use Rattle.implib.specs.GnuReader.{CodeRelocation, alias_or_import, ask_of_export, code_of_export, code_relocations, dll_by_names, externals_in, import_of, meaning_with, text_section}
+use Rattle.implib.specs.Import.{Ordinal, Name, address_symbol, aliases_for, expected_ask, asked_name, has_underscore, holds, expected_import, import_symbols, is_alias, public_exports, without_first}
+use Rattle.implib.specs.MemberSpec.{AnObject, MemberSpec, MemberView, file_bytes, file_size, member_of}
+use Rattle.implib.specs.Members.{AreMembersOf, is_too_long, member_specs}
+use Rattle.implib.specs.GnuMembers.{alias_spec, alias_specs, export_spec, head_spec, numbered_specs, numbered_specs_of, tail_spec}
+use Rattle.implib.specs.WeakExternal.{weak_object}
 use Rattle.implib.specs.Object.{u16_at, u32_at}
-use Rattle.implib.specs.Picture.{Fits, entries_of, layout_size, name_text, object_of}
-use Rattle.implib.specs.Reads.{ReadsForGnu, alias_among, code_meant, file_at, file_of, import_among, meanings_meant}
+use Rattle.implib.specs.Layout.{Fits, entries_of, encoded_size, name_text, object_of}
+use Rattle.implib.specs.ReadBack.{GnuReadBack, alias_among, expected_code, file_at, file_of, import_among, expected_meanings}
 use Rattle.implib.specs.Renaming.{renamed}
-use Rattle.implib.specs.Writer.{Holding, object_held, picture_of}
+use Rattle.implib.specs.Writer.{WriterState, written_object, layout_of}
 use Rattle.implib.proofs.GnuLoop.{list_any-reverse, map-reverse}
 use Rattle.implib.proofs.GnuObjects.{Fits-export_object, Fits-head_object, Fits-tail_object}
 use Rattle.implib.proofs.MemberMeanings.{DeclaresListed, all_aliases, no_imports, read_declares, weak_declares}
@@ -32,83 +34,83 @@ use Rattle.implib.proofs.MemberReadings.{ReadsBack, all_append, each_length, eac
 use Rattle.implib.proofs.MsvcObjects.{HasNoNul-from_holds}
 use Rattle.implib.proofs.NotRefused.{Sound, exports_sound, import_name_is_free, none_long, short_enough}
 use Rattle.implib.proofs.Symbols.{before_nul-ended}
-use Rattle.implib.proofs.WriterPicture.{object_of-picture_of}
+use Rattle.implib.proofs.WriterLayout.{object_of-layout_of}
 
 -- The plans read back.
 
-held_reads : (h : Holding) → Fits (picture_of h) → layout_size (picture_of h) ≤ 0xFFFF_FFFF → ReadsBack (AnObject (picture_of h))
-unfolding picture_of
-held_reads h fits short = object_reads (picture_of h) fits (machine_number_nonzero h.machine) short
+held_reads : (h : WriterState) → Fits (layout_of h) → encoded_size (layout_of h) ≤ 0xFFFF_FFFF → ReadsBack (AnObject (layout_of h))
+unfolding layout_of
+held_reads h fits short = object_reads (layout_of h) fits (machine_number_nonzero h.machine) short
 
 module _ (machine : MachineType) (dll : List ℕ) (dll_free : holds 0 dll ≡ false) where
   chosen_read : (number : ℕ) (e : ExportView) → Sound e → (test : Bool) (first second : List ℕ) →
-      list_any is_too_long (if test then alias_plan machine first e.name e.alias_target ∷ alias_plan machine second (address_symbol e.name) (address_symbol e.alias_target) ∷ [] else []) ≡ false →
-      AllByRecursion (λ p. ReadsBack p.contents) (if test then alias_plan machine first e.name e.alias_target ∷ alias_plan machine second (address_symbol e.name) (address_symbol e.alias_target) ∷ [] else [])
+      list_any is_too_long (if test then alias_spec machine first e.name e.alias_target ∷ alias_spec machine second (address_symbol e.name) (address_symbol e.alias_target) ∷ [] else []) ≡ false →
+      AllByRecursion (λ p. ReadsBack p.contents) (if test then alias_spec machine first e.name e.alias_target ∷ alias_spec machine second (address_symbol e.name) (address_symbol e.alias_target) ∷ [] else [])
   chosen_read number e sound false first second short = tt
   chosen_read number e sound true first second short =
-      let of_name = alias_plan machine first e.name e.alias_target in
-      let of_address = alias_plan machine second (address_symbol e.name) (address_symbol e.alias_target) in
+      let of_name = alias_spec machine first e.name e.alias_target in
+      let of_address = alias_spec machine second (address_symbol e.name) (address_symbol e.alias_target) in
       let one = or_parts (is_too_long of_name) _ short in
       let two = or_parts (is_too_long of_address) false one.1 in (
         weak_reads machine e.name e.alias_target sound.name sound.alias_target (short_enough of_name one.0),
         (weak_reads machine (address_symbol e.name) (address_symbol e.alias_target) sound.name sound.alias_target (short_enough of_address two.0), tt),
       )
 
-  of_export_read : (number : ℕ) (e : ExportView) → Sound e → list_any is_too_long (numbered_plans_of machine dll number e) ≡ false →
-      AllByRecursion (λ p. ReadsBack p.contents) (numbered_plans_of machine dll number e)
-  unfolding alias_plans export_plan
+  of_export_read : (number : ℕ) (e : ExportView) → Sound e → list_any is_too_long (numbered_specs_of machine dll number e) ≡ false →
+      AllByRecursion (λ p. ReadsBack p.contents) (numbered_specs_of machine dll number e)
+  unfolding alias_specs export_spec
   of_export_read number e sound short =
-      let parts = or_parts (list_any is_too_long (alias_plans machine dll number e)) (is_too_long (export_plan machine dll number e) || false)
-      (sym (list_any-append is_too_long (alias_plans machine dll number e) (export_plan machine dll number e ∷ [])) ∙ short) in
-      let last = or_parts (is_too_long (export_plan machine dll number e)) false parts.1 in
-      all_append (λ p. ReadsBack p.contents) (alias_plans machine dll number e) (export_plan machine dll number e ∷ [])
+      let parts = or_parts (list_any is_too_long (alias_specs machine dll number e)) (is_too_long (export_spec machine dll number e) || false)
+      (sym (list_any-append is_too_long (alias_specs machine dll number e) (export_spec machine dll number e ∷ [])) ∙ short) in
+      let last = or_parts (is_too_long (export_spec machine dll number e)) false parts.1 in
+      all_append (λ p. ReadsBack p.contents) (alias_specs machine dll number e) (export_spec machine dll number e ∷ [])
       (chosen_read number e sound (is_alias e.alias_target e.name) _ _ parts.0)
-      (held_reads (export_object machine dll e) (Fits-export_object machine dll e dll_free sound.name sound.filled) (short_enough (export_plan machine dll number e) last.0), tt)
+      (held_reads (export_object machine dll e) (Fits-export_object machine dll e dll_free sound.name sound.filled) (short_enough (export_spec machine dll number e) last.0), tt)
 
-  numbered_read : (number : ℕ) (exports : List ExportView) → AllByRecursion Sound exports → list_any is_too_long (numbered_plans machine dll number exports) ≡ false →
-      AllByRecursion (λ p. ReadsBack p.contents) (numbered_plans machine dll number exports)
+  numbered_read : (number : ℕ) (exports : List ExportView) → AllByRecursion Sound exports → list_any is_too_long (numbered_specs machine dll number exports) ≡ false →
+      AllByRecursion (λ p. ReadsBack p.contents) (numbered_specs machine dll number exports)
   numbered_read number [] sound short = tt
   numbered_read number (e ∷ exports) sound short =
-      let parts = or_parts (list_any is_too_long (numbered_plans_of machine dll number e)) (list_any is_too_long (numbered_plans machine dll (number + 1) exports))
-      (sym (list_any-append is_too_long (numbered_plans_of machine dll number e) (numbered_plans machine dll (number + 1) exports)) ∙ short) in
-      all_append (λ p. ReadsBack p.contents) (numbered_plans_of machine dll number e) (numbered_plans machine dll (number + 1) exports)
+      let parts = or_parts (list_any is_too_long (numbered_specs_of machine dll number e)) (list_any is_too_long (numbered_specs machine dll (number + 1) exports))
+      (sym (list_any-append is_too_long (numbered_specs_of machine dll number e) (numbered_specs machine dll (number + 1) exports)) ∙ short) in
+      all_append (λ p. ReadsBack p.contents) (numbered_specs_of machine dll number e) (numbered_specs machine dll (number + 1) exports)
       (of_export_read number e sound.0 parts.0) (numbered_read (number + 1) exports sound.1 parts.1)
 
 -- What is declared.
 
-held_declares : (h : Holding) (listed : List (List ℕ)) → declared_by (ObjectFile (object_held h)) ≡ listed → declared_by (ObjectFile (object_of (picture_of h))) ≡ listed
-held_declares h listed declares = ap (λ o. declared_by (ObjectFile o)) (object_of-picture_of h) ∙ declares
+held_declares : (h : WriterState) (listed : List (List ℕ)) → declared_by (ObjectFile (written_object h)) ≡ listed → declared_by (ObjectFile (object_of (layout_of h))) ≡ listed
+held_declares h listed declares = ap (λ o. declared_by (ObjectFile o)) (object_of-layout_of h) ∙ declares
 
-tail_declares : (machine : MachineType) (dll : List ℕ) → DeclaresListed (tail_plan machine dll)
-unfolding tail_plan tail_object
+tail_declares : (machine : MachineType) (dll : List ℕ) → DeclaresListed (tail_spec machine dll)
+unfolding tail_spec tail_object
 tail_declares machine dll = held_declares (tail_object machine dll) (name_symbol machine dll ∷ []) refl
 
-head_declares : (machine : MachineType) (dll : List ℕ) → DeclaresListed (head_plan machine dll)
-unfolding head_plan head_object
+head_declares : (machine : MachineType) (dll : List ℕ) → DeclaresListed (head_spec machine dll)
+unfolding head_spec head_object
 head_declares machine dll = held_declares (head_object machine dll) (head_symbol machine dll ∷ []) refl
 
 export_declares_by : (machine : MachineType) (dll : List ℕ) (e : ExportView) (is_data : Bool) →
-    declared_by (ObjectFile (object_held (export_object machine dll (record e { is_data = is_data })))) ≡ export_listed (record e { is_data = is_data })
+    declared_by (ObjectFile (written_object (export_object machine dll (record e { is_data = is_data })))) ≡ export_listed (record e { is_data = is_data })
 unfolding export_object
 export_declares_by machine dll e true = refl
 export_declares_by machine dll e false = refl
 
-export_declares : (machine : MachineType) (dll : List ℕ) (number : ℕ) (e : ExportView) → DeclaresListed (export_plan machine dll number e)
-unfolding export_plan
+export_declares : (machine : MachineType) (dll : List ℕ) (number : ℕ) (e : ExportView) → DeclaresListed (export_spec machine dll number e)
+unfolding export_spec
 export_declares machine dll number e = held_declares (export_object machine dll e) (export_listed e) (export_declares_by machine dll e e.is_data)
 
 chosen_declare : (machine : MachineType) (e : ExportView) (test : Bool) (first second : List ℕ) →
-    AllByRecursion DeclaresListed (if test then alias_plan machine first e.name e.alias_target ∷ alias_plan machine second (address_symbol e.name) (address_symbol e.alias_target) ∷ [] else [])
+    AllByRecursion DeclaresListed (if test then alias_spec machine first e.name e.alias_target ∷ alias_spec machine second (address_symbol e.name) (address_symbol e.alias_target) ∷ [] else [])
 chosen_declare machine e false first second = tt
 chosen_declare machine e true first second =
     (weak_declares machine first e.name e.alias_target, (weak_declares machine second (address_symbol e.name) (address_symbol e.alias_target), tt))
 
-numbered_declare : (machine : MachineType) (dll : List ℕ) (number : ℕ) (exports : List ExportView) → AllByRecursion DeclaresListed (numbered_plans machine dll number exports)
-unfolding alias_plans
+numbered_declare : (machine : MachineType) (dll : List ℕ) (number : ℕ) (exports : List ExportView) → AllByRecursion DeclaresListed (numbered_specs machine dll number exports)
+unfolding alias_specs
 numbered_declare machine dll number [] = tt
 numbered_declare machine dll number (e ∷ exports) =
-    all_append DeclaresListed (numbered_plans_of machine dll number e) (numbered_plans machine dll (number + 1) exports)
-    (all_append DeclaresListed (alias_plans machine dll number e) (export_plan machine dll number e ∷ [])
+    all_append DeclaresListed (numbered_specs_of machine dll number e) (numbered_specs machine dll (number + 1) exports)
+    (all_append DeclaresListed (alias_specs machine dll number e) (export_spec machine dll number e ∷ [])
     (chosen_declare machine e (is_alias e.alias_target e.name) _ _) (export_declares machine dll number e, tt))
     (numbered_declare machine dll (number + 1) exports)
 
@@ -123,7 +125,7 @@ free_asked true [] free = refl
 free_asked true (b ∷ name) free = (or_parts (b == 0) (holds 0 name) free).1
 
 asks_by : (machine : MachineType) (dll : List ℕ) (e : ExportView) → e.ordinal < 2 ^ 16 → holds 0 (asked_name machine e.name) ≡ false → (is_data no_name : Bool) →
-    ask_of_export (object_held (export_object machine dll (record e { is_data = is_data; no_name = no_name }))) ≡ Some (ask_meant machine (record e { is_data = is_data; no_name = no_name }))
+    ask_of_export (written_object (export_object machine dll (record e { is_data = is_data; no_name = no_name }))) ≡ Some (expected_ask machine (record e { is_data = is_data; no_name = no_name }))
 unfolding export_object thunk relocations_of_thunk hint_name stub relocations_of_stub u16_at u16_bytes
 asks_by I386 dll e fits free true true = ap (λ n. Some (Ordinal n)) (from_le_bytes-to_le_bytes_2 e.ordinal fits)
 asks_by I386 dll e fits free false true = ap (λ n. Some (Ordinal n)) (from_le_bytes-to_le_bytes_2 e.ordinal fits)
@@ -143,24 +145,24 @@ asks_by machine dll e fits free false false =
     ∙ ap (λ n. Some (Name (asked_name machine e.name) n)) (from_le_bytes-to_le_bytes_2 e.ordinal fits)
 
 declared_by_import : (machine : MachineType) (dll : List ℕ) (e : ExportView) (is_data : Bool) →
-    (let o = object_held (export_object machine dll (record e { is_data = is_data })) in externals_in o (codes ".idata$5") ++ externals_in o text_section) ≡ import_symbols is_data e.name
+    (let o = written_object (export_object machine dll (record e { is_data = is_data })) in externals_in o (codes ".idata$5") ++ externals_in o text_section) ≡ import_symbols is_data e.name
 unfolding export_object
 declared_by_import machine dll e true = refl
 declared_by_import machine dll e false = refl
 
-no_alias : (machine : MachineType) (dll : List ℕ) (e : ExportView) (is_data : Bool) → alias_of_object (object_held (export_object machine dll (record e { is_data = is_data }))) ≡ None
+no_alias : (machine : MachineType) (dll : List ℕ) (e : ExportView) (is_data : Bool) → alias_of_object (written_object (export_object machine dll (record e { is_data = is_data }))) ≡ None
 unfolding export_object
 no_alias machine dll e true = refl
 no_alias machine dll e false = refl
 
 dll_found : (machine : MachineType) (dll : List ℕ) (e : ExportView) → holds 0 dll ≡ false →
-    dll_by_names (object_held (export_object machine dll e)) (object_held (head_object machine dll)) (object_held (tail_object machine dll)) ≡ Some dll
+    dll_by_names (written_object (export_object machine dll e)) (written_object (head_object machine dll)) (written_object (tail_object machine dll)) ≡ Some dll
 unfolding export_object head_object tail_object
 dll_found machine dll e free =
     rw (same_bytes (head_symbol machine dll), same_bytes (name_symbol machine dll)) (before_nul-ended dll [] (HasNoNul-from_holds dll free))
 
 code_by : (machine : MachineType) (dll : List ℕ) (e : ExportView) (is_data : Bool) →
-    code_relocations (object_held (export_object machine dll (record e { is_data = is_data }))) ≡ Some (code_meant machine (record e { is_data = is_data }))
+    code_relocations (written_object (export_object machine dll (record e { is_data = is_data }))) ≡ Some (expected_code machine (record e { is_data = is_data }))
 unfolding export_object stub relocations_of_stub
 code_by machine dll e true = refl
 code_by I386 dll e false = refl
@@ -172,21 +174,21 @@ code_by ARM64 dll e false = refl
 
 module _ (machine : MachineType) (dll : List ℕ) (dll_free : holds 0 dll ≡ false) where
   abbrev head_file : File
-  head_file = ObjectFile (object_of (picture_of (head_object machine dll)))
+  head_file = ObjectFile (object_of (layout_of (head_object machine dll)))
 
   abbrev tail_file : File
-  tail_file = ObjectFile (object_of (picture_of (tail_object machine dll)))
+  tail_file = ObjectFile (object_of (layout_of (tail_object machine dll)))
 
   -- what a plan's file means
-  abbrev planned : Plan → Option Meaning
+  abbrev planned : MemberSpec → Option Meaning
   planned p = meaning_with head_file tail_file (file_of p.contents)
 
   import_found : (e : ExportView) → Sound e →
-      import_of (object_held (export_object machine dll e)) (object_held (head_object machine dll)) (object_held (tail_object machine dll)) ≡ Some (import_meant machine dll e)
+      import_of (written_object (export_object machine dll e)) (written_object (head_object machine dll)) (written_object (tail_object machine dll)) ≡ Some (expected_import machine dll e)
   import_found e sound =
-      let o = object_held (export_object machine dll e) in
+      let o = written_object (export_object machine dll e) in
       let fits : e.ordinal < 2 ^ 16 = ltb-true e.ordinal 0x1_0000 sound.ordinal in
-      let asks : ask_of_export o ≡ Some (ask_meant machine e) =
+      let asks : ask_of_export o ≡ Some (expected_ask machine e) =
       asks_by machine dll e fits (free_asked (has_underscore machine e.name) e.name sound.name) e.is_data e.no_name in
       let declared : externals_in o (codes ".idata$5") ++ externals_in o text_section ≡ import_symbols e.is_data e.name = declared_by_import machine dll e e.is_data in
       let named = dll_found machine dll e dll_free in
@@ -194,17 +196,17 @@ module _ (machine : MachineType) (dll : List ℕ) (dll_free : holds 0 dll ≡ fa
       (λ ask. record { dll = name; declared = externals_in o (codes ".idata$5") ++ externals_in o text_section; ask = ask })
       (ask_of_export o)) found) named
       ∙ (ap (λ found. option_map (λ ask. record { dll = dll; declared = externals_in o (codes ".idata$5") ++ externals_in o text_section; ask = ask }) found) asks
-      ∙ ap (λ symbols. Some (record { dll = dll; declared = symbols; ask = ask_meant machine e })) declared)
+      ∙ ap (λ symbols. Some (record { dll = dll; declared = symbols; ask = expected_ask machine e })) declared)
 
-  export_planned : (number : ℕ) (e : ExportView) → Sound e → planned (export_plan machine dll number e) ≡ Some (AnImport (import_meant machine dll e))
-  unfolding export_plan
+  export_planned : (number : ℕ) (e : ExportView) → Sound e → planned (export_spec machine dll number e) ≡ Some (AnImport (expected_import machine dll e))
+  unfolding export_spec
   export_planned number e sound =
-      let export = object_held (export_object machine dll e) in
-      let head = object_held (head_object machine dll) in
-      let tail = object_held (tail_object machine dll) in
-      ap (λ o. meaning_with head_file tail_file (ObjectFile o)) (object_of-picture_of (export_object machine dll e))
-      ∙ (ap (λ o. meaning_with (ObjectFile o) tail_file (ObjectFile export)) (object_of-picture_of (head_object machine dll))
-      ∙ (ap (λ o. meaning_with (ObjectFile head) (ObjectFile o) (ObjectFile export)) (object_of-picture_of (tail_object machine dll))
+      let export = written_object (export_object machine dll e) in
+      let head = written_object (head_object machine dll) in
+      let tail = written_object (tail_object machine dll) in
+      ap (λ o. meaning_with head_file tail_file (ObjectFile o)) (object_of-layout_of (export_object machine dll e))
+      ∙ (ap (λ o. meaning_with (ObjectFile o) tail_file (ObjectFile export)) (object_of-layout_of (head_object machine dll))
+      ∙ (ap (λ o. meaning_with (ObjectFile head) (ObjectFile o) (ObjectFile export)) (object_of-layout_of (tail_object machine dll))
       ∙ (ap (λ a. alias_or_import a (import_of export head tail)) (no_alias machine dll e e.is_data)
       ∙ ap (option_map AnImport) (import_found e sound))))
 
@@ -213,7 +215,7 @@ module _ (machine : MachineType) (dll : List ℕ) (dll_free : holds 0 dll ≡ fa
   weak_planned weak target = refl
 
   chosen_planned : (e : ExportView) (test : Bool) (first second : List ℕ) →
-      map planned (if test then alias_plan machine first e.name e.alias_target ∷ alias_plan machine second (address_symbol e.name) (address_symbol e.alias_target) ∷ [] else [])
+      map planned (if test then alias_spec machine first e.name e.alias_target ∷ alias_spec machine second (address_symbol e.name) (address_symbol e.alias_target) ∷ [] else [])
       ≡ map (λ a. Some (AnAlias a)) (if test then record { weak = e.name; target = e.alias_target } ∷ record { weak = address_symbol e.name; target = address_symbol e.alias_target } ∷ [] else [])
   chosen_planned e false first second = refl
   chosen_planned e true first second =
@@ -222,26 +224,26 @@ module _ (machine : MachineType) (dll : List ℕ) (dll_free : holds 0 dll ≡ fa
       ap (λ x. x ∷ meaning_with head_file tail_file (ObjectFile (object_of (weak_object machine (address_symbol e.name) (address_symbol e.alias_target)))) ∷ []) one
       ∙ ap (λ x. Some (AnAlias (record { weak = e.name; target = e.alias_target })) ∷ x ∷ []) two
 
-  of_export_planned : (number : ℕ) (e : ExportView) → Sound e → map planned (numbered_plans_of machine dll number e) ≡ map (λ m. Some m) (meanings_meant machine dll e)
-  unfolding alias_plans
+  of_export_planned : (number : ℕ) (e : ExportView) → Sound e → map planned (numbered_specs_of machine dll number e) ≡ map (λ m. Some m) (expected_meanings machine dll e)
+  unfolding alias_specs
   of_export_planned number e sound =
-      map-append planned (alias_plans machine dll number e) (export_plan machine dll number e ∷ [])
-      ∙ (ap (λ x. x ++ planned (export_plan machine dll number e) ∷ []) (chosen_planned e (is_alias e.alias_target e.name) _ _)
+      map-append planned (alias_specs machine dll number e) (export_spec machine dll number e ∷ [])
+      ∙ (ap (λ x. x ++ planned (export_spec machine dll number e) ∷ []) (chosen_planned e (is_alias e.alias_target e.name) _ _)
       ∙ (ap (λ x. map (λ a. Some (AnAlias a)) (aliases_for e.name e.alias_target) ++ x ∷ []) (export_planned number e sound)
-      ∙ sym (map-append (λ m. Some m) (map AnAlias (aliases_for e.name e.alias_target)) (AnImport (import_meant machine dll e) ∷ [])
-      ∙ ap (λ x. x ++ Some (AnImport (import_meant machine dll e)) ∷ []) (map_after (λ m. Some m) AnAlias (aliases_for e.name e.alias_target)))))
+      ∙ sym (map-append (λ m. Some m) (map AnAlias (aliases_for e.name e.alias_target)) (AnImport (expected_import machine dll e) ∷ [])
+      ∙ ap (λ x. x ++ Some (AnImport (expected_import machine dll e)) ∷ []) (map_after (λ m. Some m) AnAlias (aliases_for e.name e.alias_target)))))
 
   numbered_planned : (number : ℕ) (exports : List ExportView) → AllByRecursion Sound exports →
-      map planned (numbered_plans machine dll number exports) ≡ map (λ m. Some m) (flat_map (meanings_meant machine dll) exports)
+      map planned (numbered_specs machine dll number exports) ≡ map (λ m. Some m) (flat_map (expected_meanings machine dll) exports)
   numbered_planned number [] sound = refl
   numbered_planned number (e ∷ exports) sound =
-      map-append planned (numbered_plans_of machine dll number e) (numbered_plans machine dll (number + 1) exports)
-      ∙ (ap (λ x. x ++ map planned (numbered_plans machine dll (number + 1) exports)) (of_export_planned number e sound.0)
-      ∙ (ap (λ x. map (λ m. Some m) (meanings_meant machine dll e) ++ x) (numbered_planned (number + 1) exports sound.1)
-      ∙ sym (map-append (λ m. Some m) (meanings_meant machine dll e) (flat_map (meanings_meant machine dll) exports))))
+      map-append planned (numbered_specs_of machine dll number e) (numbered_specs machine dll (number + 1) exports)
+      ∙ (ap (λ x. x ++ map planned (numbered_specs machine dll (number + 1) exports)) (of_export_planned number e sound.0)
+      ∙ (ap (λ x. map (λ m. Some m) (expected_meanings machine dll e) ++ x) (numbered_planned (number + 1) exports sound.1)
+      ∙ sym (map-append (λ m. Some m) (expected_meanings machine dll e) (flat_map (expected_meanings machine dll) exports))))
 
   -- the code of a plan's file
-  abbrev planned_code : Plan → Option (List CodeRelocation)
+  abbrev planned_code : MemberSpec → Option (List CodeRelocation)
   planned_code p = code_of_export (file_of p.contents)
 
   weak_code : (weak target : List ℕ) → code_of_export (ObjectFile (object_of (weak_object machine weak target))) ≡ None
@@ -249,111 +251,111 @@ module _ (machine : MachineType) (dll : List ℕ) (dll_free : holds 0 dll ≡ fa
   weak_code weak target = refl
 
   chosen_code : (e : ExportView) (test : Bool) (first second : List ℕ) →
-      filter_map planned_code (if test then alias_plan machine first e.name e.alias_target ∷ alias_plan machine second (address_symbol e.name) (address_symbol e.alias_target) ∷ [] else []) ≡ []
+      filter_map planned_code (if test then alias_spec machine first e.name e.alias_target ∷ alias_spec machine second (address_symbol e.name) (address_symbol e.alias_target) ∷ [] else []) ≡ []
   chosen_code e false first second = refl
   chosen_code e true first second = rw (weak_code e.name e.alias_target, weak_code (address_symbol e.name) (address_symbol e.alias_target)) refl
 
-  export_code : (number : ℕ) (e : ExportView) → planned_code (export_plan machine dll number e) ≡ Some (code_meant machine e)
-  unfolding export_plan
+  export_code : (number : ℕ) (e : ExportView) → planned_code (export_spec machine dll number e) ≡ Some (expected_code machine e)
+  unfolding export_spec
   export_code number e =
-      let export = object_held (export_object machine dll e) in
-      ap (λ o. code_of_export (ObjectFile o)) (object_of-picture_of (export_object machine dll e))
+      let export = written_object (export_object machine dll e) in
+      ap (λ o. code_of_export (ObjectFile o)) (object_of-layout_of (export_object machine dll e))
       ∙ (ap (λ a. elim a [ None ↦ code_relocations export | Some found ↦ None ]) (no_alias machine dll e e.is_data) ∙ code_by machine dll e e.is_data)
 
   one_kept : {X Y : Type 0} (f : X → Option Y) (x : X) (y : Y) → f x ≡ Some y → filter_map f (x ∷ []) ≡ y ∷ []
   one_kept f x y same = rw same refl
 
-  of_export_code : (number : ℕ) (e : ExportView) → filter_map planned_code (numbered_plans_of machine dll number e) ≡ code_meant machine e ∷ []
-  unfolding alias_plans
+  of_export_code : (number : ℕ) (e : ExportView) → filter_map planned_code (numbered_specs_of machine dll number e) ≡ expected_code machine e ∷ []
+  unfolding alias_specs
   of_export_code number e =
-      filter_map-append planned_code (alias_plans machine dll number e) (export_plan machine dll number e ∷ [])
-      ∙ (ap (λ x. x ++ filter_map planned_code (export_plan machine dll number e ∷ [])) (chosen_code e (is_alias e.alias_target e.name) _ _)
-      ∙ one_kept planned_code (export_plan machine dll number e) (code_meant machine e) (export_code number e))
+      filter_map-append planned_code (alias_specs machine dll number e) (export_spec machine dll number e ∷ [])
+      ∙ (ap (λ x. x ++ filter_map planned_code (export_spec machine dll number e ∷ [])) (chosen_code e (is_alias e.alias_target e.name) _ _)
+      ∙ one_kept planned_code (export_spec machine dll number e) (expected_code machine e) (export_code number e))
 
-  numbered_code : (number : ℕ) (exports : List ExportView) → filter_map planned_code (numbered_plans machine dll number exports) ≡ map (code_meant machine) exports
+  numbered_code : (number : ℕ) (exports : List ExportView) → filter_map planned_code (numbered_specs machine dll number exports) ≡ map (expected_code machine) exports
   numbered_code number [] = refl
   numbered_code number (e ∷ exports) =
-      filter_map-append planned_code (numbered_plans_of machine dll number e) (numbered_plans machine dll (number + 1) exports)
-      ∙ (ap (λ x. x ++ filter_map planned_code (numbered_plans machine dll (number + 1) exports)) (of_export_code number e)
-      ∙ ap (λ x. code_meant machine e ∷ x) (numbered_code (number + 1) exports))
+      filter_map-append planned_code (numbered_specs_of machine dll number e) (numbered_specs machine dll (number + 1) exports)
+      ∙ (ap (λ x. x ++ filter_map planned_code (numbered_specs machine dll (number + 1) exports)) (of_export_code number e)
+      ∙ ap (λ x. expected_code machine e ∷ x) (numbered_code (number + 1) exports))
 
   -- the imports and the aliases among what is meant
-  one_import : (e : ExportView) → filter_map import_among (meanings_meant machine dll e) ≡ import_meant machine dll e ∷ []
+  one_import : (e : ExportView) → filter_map import_among (expected_meanings machine dll e) ≡ expected_import machine dll e ∷ []
   one_import e =
-      filter_map-append import_among (map AnAlias (aliases_for e.name e.alias_target)) (AnImport (import_meant machine dll e) ∷ [])
-      ∙ ap (λ x. x ++ import_meant machine dll e ∷ []) (no_imports (aliases_for e.name e.alias_target))
+      filter_map-append import_among (map AnAlias (aliases_for e.name e.alias_target)) (AnImport (expected_import machine dll e) ∷ [])
+      ∙ ap (λ x. x ++ expected_import machine dll e ∷ []) (no_imports (aliases_for e.name e.alias_target))
 
-  pub all_imports : (exports : List ExportView) → filter_map import_among (flat_map (meanings_meant machine dll) exports) ≡ map (import_meant machine dll) exports
+  pub all_imports : (exports : List ExportView) → filter_map import_among (flat_map (expected_meanings machine dll) exports) ≡ map (expected_import machine dll) exports
   all_imports [] = refl
   all_imports (e ∷ exports) =
-      filter_map-append import_among (meanings_meant machine dll e) (flat_map (meanings_meant machine dll) exports)
-      ∙ (ap (λ x. x ++ filter_map import_among (flat_map (meanings_meant machine dll) exports)) (one_import e)
-      ∙ ap (λ x. import_meant machine dll e ∷ x) (all_imports exports))
+      filter_map-append import_among (expected_meanings machine dll e) (flat_map (expected_meanings machine dll) exports)
+      ∙ (ap (λ x. x ++ filter_map import_among (flat_map (expected_meanings machine dll) exports)) (one_import e)
+      ∙ ap (λ x. expected_import machine dll e ∷ x) (all_imports exports))
 
-  its_aliases : (e : ExportView) → filter_map alias_among (meanings_meant machine dll e) ≡ aliases_for e.name e.alias_target
+  its_aliases : (e : ExportView) → filter_map alias_among (expected_meanings machine dll e) ≡ aliases_for e.name e.alias_target
   its_aliases e =
-      filter_map-append alias_among (map AnAlias (aliases_for e.name e.alias_target)) (AnImport (import_meant machine dll e) ∷ [])
+      filter_map-append alias_among (map AnAlias (aliases_for e.name e.alias_target)) (AnImport (expected_import machine dll e) ∷ [])
       ∙ (ap (λ x. x ++ []) (all_aliases (aliases_for e.name e.alias_target)) ∙ append-nil (aliases_for e.name e.alias_target))
 
-  pub aliases_among : (exports : List ExportView) → filter_map alias_among (flat_map (meanings_meant machine dll) exports) ≡ flat_map (λ e. aliases_for e.name e.alias_target) exports
+  pub aliases_among : (exports : List ExportView) → filter_map alias_among (flat_map (expected_meanings machine dll) exports) ≡ flat_map (λ e. aliases_for e.name e.alias_target) exports
   aliases_among [] = refl
   aliases_among (e ∷ exports) =
-      filter_map-append alias_among (meanings_meant machine dll e) (flat_map (meanings_meant machine dll) exports)
-      ∙ (ap (λ x. x ++ filter_map alias_among (flat_map (meanings_meant machine dll) exports)) (its_aliases e)
+      filter_map-append alias_among (expected_meanings machine dll e) (flat_map (expected_meanings machine dll) exports)
+      ∙ (ap (λ x. x ++ filter_map alias_among (flat_map (expected_meanings machine dll) exports)) (its_aliases e)
       ∙ ap (λ x. aliases_for e.name e.alias_target ++ x) (aliases_among exports))
 
 -- The members.
 
-read_meaning : (head tail : File) (plans : List Plan) → AllByRecursion (λ p. ReadsBack p.contents) plans →
-    map (λ (m : MemberView). option_and_then (meaning_with head tail) (file_in m.bytes)) (map member_of plans) ≡ map (λ (p : Plan). meaning_with head tail (file_of p.contents)) plans
+read_meaning : (head tail : File) (specs : List MemberSpec) → AllByRecursion (λ p. ReadsBack p.contents) specs →
+    map (λ (m : MemberView). option_and_then (meaning_with head tail) (file_in m.bytes)) (map member_of specs) ≡ map (λ (p : MemberSpec). meaning_with head tail (file_of p.contents)) specs
 read_meaning head tail [] reads = refl
-read_meaning head tail (p ∷ plans) reads =
-    ap (λ x. option_and_then (meaning_with head tail) x ∷ map (λ (m : MemberView). option_and_then (meaning_with head tail) (file_in m.bytes)) (map member_of plans)) reads.0.read
-    ∙ ap (λ x. meaning_with head tail (file_of p.contents) ∷ x) (read_meaning head tail plans reads.1)
+read_meaning head tail (p ∷ specs) reads =
+    ap (λ x. option_and_then (meaning_with head tail) x ∷ map (λ (m : MemberView). option_and_then (meaning_with head tail) (file_in m.bytes)) (map member_of specs)) reads.0.read
+    ∙ ap (λ x. meaning_with head tail (file_of p.contents) ∷ x) (read_meaning head tail specs reads.1)
 
-read_code : (plans : List Plan) → AllByRecursion (λ p. ReadsBack p.contents) plans →
-    filter_map (λ (m : MemberView). option_and_then code_of_export (file_in m.bytes)) (map member_of plans) ≡ filter_map (λ (p : Plan). code_of_export (file_of p.contents)) plans
+read_code : (specs : List MemberSpec) → AllByRecursion (λ p. ReadsBack p.contents) specs →
+    filter_map (λ (m : MemberView). option_and_then code_of_export (file_in m.bytes)) (map member_of specs) ≡ filter_map (λ (p : MemberSpec). code_of_export (file_of p.contents)) specs
 read_code [] reads = refl
-read_code (p ∷ plans) reads = rw (reads.0.read, read_code plans reads.1) refl
+read_code (p ∷ specs) reads = rw (reads.0.read, read_code specs reads.1) refl
 
 reversed_all : {X : Type 0} (P : X → Type 0) (xs : List X) → AllByRecursion P xs → AllByRecursion P (reverse xs)
 reversed_all P [] all = tt
 reversed_all P (x ∷ xs) all = subst (AllByRecursion P) (sym (reverse-append (x ∷ []) xs)) (all_append P (reverse xs) (x ∷ []) (reversed_all P xs all.1) (all.0, tt))
 
 -- the members of a definition that is not refused are read as the definition means
-module _ (d : DefinitionView) (machine : MachineType) (members : List MemberView) (made : Made d machine Gnu members) where
+module _ (d : DefinitionView) (machine : MachineType) (members : List MemberView) (made : AreMembersOf d machine Gnu members) where
   abbrev exports : List ExportView
   exports = public_exports (renamed d)
 
-  abbrev built : List Plan
-  built = numbered_plans machine d.import_name 0 exports
+  abbrev built : List MemberSpec
+  built = numbered_specs machine d.import_name 0 exports
 
   free : holds 0 d.import_name ≡ false
   free = import_name_is_free d machine Gnu members made
 
-  tail_short : (is_too_long (tail_plan machine d.import_name) ≡ false) × (is_too_long (head_plan machine d.import_name) || list_any is_too_long (reverse built) ≡ false)
-  tail_short = or_parts (is_too_long (tail_plan machine d.import_name)) _ (none_long d machine Gnu members made)
+  tail_short : (is_too_long (tail_spec machine d.import_name) ≡ false) × (is_too_long (head_spec machine d.import_name) || list_any is_too_long (reverse built) ≡ false)
+  tail_short = or_parts (is_too_long (tail_spec machine d.import_name)) _ (none_long d machine Gnu members made)
 
-  head_short : (is_too_long (head_plan machine d.import_name) ≡ false) × (list_any is_too_long (reverse built) ≡ false)
-  head_short = or_parts (is_too_long (head_plan machine d.import_name)) (list_any is_too_long (reverse built)) tail_short.1
+  head_short : (is_too_long (head_spec machine d.import_name) ≡ false) × (list_any is_too_long (reverse built) ≡ false)
+  head_short = or_parts (is_too_long (head_spec machine d.import_name)) (list_any is_too_long (reverse built)) tail_short.1
 
   built_read : AllByRecursion (λ p. ReadsBack p.contents) built
   built_read = numbered_read machine d.import_name free 0 exports (exports_sound d machine Gnu members made) (sym (list_any-reverse is_too_long built) ∙ head_short.1)
 
-  tail_back : ReadsBack (AnObject (picture_of (tail_object machine d.import_name)))
-  unfolding tail_plan
-  tail_back = held_reads (tail_object machine d.import_name) (Fits-tail_object machine d.import_name free) (short_enough (tail_plan machine d.import_name) tail_short.0)
+  tail_back : ReadsBack (AnObject (layout_of (tail_object machine d.import_name)))
+  unfolding tail_spec
+  tail_back = held_reads (tail_object machine d.import_name) (Fits-tail_object machine d.import_name free) (short_enough (tail_spec machine d.import_name) tail_short.0)
 
-  head_back : ReadsBack (AnObject (picture_of (head_object machine d.import_name)))
-  unfolding head_plan
-  head_back = held_reads (head_object machine d.import_name) (Fits-head_object machine d.import_name free) (short_enough (head_plan machine d.import_name) head_short.0)
+  head_back : ReadsBack (AnObject (layout_of (head_object machine d.import_name)))
+  unfolding head_spec
+  head_back = held_reads (head_object machine d.import_name) (Fits-head_object machine d.import_name free) (short_enough (head_spec machine d.import_name) head_short.0)
 
-  plans_read : AllByRecursion (λ p. ReadsBack p.contents) (plans_of (renamed d) machine Gnu)
-  unfolding tail_plan head_plan
-  plans_read = (tail_back, (head_back, reversed_all (λ (p : Plan). ReadsBack p.contents) built built_read))
+  plans_read : AllByRecursion (λ p. ReadsBack p.contents) (member_specs (renamed d) machine Gnu)
+  unfolding tail_spec head_spec
+  plans_read = (tail_back, (head_back, reversed_all (λ (p : MemberSpec). ReadsBack p.contents) built built_read))
 
-  of_members : {Y : Type 0} (f : MemberView → Y) → map f members ≡ map (λ p. f (member_of p)) (plans_of (renamed d) machine Gnu)
-  of_members f = ap (map f) made.made ∙ map_after f member_of (plans_of (renamed d) machine Gnu)
+  of_members : {Y : Type 0} (f : MemberView → Y) → map f members ≡ map (λ p. f (member_of p)) (member_specs (renamed d) machine Gnu)
+  of_members f = ap (map f) made.made ∙ map_after f member_of (member_specs (renamed d) machine Gnu)
 
   -- the members behind the tail and the head, turned round, are those that were built
   behind : reverse (drop 2 members) ≡ map member_of built
@@ -361,33 +363,33 @@ module _ (d : DefinitionView) (machine : MachineType) (members : List MemberView
       ap (λ (x : List MemberView). reverse (drop 2 x)) made.made
       ∙ (sym (map-reverse member_of (reverse built)) ∙ ap (map member_of) (reverse-reverse built))
 
-  first_file : file_at (map member_of (plans_of (renamed d) machine Gnu)) 0 ≡ Some (tail_file machine d.import_name free)
-  unfolding tail_plan
+  first_file : file_at (map member_of (member_specs (renamed d) machine Gnu)) 0 ≡ Some (tail_file machine d.import_name free)
+  unfolding tail_spec
   first_file = tail_back.read
 
-  second_file : file_at (map member_of (plans_of (renamed d) machine Gnu)) 1 ≡ Some (head_file machine d.import_name free)
-  unfolding head_plan
+  second_file : file_at (map member_of (member_specs (renamed d) machine Gnu)) 1 ≡ Some (head_file machine d.import_name free)
+  unfolding head_spec
   second_file = head_back.read
 
-  pub reads_for_gnu : ReadsForGnu d machine members
+  pub reads_for_gnu : GnuReadBack d machine members
   reads_for_gnu = record {
     files = of_members (λ m. file_in m.bytes)
-        ∙ map_same (λ p. file_in (contents_bytes p.contents)) (λ p. Some (file_of p.contents)) (plans_of (renamed d) machine Gnu)
-        (each_read (plans_of (renamed d) machine Gnu) plans_read);
+        ∙ map_same (λ p. file_in (file_bytes p.contents)) (λ p. Some (file_of p.contents)) (member_specs (renamed d) machine Gnu)
+        (each_read (member_specs (renamed d) machine Gnu) plans_read);
     lengths = of_members (λ m. length m.bytes)
-        ∙ map_same (λ p. length (contents_bytes p.contents)) (λ p. contents_size p.contents) (plans_of (renamed d) machine Gnu)
-        (each_length (plans_of (renamed d) machine Gnu) plans_read);
+        ∙ map_same (λ p. length (file_bytes p.contents)) (λ p. file_size p.contents) (member_specs (renamed d) machine Gnu)
+        (each_length (member_specs (renamed d) machine Gnu) plans_read);
     declared =
         of_members (λ m. option_map declared_by (file_in m.bytes))
-        ∙ (map_same (λ (p : Plan). option_map declared_by (file_in (contents_bytes p.contents))) (λ (p : Plan). Some p.listed) (plans_of (renamed d) machine Gnu)
-        (read_declares (plans_of (renamed d) machine Gnu) plans_read
+        ∙ (map_same (λ (p : MemberSpec). option_map declared_by (file_in (file_bytes p.contents))) (λ (p : MemberSpec). Some p.listed) (member_specs (renamed d) machine Gnu)
+        (read_declares (member_specs (renamed d) machine Gnu) plans_read
         (tail_declares machine d.import_name, (head_declares machine d.import_name, reversed_all DeclaresListed built (numbered_declare machine d.import_name 0 exports))))
         ∙ sym (of_members (λ m. Some m.symbols)));
     tail = tail_file machine d.import_name free;
     head = head_file machine d.import_name free;
     tail_read = ap (λ (x : List MemberView). file_at x 0) made.made ∙ first_file;
     head_read = ap (λ (x : List MemberView). file_at x 1) made.made ∙ second_file;
-    meanings = flat_map (meanings_meant machine d.import_name) exports;
+    meanings = flat_map (expected_meanings machine d.import_name) exports;
     meanings_read =
         ap (map (λ (m : MemberView). option_and_then (meaning_with (head_file machine d.import_name free) (tail_file machine d.import_name free)) (file_in m.bytes))) behind
         ∙ (read_meaning (head_file machine d.import_name free) (tail_file machine d.import_name free) built built_read

@@ -6,11 +6,11 @@ use Rattle.std.proofs.lemmas.Bool.{eqb-true, le-leb, ltb-true}
 use Rattle.implib.specs.declared.machine.MachineType.{MachineType}
 use Rattle.implib.specs.declared.machine.MachineType.TheVariants.{I386, ARMNT, AMD64, ARM64}
 use Rattle.implib.specs.Definition.{ExportView}
-use Rattle.implib.specs.Import.{Ordinal, Name, holds, begins_with, underscore, import_symbols, import_meant, ask_meant, asked_name, without_first}
+use Rattle.implib.specs.Import.{Ordinal, Name, holds, begins_with, underscore, import_symbols, expected_import, expected_ask, asked_name, without_first}
 use Rattle.implib.specs.Machine.{machine_number}
-use Rattle.implib.specs.Msvc.{record_of, record_symbol, symbol_or_name, kind_of, name_type_of, record_listed}
-use Rattle.implib.specs.Reads.{FitsRecord, import_written, ask_written}
-use Rattle.implib.specs.Record.{ShortRecord, import_of_record, asked_by_name_type, import_ordinal, import_name_undecorate, import_code, import_data, import_const, without_prefix}
+use Rattle.implib.specs.Msvc.{short_import_of, short_import_symbol, symbol_or_name, kind_of, name_type_of, short_import_listed}
+use Rattle.implib.specs.ReadBack.{FitsRecord, import_written, ask_written}
+use Rattle.implib.specs.ShortImport.{ShortImport, import_of_short_import, asked_by_name_type, import_ordinal, import_name_undecorate, import_code, import_data, import_const, without_prefix}
 use Rattle.std.proofs.lemmas.Slice.Eq.{bytes_eq-Decides}
 
 machine_number_fits : (machine : MachineType) → machine_number machine < 2 ^ 16
@@ -30,9 +30,9 @@ symbol_without_nul [] name symbol_free name_free = name_free
 symbol_without_nul (b ∷ symbol) name symbol_free name_free = symbol_free
 
 -- the record of an export without NULs has room for its fields
-pub FitsRecord-record_of : (machine : MachineType) (dll : List ℕ) (e : ExportView) → holds 0 e.name ≡ false → holds 0 e.symbol_name ≡ false →
-    holds 0 dll ≡ false → nat_lt e.ordinal 0x1_0000 ≡ true → FitsRecord (record_of machine dll e)
-FitsRecord-record_of machine dll e name_free symbol_free dll_free ordinal = record {
+pub FitsRecord-short_import_of : (machine : MachineType) (dll : List ℕ) (e : ExportView) → holds 0 e.name ≡ false → holds 0 e.symbol_name ≡ false →
+    holds 0 dll ≡ false → nat_lt e.ordinal 0x1_0000 ≡ true → FitsRecord (short_import_of machine dll e)
+FitsRecord-short_import_of machine dll e name_free symbol_free dll_free ordinal = record {
   version = omega arith;
   machine = machine_number_fits machine;
   time = omega arith;
@@ -44,9 +44,9 @@ FitsRecord-record_of machine dll e name_free symbol_free dll_free ordinal = reco
 }
 
 -- a record whose types have a meaning stands for the import that they say
-import_by_types : (r : ShortRecord) (is_data no_name : Bool) → nat_le r.kind import_const ≡ true → nat_le r.name_type import_name_undecorate ≡ true →
+import_by_types : (r : ShortImport) (is_data no_name : Bool) → nat_le r.kind import_const ≡ true → nat_le r.name_type import_name_undecorate ≡ true →
     (r.kind == import_data) ≡ is_data → (r.name_type == import_ordinal) ≡ no_name →
-    import_of_record r ≡ Some record {
+    import_of_short_import r ≡ Some record {
       dll = r.dll;
       declared = import_symbols is_data r.symbol;
       ask = if no_name then Ordinal r.ordinal else Name (asked_by_name_type r.name_type r.symbol) r.ordinal;
@@ -62,9 +62,9 @@ name_type_is_ordinal : (machine : MachineType) (e : ExportView) → (name_type_o
 name_type_is_ordinal machine e = grind (arith, nat_tests)
 
 -- the import that the record of an export stands for
-pub import_of_record-record_of : (machine : MachineType) (dll : List ℕ) (e : ExportView) → import_of_record (record_of machine dll e) ≡ Some (import_written machine dll e)
-import_of_record-record_of machine dll e =
-    import_by_types (record_of machine dll e) e.is_data e.no_name
+pub import_of_short_import-short_import_of : (machine : MachineType) (dll : List ℕ) (e : ExportView) → import_of_short_import (short_import_of machine dll e) ≡ Some (import_written machine dll e)
+import_of_short_import-short_import_of machine dll e =
+    import_by_types (short_import_of machine dll e) e.is_data e.no_name
     (le-leb (kind_of e) import_const (kind_of_fits e))
     (le-leb (name_type_of machine e) import_name_undecorate (name_type_of_fits machine e))
     (kind_is_data e.is_data e.constant)
@@ -76,7 +76,7 @@ without_prefix-underscore (b ∷ name) begins = let same : b ≡ underscore = eq
 
 -- by its name type, the record of an export without a symbol name asks for what is meant
 asked-meant : (machine : MachineType) (e : ExportView) → e.symbol_name ≡ [] → e.no_name ≡ false → bytes_eq e.name e.name ≡ true →
-    asked_by_name_type (name_type_of machine e) (record_symbol e) ≡ asked_name machine e.name
+    asked_by_name_type (name_type_of machine e) (short_import_symbol e) ≡ asked_name machine e.name
 asked-meant machine e plain named same = grind (arith, nat_tests, without_prefix-underscore e.name, plain, named, same)
 
 same_ask : (no_name : Bool) (ordinal : ℕ) (written meant : List ℕ) → (no_name ≡ false → written ≡ meant) →
@@ -85,13 +85,13 @@ same_ask true ordinal written meant same = refl
 same_ask false ordinal written meant same = ap (λ x. Name x ordinal) (same refl)
 
 -- an export without a symbol name asks for what it means to ask for
-pub ask_written-meant : (machine : MachineType) (e : ExportView) → e.symbol_name ≡ [] → ask_written machine e ≡ ask_meant machine e
+pub ask_written-meant : (machine : MachineType) (e : ExportView) → e.symbol_name ≡ [] → ask_written machine e ≡ expected_ask machine e
 ask_written-meant machine e plain =
     same_ask e.no_name e.ordinal _ _ (λ named. asked-meant machine e plain named ((bytes_eq-Decides e.name e.name).1 refl))
 
 -- and its record stands for the import that it means
-pub import_written-meant : (machine : MachineType) (dll : List ℕ) (e : ExportView) → e.symbol_name ≡ [] → import_written machine dll e ≡ import_meant machine dll e
+pub import_written-meant : (machine : MachineType) (dll : List ℕ) (e : ExportView) → e.symbol_name ≡ [] → import_written machine dll e ≡ expected_import machine dll e
 import_written-meant machine dll e plain =
-    let listed : record_listed e ≡ import_symbols e.is_data e.name = ap (λ (s : List ℕ). import_symbols e.is_data (symbol_or_name s e.name)) plain in
+    let listed : short_import_listed e ≡ import_symbols e.is_data e.name = ap (λ (s : List ℕ). import_symbols e.is_data (symbol_or_name s e.name)) plain in
     let asks = ask_written-meant machine e plain in
     rw (listed, asks) refl

@@ -1,8 +1,8 @@
 -- The lengths of what is laid out for a borrowed picture.
 use Rattle.std.proofs.Common.{◌≡◌, ℕ, ◌+◌, ◌-◌, ◌<◌, List, [], ◌∷◌, ◌++◌, length, map, flat_map, sum_by, take, get_or, replicate, add-zero, append_assoc, length-append, ap, sym, ◌∙◌, arith, refl}
 use Rattle.implib.specs.declared.coff.object.Section.{Section}
-use Rattle.implib.specs.Picture.{InRecord, Listed, PictureSymbol, SymbolName, auxiliary_bytes, contents, contents_size, name_field, section_header, section_headers, string_bytes_of, string_size, symbol_bytes}
-use Rattle.implib.specs.PictureView.{FitsField}
+use Rattle.implib.specs.Layout.{InRecord, InStringTable, LayoutSymbol, SymbolName, auxiliary_bytes, contents, contents_size, name_field, section_header, section_headers, string_bytes_of, string_size, symbol_bytes}
+use Rattle.implib.specs.LayoutView.{FitsField}
 use Rattle.implib.specs.Writer.{section_view}
 use Rattle.implib.specs.Object.{ObjectSection}
 use Rattle.implib.specs.Bytes.{u16_bytes, u32_bytes}
@@ -23,10 +23,10 @@ length-viewed_strings ss = sym (ap length (flat_map-map string_bytes_of (λ text
 length-field : (offsets : List ℕ) (count : ℕ) (name : SymbolName) → FitsField count name → length (name_field offsets name) ≡ 8
 unfolding name_field u32_bytes
 length-field offsets count (InRecord text) fits = omega (arith, length-append text (replicate (8 - length text) 0), length-replicate {A = ℕ} (8 - length text) 0)
-length-field offsets count (Listed index) fits = refl
+length-field offsets count (InStringTable index) fits = refl
 
 -- a symbol's own record has 18 bytes
-pub length-one_symbol : (offsets : List ℕ) (count : ℕ) (s : PictureSymbol) → FitsField count s.name → length (symbol_bytes offsets s) ≡ 18 + length (auxiliary_bytes s.aux)
+pub length-one_symbol : (offsets : List ℕ) (count : ℕ) (s : LayoutSymbol) → FitsField count s.name → length (symbol_bytes offsets s) ≡ 18 + length (auxiliary_bytes s.aux)
 unfolding symbol_bytes u16_bytes u32_bytes
 length-one_symbol offsets count s fits = length-append (name_field offsets s.name) _ ∙ (rw (length-field offsets count s.name fits) (omega arith))
 

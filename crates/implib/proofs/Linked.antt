@@ -11,14 +11,14 @@ use Rattle.implib.specs.declared.machine.MachineType.TheVariants.{I386, ARMNT, A
 use Rattle.implib.specs.Bytes.{u32_bytes}
 use Rattle.implib.specs.Definition.{ExportView}
 use Rattle.implib.specs.Gnu.{export_object, head_object, head_symbol, hint_name_symbol, name_symbol, relocations_of_stub, relocations_of_thunk, stub_relocations, tail_object}
-use Rattle.implib.specs.Import.{Ask, address_symbol, ask_meant}
+use Rattle.implib.specs.Import.{Ask, address_symbol, expected_ask}
 use Rattle.implib.specs.Image.{Contribution, Range, filled, contributions, range_end, range_of, relocated, with_address}
 use Rattle.implib.specs.Placement.{Addresses, Bases, Descriptors, DllNames, HintNames, Lookups, Placed, next_multiple, placed_from}
 use Rattle.implib.specs.Resolution.{SymbolDefinition, definitions, definitions_of, first_address, symbol_address}
 use Rattle.implib.specs.Load.{BytesAt, LoadsStrictly, NumberAt, TableAt, TextAt, number_in}
-use Rattle.implib.specs.MsvcObjects.{relocation, thunk_width, zeros}
+use Rattle.implib.specs.ImportTables.{relocation, thunk_width, zeros}
 use Rattle.implib.specs.Object.{Object, u32_at}
-use Rattle.implib.specs.Picture.{HasNoNul}
+use Rattle.implib.specs.Layout.{HasNoNul}
 use Rattle.implib.specs.Linked.{AllFind, EntriesAt, FindsTarget, IsDefinedAt, LinksStrictlyAt, undefined_names}
 use Rattle.implib.proofs.Ranges.{Among, address_bounds, among_back, among_first, among_later, stands_parts}
 use Rattle.implib.proofs.Placement.{AreAligned, descriptors_end, address_definition, after_head, aligned_after, aligned_all, aligned_head, at_least, code_definition, defined_after, definitions-after, ends_of_all, ends_of_export, ends_of_exports, ends_of_head, ends_of_tail, head, placed-export, placed-head, placed-tail, placed_export, placed_head}
@@ -371,20 +371,20 @@ module _ (machine : MachineType) (dll : List ℕ) (es : List ExportView) (b : Ba
   table_bounds a [] table = number_bounds a (thunk_width machine) 0 (wide machine) table
   table_bounds a (ask ∷ asks) table = number_bounds a (thunk_width machine) table.0.thunk (wide machine) table.0.stands
 
-  lookup_table : StrictTableAt image (thunk_width machine) b.lookups (map (ask_meant machine) es)
+  lookup_table : StrictTableAt image (thunk_width machine) b.lookups (map (expected_ask machine) es)
   lookup_table = table_at machine dll linked image starts ends es later b.lookups fit lookups_parts.0 hints_parts.0
 
-  address_table : StrictTableAt image (thunk_width machine) b.addresses (map (ask_meant machine) es)
+  address_table : StrictTableAt image (thunk_width machine) b.addresses (map (expected_ask machine) es)
   address_table = table_at machine dll linked image starts ends es later b.addresses fit addresses_parts.0 hints_parts.0
 
   name_text : TextAt image name_place dll
   name_text = record { no_nul = dll_text; stands = name_parts.0 }
 
   lookups_bounds : (0 < b.lookups) × (b.lookups < 2 ^ 31)
-  lookups_bounds = table_bounds b.lookups (map (ask_meant machine) es) lookup_table.plain
+  lookups_bounds = table_bounds b.lookups (map (expected_ask machine) es) lookup_table.plain
 
   addresses_bounds : (0 < b.addresses) × (b.addresses < 2 ^ 31)
-  addresses_bounds = table_bounds b.addresses (map (ask_meant machine) es) address_table.plain
+  addresses_bounds = table_bounds b.addresses (map (expected_ask machine) es) address_table.plain
 
   name_bounds : (0 < name_place) × (name_place < 2 ^ 31)
   name_bounds =
@@ -427,7 +427,7 @@ module _ (machine : MachineType) (dll : List ℕ) (es : List ExportView) (b : Ba
         addresses = field_stands image (b.descriptors + 16) b.addresses addresses_bounds.1 (subst (λ n. BytesAt image n third) at_addresses last.1);
       }
 
-  block_loads : LoadsStrictly image (thunk_width machine) b.descriptors dll (map (ask_meant machine) es)
+  block_loads : LoadsStrictly image (thunk_width machine) b.descriptors dll (map (expected_ask machine) es)
   block_loads = record {
     plain = record {
       lookups = b.lookups;

@@ -11,7 +11,7 @@ use Rattle.implib.specs.Placement.{Addresses, Bases, Descriptors, DllNames, Hint
 use Rattle.implib.specs.Resolution.{SymbolDefinition, definitions, definitions_of}
 use Rattle.implib.specs.Load.{BytesAt}
 use Rattle.implib.specs.Object.{Object}
-use Rattle.implib.specs.Picture.{HasNoNul}
+use Rattle.implib.specs.Layout.{HasNoNul}
 use Rattle.implib.specs.Linked.{AllFind, IsDefinedAt, IsDefinedOnce, Links, LinksAt, LinksStrictlyAt, undefined_names}
 use Rattle.implib.proofs.Ranges.{Among, among_back, among_flat, among_front, filled_stands}
 use Rattle.implib.proofs.Placement.{AreAligned, after_head, head, names-after}

@@ -15,29 +15,31 @@ use Rattle.implib.specs.Gnu.{head_symbol, name_symbol, export_listed, export_nam
 use Rattle.implib.specs.Import.{asked_name, holds, has_underscore, public_exports, without_first}
 use Rattle.implib.specs.Image.{IsAdmissible}
 use Rattle.implib.specs.Placement.{Bases}
-use Rattle.implib.specs.Made.{Made, MemberView, Plan, alias_plans, contents_size, export_plan, gnu_plans, head_plan, is_too_long, member_of, numbered_plans, numbered_plans_of, tail_plan}
+use Rattle.implib.specs.Members.{AreMembersOf, is_too_long}
+use Rattle.implib.specs.MemberSpec.{MemberView, MemberSpec, file_size, member_of}
+use Rattle.implib.specs.GnuMembers.{alias_specs, export_spec, gnu_specs, head_spec, numbered_specs, numbered_specs_of, tail_spec}
 use Rattle.implib.specs.Object.{object_in}
-use Rattle.implib.specs.Picture.{Fits, layout, layout_size}
+use Rattle.implib.specs.Layout.{Fits, encoded, encoded_size}
 use Rattle.implib.specs.Renaming.{renamed}
 use Rattle.implib.specs.Linked.{Links}
-use Rattle.implib.specs.LinkedMembers.{AllRise, ComesBefore, chosen_exports, linked_members, linked_plans, objects_in, plan_numbered}
-use Rattle.implib.specs.Writer.{Holding, object_held, picture_of}
+use Rattle.implib.specs.LinkedMembers.{AllRise, ComesBefore, chosen_exports, linked_members, linked_specs, objects_in, numbered_spec}
+use Rattle.implib.specs.Writer.{WriterState, written_object, layout_of}
 use Rattle.implib.proofs.GnuObjects.{Fits-export_object, Fits-head_object, Fits-tail_object}
 use Rattle.implib.proofs.LinkedBlocks.{linked_objects, linked_symbols, objects_link}
 use Rattle.implib.proofs.MemberReadings.{map_after}
 use Rattle.implib.proofs.MsvcObjects.{HasNoNul-from_holds}
 use Rattle.implib.proofs.NotRefused.{Sound, exports_sound, import_name_is_free, none_long, short_enough}
-use Rattle.implib.proofs.ObjectReading.{object_in-layout}
+use Rattle.implib.proofs.ObjectReading.{object_in-encoded}
 use Rattle.implib.proofs.Placement.{export, head, tail}
 use Rattle.implib.proofs.Ranges.{Among, among_back, among_first, among_front, among_later}
 use Rattle.implib.proofs.Tables.{CanBeAsked}
-use Rattle.implib.proofs.WriterPicture.{object_of-picture_of}
+use Rattle.implib.proofs.WriterLayout.{object_of-layout_of}
 
 -- what a writer wrote reads as what it holds
-held_reads : (h : Holding) → Fits (picture_of h) → layout_size (picture_of h) ≤ 0xFFFF_FFFF → object_in (layout (picture_of h)) ≡ Some (object_held h)
+held_reads : (h : WriterState) → Fits (layout_of h) → encoded_size (layout_of h) ≤ 0xFFFF_FFFF → object_in (encoded (layout_of h)) ≡ Some (written_object h)
 held_reads h fits short =
-    let below : layout_size (picture_of h) < 2 ^ 32 = omega arith in
-    object_in-layout (picture_of h) fits below ∙ ap Some (object_of-picture_of h)
+    let below : encoded_size (layout_of h) < 2 ^ 32 = omega arith in
+    object_in-encoded (layout_of h) fits below ∙ ap Some (object_of-layout_of h)
 
 -- what holds of each holds of the one at a place
 pub all_at : {X : Type 0} (P : X → Type 0) (xs : List X) (n : ℕ) (x : X) → AllByRecursion P xs → slice_get xs n ≡ Some x → P x
@@ -88,21 +90,21 @@ unfolding present
 present-some [] = refl
 present-some (x ∷ xs) = ap (λ rest. x ∷ rest) (present-some xs)
 
--- the plan of each export is among those of the definition
+-- the specification of each export is among those of the definition
 numbered_among : (machine : MachineType) (dll : List ℕ) (exports : List ExportView) (start n : ℕ) (e : ExportView) → slice_get exports n ≡ Some e →
-    Among (export_plan machine dll (start + n) e) (numbered_plans machine dll start exports)
+    Among (export_spec machine dll (start + n) e) (numbered_specs machine dll start exports)
 numbered_among machine dll [] start n e is = cc
 numbered_among machine dll (x ∷ exports) start zero e is =
     let same : x ≡ e = cc in
     let place : start ≡ start + 0 = omega arith in
-    among_front _ (numbered_plans_of machine dll start x) (numbered_plans machine dll (start + 1) exports)
-    (among_back _ (alias_plans machine dll start x) (export_plan machine dll start x ∷ [])
-    (subst (λ y. Among (export_plan machine dll (start + 0) y) (export_plan machine dll start x ∷ [])) same
-    (subst (λ n. Among (export_plan machine dll n x) (export_plan machine dll start x ∷ [])) place (among_first _ []))))
+    among_front _ (numbered_specs_of machine dll start x) (numbered_specs machine dll (start + 1) exports)
+    (among_back _ (alias_specs machine dll start x) (export_spec machine dll start x ∷ [])
+    (subst (λ y. Among (export_spec machine dll (start + 0) y) (export_spec machine dll start x ∷ [])) same
+    (subst (λ n. Among (export_spec machine dll n x) (export_spec machine dll start x ∷ [])) place (among_first _ []))))
 numbered_among machine dll (x ∷ exports) start (suc n) e is =
     let place : start + 1 + n ≡ start + suc n = omega arith in
-    among_back _ (numbered_plans_of machine dll start x) (numbered_plans machine dll (start + 1) exports)
-    (subst (λ n. Among (export_plan machine dll n e) (numbered_plans machine dll (start + 1) exports)) place (numbered_among machine dll exports (start + 1) n e is))
+    among_back _ (numbered_specs_of machine dll start x) (numbered_specs machine dll (start + 1) exports)
+    (subst (λ n. Among (export_spec machine dll n e) (numbered_specs machine dll (start + 1) exports)) place (numbered_among machine dll exports (start + 1) n e is))
 
 pub among_contains : {X : Type 0} (x : X) (xs : List X) → Among x xs → Contains xs x
 unfolding Among
@@ -114,35 +116,35 @@ among_contains x (y ∷ xs) (inr m) =
 
 -- the chosen exports of a list, which breaks no rule
 module _ (machine : MachineType) (dll : List ℕ) (exports : List ExportView) (dll_free : holds 0 dll ≡ false) (sound : AllByRecursion Sound exports)
-    (short : list_any is_too_long (gnu_plans machine dll exports) ≡ false) where
-  pub tail_among : Among (tail_plan machine dll) (gnu_plans machine dll exports)
+    (short : list_any is_too_long (gnu_specs machine dll exports) ≡ false) where
+  pub tail_among : Among (tail_spec machine dll) (gnu_specs machine dll exports)
   tail_among = among_first _ _
 
-  pub head_among : Among (head_plan machine dll) (gnu_plans machine dll exports)
+  pub head_among : Among (head_spec machine dll) (gnu_specs machine dll exports)
   head_among = among_later _ _ _ (among_first _ _)
 
-  pub export_among : (n : ℕ) (e : ExportView) → slice_get exports n ≡ Some e → Among (export_plan machine dll n e) (gnu_plans machine dll exports)
+  pub export_among : (n : ℕ) (e : ExportView) → slice_get exports n ≡ Some e → Among (export_spec machine dll n e) (gnu_specs machine dll exports)
   export_among n e is =
       let place : 0 + n ≡ n = omega arith in
       among_later _ _ _ (among_later _ _ _ (among_reverse _ _
-      (subst (λ m. Among (export_plan machine dll m e) (numbered_plans machine dll 0 exports)) place (numbered_among machine dll exports 0 n e is))))
+      (subst (λ m. Among (export_spec machine dll m e) (numbered_specs machine dll 0 exports)) place (numbered_among machine dll exports 0 n e is))))
 
-  size_of : (p : Plan) → Among p (gnu_plans machine dll exports) → contents_size p.contents ≤ 0xFFFF_FFFF
-  size_of p m = short_enough p (none_among is_too_long p (gnu_plans machine dll exports) m short)
+  size_of : (p : MemberSpec) → Among p (gnu_specs machine dll exports) → file_size p.contents ≤ 0xFFFF_FFFF
+  size_of p m = short_enough p (none_among is_too_long p (gnu_specs machine dll exports) m short)
 
-  pub tail_reads : object_in (member_of (tail_plan machine dll)).bytes ≡ Some (tail machine dll)
-  unfolding tail_plan
-  tail_reads = held_reads (tail_object machine dll) (Fits-tail_object machine dll dll_free) (size_of (tail_plan machine dll) tail_among)
+  pub tail_reads : object_in (member_of (tail_spec machine dll)).bytes ≡ Some (tail machine dll)
+  unfolding tail_spec
+  tail_reads = held_reads (tail_object machine dll) (Fits-tail_object machine dll dll_free) (size_of (tail_spec machine dll) tail_among)
 
-  pub head_reads : object_in (member_of (head_plan machine dll)).bytes ≡ Some (head machine dll)
-  unfolding head_plan
-  head_reads = held_reads (head_object machine dll) (Fits-head_object machine dll dll_free) (size_of (head_plan machine dll) head_among)
+  pub head_reads : object_in (member_of (head_spec machine dll)).bytes ≡ Some (head machine dll)
+  unfolding head_spec
+  head_reads = held_reads (head_object machine dll) (Fits-head_object machine dll dll_free) (size_of (head_spec machine dll) head_among)
 
-  pub export_reads : (n : ℕ) (e : ExportView) → slice_get exports n ≡ Some e → object_in (member_of (export_plan machine dll n e)).bytes ≡ Some (export machine dll e)
-  unfolding export_plan
+  pub export_reads : (n : ℕ) (e : ExportView) → slice_get exports n ≡ Some e → object_in (member_of (export_spec machine dll n e)).bytes ≡ Some (export machine dll e)
+  unfolding export_spec
   export_reads n e is =
       let good = all_at Sound exports n e sound is in
-      held_reads (export_object machine dll e) (Fits-export_object machine dll e dll_free good.name good.filled) (size_of (export_plan machine dll n e) (export_among n e is))
+      held_reads (export_object machine dll e) (Fits-export_object machine dll e dll_free good.name good.filled) (size_of (export_spec machine dll n e) (export_among n e is))
 
   export_asks : (n : ℕ) (e : ExportView) → slice_get exports n ≡ Some e → CanBeAsked machine e
   export_asks n e is =
@@ -153,8 +155,8 @@ module _ (machine : MachineType) (dll : List ℕ) (exports : List ExportView) (d
       }
 
   -- what is linked after the head
-  abbrev plans_after : List ℕ → List Plan
-  plans_after ns = filter_map (plan_numbered machine dll exports) ns ++ tail_plan machine dll ∷ []
+  abbrev plans_after : List ℕ → List MemberSpec
+  plans_after ns = filter_map (numbered_spec machine dll exports) ns ++ tail_spec machine dll ∷ []
 
   abbrev chosen_of : List ℕ → List ExportView
   chosen_of ns = filter_map (slice_get exports) ns
@@ -171,37 +173,37 @@ module _ (machine : MachineType) (dll : List ℕ) (exports : List ExportView) (d
       by_place (λ o. AllByRecursion (CanBeAsked machine) (cons_option o (chosen_of ns))) n (slice_get exports n) refl
       (λ is. chosen_fit ns) (λ e is. (export_asks n e is, chosen_fit ns))
 
-  chosen_read : (ns : List ℕ) → map (λ (p : Plan). object_in (member_of p).bytes) (plans_after ns) ≡ map Some (map (export machine dll) (chosen_of ns) ++ tail machine dll ∷ [])
+  chosen_read : (ns : List ℕ) → map (λ (p : MemberSpec). object_in (member_of p).bytes) (plans_after ns) ≡ map Some (map (export machine dll) (chosen_of ns) ++ tail machine dll ∷ [])
   chosen_read [] = ap (λ o. o ∷ []) tail_reads
   chosen_read (n ∷ ns) =
-      by_place (λ o. map (λ (p : Plan). object_in (member_of p).bytes) (cons_option (option_map (export_plan machine dll n) o) (filter_map (plan_numbered machine dll exports) ns) ++ tail_plan machine dll ∷ [])
+      by_place (λ o. map (λ (p : MemberSpec). object_in (member_of p).bytes) (cons_option (option_map (export_spec machine dll n) o) (filter_map (numbered_spec machine dll exports) ns) ++ tail_spec machine dll ∷ [])
       ≡ map Some (map (export machine dll) (cons_option o (chosen_of ns)) ++ tail machine dll ∷ [])) n (slice_get exports n) refl
       (λ is. chosen_read ns)
-      (λ e is. ap (λ o. o ∷ map (λ (p : Plan). object_in (member_of p).bytes) (plans_after ns)) (export_reads n e is) ∙ ap (λ rest. Some (export machine dll e) ∷ rest) (chosen_read ns))
+      (λ e is. ap (λ o. o ∷ map (λ (p : MemberSpec). object_in (member_of p).bytes) (plans_after ns)) (export_reads n e is) ∙ ap (λ rest. Some (export machine dll e) ∷ rest) (chosen_read ns))
 
-  chosen_listed : (ns : List ℕ) → flat_map (λ (p : Plan). p.listed) (plans_after ns) ≡ flat_map export_listed (chosen_of ns) ++ name_symbol machine dll ∷ []
-  unfolding tail_plan export_plan
+  chosen_listed : (ns : List ℕ) → flat_map (λ (p : MemberSpec). p.listed) (plans_after ns) ≡ flat_map export_listed (chosen_of ns) ++ name_symbol machine dll ∷ []
+  unfolding tail_spec export_spec
   chosen_listed [] = refl
   chosen_listed (n ∷ ns) =
-      by_place (λ o. flat_map (λ (p : Plan). p.listed) (cons_option (option_map (export_plan machine dll n) o) (filter_map (plan_numbered machine dll exports) ns) ++ tail_plan machine dll ∷ [])
+      by_place (λ o. flat_map (λ (p : MemberSpec). p.listed) (cons_option (option_map (export_spec machine dll n) o) (filter_map (numbered_spec machine dll exports) ns) ++ tail_spec machine dll ∷ [])
       ≡ flat_map export_listed (cons_option o (chosen_of ns)) ++ name_symbol machine dll ∷ []) n (slice_get exports n) refl
       (λ is. chosen_listed ns)
       (λ e is. ap (λ rest. export_listed e ++ rest) (chosen_listed ns) ∙ sym (append_assoc (export_listed e) (flat_map export_listed (chosen_of ns)) (name_symbol machine dll ∷ [])))
 
-  chosen_names : (ns : List ℕ) → AllByRecursion (λ n. n < length exports) ns → map (λ (p : Plan). p.name) (plans_after ns) ≡ map (export_name dll) ns ++ tail_name dll ∷ []
-  unfolding tail_plan export_plan
+  chosen_names : (ns : List ℕ) → AllByRecursion (λ n. n < length exports) ns → map (λ (p : MemberSpec). p.name) (plans_after ns) ≡ map (export_name dll) ns ++ tail_name dll ∷ []
+  unfolding tail_spec export_spec
   chosen_names [] within = refl
   chosen_names (n ∷ ns) within =
       let first : n < length exports = within.0 in
-      by_place (λ o. map (λ (p : Plan). p.name) (cons_option (option_map (export_plan machine dll n) o) (filter_map (plan_numbered machine dll exports) ns) ++ tail_plan machine dll ∷ [])
+      by_place (λ o. map (λ (p : MemberSpec). p.name) (cons_option (option_map (export_spec machine dll n) o) (filter_map (numbered_spec machine dll exports) ns) ++ tail_spec machine dll ∷ [])
       ≡ export_name dll n ∷ (map (export_name dll) ns ++ tail_name dll ∷ [])) n (slice_get exports n) refl
       (λ is. let past : length exports ≤ n = past_end exports n is in absurd (omega arith))
       (λ e is. ap (λ rest. export_name dll n ∷ rest) (chosen_names ns within.1))
 
-  chosen_among : (ns : List ℕ) → AllByRecursion (λ p. Among p (gnu_plans machine dll exports)) (plans_after ns)
+  chosen_among : (ns : List ℕ) → AllByRecursion (λ p. Among p (gnu_specs machine dll exports)) (plans_after ns)
   chosen_among [] = (tail_among, tt)
   chosen_among (n ∷ ns) =
-      by_place (λ o. AllByRecursion (λ p. Among p (gnu_plans machine dll exports)) (cons_option (option_map (export_plan machine dll n) o) (filter_map (plan_numbered machine dll exports) ns) ++ tail_plan machine dll ∷ [])) n (slice_get exports n) refl
+      by_place (λ o. AllByRecursion (λ p. Among p (gnu_specs machine dll exports)) (cons_option (option_map (export_spec machine dll n) o) (filter_map (numbered_spec machine dll exports) ns) ++ tail_spec machine dll ∷ [])) n (slice_get exports n) refl
       (λ is. chosen_among ns)
       (λ e is. (export_among n e is, chosen_among ns))
 
@@ -244,7 +246,7 @@ all_contained : {X Y : Type 0} (f : X → Y) (all : List X) (xs : List X) → Al
 all_contained f all [] among = tt
 all_contained f all (x ∷ xs) among = (among_contains (f x) (map f all) (among_map f x all among.0), all_contained f all xs among.1)
 
-module _ (d : DefinitionView) (machine : MachineType) (members : List MemberView) (chosen : List ℕ) (made : Made d machine Gnu members) where
+module _ (d : DefinitionView) (machine : MachineType) (members : List MemberView) (chosen : List ℕ) (made : AreMembersOf d machine Gnu members) where
   abbrev public : List ExportView
   public = public_exports (renamed d)
 
@@ -254,22 +256,22 @@ module _ (d : DefinitionView) (machine : MachineType) (members : List MemberView
   pub sound : AllByRecursion Sound public
   sound = exports_sound d machine Gnu members made
 
-  pub not_long : list_any is_too_long (gnu_plans machine d.import_name public) ≡ false
+  pub not_long : list_any is_too_long (gnu_specs machine d.import_name public) ≡ false
   not_long = none_long d machine Gnu members made
 
   pub members_among : AllByRecursion (Contains members) (linked_members d machine chosen)
   members_among =
       subst (λ ms. AllByRecursion (Contains ms) (linked_members d machine chosen)) (sym made.made)
-      (all_contained member_of (gnu_plans machine d.import_name public) (linked_plans d machine chosen) (
+      (all_contained member_of (gnu_specs machine d.import_name public) (linked_specs d machine chosen) (
         head_among machine d.import_name public dll_free sound not_long,
         chosen_among machine d.import_name public dll_free sound not_long chosen,
       ))
 
   pub members_named : AllByRecursion (λ n. n < length (public_exports (renamed d))) chosen →
       map (λ (m : MemberView). m.name) (linked_members d machine chosen) ≡ head_name d.import_name ∷ (map (export_name d.import_name) chosen ++ tail_name d.import_name ∷ [])
-  unfolding head_plan
+  unfolding head_spec
   members_named within =
-      map_after (λ (m : MemberView). m.name) member_of (linked_plans d machine chosen)
+      map_after (λ (m : MemberView). m.name) member_of (linked_specs d machine chosen)
       ∙ ap (λ names. head_name d.import_name ∷ names) (chosen_names machine d.import_name public dll_free sound not_long chosen within)
 
   pub members_rise : AllByRecursion (λ n. n < length (public_exports (renamed d))) chosen → AllRise (map (export_name d.import_name) chosen) →
@@ -278,8 +280,8 @@ module _ (d : DefinitionView) (machine : MachineType) (members : List MemberView
 
   read_as : map (λ (m : MemberView). object_in m.bytes) (linked_members d machine chosen) ≡ map Some (linked_objects machine d.import_name (chosen_exports d chosen))
   read_as =
-      map_after (λ (m : MemberView). object_in m.bytes) member_of (linked_plans d machine chosen)
-      ∙ ap (λ o. o ∷ map (λ (p : Plan). object_in (member_of p).bytes) (plans_after machine d.import_name public dll_free sound not_long chosen))
+      map_after (λ (m : MemberView). object_in m.bytes) member_of (linked_specs d machine chosen)
+      ∙ ap (λ o. o ∷ map (λ (p : MemberSpec). object_in (member_of p).bytes) (plans_after machine d.import_name public dll_free sound not_long chosen))
       (head_reads machine d.import_name public dll_free sound not_long)
       ∙ ap (λ rest. Some (head machine d.import_name) ∷ rest) (chosen_read machine d.import_name public dll_free sound not_long chosen)
 
@@ -293,9 +295,9 @@ module _ (d : DefinitionView) (machine : MachineType) (members : List MemberView
   members_read = read_as ∙ ap (map Some) (sym objects_are)
 
   pub symbols_are : flat_map (λ (m : MemberView). m.symbols) (linked_members d machine chosen) ≡ linked_symbols machine d.import_name (chosen_exports d chosen)
-  unfolding head_plan
+  unfolding head_spec
   symbols_are =
-      flat_map_map (λ (m : MemberView). m.symbols) member_of (linked_plans d machine chosen)
+      flat_map_map (λ (m : MemberView). m.symbols) member_of (linked_specs d machine chosen)
       ∙ ap (λ rest. head_symbol machine d.import_name ∷ rest) (chosen_listed machine d.import_name public dll_free sound not_long chosen)
 
   pub exports_fit : AllByRecursion (CanBeAsked machine) (chosen_exports d chosen)

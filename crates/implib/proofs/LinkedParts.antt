@@ -16,20 +16,21 @@ use Rattle.implib.specs.Definition.{DefinitionView}
 use Rattle.implib.specs.Gnu.{export_name, head_name, stem, tail_name}
 use Rattle.implib.specs.Image.{IsAdmissible, image_of}
 use Rattle.implib.specs.Placement.{Bases, placed_from}
-use Rattle.implib.specs.Made.{MemberView, head_plan}
+use Rattle.implib.specs.MemberSpec.{MemberView}
+use Rattle.implib.specs.GnuMembers.{head_spec}
 use Rattle.implib.specs.Object.{object_in}
 use Rattle.implib.specs.Linked.{IsLinked, AllLink, LinksAt}
-use Rattle.implib.specs.LinkedMembers.{IsMade, AllRise, Begins, ComesBefore, IsPart, NoneBegins, Part, beginning, all_linked, chosen_exports, linked_members, objects_in}
+use Rattle.implib.specs.LinkedMembers.{IsMade, AllRise, IsPrefixOf, ComesBefore, IsLinkInput, NoneIsPrefix, LinkInput, member_prefix, all_linked, chosen_exports, linked_members, objects_in}
 use Rattle.implib.proofs.LinkedBlocks.{Block, CanBeLinked, blocks_link, blocks_objects, linked_objects, linked_symbols}
 use Rattle.implib.proofs.LinkedMembers.{members_among, members_read, members_named, members_rise, same_cmp, dll_free, exports_fit, objects_are, symbols_are}
 use Rattle.implib.proofs.MsvcObjects.{HasNoNul-from_holds}
 use Rattle.implib.proofs.Placement.{export, head, tail}
 
 -- what a part's objects are made of
-abbrev pub block_of : Part → Block
+abbrev pub block_of : LinkInput → Block
 block_of p = record { dll = p.definition.import_name; exports = chosen_exports p.definition p.chosen }
 
-pub parts_fit : (machine : MachineType) (ps : List Part) → AllByRecursion (IsMade machine) ps → AllByRecursion (CanBeLinked machine) (map block_of ps)
+pub parts_fit : (machine : MachineType) (ps : List LinkInput) → AllByRecursion (IsMade machine) ps → AllByRecursion (CanBeLinked machine) (map block_of ps)
 parts_fit machine [] are = tt
 parts_fit machine (p ∷ ps) are = (
   record {
@@ -39,7 +40,7 @@ parts_fit machine (p ∷ ps) are = (
   parts_fit machine ps are.1,
 )
 
-pub parts_objects : (machine : MachineType) (ps : List Part) → AllByRecursion (IsMade machine) ps → objects_in (all_linked machine ps) ≡ blocks_objects machine (map block_of ps) []
+pub parts_objects : (machine : MachineType) (ps : List LinkInput) → AllByRecursion (IsMade machine) ps → objects_in (all_linked machine ps) ≡ blocks_objects machine (map block_of ps) []
 parts_objects machine [] are = refl
 parts_objects machine (p ∷ ps) are =
     let own : List MemberView = linked_members p.definition machine p.chosen in
@@ -50,7 +51,7 @@ parts_objects machine (p ∷ ps) are =
     ∙ ap (λ rest. head machine dll ∷ rest)
     (append_assoc (map (export machine dll) (chosen_exports p.definition p.chosen)) (tail machine dll ∷ []) (blocks_objects machine (map block_of ps) []))
 
-pub parts_symbols : (machine : MachineType) (ps : List Part) → AllByRecursion (IsMade machine) ps →
+pub parts_symbols : (machine : MachineType) (ps : List LinkInput) → AllByRecursion (IsMade machine) ps →
     flat_map (λ (m : MemberView). m.symbols) (all_linked machine ps) ≡ flat_map (λ (k : Block). linked_symbols machine k.dll k.exports) (map block_of ps)
 parts_symbols machine [] are = refl
 parts_symbols machine (p ∷ ps) are =
@@ -62,7 +63,7 @@ pub all_of_map : {X Y : Type 0} (f : X → Y) (P : Y → Type 0) (xs : List X) �
 all_of_map f P [] all = tt
 all_of_map f P (x ∷ xs) all = (all.0, all_of_map f P xs all.1)
 
-pub parts_linked : (machine : MachineType) (ps : List Part) → AllByRecursion (IsMade machine) ps → AllByRecursion (IsLinked machine) ps
+pub parts_linked : (machine : MachineType) (ps : List LinkInput) → AllByRecursion (IsMade machine) ps → AllByRecursion (IsLinked machine) ps
 parts_linked machine [] are = tt
 parts_linked machine (p ∷ ps) are = (
   record {
@@ -72,7 +73,7 @@ parts_linked machine (p ∷ ps) are = (
   parts_linked machine ps are.1,
 )
 
-pub parts_link : (machine : MachineType) (bases : Bases) (ps : List Part) → AllByRecursion (IsMade machine) ps →
+pub parts_link : (machine : MachineType) (bases : Bases) (ps : List LinkInput) → AllByRecursion (IsMade machine) ps →
     IsDistinct bytes_eq (flat_map (λ (m : MemberView). m.symbols) (all_linked machine ps)) → IsAdmissible machine bases (objects_in (all_linked machine ps)) →
     AllLink machine bases ps (objects_in (all_linked machine ps))
 parts_link machine bases ps are distinct admissible =
@@ -87,7 +88,7 @@ parts_link machine bases ps are distinct admissible =
       defined = linked.1;
     })
 
-pub parts_made : (machine : MachineType) (ps : List Part) → AllByRecursion (IsPart machine) ps → AllByRecursion (IsMade machine) ps
+pub parts_made : (machine : MachineType) (ps : List LinkInput) → AllByRecursion (IsLinkInput machine) ps → AllByRecursion (IsMade machine) ps
 parts_made machine [] are = tt
 parts_made machine (p ∷ ps) are = (are.0.made, parts_made machine ps are.1)
 
@@ -107,7 +108,7 @@ greater_is_not_less x y o high less =
     less_is_not_greater (sym is)
 
 -- a text before another that does not begin it comes before it whatever follows
-cmp_apart : (xs ys : List ℕ) (after behind : List ℕ) → slice_cmp nat_cmp xs ys ≡ Less → (Begins xs ys → ⊥) → slice_cmp nat_cmp (xs ++ after) (ys ++ behind) ≡ Less
+cmp_apart : (xs ys : List ℕ) (after behind : List ℕ) → slice_cmp nat_cmp xs ys ≡ Less → (IsPrefixOf xs ys → ⊥) → slice_cmp nat_cmp (xs ++ after) (ys ++ behind) ≡ Less
 cmp_apart [] ys after behind less apart = absurd (apart (ys, refl))
 cmp_apart (x ∷ xs) [] after behind less apart = cc
 cmp_apart (x ∷ xs) (y ∷ ys) after behind less apart =
@@ -122,14 +123,14 @@ cmp_apart (x ∷ xs) (y ∷ ys) after behind less apart =
       ]
     ]
 
-tail_before_head : (first second : DefinitionView) → ComesBefore (beginning first) (beginning second) → (Begins (beginning first) (beginning second) → ⊥) →
+tail_before_head : (first second : DefinitionView) → ComesBefore (member_prefix first) (member_prefix second) → (IsPrefixOf (member_prefix first) (member_prefix second) → ⊥) →
     ComesBefore (tail_name first.import_name) (head_name second.import_name)
 unfolding tail_name head_name
 tail_before_head first second before apart =
-    let joined : ComesBefore (beginning first ++ codes "t.o") (beginning second ++ codes "h.o") =
-    cmp_apart (beginning first) (beginning second) (codes "t.o") (codes "h.o") before apart in
+    let joined : ComesBefore (member_prefix first ++ codes "t.o") (member_prefix second ++ codes "h.o") =
+    cmp_apart (member_prefix first) (member_prefix second) (codes "t.o") (codes "h.o") before apart in
     subst (λ name. ComesBefore name (head_name second.import_name)) (append_assoc (stem first.import_name) (codes "_a_") (codes "t.o"))
-    (subst (λ name. ComesBefore (beginning first ++ codes "t.o") name) (append_assoc (stem second.import_name) (codes "_a_") (codes "h.o")) joined)
+    (subst (λ name. ComesBefore (member_prefix first ++ codes "t.o") name) (append_assoc (stem second.import_name) (codes "_a_") (codes "h.o")) joined)
 
 rise_on : (names : List (List ℕ)) (last next : List ℕ) (others : List (List ℕ)) → AllRise (names ++ last ∷ []) → ComesBefore last next → AllRise (next ∷ others) →
     AllRise ((names ++ last ∷ []) ++ next ∷ others)
@@ -140,9 +141,9 @@ rise_on (x ∷ y ∷ names) last next others rise before behind = (rise.0, rise_
 abbrev names_of : List MemberView → List (List ℕ)
 names_of members = map (λ (m : MemberView). m.name) members
 
-pub parts_rise : (machine : MachineType) (ps : List Part) → AllByRecursion (IsPart machine) ps → AllRise (map (λ (p : Part). beginning p.definition) ps) →
-    NoneBegins (map (λ (p : Part). beginning p.definition) ps) → AllRise (names_of (all_linked machine ps))
-unfolding head_plan
+pub parts_rise : (machine : MachineType) (ps : List LinkInput) → AllByRecursion (IsLinkInput machine) ps → AllRise (map (λ (p : LinkInput). member_prefix p.definition) ps) →
+    NoneIsPrefix (map (λ (p : LinkInput). member_prefix p.definition) ps) → AllRise (names_of (all_linked machine ps))
+unfolding head_spec
 parts_rise machine [] are rise apart = tt
 parts_rise machine (p ∷ []) are rise apart =
     subst (λ members. AllRise (names_of members)) (sym (append-nil (linked_members p.definition machine p.chosen)))

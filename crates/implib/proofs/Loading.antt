@@ -5,8 +5,8 @@ use Rattle.std.specs.List.{list_all}
 use Rattle.std.proofs.lemmas.Bool.{and_parts, false≢true}
 use Rattle.implib.specs.Import.{Ask, Name, Ordinal}
 use Rattle.implib.specs.Image.{Range, byte_at}
-use Rattle.implib.specs.Load.{AsksFor, BytesAt, Loads, NumberAt, TableAt, number_in}
-use Rattle.implib.specs.Picture.{HasNoNul}
+use Rattle.implib.specs.Load.{ThunkAsksFor, BytesAt, Loads, NumberAt, TableAt, number_in}
+use Rattle.implib.specs.Layout.{HasNoNul}
 
 same_byte : (o : Option ℕ) (x y : ℕ) → o ≡ Some x → o ≡ Some y → x ≡ y
 same_byte o x y first second = let same : Some x ≡ Some y = sym first ∙ second in cc
@@ -42,8 +42,8 @@ text_once image (x ∷ xs) (y ∷ ys) a first_free second_free first second =
     same_list x y xs ys (same_byte (byte_at image a) x y first.0 second.0)
     (text_once image xs ys (a + 1) (no_nul_rest x xs first_free) (no_nul_rest y ys second_free) first.1 second.1)
 
-ask_once : (image : List Range) (width thunk : ℕ) (first second : Ask) → AsksFor image width thunk first → AsksFor image width thunk second → first ≡ second
-unfolding AsksFor
+ask_once : (image : List Range) (width thunk : ℕ) (first second : Ask) → ThunkAsksFor image width thunk first → ThunkAsksFor image width thunk second → first ≡ second
+unfolding ThunkAsksFor
 ask_once image width thunk (Ordinal n) (Ordinal m) first second = ap Ordinal (sym first.1 ∙ second.1)
 ask_once image width thunk (Ordinal n) (Name text hint) first second = let high = first.0 in let low = second.0 in absurd (omega arith)
 ask_once image width thunk (Name text hint) (Ordinal n) first second = let low = first.0 in let high = second.0 in absurd (omega arith)
@@ -63,7 +63,7 @@ table_once image width (x ∷ xs) [] a first second = absurd (first.0.goes_on (n
 table_once image width (x ∷ xs) (y ∷ ys) a first second =
     let thunks : first.0.thunk ≡ second.0.thunk = number_once image width a first.0.thunk second.0.thunk first.0.stands second.0.stands in
     same_asks x y xs ys
-    (ask_once image width second.0.thunk x y (subst (λ t. AsksFor image width t x) thunks first.0.asks) second.0.asks)
+    (ask_once image width second.0.thunk x y (subst (λ t. ThunkAsksFor image width t x) thunks first.0.asks) second.0.asks)
     (table_once image width xs ys (a + width) first.1 second.1)
 
 pub dll_once : (image : List Range) (width descriptor : ℕ) (dll other : List ℕ) (asks others : List Ask) →

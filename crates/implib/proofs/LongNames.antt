@@ -7,8 +7,8 @@ use Rattle.std.proofs.lemmas.List.Folds.{list_any-append}
 use Rattle.std.proofs.lemmas.List.Sums.{fold_push}
 use Rattle.std.proofs.lemmas.Bool.{cases_Bool, false≢true, true≢false}
 use Rattle.std.proofs.lemmas.Slice.Eq.{bytes_eq-Decides}
-use Rattle.implib.specs.Picture.{Listed, InRecord, PictureSymbol, SymbolName}
-use Rattle.implib.specs.Writer.{AddedSymbol, is_long, long_names, name_place, section_number, symbol_written, with_long_name, with_name}
+use Rattle.implib.specs.Layout.{InStringTable, InRecord, LayoutSymbol, SymbolName}
+use Rattle.implib.specs.Writer.{AddedSymbol, is_long, long_names, name_location, section_number, symbol_written, with_long_name, with_name}
 
 -- the place of a name among names
 
@@ -134,9 +134,9 @@ unfolding long_names
 long_names-listed symbols = all_listed [] [] symbols tt
 
 -- a symbol that was written before a name was added is written the same after
-name_place-more : (names : List (List ℕ)) (s : AddedSymbol) (t : List ℕ) → IsListed names s → name_place (with_long_name names t) s.name ≡ name_place names s.name
-unfolding name_place
-name_place-more names s t known = elim (cases_Bool (is_long s.name)) [
+name_location-more : (names : List (List ℕ)) (s : AddedSymbol) (t : List ℕ) → IsListed names s → name_location (with_long_name names t) s.name ≡ name_location names s.name
+unfolding name_location
+name_location-more names s t known = elim (cases_Bool (is_long s.name)) [
   | inl long ↦ rw (long, position-with_long_name (bytes_eq s.name) names t (known.listed long)) refl
   | inr short ↦ rw short refl
 ]
@@ -144,17 +144,17 @@ name_place-more names s t known = elim (cases_Bool (is_long s.name)) [
 pub symbols_written-more : (names : List (List ℕ)) (t : List ℕ) (ss : List AddedSymbol) → AllByRecursion (IsListed names) ss → map (symbol_written (with_long_name names t)) ss ≡ map (symbol_written names) ss
 unfolding symbol_written
 symbols_written-more names t [] all = refl
-symbols_written-more names t (s ∷ ss) all = rw (name_place-more names s t all.0, symbols_written-more names t ss all.1) refl
+symbols_written-more names t (s ∷ ss) all = rw (name_location-more names s t all.0, symbols_written-more names t ss all.1) refl
 
 -- a name that is long stands where it was looked for, and a short one in its record
 
-pub name_place-long : (names : List (List ℕ)) (name : List ℕ) → is_long name ≡ true → name_place (with_long_name names name) name ≡ Listed (position_or_len (bytes_eq name) names)
-unfolding name_place
-name_place-long names name long = rw (long, with_long_name-long names name long, position-added names name) refl
+pub name_location-long : (names : List (List ℕ)) (name : List ℕ) → is_long name ≡ true → name_location (with_long_name names name) name ≡ InStringTable (position_or_len (bytes_eq name) names)
+unfolding name_location
+name_location-long names name long = rw (long, with_long_name-long names name long, position-added names name) refl
 
-pub name_place-short : (names : List (List ℕ)) (name : List ℕ) → is_long name ≡ false → name_place names name ≡ InRecord name
-unfolding name_place
-name_place-short names name short = rw short refl
+pub name_location-short : (names : List (List ℕ)) (name : List ℕ) → is_long name ≡ false → name_location names name ≡ InRecord name
+unfolding name_location
+name_location-short names name short = rw short refl
 
 -- one symbol more
 
@@ -162,7 +162,7 @@ pub long_names-push : (ss : List AddedSymbol) (s : AddedSymbol) → long_names (
 unfolding long_names
 long_names-push ss s = rw (map-append (λ x. x.name) ss (s ∷ [])) (fold_push with_long_name [] (map (λ x. x.name) ss) s.name)
 
-pub symbols_written-push : (ss : List AddedSymbol) (s : AddedSymbol) (done : List PictureSymbol) (next : PictureSymbol)
+pub symbols_written-push : (ss : List AddedSymbol) (s : AddedSymbol) (done : List LayoutSymbol) (next : LayoutSymbol)
     → done ≡ map (symbol_written (long_names ss)) ss
     → next ≡ symbol_written (with_long_name (long_names ss) s.name) s
     → done ++ next ∷ [] ≡ map (symbol_written (long_names (ss ++ s ∷ []))) (ss ++ s ∷ [])
@@ -177,7 +177,7 @@ symbols_written-push ss s done next so_far here =
     refl
 
 -- a symbol whose name is found where it is written
-pub symbol_written-is : (names : List (List ℕ)) (s : AddedSymbol) (place : SymbolName) (number : ℕ) → place ≡ name_place names s.name → number ≡ section_number s.place
+pub symbol_written-is : (names : List (List ℕ)) (s : AddedSymbol) (place : SymbolName) (number : ℕ) → place ≡ name_location names s.name → number ≡ section_number s.place
     → record { name = place; value = s.value; section = number; class = s.class; aux = s.aux } ≡ symbol_written names s
 unfolding symbol_written
 symbol_written-is names s place number e f = rw (e, f) refl

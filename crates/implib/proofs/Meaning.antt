@@ -7,7 +7,7 @@ use Rattle.implib.specs.declared.machine.MachineType.{MachineType}
 use Rattle.implib.specs.Definition.{DefinitionView, ExportView, empty_definition}
 use Rattle.implib.specs.Grammar.{Attribute, Export, Statement}
 use Rattle.implib.specs.Meaning.{last_or, ordinal_in, no_name_in, is_data_in, constant_in, private_in, alias_in, exports_in, export_meaning, import_name_in, image_base_in, stack_reserve_in, stack_commit_in, heap_reserve_in, heap_commit_in, major_in, minor_in, meaning}
-use Rattle.implib.specs.Reading.{with_attribute, named_export, made_export, with_statement, with_statements}
+use Rattle.implib.specs.TokenReader.{with_attribute, named_export, made_export, with_statement, with_statements}
 
 -- an export after attributes, each setting that of the last
 abbrev attributed : ExportView → List Attribute → ExportView

@@ -12,15 +12,18 @@ use Rattle.implib.specs.declared.machine.MachineType.{MachineType}
 use Rattle.implib.specs.Bytes.{u32_bytes}
 use Rattle.implib.specs.Definition.{DefinitionView, ExportView}
 use Rattle.implib.specs.File.{ObjectFile, AnImport, AnAlias, declared_by, dll_in, dll_of, file_in, meaning_in, meaning_of}
-use Rattle.implib.specs.Import.{Alias, address_symbol, aliases_for, holds, import_meant, import_symbols, is_alias, is_empty_text, public_exports}
-use Rattle.implib.specs.Made.{ARecord, AnObject, Plan, MemberView, Made, member_of, plans_of, descriptor_plan, null_descriptor_plan, null_thunk_plan, heading_plans, weak_plan, weak_plans, export_plans, record_plan, contents_bytes}
-use Rattle.implib.specs.Msvc.{record_of, record_symbol, symbol_or_name}
-use Rattle.implib.specs.MsvcObjects.{descriptor, null_descriptor, null_thunk, weak_object}
+use Rattle.implib.specs.Import.{Alias, address_symbol, aliases_for, holds, expected_import, import_symbols, is_alias, is_empty_text, public_exports}
+use Rattle.implib.specs.MemberSpec.{AShortImport, AnObject, MemberSpec, MemberView, member_of, file_bytes}
+use Rattle.implib.specs.Members.{AreMembersOf, member_specs}
+use Rattle.implib.specs.MsvcMembers.{descriptor_spec, null_descriptor_spec, null_thunk_spec, header_specs, weak_spec, weak_specs, export_specs, short_import_spec}
+use Rattle.implib.specs.Msvc.{short_import_of, short_import_symbol, symbol_or_name}
+use Rattle.implib.specs.MsvcObjects.{descriptor, null_descriptor, null_thunk}
+use Rattle.implib.specs.WeakExternal.{weak_object}
 use Rattle.implib.specs.Object.{u32_at}
-use Rattle.implib.specs.Picture.{entries_of, layout, layout_size, name_text, object_of}
-use Rattle.implib.specs.Reads.{ReadsForMsvc, MeansWhatIsMeant, ReadsAsMsvc, file_of, has_no_symbol_names, import_among, alias_among, import_written, meanings_written}
+use Rattle.implib.specs.Layout.{entries_of, encoded, encoded_size, name_text, object_of}
+use Rattle.implib.specs.ReadBack.{MsvcReadBack, MatchesDefinition, MsvcReadings, file_of, has_no_symbol_names, import_among, alias_among, import_written, meanings_written}
 use Rattle.implib.specs.Renaming.{renamed, renamed_export}
-use Rattle.implib.proofs.Import.{import_of_record-record_of, import_written-meant, kind_is_data}
+use Rattle.implib.proofs.Import.{import_of_short_import-short_import_of, import_written-meant, kind_is_data}
 use Rattle.implib.proofs.MemberReadings.{ReadsBack, machine_number_nonzero, object_reads, all_append, files_read, lengths_read, map_after, map_same, of_members, plans_read_back}
 use Rattle.implib.proofs.MsvcObjects.{Fits-weak_object, HasNoNul-from_holds}
 use Rattle.implib.proofs.NotRefused.{import_name_is_free}
@@ -29,39 +32,39 @@ use Rattle.implib.proofs.Symbols.{before_nul-ended}
 -- What is declared.
 
 -- the file of the plan declares what the plan lists
-abbrev pub DeclaresListed : Plan → Type 0
+abbrev pub DeclaresListed : MemberSpec → Type 0
 DeclaresListed p = declared_by (file_of p.contents) ≡ p.listed
 
-heading_declares : (machine : MachineType) (dll : List ℕ) → AllByRecursion DeclaresListed (heading_plans machine dll)
-unfolding heading_plans descriptor_plan null_descriptor_plan null_thunk_plan descriptor null_descriptor null_thunk object_of entries_of name_text
+heading_declares : (machine : MachineType) (dll : List ℕ) → AllByRecursion DeclaresListed (header_specs machine dll)
+unfolding header_specs descriptor_spec null_descriptor_spec null_thunk_spec descriptor null_descriptor null_thunk object_of entries_of name_text
 heading_declares machine dll = (refl, (refl, (refl, tt)))
 
-pub weak_declares : (machine : MachineType) (dll weak target : List ℕ) → DeclaresListed (weak_plan machine dll weak target)
+pub weak_declares : (machine : MachineType) (dll weak target : List ℕ) → DeclaresListed (weak_spec machine dll weak target)
 unfolding weak_object object_of entries_of name_text
 weak_declares machine dll weak target = refl
 
-record_declares : (machine : MachineType) (dll : List ℕ) (e : ExportView) → DeclaresListed (record_plan machine dll e)
-record_declares machine dll e = ap (λ is_data. import_symbols is_data (record_symbol e)) (kind_is_data e.is_data e.constant)
+record_declares : (machine : MachineType) (dll : List ℕ) (e : ExportView) → DeclaresListed (short_import_spec machine dll e)
+record_declares machine dll e = ap (λ is_data. import_symbols is_data (short_import_symbol e)) (kind_is_data e.is_data e.constant)
 
 chosen_declare : (machine : MachineType) (dll : List ℕ) (e : ExportView) (test : Bool) →
-    AllByRecursion DeclaresListed (if test then weak_plan machine dll (record_symbol e) e.alias_target ∷ weak_plan machine dll (address_symbol (record_symbol e)) (address_symbol e.alias_target) ∷ [] else [])
+    AllByRecursion DeclaresListed (if test then weak_spec machine dll (short_import_symbol e) e.alias_target ∷ weak_spec machine dll (address_symbol (short_import_symbol e)) (address_symbol e.alias_target) ∷ [] else [])
 chosen_declare machine dll e false = tt
 chosen_declare machine dll e true =
-    (weak_declares machine dll (record_symbol e) e.alias_target, (weak_declares machine dll (address_symbol (record_symbol e)) (address_symbol e.alias_target), tt))
+    (weak_declares machine dll (short_import_symbol e) e.alias_target, (weak_declares machine dll (address_symbol (short_import_symbol e)) (address_symbol e.alias_target), tt))
 
-exports_declare : (machine : MachineType) (dll : List ℕ) (exports : List ExportView) → AllByRecursion DeclaresListed (flat_map (export_plans machine dll) exports)
-unfolding weak_plans
+exports_declare : (machine : MachineType) (dll : List ℕ) (exports : List ExportView) → AllByRecursion DeclaresListed (flat_map (export_specs machine dll) exports)
+unfolding weak_specs
 exports_declare machine dll [] = tt
 exports_declare machine dll (e ∷ exports) =
-    all_append DeclaresListed (export_plans machine dll e) (flat_map (export_plans machine dll) exports)
-    (all_append DeclaresListed (weak_plans machine dll e) (record_plan machine dll e ∷ []) (chosen_declare machine dll e (is_alias e.alias_target (record_symbol e))) (record_declares machine dll e, tt))
+    all_append DeclaresListed (export_specs machine dll e) (flat_map (export_specs machine dll) exports)
+    (all_append DeclaresListed (weak_specs machine dll e) (short_import_spec machine dll e ∷ []) (chosen_declare machine dll e (is_alias e.alias_target (short_import_symbol e))) (record_declares machine dll e, tt))
     (exports_declare machine dll exports)
 
-pub read_declares : (plans : List Plan) → AllByRecursion (λ p. ReadsBack p.contents) plans → AllByRecursion DeclaresListed plans →
-    AllByRecursion (λ p. option_map declared_by (file_in (contents_bytes p.contents)) ≡ Some p.listed) plans
+pub read_declares : (specs : List MemberSpec) → AllByRecursion (λ p. ReadsBack p.contents) specs → AllByRecursion DeclaresListed specs →
+    AllByRecursion (λ p. option_map declared_by (file_in (file_bytes p.contents)) ≡ Some p.listed) specs
 read_declares [] reads declares = tt
-read_declares (p ∷ plans) reads declares =
-    (ap (option_map declared_by) reads.0.read ∙ ap (λ listed. Some listed) declares.0, read_declares plans reads.1 declares.1)
+read_declares (p ∷ specs) reads declares =
+    (ap (option_map declared_by) reads.0.read ∙ ap (λ listed. Some listed) declares.0, read_declares specs reads.1 declares.1)
 
 -- What is meant.
 
@@ -70,8 +73,8 @@ unfolding weak_object object_of entries_of name_text u32_at u32_bytes
 weak_means machine weak target = refl
 
 -- the object of a weak external reads as its pair
-pub weak_object_means : (machine : MachineType) (weak target : List ℕ) → holds 0 weak ≡ false → holds 0 target ≡ false → layout_size (weak_object machine weak target) < 2 ^ 32 →
-    meaning_in (layout (weak_object machine weak target)) ≡ Some (AnAlias (record { weak = weak; target = target }))
+pub weak_object_means : (machine : MachineType) (weak target : List ℕ) → holds 0 weak ≡ false → holds 0 target ≡ false → encoded_size (weak_object machine weak target) < 2 ^ 32 →
+    meaning_in (encoded (weak_object machine weak target)) ≡ Some (AnAlias (record { weak = weak; target = target }))
 unfolding weak_object
 weak_object_means machine weak target weak_free target_free short =
     let reads : ReadsBack (AnObject (weak_object machine weak target)) =
@@ -80,40 +83,40 @@ weak_object_means machine weak target weak_free target_free short =
 
 -- and so do the bytes that are its layout
 pub weak_bytes_mean : {E : Type 0} (machine : MachineType) (weak target : List ℕ) (result : Result (Vec ℕ Global) E) → holds 0 weak ≡ false → holds 0 target ≡ false →
-    IfOk result (λ bytes. bytes.items ≡ layout (weak_object machine weak target)) → OnOk result (layout_size (weak_object machine weak target) < 2 ^ 32) →
+    IfOk result (λ bytes. bytes.items ≡ encoded (weak_object machine weak target)) → OnOk result (encoded_size (weak_object machine weak target) < 2 ^ 32) →
     IfOk result (λ bytes. meaning_in bytes.items ≡ Some (AnAlias (record { weak = weak; target = target })))
 weak_bytes_mean machine weak target (Err error) weak_free target_free same short = tt
 weak_bytes_mean machine weak target (Ok bytes) weak_free target_free same short =
     ap meaning_in same ∙ weak_object_means machine weak target weak_free target_free short
 
-record_means : (machine : MachineType) (dll : List ℕ) (e : ExportView) → meaning_of (file_of (ARecord (record_of machine dll e))) ≡ Some (AnImport (import_written machine dll e))
-record_means machine dll e = ap (option_map AnImport) (import_of_record-record_of machine dll e)
+record_means : (machine : MachineType) (dll : List ℕ) (e : ExportView) → meaning_of (file_of (AShortImport (short_import_of machine dll e))) ≡ Some (AnImport (import_written machine dll e))
+record_means machine dll e = ap (option_map AnImport) (import_of_short_import-short_import_of machine dll e)
 
 chosen_mean : (machine : MachineType) (dll : List ℕ) (e : ExportView) (test : Bool) →
-    map (λ (p : Plan). meaning_of (file_of p.contents)) (if test then weak_plan machine dll (record_symbol e) e.alias_target ∷ weak_plan machine dll (address_symbol (record_symbol e)) (address_symbol e.alias_target) ∷ [] else [])
-    ≡ map (λ a. Some (AnAlias a)) (if test then record { weak = record_symbol e; target = e.alias_target } ∷ record { weak = address_symbol (record_symbol e); target = address_symbol e.alias_target } ∷ [] else [])
+    map (λ (p : MemberSpec). meaning_of (file_of p.contents)) (if test then weak_spec machine dll (short_import_symbol e) e.alias_target ∷ weak_spec machine dll (address_symbol (short_import_symbol e)) (address_symbol e.alias_target) ∷ [] else [])
+    ≡ map (λ a. Some (AnAlias a)) (if test then record { weak = short_import_symbol e; target = e.alias_target } ∷ record { weak = address_symbol (short_import_symbol e); target = address_symbol e.alias_target } ∷ [] else [])
 chosen_mean machine dll e false = refl
 chosen_mean machine dll e true =
-    let first = weak_means machine (record_symbol e) e.alias_target in
-    let second = weak_means machine (address_symbol (record_symbol e)) (address_symbol e.alias_target) in
+    let first = weak_means machine (short_import_symbol e) e.alias_target in
+    let second = weak_means machine (address_symbol (short_import_symbol e)) (address_symbol e.alias_target) in
     rw (first, second) refl
 
 export_means : (machine : MachineType) (dll : List ℕ) (e : ExportView) →
-    map (λ (p : Plan). meaning_of (file_of p.contents)) (export_plans machine dll e) ≡ map (λ m. Some m) (meanings_written machine dll e)
-unfolding weak_plans
+    map (λ (p : MemberSpec). meaning_of (file_of p.contents)) (export_specs machine dll e) ≡ map (λ m. Some m) (meanings_written machine dll e)
+unfolding weak_specs
 export_means machine dll e =
-    map-append (λ (p : Plan). meaning_of (file_of p.contents)) (weak_plans machine dll e) (record_plan machine dll e ∷ [])
-    ∙ (ap (λ x. x ++ meaning_of (file_of (ARecord (record_of machine dll e))) ∷ []) (chosen_mean machine dll e (is_alias e.alias_target (record_symbol e)))
-    ∙ (ap (λ x. map (λ a. Some (AnAlias a)) (aliases_for (record_symbol e) e.alias_target) ++ x ∷ []) (record_means machine dll e)
-    ∙ sym (map-append (λ m. Some m) (map AnAlias (aliases_for (record_symbol e) e.alias_target)) (AnImport (import_written machine dll e) ∷ [])
-    ∙ ap (λ x. x ++ Some (AnImport (import_written machine dll e)) ∷ []) (map_after (λ m. Some m) AnAlias (aliases_for (record_symbol e) e.alias_target)))))
+    map-append (λ (p : MemberSpec). meaning_of (file_of p.contents)) (weak_specs machine dll e) (short_import_spec machine dll e ∷ [])
+    ∙ (ap (λ x. x ++ meaning_of (file_of (AShortImport (short_import_of machine dll e))) ∷ []) (chosen_mean machine dll e (is_alias e.alias_target (short_import_symbol e)))
+    ∙ (ap (λ x. map (λ a. Some (AnAlias a)) (aliases_for (short_import_symbol e) e.alias_target) ++ x ∷ []) (record_means machine dll e)
+    ∙ sym (map-append (λ m. Some m) (map AnAlias (aliases_for (short_import_symbol e) e.alias_target)) (AnImport (import_written machine dll e) ∷ [])
+    ∙ ap (λ x. x ++ Some (AnImport (import_written machine dll e)) ∷ []) (map_after (λ m. Some m) AnAlias (aliases_for (short_import_symbol e) e.alias_target)))))
 
 exports_mean : (machine : MachineType) (dll : List ℕ) (exports : List ExportView) →
-    map (λ (p : Plan). meaning_of (file_of p.contents)) (flat_map (export_plans machine dll) exports) ≡ map (λ m. Some m) (flat_map (meanings_written machine dll) exports)
+    map (λ (p : MemberSpec). meaning_of (file_of p.contents)) (flat_map (export_specs machine dll) exports) ≡ map (λ m. Some m) (flat_map (meanings_written machine dll) exports)
 exports_mean machine dll [] = refl
 exports_mean machine dll (e ∷ exports) =
-    map-append (λ (p : Plan). meaning_of (file_of p.contents)) (export_plans machine dll e) (flat_map (export_plans machine dll) exports)
-    ∙ (ap (λ x. x ++ map (λ (p : Plan). meaning_of (file_of p.contents)) (flat_map (export_plans machine dll) exports)) (export_means machine dll e)
+    map-append (λ (p : MemberSpec). meaning_of (file_of p.contents)) (export_specs machine dll e) (flat_map (export_specs machine dll) exports)
+    ∙ (ap (λ x. x ++ map (λ (p : MemberSpec). meaning_of (file_of p.contents)) (flat_map (export_specs machine dll) exports)) (export_means machine dll e)
     ∙ (ap (λ x. map (λ m. Some m) (meanings_written machine dll e) ++ x) (exports_mean machine dll exports)
     ∙ sym (map-append (λ m. Some m) (meanings_written machine dll e) (flat_map (meanings_written machine dll) exports))))
 
@@ -129,28 +132,28 @@ all_aliases (a ∷ aliases) = ap (λ x. a ∷ x) (all_aliases aliases)
 
 -- the import among what an export's members mean
 import_of_export : (machine : MachineType) (dll : List ℕ) (e : ExportView) → e.symbol_name ≡ [] →
-    filter_map import_among (meanings_written machine dll e) ≡ import_meant machine dll e ∷ []
+    filter_map import_among (meanings_written machine dll e) ≡ expected_import machine dll e ∷ []
 import_of_export machine dll e plain =
-    filter_map-append import_among (map AnAlias (aliases_for (record_symbol e) e.alias_target)) (AnImport (import_written machine dll e) ∷ [])
-    ∙ (ap (λ x. x ++ import_written machine dll e ∷ []) (no_imports (aliases_for (record_symbol e) e.alias_target))
+    filter_map-append import_among (map AnAlias (aliases_for (short_import_symbol e) e.alias_target)) (AnImport (import_written machine dll e) ∷ [])
+    ∙ (ap (λ x. x ++ import_written machine dll e ∷ []) (no_imports (aliases_for (short_import_symbol e) e.alias_target))
     ∙ ap (λ x. x ∷ []) (import_written-meant machine dll e plain))
 
 -- the aliases among them
 aliases_of_export : (machine : MachineType) (dll : List ℕ) (e : ExportView) → e.symbol_name ≡ [] →
     filter_map alias_among (meanings_written machine dll e) ≡ aliases_for e.name e.alias_target
 aliases_of_export machine dll e plain =
-    filter_map-append alias_among (map AnAlias (aliases_for (record_symbol e) e.alias_target)) (AnImport (import_written machine dll e) ∷ [])
-    ∙ (ap (λ x. x ++ []) (all_aliases (aliases_for (record_symbol e) e.alias_target))
-    ∙ (append-nil (aliases_for (record_symbol e) e.alias_target)
+    filter_map-append alias_among (map AnAlias (aliases_for (short_import_symbol e) e.alias_target)) (AnImport (import_written machine dll e) ∷ [])
+    ∙ (ap (λ x. x ++ []) (all_aliases (aliases_for (short_import_symbol e) e.alias_target))
+    ∙ (append-nil (aliases_for (short_import_symbol e) e.alias_target)
     ∙ ap (λ (s : List ℕ). aliases_for (symbol_or_name s e.name) e.alias_target) plain))
 
 imports_meant : (machine : MachineType) (dll : List ℕ) (exports : List ExportView) → AllByRecursion (λ e. e.symbol_name ≡ []) exports →
-    filter_map import_among (flat_map (meanings_written machine dll) exports) ≡ map (import_meant machine dll) exports
+    filter_map import_among (flat_map (meanings_written machine dll) exports) ≡ map (expected_import machine dll) exports
 imports_meant machine dll [] plain = refl
 imports_meant machine dll (e ∷ exports) plain =
     filter_map-append import_among (meanings_written machine dll e) (flat_map (meanings_written machine dll) exports)
     ∙ (ap (λ x. x ++ filter_map import_among (flat_map (meanings_written machine dll) exports)) (import_of_export machine dll e plain.0)
-    ∙ ap (λ x. import_meant machine dll e ∷ x) (imports_meant machine dll exports plain.1))
+    ∙ ap (λ x. expected_import machine dll e ∷ x) (imports_meant machine dll exports plain.1))
 
 aliases_meant : (machine : MachineType) (dll : List ℕ) (exports : List ExportView) → AllByRecursion (λ e. e.symbol_name ≡ []) exports →
     filter_map alias_among (flat_map (meanings_written machine dll) exports) ≡ flat_map (λ e. aliases_for e.name e.alias_target) exports
@@ -183,57 +186,57 @@ unfolding descriptor object_of
 dll_of_descriptor machine dll free = before_nul-ended dll [] (HasNoNul-from_holds dll free)
 
 -- what all plans after the first three mean
-after_heading : (machine : MachineType) (dll : List ℕ) (plans : List Plan) → AllByRecursion (λ p. ReadsBack p.contents) (heading_plans machine dll ++ plans) →
-    AllByRecursion (λ p. ReadsBack p.contents) plans
-unfolding heading_plans descriptor_plan null_descriptor_plan null_thunk_plan
-after_heading machine dll plans reads = reads.1.1.1
+after_heading : (machine : MachineType) (dll : List ℕ) (specs : List MemberSpec) → AllByRecursion (λ p. ReadsBack p.contents) (header_specs machine dll ++ specs) →
+    AllByRecursion (λ p. ReadsBack p.contents) specs
+unfolding header_specs descriptor_spec null_descriptor_spec null_thunk_spec
+after_heading machine dll specs reads = reads.1.1.1
 
-drop_heading : (machine : MachineType) (dll : List ℕ) (plans : List Plan) → drop 3 (map member_of (heading_plans machine dll ++ plans)) ≡ map member_of plans
-unfolding heading_plans descriptor_plan null_descriptor_plan null_thunk_plan
-drop_heading machine dll plans = refl
+drop_heading : (machine : MachineType) (dll : List ℕ) (specs : List MemberSpec) → drop 3 (map member_of (header_specs machine dll ++ specs)) ≡ map member_of specs
+unfolding header_specs descriptor_spec null_descriptor_spec null_thunk_spec
+drop_heading machine dll specs = refl
 
-first_reads : (machine : MachineType) (dll : List ℕ) (plans : List Plan) → AllByRecursion (λ p. ReadsBack p.contents) (heading_plans machine dll ++ plans) →
-    option_and_then (λ (m : MemberView). dll_in m.bytes) (slice_get (map member_of (heading_plans machine dll ++ plans)) 0) ≡ dll_of (ObjectFile (object_of (descriptor machine dll)))
-unfolding heading_plans descriptor_plan null_descriptor_plan null_thunk_plan
-first_reads machine dll plans reads = ap (option_and_then dll_of) reads.0.read
+first_reads : (machine : MachineType) (dll : List ℕ) (specs : List MemberSpec) → AllByRecursion (λ p. ReadsBack p.contents) (header_specs machine dll ++ specs) →
+    option_and_then (λ (m : MemberView). dll_in m.bytes) (slice_get (map member_of (header_specs machine dll ++ specs)) 0) ≡ dll_of (ObjectFile (object_of (descriptor machine dll)))
+unfolding header_specs descriptor_spec null_descriptor_spec null_thunk_spec
+first_reads machine dll specs reads = ap (option_and_then dll_of) reads.0.read
 
-plans_mean : (plans : List Plan) → AllByRecursion (λ p. ReadsBack p.contents) plans →
-    map (λ (m : MemberView). meaning_in m.bytes) (map member_of plans) ≡ map (λ (p : Plan). meaning_of (file_of p.contents)) plans
+plans_mean : (specs : List MemberSpec) → AllByRecursion (λ p. ReadsBack p.contents) specs →
+    map (λ (m : MemberView). meaning_in m.bytes) (map member_of specs) ≡ map (λ (p : MemberSpec). meaning_of (file_of p.contents)) specs
 plans_mean [] reads = refl
-plans_mean (p ∷ plans) reads =
-    let first : meaning_in (contents_bytes p.contents) ≡ meaning_of (file_of p.contents) = ap (option_and_then meaning_of) reads.0.read in
-    let rest = plans_mean plans reads.1 in
+plans_mean (p ∷ specs) reads =
+    let first : meaning_in (file_bytes p.contents) ≡ meaning_of (file_of p.contents) = ap (option_and_then meaning_of) reads.0.read in
+    let rest = plans_mean specs reads.1 in
     rw (first, rest) refl
 
 -- the members of a definition that is not refused are read as the definition means
-module _ (d : DefinitionView) (machine : MachineType) (members : List MemberView) (made : Made d machine Msvc members) where
+module _ (d : DefinitionView) (machine : MachineType) (members : List MemberView) (made : AreMembersOf d machine Msvc members) where
   meanings_read : map (λ (m : MemberView). meaning_in m.bytes) (drop 3 members) ≡ map (λ m. Some m) (flat_map (meanings_written machine d.import_name) (public_exports (renamed d)))
   meanings_read =
-      let exports = flat_map (export_plans machine d.import_name) (public_exports (renamed d)) in
+      let exports = flat_map (export_specs machine d.import_name) (public_exports (renamed d)) in
       ap (λ x. map (λ (m : MemberView). meaning_in m.bytes) (drop 3 x)) made.made
       ∙ (ap (map (λ (m : MemberView). meaning_in m.bytes)) (drop_heading machine d.import_name exports)
       ∙ (plans_mean exports (after_heading machine d.import_name exports (plans_read_back d machine members made))
       ∙ exports_mean machine d.import_name (public_exports (renamed d))))
 
-  pub reads_for_msvc : ReadsForMsvc d machine members
+  pub reads_for_msvc : MsvcReadBack d machine members
   reads_for_msvc = record {
     files = files_read d machine members made;
     lengths = lengths_read d machine members made;
     declared =
         of_members d machine members made (λ m. option_map declared_by (file_in m.bytes))
-        ∙ (map_same (λ (p : Plan). option_map declared_by (file_in (contents_bytes p.contents))) (λ (p : Plan). Some p.listed) (plans_of (renamed d) machine Msvc)
-        (read_declares (plans_of (renamed d) machine Msvc) (plans_read_back d machine members made)
-        (all_append DeclaresListed (heading_plans machine d.import_name) (flat_map (export_plans machine d.import_name) (public_exports (renamed d)))
+        ∙ (map_same (λ (p : MemberSpec). option_map declared_by (file_in (file_bytes p.contents))) (λ (p : MemberSpec). Some p.listed) (member_specs (renamed d) machine Msvc)
+        (read_declares (member_specs (renamed d) machine Msvc) (plans_read_back d machine members made)
+        (all_append DeclaresListed (header_specs machine d.import_name) (flat_map (export_specs machine d.import_name) (public_exports (renamed d)))
         (heading_declares machine d.import_name) (exports_declare machine d.import_name (public_exports (renamed d)))))
         ∙ sym (of_members d machine members made (λ m. Some m.symbols)));
     dll =
         ap (λ (x : List MemberView). option_and_then (λ (m : MemberView). dll_in m.bytes) (slice_get x 0)) made.made
-        ∙ (first_reads machine d.import_name (flat_map (export_plans machine d.import_name) (public_exports (renamed d))) (plans_read_back d machine members made)
+        ∙ (first_reads machine d.import_name (flat_map (export_specs machine d.import_name) (public_exports (renamed d))) (plans_read_back d machine members made)
         ∙ dll_of_descriptor machine d.import_name (import_name_is_free d machine Msvc members made));
     meanings = meanings_read;
   }
 
-  pub means_what_is_meant : has_no_symbol_names d ≡ true → MeansWhatIsMeant d machine members
+  pub means_what_is_meant : has_no_symbol_names d ≡ true → MatchesDefinition d machine members
   means_what_is_meant plain =
       let exports = public_plain d.exports plain in
       record {
@@ -243,5 +246,5 @@ module _ (d : DefinitionView) (machine : MachineType) (members : List MemberView
         aliases = aliases_meant machine d.import_name (public_exports (renamed d)) exports;
       }
 
-  pub reads_as_msvc : ReadsAsMsvc d machine members
+  pub reads_as_msvc : MsvcReadings d machine members
   reads_as_msvc = record { files = reads_for_msvc; meant = means_what_is_meant }

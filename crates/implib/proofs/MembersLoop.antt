@@ -9,15 +9,18 @@ use Rattle.implib.specs.declared.def.ShortExport.{ShortExport}
 use Rattle.implib.specs.declared.library.Flavor.TheVariants.{Msvc}
 use Rattle.implib.specs.declared.machine.MachineType.{MachineType}
 use Rattle.implib.specs.Definition.{ExportView, export_view}
-use Rattle.implib.specs.Made.{MemberView, export_plans, has_u16_ordinal, is_too_long, member_of, name_refusal, names_refusal}
+use Rattle.implib.specs.MemberSpec.{MemberView, member_of}
+use Rattle.implib.specs.MsvcMembers.{export_specs}
+use Rattle.implib.specs.Members.{has_u16_ordinal, is_too_long}
+use Rattle.implib.specs.NameRules.{name_refusal, names_refusal}
 use Rattle.implib.proofs.NotRefused.{first_none}
 
 -- the members so far and those of the exports that are left are all; none so far is too long
 pub record Left (machine : MachineType) (dll : List ℕ) (all : List MemberView) (long sound : Bool)
     (index : ℕ) (members : List MemberView) (exports : List ExportView) : Type 0 where
   pub named : names_refusal Msvc machine index exports ≡ None
-  pub made : members ++ map member_of (flat_map (export_plans machine dll) (filter (λ e. not e.private) exports)) ≡ all
-  pub fit : list_any is_too_long (flat_map (export_plans machine dll) (filter (λ e. not e.private) exports)) ≡ long
+  pub made : members ++ map member_of (flat_map (export_specs machine dll) (filter (λ e. not e.private) exports)) ≡ all
+  pub fit : list_any is_too_long (flat_map (export_specs machine dll) (filter (λ e. not e.private) exports)) ≡ long
   pub ordinals : list_all has_u16_ordinal (filter (λ e. not e.private) exports) ≡ sound
 
 module _ (machine : MachineType) (dll : List ℕ) (all : List MemberView) (long sound : Bool) (index : ℕ) (members : List MemberView) (e : ExportView) (exports : List ExportView) where
@@ -34,28 +37,28 @@ module _ (machine : MachineType) (dll : List ℕ) (all : List MemberView) (long 
   pub left_private : e.private ≡ true → Left machine dll all long sound index members (e ∷ exports) → Left machine dll all long sound (index + 1) members exports
   left_private private left = record {
     named = rest_named left.named;
-    made = sym (ap (λ (x : List ExportView). members ++ map member_of (flat_map (export_plans machine dll) x)) (passed private)) ∙ left.made;
-    fit = sym (ap (λ (x : List ExportView). list_any is_too_long (flat_map (export_plans machine dll) x)) (passed private)) ∙ left.fit;
+    made = sym (ap (λ (x : List ExportView). members ++ map member_of (flat_map (export_specs machine dll) x)) (passed private)) ∙ left.made;
+    fit = sym (ap (λ (x : List ExportView). list_any is_too_long (flat_map (export_specs machine dll) x)) (passed private)) ∙ left.fit;
     ordinals = sym (ap (list_all has_u16_ordinal) (passed private)) ∙ left.ordinals;
   }
 
   -- after an export whose members are made
   pub left_public : (grown : List MemberView) → e.private ≡ false → Left machine dll all long sound index members (e ∷ exports) →
-      grown ≡ members ++ map member_of (export_plans machine dll e) → list_any is_too_long (export_plans machine dll e) ≡ false → has_u16_ordinal e ≡ true →
+      grown ≡ members ++ map member_of (export_specs machine dll e) → list_any is_too_long (export_specs machine dll e) ≡ false → has_u16_ordinal e ≡ true →
       Left machine dll all long sound (index + 1) grown exports
   left_public grown public left made short ordinal =
-      let others = flat_map (export_plans machine dll) (filter (λ x. not x.private) exports) in
+      let others = flat_map (export_specs machine dll) (filter (λ x. not x.private) exports) in
       record {
         named = rest_named left.named;
         made =
             ap (λ x. x ++ map member_of others) made
-            ∙ (append_assoc members (map member_of (export_plans machine dll e)) (map member_of others)
-            ∙ (ap (λ x. members ++ x) (sym (map-append member_of (export_plans machine dll e) others))
-            ∙ (sym (ap (λ (x : List ExportView). members ++ map member_of (flat_map (export_plans machine dll) x)) (kept public)) ∙ left.made)));
+            ∙ (append_assoc members (map member_of (export_specs machine dll e)) (map member_of others)
+            ∙ (ap (λ x. members ++ x) (sym (map-append member_of (export_specs machine dll e) others))
+            ∙ (sym (ap (λ (x : List ExportView). members ++ map member_of (flat_map (export_specs machine dll) x)) (kept public)) ∙ left.made)));
         fit =
             sym (ap (λ test. test || list_any is_too_long others) short)
-            ∙ (sym (list_any-append is_too_long (export_plans machine dll e) others)
-            ∙ (sym (ap (λ (x : List ExportView). list_any is_too_long (flat_map (export_plans machine dll) x)) (kept public)) ∙ left.fit));
+            ∙ (sym (list_any-append is_too_long (export_specs machine dll e) others)
+            ∙ (sym (ap (λ (x : List ExportView). list_any is_too_long (flat_map (export_specs machine dll) x)) (kept public)) ∙ left.fit));
         ordinals =
             sym (ap (λ test. test && list_all has_u16_ordinal (filter (λ x. not x.private) exports)) ordinal)
             ∙ (sym (ap (list_all has_u16_ordinal) (kept public)) ∙ left.ordinals);

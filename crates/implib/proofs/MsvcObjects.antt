@@ -9,9 +9,11 @@ use Rattle.implib.specs.Import.{holds}
 use Rattle.implib.specs.Machine.{machine_number}
 use Rattle.implib.specs.Bytes.{u32_bytes}
 use Rattle.implib.specs.Constants.{image_relative}
-use Rattle.implib.specs.MsvcObjects.{symbol, relocation, descriptor_characteristics, weak_auxiliary, base_name, descriptor, descriptor_symbol, null_descriptor, null_descriptor_symbol, null_thunk, null_thunk_section, null_thunk_symbol, weak_object}
+use Rattle.implib.specs.ImportTables.{symbol, relocation}
+use Rattle.implib.specs.MsvcObjects.{descriptor_characteristics, base_name, descriptor, descriptor_symbol, null_descriptor, null_descriptor_symbol, null_thunk, null_thunk_section, null_thunk_symbol}
+use Rattle.implib.specs.WeakExternal.{weak_auxiliary, weak_object}
 use Rattle.implib.specs.Object.{ObjectSection}
-use Rattle.implib.specs.Picture.{Picture, PictureSymbol, Fits, FitsRelocation, FitsSection, FitsSymbol, HasNoNul, InRecord, Listed}
+use Rattle.implib.specs.Layout.{ObjectLayout, LayoutSymbol, Fits, FitsRelocation, FitsSection, FitsSymbol, HasNoNul, InRecord, InStringTable}
 
 -- a text without NUL
 pub HasNoNul-from_holds : (text : List ℕ) → holds 0 text ≡ false → HasNoNul text
@@ -72,7 +74,7 @@ pub relocation_fits : (machine : MachineType) (offset index : ℕ) → offset < 
 relocation_fits machine offset index offset_fits index_fits = record { offset = offset_fits; symbol = index_fits; kind = image_relative_fits machine }
 
 -- a symbol whose name is listed
-listed_fits : (strings : List (List ℕ)) (index section class : ℕ) → index < length strings → section < 2 ^ 16 → FitsSymbol strings (symbol (Listed index) section class)
+listed_fits : (strings : List (List ℕ)) (index section class : ℕ) → index < length strings → section < 2 ^ 16 → FitsSymbol strings (symbol (InStringTable index) section class)
 listed_fits strings index section class listed section_fits = record { name = listed; value = omega arith; section = section_fits; aux = tt }
 
 -- a symbol whose name stands in its record
@@ -199,7 +201,7 @@ Fits-weak_object machine weak target weak_free target_free =
 
 -- A picture of the program is a table where its parts are.
 
-pub same_picture : (q : Picture) (machine characteristics : ℕ) (sections : List ObjectSection) (symbols : List PictureSymbol) (strings : List (List ℕ)) →
+pub same_picture : (q : ObjectLayout) (machine characteristics : ℕ) (sections : List ObjectSection) (symbols : List LayoutSymbol) (strings : List (List ℕ)) →
     machine ≡ q.machine → characteristics ≡ q.characteristics → sections ≡ q.sections → symbols ≡ q.symbols → strings ≡ q.strings →
     q ≡ record { machine = machine; characteristics = characteristics; sections = sections; symbols = symbols; strings = strings }
 same_picture q machine characteristics sections symbols strings same_machine same_characteristics same_sections same_symbols same_strings =

@@ -8,7 +8,9 @@ use Rattle.implib.specs.declared.machine.MachineType.{MachineType}
 use Rattle.implib.specs.Definition.{DefinitionView, ExportView}
 use Rattle.implib.specs.Fault.{Cause, EmptyImportName, NulInImportName, EmptyName, NulInExport, MemberTooLong}
 use Rattle.implib.specs.Import.{holds, is_empty_text, public_exports}
-use Rattle.implib.specs.Made.{Made, MemberView, Plan, contents_size, definition_names_refusal, first_of_both, has_u16_ordinal, import_name_refusal, is_too_long, length_refusal, name_refusal, names_refusal, plans_of, refusal, renamed_refusal}
+use Rattle.implib.specs.Members.{AreMembersOf, has_u16_ordinal, is_too_long, length_refusal, member_specs, refusal, renamed_refusal}
+use Rattle.implib.specs.MemberSpec.{MemberView, MemberSpec, file_size}
+use Rattle.implib.specs.NameRules.{definition_names_refusal, first_of_both, import_name_refusal, name_refusal, names_refusal}
 use Rattle.implib.specs.Renaming.{renamed, renamed_export}
 
 -- an export that is named, whose texts have no NUL and whose ordinal has 16 bits
@@ -56,13 +58,13 @@ all_sound flavor machine index (e ∷ exports) none ordinals =
         let two = and_parts (has_u16_ordinal e) (list_all has_u16_ordinal (filter (λ x. not x.private) exports)) ordinals in
         (sound_of flavor machine index e none two.0, others two.1)
 
-pub short_enough : (p : Plan) → is_too_long p ≡ false → contents_size p.contents ≤ 0xFFFF_FFFF
-short_enough p short = ltb-false 0xFFFF_FFFF (contents_size p.contents) short
+pub short_enough : (p : MemberSpec) → is_too_long p ≡ false → file_size p.contents ≤ 0xFFFF_FFFF
+short_enough p short = ltb-false 0xFFFF_FFFF (file_size p.contents) short
 
-module _ (d : DefinitionView) (machine : MachineType) (flavor : Flavor) (members : List MemberView) (made : Made d machine flavor members) where
-  refusals : (definition_names_refusal (renamed d) machine flavor ≡ None) × (length_refusal (plans_of (renamed d) machine flavor) ≡ None)
+module _ (d : DefinitionView) (machine : MachineType) (flavor : Flavor) (members : List MemberView) (made : AreMembersOf d machine flavor members) where
+  refusals : (definition_names_refusal (renamed d) machine flavor ≡ None) × (length_refusal (member_specs (renamed d) machine flavor) ≡ None)
   unfolding refusal renamed_refusal
-  refusals = first_none (definition_names_refusal (renamed d) machine flavor) (length_refusal (plans_of (renamed d) machine flavor)) made.accepted
+  refusals = first_none (definition_names_refusal (renamed d) machine flavor) (length_refusal (member_specs (renamed d) machine flavor)) made.accepted
 
   name_refusals : (import_name_refusal d.import_name ≡ None) × (names_refusal flavor machine 0 (map renamed_export d.exports) ≡ None)
   name_refusals = first_none (import_name_refusal d.import_name) (names_refusal flavor machine 0 (map renamed_export d.exports)) refusals.0
@@ -73,5 +75,5 @@ module _ (d : DefinitionView) (machine : MachineType) (flavor : Flavor) (members
   pub exports_sound : AllByRecursion Sound (public_exports (renamed d))
   exports_sound = all_sound flavor machine 0 (map renamed_export d.exports) name_refusals.1 made.ordinals
 
-  pub none_long : list_any is_too_long (plans_of (renamed d) machine flavor) ≡ false
-  none_long = (if_none (list_any is_too_long (plans_of (renamed d) machine flavor)) MemberTooLong None refusals.1).0
+  pub none_long : list_any is_too_long (member_specs (renamed d) machine flavor) ≡ false
+  none_long = (if_none (list_any is_too_long (member_specs (renamed d) machine flavor)) MemberTooLong None refusals.1).0

@@ -3,14 +3,14 @@ use Rattle.std.proofs.Common.{◌≡◌, ℕ, suc, ◌+◌, ◌*◌, ◌<◌, �
 use Rattle.std.specs.List.{AllByRecursion, flat_map, sum_by}
 use Rattle.std.proofs.lemmas.List.Sums.{sum_by-cons}
 use Rattle.implib.specs.Object.{ASymbol, Auxiliary, Entry, each_at, entries_at, object_in, object_of_header, section_at}
-use Rattle.implib.specs.Picture.{Fits, FitsAuxiliary, FitsSymbol, HasNoNul, Picture, PictureSymbol, SymbolName, auxiliary_bytes, auxiliary_count, contents, contents_place, contents_size, entries_of, header_bytes, layout, layout_size, object_of, record_count, records, section_headers, string_offsets, string_table, strings_size, symbol_bytes, symbols_place}
-use Rattle.implib.proofs.Fields.{header-characteristics, header-machine, header-optional, header-records, header-sections, header-symbols_place, header-time, length-header_bytes}
+use Rattle.implib.specs.Layout.{Fits, FitsAuxiliary, FitsSymbol, HasNoNul, ObjectLayout, LayoutSymbol, SymbolName, auxiliary_bytes, auxiliary_count, contents, contents_offset, contents_size, entries_of, header_bytes, encoded, encoded_size, object_of, record_count, records, section_headers, string_offsets, string_table, strings_size, symbol_bytes, symbol_table_offset}
+use Rattle.implib.proofs.Fields.{header-characteristics, header-machine, header-optional, header-records, header-sections, header-symbol_table_offset, header-time, length-header_bytes}
 use Rattle.implib.proofs.Stands.{Stands, bytes_at-stands, stands_first, stands_next, stands_whole}
 use Rattle.implib.proofs.Symbols.{length-all_contents, length-record_bytes, length-section_headers, length-string_table, record-auxiliary, record_bytes, sections_read, shown, strings_read, symbol_bytes-parts, symbol_of-record}
 
 -- the entries of a symbol without an auxiliary record, and of one with it
 
-plain_symbol : (bytes : List ℕ) (place : ℕ) (strings : List (List ℕ)) (s : PictureSymbol) (fits : FitsSymbol strings s) (count : ℕ) (rest : List Entry)
+plain_symbol : (bytes : List ℕ) (place : ℕ) (strings : List (List ℕ)) (s : LayoutSymbol) (fits : FitsSymbol strings s) (count : ℕ) (rest : List Entry)
     → AllByRecursion HasNoNul strings → strings_size strings < 2 ^ 32 → auxiliary_count s.aux ≡ 0
     → Stands bytes place (record_bytes strings s)
     → entries_at bytes (string_table strings) (place + 18) 0 count ≡ Some rest
@@ -19,7 +19,7 @@ unfolding entries_at
 plain_symbol bytes place strings s fits count rest all below plain stands others =
     rw (bytes_at-stands 18 (length-record_bytes strings s fits) stands, symbol_of-record strings s fits all below, record-auxiliary strings s fits, plain, others) refl
 
-auxiliary_symbol : (bytes : List ℕ) (place : ℕ) (strings : List (List ℕ)) (s : PictureSymbol) (fits : FitsSymbol strings s) (aux : List ℕ) (count : ℕ) (rest : List Entry)
+auxiliary_symbol : (bytes : List ℕ) (place : ℕ) (strings : List (List ℕ)) (s : LayoutSymbol) (fits : FitsSymbol strings s) (aux : List ℕ) (count : ℕ) (rest : List Entry)
     → AllByRecursion HasNoNul strings → strings_size strings < 2 ^ 32 → auxiliary_count s.aux ≡ 1 → length aux ≡ 18
     → Stands bytes place (record_bytes strings s) → Stands bytes (place + 18) aux
     → entries_at bytes (string_table strings) ((place + 18) + 18) 0 count ≡ Some rest
@@ -30,13 +30,13 @@ auxiliary_symbol bytes place strings s fits aux count rest all below more long s
 
 -- where a symbol's bytes stand, its own record does, and then its auxiliary record
 
-symbol_parts : (bytes : List ℕ) (place : ℕ) (strings : List (List ℕ)) (s : PictureSymbol) → Stands bytes place (symbol_bytes (string_offsets strings) s) → Stands bytes place (record_bytes strings s ++ auxiliary_bytes s.aux)
+symbol_parts : (bytes : List ℕ) (place : ℕ) (strings : List (List ℕ)) (s : LayoutSymbol) → Stands bytes place (symbol_bytes (string_offsets strings) s) → Stands bytes place (record_bytes strings s ++ auxiliary_bytes s.aux)
 symbol_parts bytes place strings s stands = rw (symbol_bytes-parts strings s) at stands
 
-record_stands : (bytes : List ℕ) (place : ℕ) (strings : List (List ℕ)) (s : PictureSymbol) → Stands bytes place (symbol_bytes (string_offsets strings) s) → Stands bytes place (record_bytes strings s)
+record_stands : (bytes : List ℕ) (place : ℕ) (strings : List (List ℕ)) (s : LayoutSymbol) → Stands bytes place (symbol_bytes (string_offsets strings) s) → Stands bytes place (record_bytes strings s)
 record_stands bytes place strings s stands = stands_first (record_bytes strings s) (auxiliary_bytes s.aux) (symbol_parts bytes place strings s stands)
 
-auxiliary_stands : (bytes : List ℕ) (place : ℕ) (strings : List (List ℕ)) (s : PictureSymbol) → FitsSymbol strings s → Stands bytes place (symbol_bytes (string_offsets strings) s) → Stands bytes (place + 18) (auxiliary_bytes s.aux)
+auxiliary_stands : (bytes : List ℕ) (place : ℕ) (strings : List (List ℕ)) (s : LayoutSymbol) → FitsSymbol strings s → Stands bytes place (symbol_bytes (string_offsets strings) s) → Stands bytes (place + 18) (auxiliary_bytes s.aux)
 auxiliary_stands bytes place strings s fits stands =
     stands_next (record_bytes strings s) (auxiliary_bytes s.aux) 18 (length-record_bytes strings s fits) (symbol_parts bytes place strings s stands)
 
@@ -67,14 +67,14 @@ unfolding auxiliary_bytes auxiliary_count
 auxiliary_counted None fits = refl
 auxiliary_counted (Some aux) fits = ap (λ n. 18 + n) fits
 
-pub length-symbol_bytes : (strings : List (List ℕ)) (s : PictureSymbol) → FitsSymbol strings s → length (symbol_bytes (string_offsets strings) s) ≡ 18 * record_count s
+pub length-symbol_bytes : (strings : List (List ℕ)) (s : LayoutSymbol) → FitsSymbol strings s → length (symbol_bytes (string_offsets strings) s) ≡ 18 * record_count s
 unfolding record_count
 length-symbol_bytes strings s fits =
     ap length (symbol_bytes-parts strings s)
     ∙ (length-append (record_bytes strings s) (auxiliary_bytes s.aux)
     ∙ (ap (λ n. n + length (auxiliary_bytes s.aux)) (length-record_bytes strings s fits) ∙ auxiliary_counted s.aux fits.aux))
 
-pub length-all_symbols : (strings : List (List ℕ)) (ss : List PictureSymbol) → AllByRecursion (FitsSymbol strings) ss → length (flat_map (symbol_bytes (string_offsets strings)) ss) ≡ 18 * sum_by record_count ss
+pub length-all_symbols : (strings : List (List ℕ)) (ss : List LayoutSymbol) → AllByRecursion (FitsSymbol strings) ss → length (flat_map (symbol_bytes (string_offsets strings)) ss) ≡ 18 * sum_by record_count ss
 length-all_symbols strings [] all = refl
 length-all_symbols strings (s ∷ ss) all =
     omega (arith, length-append (symbol_bytes (string_offsets strings) s) (flat_map (symbol_bytes (string_offsets strings)) ss), length-symbol_bytes strings s all.0, length-all_symbols strings ss all.1, sum_by-cons record_count s ss)
@@ -83,7 +83,7 @@ entries_none : (bytes table : List ℕ) (place : ℕ) → entries_at bytes table
 unfolding entries_at
 entries_none bytes table place = refl
 
-entries_read : (bytes : List ℕ) (place : ℕ) (strings : List (List ℕ)) (ss : List PictureSymbol) → AllByRecursion (FitsSymbol strings) ss → AllByRecursion HasNoNul strings → strings_size strings < 2 ^ 32
+entries_read : (bytes : List ℕ) (place : ℕ) (strings : List (List ℕ)) (ss : List LayoutSymbol) → AllByRecursion (FitsSymbol strings) ss → AllByRecursion HasNoNul strings → strings_size strings < 2 ^ 32
     → Stands bytes place (flat_map (symbol_bytes (string_offsets strings)) ss)
     → entries_at bytes (string_table strings) place 0 (sum_by record_count ss) ≡ Some (flat_map (entries_of strings) ss)
 entries_read bytes place strings [] all texts below stands = entries_none bytes (string_table strings) place
@@ -96,92 +96,92 @@ entries_read bytes place strings (s ∷ ss) all texts below stands =
 
 -- the picture
 
-module _ (p : Picture) (fits : Fits p) (short : layout_size p < 2 ^ 32) where
+module _ (p : ObjectLayout) (fits : Fits p) (short : encoded_size p < 2 ^ 32) where
   places_below : (20 + 40 * length p.sections) + sum_by contents_size p.sections + 18 * sum_by record_count p.symbols + strings_size p.strings < 2 ^ 32
-  unfolding layout_size symbols_place contents_place records
+  unfolding encoded_size symbol_table_offset contents_offset records
   places_below = short
 
-  pub headers_long : length (section_headers (contents_place p) p.sections) ≡ 40 * length p.sections
-  unfolding contents_place
+  pub headers_long : length (section_headers (contents_offset p) p.sections) ≡ 40 * length p.sections
+  unfolding contents_offset
   headers_long = length-section_headers (20 + 40 * length p.sections) p.sections fits.sections (omega (arith, places_below))
 
-  after_header : Stands (layout p) 20 (section_headers (contents_place p) p.sections ++ (flat_map contents p.sections ++ (flat_map (symbol_bytes (string_offsets p.strings)) p.symbols ++ string_table p.strings)))
-  unfolding layout
-  after_header = stands_next (header_bytes p) _ 20 (length-header_bytes p) (stands_whole (layout p))
+  after_header : Stands (encoded p) 20 (section_headers (contents_offset p) p.sections ++ (flat_map contents p.sections ++ (flat_map (symbol_bytes (string_offsets p.strings)) p.symbols ++ string_table p.strings)))
+  unfolding encoded
+  after_header = stands_next (header_bytes p) _ 20 (length-header_bytes p) (stands_whole (encoded p))
 
-  header_stands : Stands (layout p) 0 (header_bytes p)
-  unfolding layout
-  header_stands = stands_first (header_bytes p) _ (stands_whole (layout p))
+  header_stands : Stands (encoded p) 0 (header_bytes p)
+  unfolding encoded
+  header_stands = stands_first (header_bytes p) _ (stands_whole (encoded p))
 
-  headers_stand : Stands (layout p) 20 (section_headers (contents_place p) p.sections)
+  headers_stand : Stands (encoded p) 20 (section_headers (contents_offset p) p.sections)
   headers_stand = stands_first _ (flat_map contents p.sections ++ (flat_map (symbol_bytes (string_offsets p.strings)) p.symbols ++ string_table p.strings)) after_header
 
-  after_headers : Stands (layout p) (contents_place p) (flat_map contents p.sections ++ (flat_map (symbol_bytes (string_offsets p.strings)) p.symbols ++ string_table p.strings))
-  unfolding contents_place
-  after_headers = stands_next (section_headers (contents_place p) p.sections) _ (40 * length p.sections) headers_long after_header
+  after_headers : Stands (encoded p) (contents_offset p) (flat_map contents p.sections ++ (flat_map (symbol_bytes (string_offsets p.strings)) p.symbols ++ string_table p.strings))
+  unfolding contents_offset
+  after_headers = stands_next (section_headers (contents_offset p) p.sections) _ (40 * length p.sections) headers_long after_header
 
-  contents_stand : Stands (layout p) (contents_place p) (flat_map contents p.sections)
+  contents_stand : Stands (encoded p) (contents_offset p) (flat_map contents p.sections)
   contents_stand = stands_first (flat_map contents p.sections) _ after_headers
 
-  after_contents : Stands (layout p) (symbols_place p) (flat_map (symbol_bytes (string_offsets p.strings)) p.symbols ++ string_table p.strings)
-  unfolding symbols_place
+  after_contents : Stands (encoded p) (symbol_table_offset p) (flat_map (symbol_bytes (string_offsets p.strings)) p.symbols ++ string_table p.strings)
+  unfolding symbol_table_offset
   after_contents = stands_next (flat_map contents p.sections) _ (sum_by contents_size p.sections) (length-all_contents p.sections) after_headers
 
-  symbols_stand : Stands (layout p) (symbols_place p) (flat_map (symbol_bytes (string_offsets p.strings)) p.symbols)
+  symbols_stand : Stands (encoded p) (symbol_table_offset p) (flat_map (symbol_bytes (string_offsets p.strings)) p.symbols)
   symbols_stand = stands_first (flat_map (symbol_bytes (string_offsets p.strings)) p.symbols) _ after_contents
 
-  strings_stand : Stands (layout p) (symbols_place p + 18 * records p) (string_table p.strings)
+  strings_stand : Stands (encoded p) (symbol_table_offset p + 18 * records p) (string_table p.strings)
   unfolding records
   strings_stand = stands_next (flat_map (symbol_bytes (string_offsets p.strings)) p.symbols) _ (18 * sum_by record_count p.symbols) (length-all_symbols p.strings p.symbols fits.symbols) after_contents
 
   strings_below : strings_size p.strings < 2 ^ 32
   strings_below = omega (arith, places_below)
 
-  symbols_place_below : symbols_place p < 2 ^ 32
-  unfolding symbols_place contents_place
+  symbols_place_below : symbol_table_offset p < 2 ^ 32
+  unfolding symbol_table_offset contents_offset
   symbols_place_below = omega (arith, places_below)
 
   records_below : records p < 2 ^ 32
   unfolding records
   records_below = omega (arith, places_below)
 
-  all_sections : each_at (section_at (layout p)) (20 + 0) 40 (length p.sections) ≡ Some p.sections
-  unfolding contents_place
-  all_sections = sections_read (layout p) 20 (contents_place p) p.sections fits.sections (omega arith) (omega (arith, places_below)) headers_stand contents_stand
+  all_sections : each_at (section_at (encoded p)) (20 + 0) 40 (length p.sections) ≡ Some p.sections
+  unfolding contents_offset
+  all_sections = sections_read (encoded p) 20 (contents_offset p) p.sections fits.sections (omega arith) (omega (arith, places_below)) headers_stand contents_stand
 
-  all_entries : entries_at (layout p) (string_table p.strings) (symbols_place p) 0 (records p) ≡ Some (flat_map (entries_of p.strings) p.symbols)
+  all_entries : entries_at (encoded p) (string_table p.strings) (symbol_table_offset p) 0 (records p) ≡ Some (flat_map (entries_of p.strings) p.symbols)
   unfolding records
-  all_entries = entries_read (layout p) (symbols_place p) p.strings p.symbols fits.symbols fits.strings strings_below symbols_stand
+  all_entries = entries_read (encoded p) (symbol_table_offset p) p.strings p.symbols fits.symbols fits.strings strings_below symbols_stand
 
-  object_of_header-layout : object_of_header (layout p) (header_bytes p) ≡ Some (object_of p)
+  object_of_header-encoded : object_of_header (encoded p) (header_bytes p) ≡ Some (object_of p)
   unfolding object_of_header object_of
-  object_of_header-layout =
+  object_of_header-encoded =
       rw (
-        header-symbols_place p symbols_place_below,
+        header-symbol_table_offset p symbols_place_below,
         header-records p records_below,
         header-optional p,
         header-sections p fits.count,
         header-machine p fits.machine,
         header-time p,
         header-characteristics p fits.characteristics,
-        strings_read (layout p) (symbols_place p + 18 * records p) p.strings strings_below strings_stand,
+        strings_read (encoded p) (symbol_table_offset p + 18 * records p) p.strings strings_below strings_stand,
         all_sections,
         all_entries,
       )
       refl
 
   -- a picture that fits reads back as itself
-  pub object_in-layout : object_in (layout p) ≡ Some (object_of p)
+  pub object_in-encoded : object_in (encoded p) ≡ Some (object_of p)
   unfolding object_in
-  object_in-layout = rw (bytes_at-stands 20 (length-header_bytes p) header_stands) object_of_header-layout
+  object_in-encoded = rw (bytes_at-stands 20 (length-header_bytes p) header_stands) object_of_header-encoded
 
   -- its bytes are as many as its parts say
-  pub length-layout : length (layout p) ≡ layout_size p
-  unfolding layout layout_size symbols_place contents_place records
-  length-layout = omega (
+  pub length-encoded : length (encoded p) ≡ encoded_size p
+  unfolding encoded encoded_size symbol_table_offset contents_offset records
+  length-encoded = omega (
     arith,
-    length-append (header_bytes p) (section_headers (contents_place p) p.sections ++ (flat_map contents p.sections ++ (flat_map (symbol_bytes (string_offsets p.strings)) p.symbols ++ string_table p.strings))),
-    length-append (section_headers (contents_place p) p.sections) (flat_map contents p.sections ++ (flat_map (symbol_bytes (string_offsets p.strings)) p.symbols ++ string_table p.strings)),
+    length-append (header_bytes p) (section_headers (contents_offset p) p.sections ++ (flat_map contents p.sections ++ (flat_map (symbol_bytes (string_offsets p.strings)) p.symbols ++ string_table p.strings))),
+    length-append (section_headers (contents_offset p) p.sections) (flat_map contents p.sections ++ (flat_map (symbol_bytes (string_offsets p.strings)) p.symbols ++ string_table p.strings)),
     length-append (flat_map contents p.sections) (flat_map (symbol_bytes (string_offsets p.strings)) p.symbols ++ string_table p.strings),
     length-append (flat_map (symbol_bytes (string_offsets p.strings)) p.symbols) (string_table p.strings),
     length-header_bytes p,

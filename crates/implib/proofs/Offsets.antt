@@ -2,7 +2,7 @@
 use Rattle.std.proofs.Common.{◌≡◌, ℕ, ◌+◌, ◌<◌, ◌≤◌, List, [], ◌∷◌, ◌++◌, length, map, drop, get_or, sym, ◌∙◌, ap, append_assoc}
 use Rattle.std.specs.Borrow.{Bor}
 use Rattle.std.proofs.lemmas.List.{append-nil, drop_all, drop_more}
-use Rattle.implib.specs.Picture.{offsets_from, string_size}
+use Rattle.implib.specs.Layout.{offsets_from, string_size}
 
 module _ (found : List ℕ) (offset : ℕ) (strings : List (Bor (List ℕ))) (i : ℕ) (whole : List ℕ)
     (so_far : found ++ offsets_from offset (map (λ text. text.now) (drop i strings)) ≡ whole) where

@@ -7,67 +7,67 @@ use Rattle.implib.specs.Definition.{DefinitionView, empty_definition}
 use Rattle.implib.specs.Fault.{Cause}
 use Rattle.implib.specs.Grammar.{Statement, Sentence, IsSentence}
 use Rattle.implib.specs.Meaning.{meaning}
-use Rattle.implib.specs.Parses.{Parses, Refuses, InGrammar, IsBroken}
-use Rattle.implib.specs.Reading.{◌>>=◌, statements_read, with_statements, definition_from, read}
-use Rattle.implib.specs.Refusal.{Broken, IsBrokenOff}
-use Rattle.implib.specs.Token.{EndsInEof, Lexed, Seen}
-use Rattle.implib.proofs.Reading.{Parses-from_read, Refuses-from_read, read-spelled, read-refused}
-use Rattle.implib.proofs.SpelledStatements.{sentence-read, broken-refused}
+use Rattle.implib.specs.Parses.{Parses, Refuses, InGrammar, IsIllFormed}
+use Rattle.implib.specs.TokenReader.{◌>>=◌, statements_read, with_statements, definition_from, read}
+use Rattle.implib.specs.SyntaxError.{IsSyntaxError, HasSyntaxError}
+use Rattle.implib.specs.Token.{EndsInEof, Lexed, TokenView}
+use Rattle.implib.proofs.TokenReader.{Parses-from_read, Refuses-from_read, read-spelled, read-refused}
+use Rattle.implib.proofs.TerminalsOfStatements.{sentence-read, broken-refused}
 use Rattle.implib.proofs.Token.{LexedOnce-of_text, Lexed-unique}
 
 -- ---- of tokens
 
-abbrev given : List Statement × List Seen → Result (List Statement × List Seen) Cause
+abbrev given : List Statement × List TokenView → Result (List Statement × List TokenView) Cause
 given p = Ok p
 
-same_list : (r : Result (List Statement × List Seen) Cause) (a b : List Statement) (x y : List Seen) → r ≡ Ok (a, x) → r ≡ Ok (b, y) → a ≡ b
-same_list r a b x y e f = ap (λ (p : List Statement × List Seen). p.0) (same_pair (a, x) (b, y) (sym e ∙ f))
+same_list : (r : Result (List Statement × List TokenView) Cause) (a b : List Statement) (x y : List TokenView) → r ≡ Ok (a, x) → r ≡ Ok (b, y) → a ≡ b
+same_list r a b x y e f = ap (λ (p : List Statement × List TokenView). p.0) (same_pair (a, x) (b, y) (sym e ∙ f))
   where
-    same_pair : (p q : List Statement × List Seen) → given p ≡ given q → p ≡ q
+    same_pair : (p q : List Statement × List TokenView) → given p ≡ given q → p ≡ q
     same_pair p q h = cc
 
-same_cause : (r : Result (List Statement × List Seen) Cause) (a b : Cause) → r ≡ Err a → r ≡ Err b → a ≡ b
+same_cause : (r : Result (List Statement × List TokenView) Cause) (a b : Cause) → r ≡ Err a → r ≡ Err b → a ≡ b
 same_cause r a b e f = cc
 
-not_both : (r : Result (List Statement × List Seen) Cause) (p : List Statement × List Seen) (cause : Cause) → r ≡ Ok p → r ≡ Err cause → ⊥
+not_both : (r : Result (List Statement × List TokenView) Cause) (p : List Statement × List TokenView) (cause : Cause) → r ≡ Ok p → r ≡ Err cause → ⊥
 not_both r p cause e f = cc
 
-pub one_list : (tokens : List Seen) (statements others : List Statement) → Sentence tokens statements → Sentence tokens others → statements ≡ others
+pub one_list : (tokens : List TokenView) (statements others : List Statement) → Sentence tokens statements → Sentence tokens others → statements ≡ others
 one_list tokens statements others first second =
     let a = sentence-read tokens statements first in
     let b = sentence-read tokens others second in
     same_list (statements_read tokens) statements others a.0 b.0 a.1 b.1
 
-pub never_both_of : (tokens others : List Seen) (statements : List Statement) (cause : Cause) → tokens ≡ others → Sentence tokens statements → Broken others cause → ⊥
+pub never_both_of : (tokens others : List TokenView) (statements : List Statement) (cause : Cause) → tokens ≡ others → Sentence tokens statements → IsSyntaxError others cause → ⊥
 never_both_of tokens others statements cause same sentence broken =
     let a = sentence-read tokens statements sentence in
     not_both (statements_read others) (statements, a.0) cause (ap statements_read (sym same) ∙ a.1) (broken-refused others cause broken)
 
-pub one_cause_of : (tokens : List Seen) (cause other : Cause) → Broken tokens cause → Broken tokens other → cause ≡ other
+pub one_cause_of : (tokens : List TokenView) (cause other : Cause) → IsSyntaxError tokens cause → IsSyntaxError tokens other → cause ≡ other
 one_cause_of tokens cause other first second =
     same_cause (statements_read tokens) cause other (broken-refused tokens cause first) (broken-refused tokens other second)
 
-either_read : (tokens : List Seen) → EndsInEof tokens → (r : Result DefinitionView Cause) → read AMD64 tokens ≡ r → IsSentence tokens ⊎ IsBrokenOff tokens
+either_read : (tokens : List TokenView) → EndsInEof tokens → (r : Result DefinitionView Cause) → read AMD64 tokens ≡ r → IsSentence tokens ⊎ HasSyntaxError tokens
 either_read tokens ends (Ok d) e = let s = read-spelled AMD64 tokens d ends e in inl (s.statements, s.sentence)
 either_read tokens ends (Err cause) e = inr (cause, read-refused AMD64 tokens cause ends e)
 
-pub either_of : (tokens : List Seen) → EndsInEof tokens → IsSentence tokens ⊎ IsBrokenOff tokens
+pub either_of : (tokens : List TokenView) → EndsInEof tokens → IsSentence tokens ⊎ HasSyntaxError tokens
 either_of tokens ends = either_read tokens ends (read AMD64 tokens) refl
 
 -- ---- of texts
 
-either_by : (text : List ℕ) (tokens : List Seen) (r : Result (List Statement × List Seen) Cause) → Lexed text tokens → statements_read tokens ≡ r → InGrammar text ⊎ IsBroken text
+either_by : (text : List ℕ) (tokens : List TokenView) (r : Result (List Statement × List TokenView) Cause) → Lexed text tokens → statements_read tokens ≡ r → InGrammar text ⊎ IsIllFormed text
 unfolding read
 either_by text tokens (Ok found) lexed e =
     inl (λ machine. (
       with_statements machine empty_definition found.0,
       Parses-from_read text tokens machine (with_statements machine empty_definition found.0) lexed
-          (ap (λ (r : Result (List Statement × List Seen) Cause). r >>= definition_from machine) e),
+          (ap (λ (r : Result (List Statement × List TokenView) Cause). r >>= definition_from machine) e),
     ))
 either_by text tokens (Err cause) lexed e =
-    inr (cause, Refuses-from_read text tokens AMD64 cause lexed (ap (λ (r : Result (List Statement × List Seen) Cause). r >>= definition_from AMD64) e))
+    inr (cause, Refuses-from_read text tokens AMD64 cause lexed (ap (λ (r : Result (List Statement × List TokenView) Cause). r >>= definition_from AMD64) e))
 
-pub either : (text : List ℕ) → IsUtf8 text → InGrammar text ⊎ IsBroken text
+pub either : (text : List ℕ) → IsUtf8 text → InGrammar text ⊎ IsIllFormed text
 either text utf8 =
     let once = LexedOnce-of_text text utf8 in either_by text once.tokens (statements_read once.tokens) once.lexed refl
 
@@ -78,7 +78,7 @@ never_both text utf8 machine definition cause parses refuses =
 pub one_definition : (text : List ℕ) → IsUtf8 text → (machine : MachineType) (definition other : DefinitionView) → Parses text machine definition → Parses text machine other → definition ≡ other
 one_definition text utf8 machine definition other first second =
     let same = Lexed-unique text second.tokens first.tokens utf8 second.lexed first.lexed in
-    let sentence : Sentence first.tokens second.statements = subst (λ (s : List Seen). Sentence s second.statements) same second.sentence in
+    let sentence : Sentence first.tokens second.statements = subst (λ (s : List TokenView). Sentence s second.statements) same second.sentence in
     let statements = one_list first.tokens first.statements second.statements first.sentence sentence in
     sym first.means ∙ ap (meaning machine) statements ∙ second.means
 

@@ -9,11 +9,11 @@ use Rattle.implib.specs.Bytes.{u16_bytes}
 use Rattle.implib.specs.Definition.{ExportView}
 use Rattle.implib.specs.Gnu.{export_listed, export_object, head_object, hint_name, name_symbol, tail_object, thunk}
 use Rattle.implib.specs.Import.{address_symbol}
-use Rattle.implib.specs.Placement.{Addresses, At, Bases, Descriptors, DllNames, HintNames, Lookups, Nowhere, Placed, next_multiple, placed_from}
+use Rattle.implib.specs.Placement.{Addresses, At, Bases, Descriptors, DllNames, HintNames, Lookups, Unplaced, Placed, next_multiple, placed_from}
 use Rattle.implib.specs.Resolution.{SymbolDefinition, defined_by, definitions}
-use Rattle.implib.specs.MsvcObjects.{thunk_width, zeros}
+use Rattle.implib.specs.ImportTables.{thunk_width, zeros}
 use Rattle.implib.specs.Object.{Object}
-use Rattle.implib.specs.Writer.{object_held}
+use Rattle.implib.specs.Writer.{written_object}
 
 pub aligned : (n : ℕ) → n % 4 ≡ 0 → next_multiple 4 n ≡ n
 unfolding next_multiple
@@ -53,13 +53,13 @@ pub record AreAligned (b : Bases) : Type 0 where
 
 module _ (machine : MachineType) (dll : List ℕ) where
   abbrev pub head : Object
-  head = object_held (head_object machine dll)
+  head = written_object (head_object machine dll)
 
   abbrev pub tail : Object
-  tail = object_held (tail_object machine dll)
+  tail = written_object (tail_object machine dll)
 
   abbrev pub export : ExportView → Object
-  export e = object_held (export_object machine dll e)
+  export e = written_object (export_object machine dll e)
 
   -- exports, the tail after them, and other objects
   abbrev pub after_head : List ExportView → List Object → List Object
@@ -68,7 +68,7 @@ module _ (machine : MachineType) (dll : List ℕ) where
   abbrev pub placed_head : Bases → Placed
   placed_head b = record {
     object = head;
-    places = Nowhere ∷ Nowhere ∷ Nowhere ∷ At Descriptors b.descriptors ∷ At Addresses b.addresses ∷ At Lookups b.lookups ∷ [];
+    places = Unplaced ∷ Unplaced ∷ Unplaced ∷ At Descriptors b.descriptors ∷ At Addresses b.addresses ∷ At Lookups b.lookups ∷ [];
   }
 
   abbrev pub ends_of_head : Bases → Bases
@@ -77,7 +77,7 @@ module _ (machine : MachineType) (dll : List ℕ) where
   abbrev pub placed_export : Bases → ExportView → Placed
   placed_export b e = record {
     object = export e;
-    places = Nowhere ∷ Nowhere ∷ Nowhere ∷ At DllNames (next_multiple 4 b.dll_names) ∷ At Addresses b.addresses ∷ At Lookups b.lookups ∷ At HintNames (next_multiple 2 b.hint_names) ∷ [];
+    places = Unplaced ∷ Unplaced ∷ Unplaced ∷ At DllNames (next_multiple 4 b.dll_names) ∷ At Addresses b.addresses ∷ At Lookups b.lookups ∷ At HintNames (next_multiple 2 b.hint_names) ∷ [];
   }
 
   abbrev pub ends_of_export : Bases → ExportView → Bases
@@ -92,7 +92,7 @@ module _ (machine : MachineType) (dll : List ℕ) where
   abbrev pub placed_tail : Bases → Placed
   placed_tail b = record {
     object = tail;
-    places = Nowhere ∷ Nowhere ∷ Nowhere ∷ At Lookups b.lookups ∷ At Addresses b.addresses ∷ At DllNames (next_multiple 4 b.dll_names) ∷ [];
+    places = Unplaced ∷ Unplaced ∷ Unplaced ∷ At Lookups b.lookups ∷ At Addresses b.addresses ∷ At DllNames (next_multiple 4 b.dll_names) ∷ [];
   }
 
   abbrev pub ends_of_tail : Bases → Bases

@@ -5,13 +5,13 @@ use Rattle.std.specs.List.{flat_map}
 use Rattle.implib.specs.declared.def.lexer.TokenKind.{TokenKind}
 use Rattle.implib.specs.declared.def.lexer.TokenKind.TheVariants.{Identifier, Equal, EqualEqual}
 use Rattle.implib.specs.Fault.{Cause}
-use Rattle.implib.specs.Grammar.{Attribute, Export, Wanted, Of, Word, Later, Begins, at_sign, attribute_spelling, target_spelling, export_spelling, exports_spelling}
-use Rattle.implib.specs.Reading.{Plain, target_read, attributes_read, export_of, export_from, export_by, export_read, exports_read}
-use Rattle.implib.specs.Refusal.{IsNoWord, attribute_kinds, goes_on_target, goes_on_attributes, goes_on_export, goes_on_exports, bare}
-use Rattle.implib.specs.Token.{Seen}
-use Rattle.implib.proofs.Begins.{IsAfter-append, Begins-append, Begins-shorter, IsAfter, AtFront}
+use Rattle.implib.specs.Grammar.{Attribute, Export, Terminal, Of, Word, Later, StartsWith, at_sign, attribute_terminals, target_terminals, export_terminals, exports_terminals}
+use Rattle.implib.specs.TokenReader.{Plain, target_read, attributes_read, export_of, export_from, export_by, export_read, exports_read}
+use Rattle.implib.specs.SyntaxError.{IsNotIdentifier, attribute_kinds, follow_target, follow_attributes, follow_export, follow_exports, bare}
+use Rattle.implib.specs.Token.{TokenView}
+use Rattle.implib.proofs.StartsWith.{IsAfter-append, StartsWith-append, StartsWith-shorter, IsAfter, AtFront}
 use Rattle.implib.proofs.Many.{bind_outcome, Chain, ItemRead, AllRead, Stopped, all_outcome}
-use Rattle.implib.proofs.ReadSpelled.{IsAfter-none}
+use Rattle.implib.proofs.ReadTerminals.{IsAfter-none}
 use Rattle.implib.proofs.ReadAttributes.{OrdinalRefused, TargetRefused, AttributeStands, NoAttribute, AttributeCut, AttributesRead, AttributesCut, PlainFront, attributes_outcome, attributes_begin, attributes_end, goes_on_no_target, TargetRead, TargetCut, target_outcome}
 use Rattle.implib.proofs.TokenKinds.{none_at}
 use Rattle.implib.proofs.Words.{IsAtWord}
@@ -31,65 +31,65 @@ part_export (AliasPart e) = e
 part_export (OrdinalPart e) = e
 
 -- what has begun
-abbrev pub part_wanted : Part → Wanted
+abbrev pub part_wanted : Part → Terminal
 part_wanted (TargetPart word) = Of Equal
 part_wanted (AliasPart e) = Of EqualEqual
 part_wanted (OrdinalPart e) = Word (at_sign ∷ [])
 
-abbrev pub part_refused : Part → Seen → Cause → Type 0
+abbrev pub part_refused : Part → TokenView → Cause → Type 0
 part_refused (TargetPart word) = TargetRefused
-part_refused (AliasPart e) = IsNoWord
+part_refused (AliasPart e) = IsNotIdentifier
 part_refused (OrdinalPart e) = OrdinalRefused
 
 -- the export so far, what has begun, and then a token that is refused
-pub record PartCut (tokens : List Seen) (cause : Cause) : Type 0 where
+pub record PartCut (tokens : List TokenView) (cause : Cause) : Type 0 where
   pub part : Part
-  pub whole : List Seen
-  pub mid : List Seen
-  pub begins : Begins tokens (export_spelling Word (part_export part)) whole
-  pub begun : Begins whole (part_wanted part ∷ []) mid
+  pub whole : List TokenView
+  pub mid : List TokenView
+  pub begins : StartsWith tokens (export_terminals Word (part_export part)) whole
+  pub begun : StartsWith whole (part_wanted part ∷ []) mid
   pub refused : AtFront (part_refused part) mid cause
 
 -- ---- one export
 
 -- the export is whole where it ends
-pub record ExportEnds (e : Export) (rest : List Seen) : Type 0 where
-  pub kinds : IsAfter (goes_on_export e) rest
+pub record ExportEnds (e : Export) (rest : List TokenView) : Type 0 where
+  pub kinds : IsAfter (follow_export e) rest
   pub plain : PlainFront rest
 
-abbrev pub ExportStands : List Seen → Export → List Seen → Type 0
-ExportStands tokens e rest = Begins tokens (export_spelling Word e) rest × ExportEnds e rest
+abbrev pub ExportStands : List TokenView → Export → List TokenView → Type 0
+ExportStands tokens e rest = StartsWith tokens (export_terminals Word e) rest × ExportEnds e rest
 
 -- no export begins here
-abbrev pub NoExport : List Seen → Type 0
+abbrev pub NoExport : List TokenView → Type 0
 NoExport tokens = IsAfter (Identifier ∷ []) tokens
 
-abbrev pub ExportRead : List Seen → Option Export × List Seen → Type 0
+abbrev pub ExportRead : List TokenView → Option Export × List TokenView → Type 0
 ExportRead tokens found = ItemRead ExportStands NoExport tokens found
 
-after_target : (target : Option (List ℕ)) (items : List Attribute) (mid rest : List Seen) → IsAfter (goes_on_no_target target) mid → Chain AttributeStands NoAttribute items mid rest → IsAfter (goes_on_target target items) rest
+after_target : (target : Option (List ℕ)) (items : List Attribute) (mid rest : List TokenView) → IsAfter (goes_on_no_target target) mid → Chain AttributeStands NoAttribute items mid rest → IsAfter (follow_target target items) rest
 after_target None [] mid rest h chain = subst (IsAfter (Equal ∷ [])) chain h
 after_target None (a ∷ items) mid rest h chain = IsAfter-none rest
 after_target (Some value) items mid rest h chain = IsAfter-none rest
 
-whole_export : (t : Seen) (tokens : List Seen) (target : Option (List ℕ) × List Seen) (found : List Attribute × List Seen) → t.kind ≡ Identifier → TargetRead tokens target → AttributesRead target.1 found
+whole_export : (t : TokenView) (tokens : List TokenView) (target : Option (List ℕ) × List TokenView) (found : List Attribute × List TokenView) → t.kind ≡ Identifier → TargetRead tokens target → AttributesRead target.1 found
     → ExportStands (t ∷ tokens) (record { word = t.value; target = target.0; attributes = found.0 }) found.1
 whole_export t tokens target found e h k = (
-  (record { kind = e; value_is = refl }, Begins-append tokens (target_spelling target.0) (flat_map attribute_spelling found.0) target.1 found.1 h.0 (attributes_begin found.0 target.1 found.1 k.0)),
+  (record { kind = e; value_is = refl }, StartsWith-append tokens (target_terminals target.0) (flat_map attribute_terminals found.0) target.1 found.1 h.0 (attributes_begin found.0 target.1 found.1 k.0)),
   record {
-    kinds = IsAfter-append attribute_kinds (goes_on_target target.0 found.0 ++ goes_on_attributes found.0) found.1 k.1.0
-        (IsAfter-append (goes_on_target target.0 found.0) (goes_on_attributes found.0) found.1 (after_target target.0 found.0 target.1 found.1 h.1 k.0) (attributes_end found.0 target.1 found.1 k.0));
+    kinds = IsAfter-append attribute_kinds (follow_target target.0 found.0 ++ follow_attributes found.0) found.1 k.1.0
+        (IsAfter-append (follow_target target.0 found.0) (follow_attributes found.0) found.1 (after_target target.0 found.0 target.1 found.1 h.1 k.0) (attributes_end found.0 target.1 found.1 k.0));
     plain = k.1.1;
   },
 )
 
-cut_attribute : (t : Seen) (tokens : List Seen) (target : Option (List ℕ) × List Seen) (cause : Cause) → t.kind ≡ Identifier → TargetRead tokens target → (items : List Attribute) (mid : List Seen) → Chain AttributeStands NoAttribute items target.1 mid → AttributeCut mid cause
+cut_attribute : (t : TokenView) (tokens : List TokenView) (target : Option (List ℕ) × List TokenView) (cause : Cause) → t.kind ≡ Identifier → TargetRead tokens target → (items : List Attribute) (mid : List TokenView) → Chain AttributeStands NoAttribute items target.1 mid → AttributeCut mid cause
     → PartCut (t ∷ tokens) cause
 cut_attribute t tokens target cause e h items mid chain (inl c) = record {
   part = AliasPart (record { word = t.value; target = target.0; attributes = items });
   whole = mid;
   mid = c.mid;
-  begins = (record { kind = e; value_is = refl }, Begins-append tokens (target_spelling target.0) (flat_map attribute_spelling items) target.1 mid h.0 (attributes_begin items target.1 mid chain));
+  begins = (record { kind = e; value_is = refl }, StartsWith-append tokens (target_terminals target.0) (flat_map attribute_terminals items) target.1 mid h.0 (attributes_begin items target.1 mid chain));
   begun = c.begins;
   refused = c.refused;
 }
@@ -97,12 +97,12 @@ cut_attribute t tokens target cause e h items mid chain (inr c) = record {
   part = OrdinalPart (record { word = t.value; target = target.0; attributes = items });
   whole = mid;
   mid = c.mid;
-  begins = (record { kind = e; value_is = refl }, Begins-append tokens (target_spelling target.0) (flat_map attribute_spelling items) target.1 mid h.0 (attributes_begin items target.1 mid chain));
+  begins = (record { kind = e; value_is = refl }, StartsWith-append tokens (target_terminals target.0) (flat_map attribute_terminals items) target.1 mid h.0 (attributes_begin items target.1 mid chain));
   begun = c.begins;
   refused = c.refused;
 }
 
-cut_target : (t : Seen) (tokens : List Seen) (cause : Cause) → t.kind ≡ Identifier → TargetCut tokens cause → PartCut (t ∷ tokens) cause
+cut_target : (t : TokenView) (tokens : List TokenView) (cause : Cause) → t.kind ≡ Identifier → TargetCut tokens cause → PartCut (t ∷ tokens) cause
 cut_target t tokens cause e c = record {
   part = TargetPart t.value;
   whole = tokens;
@@ -112,72 +112,72 @@ cut_target t tokens cause e c = record {
   refused = c.refused;
 }
 
-export_from_outcome : (t : Seen) (tokens : List Seen) (target : Option (List ℕ) × List Seen) → t.kind ≡ Identifier → TargetRead tokens target → MatchResult (export_from t.value target) (ExportRead (t ∷ tokens)) (PartCut (t ∷ tokens))
+export_from_outcome : (t : TokenView) (tokens : List TokenView) (target : Option (List ℕ) × List TokenView) → t.kind ≡ Identifier → TargetRead tokens target → MatchResult (export_from t.value target) (ExportRead (t ∷ tokens)) (PartCut (t ∷ tokens))
 export_from_outcome t tokens target e h =
     bind_outcome (AttributesRead target.1) (AttributesCut target.1) (ExportRead (t ∷ tokens)) (PartCut (t ∷ tokens)) (attributes_read target.1) (export_of t.value target.0) (attributes_outcome target.1)
     (λ found k. whole_export t tokens target found e h k)
     (λ cause k. cut_attribute t tokens target cause e h k.items k.mid k.chain k.refused)
 
-export_by_outcome : (kind : TokenKind) (t : Seen) (rest : List Seen) → t.kind ≡ kind → MatchResult (export_by kind t rest) (ExportRead (t ∷ rest)) (PartCut (t ∷ rest))
+export_by_outcome : (kind : TokenKind) (t : TokenView) (rest : List TokenView) → t.kind ≡ kind → MatchResult (export_by kind t rest) (ExportRead (t ∷ rest)) (PartCut (t ∷ rest))
 export_by_outcome Identifier t rest e =
     bind_outcome (TargetRead rest) (TargetCut rest) (ExportRead (t ∷ rest)) (PartCut (t ∷ rest)) (target_read rest) (export_from t.value) (target_outcome rest)
     (λ target h. export_from_outcome t rest target e h)
     (λ cause h. cut_target t rest cause e h)
 export_by_outcome kind t rest e = (refl, none_at t.kind kind (Identifier ∷ []) e refl)
 
-export_outcome : (tokens : List Seen) → MatchResult (export_read tokens) (ExportRead tokens) (PartCut tokens)
+export_outcome : (tokens : List TokenView) → MatchResult (export_read tokens) (ExportRead tokens) (PartCut tokens)
 unfolding export_read
 export_outcome [] = (refl, tt)
 export_outcome (t ∷ rest) = export_by_outcome t.kind t rest refl
 
-pub export_shorter : (tokens : List Seen) (e : Export) (rest : List Seen) → ExportStands tokens e rest → length rest < length tokens
-export_shorter tokens e rest h = Begins-shorter tokens (export_spelling Word e) rest (omega arith) h.0
+pub export_shorter : (tokens : List TokenView) (e : Export) (rest : List TokenView) → ExportStands tokens e rest → length rest < length tokens
+export_shorter tokens e rest h = StartsWith-shorter tokens (export_terminals Word e) rest (omega arith) h.0
 
 -- ---- exports
 
-abbrev pub ExportsRead : List Seen → List Export × List Seen → Type 0
+abbrev pub ExportsRead : List TokenView → List Export × List TokenView → Type 0
 ExportsRead tokens found = AllRead ExportStands NoExport tokens found
 
-abbrev pub ExportsCut : List Seen → Cause → Type 0
+abbrev pub ExportsCut : List TokenView → Cause → Type 0
 ExportsCut tokens cause = Stopped ExportStands NoExport PartCut tokens cause
 
-pub exports_outcome : (tokens : List Seen) → MatchResult (exports_read tokens) (ExportsRead tokens) (ExportsCut tokens)
+pub exports_outcome : (tokens : List TokenView) → MatchResult (exports_read tokens) (ExportsRead tokens) (ExportsCut tokens)
 unfolding exports_read
 exports_outcome tokens = all_outcome ExportStands NoExport PartCut export_read export_outcome export_shorter tt tokens
 
 -- a plain word can be the name of a later export
-pub as_later : (tokens : List Seen) (e : Export) (rest : List Seen) → PlainFront tokens → Begins tokens (export_spelling Word e) rest → Begins tokens (export_spelling Later e) rest
+pub as_later : (tokens : List TokenView) (e : Export) (rest : List TokenView) → PlainFront tokens → StartsWith tokens (export_terminals Word e) rest → StartsWith tokens (export_terminals Later e) rest
 as_later [] e rest plain h = absurd h
 as_later (t ∷ tokens) e rest plain h =
     let is : IsAtWord Plain e.word = subst (IsAtWord Plain) h.0.value_is (plain h.0.kind) in
     (record { word = h.0; not_lone = is.0; not_ordinal = is.1 }, h.1)
 
 -- exports one after another, and one more of which nothing is asked where it ends
-later_exports : (items : List Export) (e : Export) (tokens mid rest : List Seen) → PlainFront tokens → Chain ExportStands NoExport items tokens mid → Begins mid (export_spelling Word e) rest
-    → Begins tokens (exports_spelling Later (items ++ e ∷ [])) rest
+later_exports : (items : List Export) (e : Export) (tokens mid rest : List TokenView) → PlainFront tokens → Chain ExportStands NoExport items tokens mid → StartsWith mid (export_terminals Word e) rest
+    → StartsWith tokens (exports_terminals Later (items ++ e ∷ [])) rest
 later_exports [] e tokens mid rest plain chain h =
-    Begins-append tokens (export_spelling Later e) [] rest rest (as_later tokens e rest plain (subst (λ (s : List Seen). Begins s (export_spelling Word e) rest) (sym chain) h)) refl
+    StartsWith-append tokens (export_terminals Later e) [] rest rest (as_later tokens e rest plain (subst (λ (s : List TokenView). StartsWith s (export_terminals Word e) rest) (sym chain) h)) refl
 later_exports (x ∷ items) e tokens mid rest plain chain h =
-    Begins-append tokens (export_spelling Later x) (exports_spelling Later (items ++ e ∷ [])) chain.0 rest (as_later tokens x chain.0 plain chain.1.0) (later_exports items e chain.0 mid rest chain.1.1.plain chain.2 h)
+    StartsWith-append tokens (export_terminals Later x) (exports_terminals Later (items ++ e ∷ [])) chain.0 rest (as_later tokens x chain.0 plain chain.1.0) (later_exports items e chain.0 mid rest chain.1.1.plain chain.2 h)
 
-pub exports_then : (items : List Export) (e : Export) (tokens mid rest : List Seen) → Chain ExportStands NoExport items tokens mid → Begins mid (export_spelling Word e) rest
-    → Begins tokens (exports_spelling Word (items ++ e ∷ [])) rest
+pub exports_then : (items : List Export) (e : Export) (tokens mid rest : List TokenView) → Chain ExportStands NoExport items tokens mid → StartsWith mid (export_terminals Word e) rest
+    → StartsWith tokens (exports_terminals Word (items ++ e ∷ [])) rest
 exports_then [] e tokens mid rest chain h =
-    Begins-append tokens (export_spelling Word e) [] rest rest (subst (λ (s : List Seen). Begins s (export_spelling Word e) rest) (sym chain) h) refl
+    StartsWith-append tokens (export_terminals Word e) [] rest rest (subst (λ (s : List TokenView). StartsWith s (export_terminals Word e) rest) (sym chain) h) refl
 exports_then (x ∷ items) e tokens mid rest chain h =
-    Begins-append tokens (export_spelling Word x) (exports_spelling Later (items ++ e ∷ [])) chain.0 rest chain.1.0 (later_exports items e chain.0 mid rest chain.1.1.plain chain.2 h)
+    StartsWith-append tokens (export_terminals Word x) (exports_terminals Later (items ++ e ∷ [])) chain.0 rest chain.1.0 (later_exports items e chain.0 mid rest chain.1.1.plain chain.2 h)
 
-later_begin : (items : List Export) (tokens rest : List Seen) → PlainFront tokens → Chain ExportStands NoExport items tokens rest → Begins tokens (exports_spelling Later items) rest
+later_begin : (items : List Export) (tokens rest : List TokenView) → PlainFront tokens → Chain ExportStands NoExport items tokens rest → StartsWith tokens (exports_terminals Later items) rest
 later_begin [] tokens rest plain chain = chain
 later_begin (x ∷ items) tokens rest plain chain =
-    Begins-append tokens (export_spelling Later x) (exports_spelling Later items) chain.0 rest (as_later tokens x chain.0 plain chain.1.0) (later_begin items chain.0 rest chain.1.1.plain chain.2)
+    StartsWith-append tokens (export_terminals Later x) (exports_terminals Later items) chain.0 rest (as_later tokens x chain.0 plain chain.1.0) (later_begin items chain.0 rest chain.1.1.plain chain.2)
 
-pub exports_begin : (items : List Export) (tokens rest : List Seen) → Chain ExportStands NoExport items tokens rest → Begins tokens (exports_spelling Word items) rest
+pub exports_begin : (items : List Export) (tokens rest : List TokenView) → Chain ExportStands NoExport items tokens rest → StartsWith tokens (exports_terminals Word items) rest
 exports_begin [] tokens rest chain = chain
 exports_begin (x ∷ items) tokens rest chain =
-    Begins-append tokens (export_spelling Word x) (exports_spelling Later items) chain.0 rest chain.1.0 (later_begin items chain.0 rest chain.1.1.plain chain.2)
+    StartsWith-append tokens (export_terminals Word x) (exports_terminals Later items) chain.0 rest chain.1.0 (later_begin items chain.0 rest chain.1.1.plain chain.2)
 
-pub exports_end : (items : List Export) (tokens rest : List Seen) → Chain ExportStands NoExport items tokens rest → IsAfter (goes_on_exports items) rest
+pub exports_end : (items : List Export) (tokens rest : List TokenView) → Chain ExportStands NoExport items tokens rest → IsAfter (follow_exports items) rest
 exports_end [] tokens rest chain = IsAfter-none rest
-exports_end (x ∷ []) tokens rest chain = subst (IsAfter (goes_on_export x)) chain.2 chain.1.1.kinds
+exports_end (x ∷ []) tokens rest chain = subst (IsAfter (follow_export x)) chain.2 chain.1.1.kinds
 exports_end (x ∷ y ∷ items) tokens rest chain = exports_end (y ∷ items) chain.0 rest chain.2

@@ -4,9 +4,9 @@ use Rattle.std.proofs.lemmas.List.{append-nil, drop_at, get_or_at, take_at}
 use Rattle.std.proofs.lemmas.Str.{IsCharBoundary-after_ascii, IsCharBoundary-before_ascii, IsUtf8-drop, IsUtf8-take}
 use Rattle.std.specs.List.{AllByRecursion}
 use Rattle.std.specs.Str.{IsUtf8, trim, trim_end}
-use Rattle.implib.specs.Token.{begins, is_delimiter, spelling, text_of, token_of, tokens_from, value_start, Blank, Comment, CommaSign, EachStands, EqualSign, EqualSigns, IsSliceOf, LastComment, Lexed, Piece, Quoted, Seen, Stands, Unclosed, Word}
-use Rattle.implib.proofs.Division.{delimiter_ascii, utf8_after_piece}
-use Rattle.implib.proofs.Gap.{AllByRecursion-append}
+use Rattle.implib.specs.Token.{begins, is_delimiter, lexeme_text, text_of, tokens_of_lexeme, tokens_of, value_start, Blank, Comment, CommaSign, EachIsLexeme, EqualSign, EqualSigns, IsSliceOf, LastComment, Lexed, Lexeme, Quoted, TokenView, IsLexemeBefore, Unclosed, Word}
+use Rattle.implib.proofs.Scanner.{delimiter_ascii, utf8_after_piece}
+use Rattle.implib.proofs.Trivia.{AllByRecursion-append}
 use Rattle.implib.proofs.Trimmed.{take-trim_end, take-value, value_within}
 
 -- what stands between a front and the rest is the slice there
@@ -62,7 +62,7 @@ slice_of_name text front inside after e utf8 =
     (omega (arith, length-append front (34 ∷ before), length-take-le start inside bound))
 
 -- the token of a piece, if it has one
-piece_slices : (text front : List ℕ) (piece : Piece) (after : List ℕ) → text ≡ front ++ (spelling piece ++ after) → Stands piece after → IsUtf8 (spelling piece ++ after) → AllByRecursion (IsSliceOf text) (token_of (length front) piece)
+piece_slices : (text front : List ℕ) (lexeme : Lexeme) (after : List ℕ) → text ≡ front ++ (lexeme_text lexeme ++ after) → IsLexemeBefore lexeme after → IsUtf8 (lexeme_text lexeme ++ after) → AllByRecursion (IsSliceOf text) (tokens_of_lexeme (length front) lexeme)
 piece_slices text front (Blank c) after e stands utf8 = tt
 piece_slices text front (Comment line) after e stands utf8 = tt
 piece_slices text front (LastComment line) after e stands utf8 = tt
@@ -76,17 +76,17 @@ piece_slices text front (Quoted inside) after e stands utf8 =
 piece_slices text front (Unclosed inside) after e stands utf8 = (refl, tt)
 piece_slices text front (Word run) after e (starts, none, stops) utf8 = (slice_of_word text front run after e (utf8_before_stop run after stops utf8), tt)
 
-pieces_slices : (text front : List ℕ) (pieces : List Piece) (end : List ℕ) → text ≡ front ++ text_of pieces end → EachStands pieces end → IsUtf8 (text_of pieces end) → AllByRecursion (IsSliceOf text) (tokens_from (length front) pieces)
+pieces_slices : (text front : List ℕ) (lexemes : List Lexeme) (end : List ℕ) → text ≡ front ++ text_of lexemes end → EachIsLexeme lexemes end → IsUtf8 (text_of lexemes end) → AllByRecursion (IsSliceOf text) (tokens_of (length front) lexemes)
 pieces_slices text front [] end e stand utf8 = (refl, tt)
-pieces_slices text front (piece ∷ pieces) end e stand utf8 =
-    let after = text_of pieces end in
-    let rest = pieces_slices text (front ++ spelling piece) pieces end (e ∙ sym (append_assoc front (spelling piece) after)) stand.1 (utf8_after_piece piece after stand.0 utf8) in
-    AllByRecursion-append (IsSliceOf text) (token_of (length front) piece) (tokens_from (length front + length (spelling piece)) pieces)
-    (piece_slices text front piece after e stand.0 utf8)
-    (subst (λ n. AllByRecursion (IsSliceOf text) (tokens_from n pieces)) (length-append front (spelling piece)) rest)
+pieces_slices text front (lexeme ∷ lexemes) end e stand utf8 =
+    let after = text_of lexemes end in
+    let rest = pieces_slices text (front ++ lexeme_text lexeme) lexemes end (e ∙ sym (append_assoc front (lexeme_text lexeme) after)) stand.1 (utf8_after_piece lexeme after stand.0 utf8) in
+    AllByRecursion-append (IsSliceOf text) (tokens_of_lexeme (length front) lexeme) (tokens_of (length front + length (lexeme_text lexeme)) lexemes)
+    (piece_slices text front lexeme after e stand.0 utf8)
+    (subst (λ n. AllByRecursion (IsSliceOf text) (tokens_of n lexemes)) (length-append front (lexeme_text lexeme)) rest)
 
 -- the values of tokens are cut from the text, each from its place on
-pub Lexed-slices : (text : List ℕ) (tokens : List Seen) → IsUtf8 text → Lexed text tokens → AllByRecursion (IsSliceOf text) tokens
+pub Lexed-slices : (text : List ℕ) (tokens : List TokenView) → IsUtf8 text → Lexed text tokens → AllByRecursion (IsSliceOf text) tokens
 Lexed-slices text tokens utf8 lexed =
     let d = lexed.divides in
-    subst (AllByRecursion (IsSliceOf text)) (sym lexed.given) (pieces_slices text [] lexed.pieces lexed.end d.spelled d.each_stands (subst IsUtf8 d.spelled utf8))
+    subst (AllByRecursion (IsSliceOf text)) (sym lexed.given) (pieces_slices text [] lexed.lexemes lexed.end d.spelled d.each_is_lexeme (subst IsUtf8 d.spelled utf8))

@@ -9,12 +9,12 @@ use Rattle.std.proofs.lemmas.List.Sums.{sum_by-append, sum_by-cons}
 use Rattle.std.proofs.lemmas.Nat.{from_le_bytes-to_le_bytes_2, from_le_bytes-to_le_bytes_4}
 use Rattle.implib.specs.Bytes.{u16_bytes, u32_bytes}
 use Rattle.implib.specs.Object.{ObjectSection, ObjectSymbol, before_nul, each_at, name_of, section_at, strings_at, symbol_of, u16_at, u32_at, up_to_nul}
-use Rattle.implib.specs.Picture.{FitsName, FitsSection, FitsSymbol, HasNoNul, InRecord, Listed, PictureSymbol, SymbolName, auxiliary_bytes, contents, contents_size, name_field, name_text, auxiliary_count, section_header, section_headers, string_bytes_of, string_offsets, offsets_from, string_size, string_table, strings_size, symbol_bytes}
+use Rattle.implib.specs.Layout.{FitsName, FitsSection, FitsSymbol, HasNoNul, InRecord, InStringTable, LayoutSymbol, SymbolName, auxiliary_bytes, contents, contents_size, name_field, name_text, auxiliary_count, section_header, section_headers, string_bytes_of, string_offsets, offsets_from, string_size, string_table, strings_size, symbol_bytes}
 use Rattle.implib.proofs.Bytes.{length-u32_bytes}
 use Rattle.implib.proofs.Fields.{length-relocation_bytes, length-section_header, section_at-stands, u16_at-after, u32_at-after}
 use Rattle.implib.proofs.Stands.{Stands, bytes_at-stands, stands_first, stands_next}
 use Rattle.implib.specs.declared.coff.object.Relocation.{Relocation}
-use Rattle.implib.specs.Picture.{relocation_bytes}
+use Rattle.implib.specs.Layout.{relocation_bytes}
 
 -- the lengths of what is laid out
 
@@ -142,7 +142,7 @@ string_at_offset strings index within =
 pub length-name_field : (strings : List (List ℕ)) (name : SymbolName) → FitsName strings name → length (name_field (string_offsets strings) name) ≡ 8
 unfolding name_field u32_bytes
 length-name_field strings (InRecord text) fits = omega (arith, length-append text (replicate (8 - length text) 0), length-replicate {A = ℕ} (8 - length text) 0)
-length-name_field strings (Listed index) fits = refl
+length-name_field strings (InStringTable index) fits = refl
 
 string_has_no_nul : (strings : List (List ℕ)) (index : ℕ) → AllByRecursion HasNoNul strings → index < length strings → HasNoNul (slice_index_or strings index [])
 string_has_no_nul strings index all within = All-from_recursion HasNoNul strings all index [] within
@@ -168,7 +168,7 @@ in_record_read table (suc n ∷ text) count some none = ap Some (up_to_nul-padde
 pub name_of-field : (strings : List (List ℕ)) (name : SymbolName) → FitsName strings name → AllByRecursion HasNoNul strings → strings_size strings < 2 ^ 32 → name_of (string_table strings) (name_field (string_offsets strings) name) ≡ Some (name_text strings name)
 unfolding name_field name_text
 name_of-field strings (InRecord text) fits all below = in_record_read (string_table strings) text (8 - length text) fits.0 fits.2
-name_of-field strings (Listed index) fits all below =
+name_of-field strings (InStringTable index) fits all below =
     rw (string_offsets-index strings index fits)
     (listed_read (string_table strings) (string_offset strings index) (string_offset-below strings index below)
     ∙ (ap before_nul (string_at_offset strings index fits)
@@ -177,19 +177,19 @@ name_of-field strings (Listed index) fits all below =
 -- symbols
 
 -- the 18 bytes of a symbol's own record
-unfoldable pub record_bytes : List (List ℕ) → PictureSymbol → List ℕ
+unfoldable pub record_bytes : List (List ℕ) → LayoutSymbol → List ℕ
 record_bytes strings s =
     name_field (string_offsets strings) s.name
     ++ (u32_bytes s.value ++ (u16_bytes s.section ++ (u16_bytes 0 ++ (s.class ∷ auxiliary_count s.aux ∷ []))))
 
-pub symbol_bytes-parts : (strings : List (List ℕ)) (s : PictureSymbol) → symbol_bytes (string_offsets strings) s ≡ record_bytes strings s ++ auxiliary_bytes s.aux
+pub symbol_bytes-parts : (strings : List (List ℕ)) (s : LayoutSymbol) → symbol_bytes (string_offsets strings) s ≡ record_bytes strings s ++ auxiliary_bytes s.aux
 unfolding symbol_bytes record_bytes u16_bytes u32_bytes
 symbol_bytes-parts strings s = sym (append_assoc (name_field (string_offsets strings) s.name) _ (auxiliary_bytes s.aux))
 
 slice_index-after : (front rest : List ℕ) (offset : ℕ) → length front ≡ 8 → slice_index (front ++ rest) (8 + offset) ≡ slice_index rest offset
 slice_index-after front rest offset e = rw (← e) (get_or-append-add front rest offset 0)
 
-module _ (strings : List (List ℕ)) (s : PictureSymbol) (fits : FitsSymbol strings s) where
+module _ (strings : List (List ℕ)) (s : LayoutSymbol) (fits : FitsSymbol strings s) where
   long : length (name_field (string_offsets strings) s.name) ≡ 8
   long = length-name_field strings s.name fits.name
 

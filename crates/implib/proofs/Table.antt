@@ -9,7 +9,7 @@ use Rattle.implib.specs.declared.gnu.table.SectionRow.{SectionRow}
 use Rattle.implib.specs.declared.gnu.table.SymbolRow.{SymbolRow}
 use Rattle.implib.specs.Object.{ObjectSection}
 use Rattle.implib.specs.Table.{CanBeAdded, CanBeHeld, HasRoomForAll, LiesIn, bare_row, section_row, symbol_row, with_relocations}
-use Rattle.implib.specs.Writer.{AddedSymbol, HasRoomFor, Holding, IsSymbolIndex, all_entries, entries_added, relocated, section_numbered}
+use Rattle.implib.specs.Writer.{AddedSymbol, HasRoomFor, WriterState, IsSymbolIndex, all_entries, entries_added, sections_with_relocation, section_numbered}
 use Rattle.implib.specs.WriterView.{IsSound, IsSoundSection, IsSoundSymbol}
 
 -- the fact at an index of a list
@@ -28,7 +28,7 @@ with_no_relocation (s ∷ ss) (suc zero) = ap (λ rs. record s { relocations = r
 with_no_relocation (s ∷ ss) (suc (suc n)) = ap (λ x. s ∷ x) (with_no_relocation ss (suc n))
 
 pub with_relocation_more : (ss : List ObjectSection) (n : ℕ) (rs : List Relocation) (r : Relocation) →
-    relocated (with_relocations ss n rs) n r ≡ with_relocations ss n (rs ++ r ∷ [])
+    sections_with_relocation (with_relocations ss n rs) n r ≡ with_relocations ss n (rs ++ r ∷ [])
 unfolding with_relocations
 with_relocation_more [] n rs r = refl
 with_relocation_more (s ∷ ss) zero rs r = refl
@@ -157,7 +157,7 @@ symbols_held : (count : ℕ) (ss : List AddedSymbol) → AllByRecursion (IsSound
 symbols_held count [] sound = tt
 symbols_held count (s ∷ ss) sound = (record { named = sound.0.named; no_nul = sound.0.no_nul; place = sound.0.place }, symbols_held count ss sound.1)
 
-pub CanBeHeld-from_sound : (h : Holding) (n : ℕ) → IsSound h n → n < 2 ^ 32 → AllByRecursion LieWithin h.sections → CanBeHeld h
+pub CanBeHeld-from_sound : (h : WriterState) (n : ℕ) → IsSound h n → n < 2 ^ 32 → AllByRecursion LieWithin h.sections → CanBeHeld h
 CanBeHeld-from_sound h n sound short within = record {
   few = sound.few;
   records = omega (arith, sound.records, short);

@@ -10,14 +10,14 @@ use Rattle.implib.specs.Bytes.{u16_bytes, u32_bytes}
 use Rattle.implib.specs.Constants.{image_relative}
 use Rattle.implib.specs.Definition.{ExportView}
 use Rattle.implib.specs.Gnu.{export_object, hint_name, hint_name_symbol, relocations_of_thunk, tail_object, thunk}
-use Rattle.implib.specs.Import.{Ask, Name, Ordinal, ask_meant, asked_name}
+use Rattle.implib.specs.Import.{Ask, Name, Ordinal, expected_ask, asked_name}
 use Rattle.implib.specs.Image.{Contribution, Range, filled, contributions, range_end, relocated, with_address}
 use Rattle.implib.specs.Placement.{Addresses, Bases, Descriptors, HintNames, Lookups, Placed, next_multiple, placed_from}
 use Rattle.implib.specs.Resolution.{target_address}
-use Rattle.implib.specs.Load.{AsksFor, BytesAt, IsWhole, NumberAt, TableAt, TextAt, ThunkAt, WholeTableAt, WholeThunkAt, number_in}
-use Rattle.implib.specs.MsvcObjects.{thunk_width, zeros}
+use Rattle.implib.specs.Load.{ThunkAsksFor, BytesAt, IsWhole, NumberAt, TableAt, TextAt, ThunkAt, WholeTableAt, WholeThunkAt, number_in}
+use Rattle.implib.specs.ImportTables.{thunk_width, zeros}
 use Rattle.implib.specs.Object.{Object, u32_at}
-use Rattle.implib.specs.Picture.{HasNoNul}
+use Rattle.implib.specs.Layout.{HasNoNul}
 use Rattle.implib.proofs.Ranges.{address_bounds, stands_parts}
 use Rattle.implib.proofs.Placement.{AreAligned, after_head, aligned_after, at_least, ends_of_all, ends_of_export, ends_of_exports, ends_of_tail, length-thunk_of, placed-export, placed-tail, placed_export}
 
@@ -256,7 +256,7 @@ module _ (machine : MachineType) (dll : List ℕ) (linked : List Placed) where
     -- an export's thunk asks for what is meant
     ordinal_at : (b : Bases) (e : ExportView) (a : ℕ) → CanBeAsked machine e → e.no_name ≡ true → BytesAt image a (thunk_linked b e) →
         StrictThunkAt image (thunk_width machine) a (Ordinal e.ordinal)
-    unfolding AsksFor IsWhole
+    unfolding ThunkAsksFor IsWhole
     ordinal_at b e a fits is stands =
         let high = ordinal_top machine e.ordinal in
         let here : NumberAt image (thunk_width machine) a (number_in (ordinal_thunk machine e.ordinal)) = record {
@@ -293,7 +293,7 @@ module _ (machine : MachineType) (dll : List ℕ) (linked : List Placed) where
 
     name_at : (b : Bases) (e : ExportView) (a : ℕ) → CanBeAsked machine e → e.no_name ≡ false → BytesAt image a (thunk_linked b e) →
         BytesAt image (next_multiple 2 b.hint_names) (hint_name machine e) → StrictThunkAt image (thunk_width machine) a (Name (asked_name machine e.name) e.ordinal)
-    unfolding AsksFor IsWhole
+    unfolding ThunkAsksFor IsWhole
     name_at b e a fits is stands hint_stands =
         let place : ℕ = next_multiple 2 b.hint_names in
         let hint : BytesAt image place (u16_bytes e.ordinal ++ (asked_name machine e.name ++ 0 ∷ [])) = subst (BytesAt image place) (hint_is e is) hint_stands in
@@ -327,7 +327,7 @@ module _ (machine : MachineType) (dll : List ℕ) (linked : List Placed) where
         }
 
     thunk_at : (b : Bases) (e : ExportView) (a : ℕ) → CanBeAsked machine e → BytesAt image a (thunk_linked b e) →
-        BytesAt image (next_multiple 2 b.hint_names) (hint_name machine e) → StrictThunkAt image (thunk_width machine) a (ask_meant machine e)
+        BytesAt image (next_multiple 2 b.hint_names) (hint_name machine e) → StrictThunkAt image (thunk_width machine) a (expected_ask machine e)
     thunk_at b e a fits stands hint_stands =
         elim (cases_Bool e.no_name) [
           | inl is ↦ subst (λ test. StrictThunkAt image (thunk_width machine) a (if test then Ordinal e.ordinal else Name (asked_name machine e.name) e.ordinal)) (sym is) (ordinal_at b e a fits is stands)
@@ -336,7 +336,7 @@ module _ (machine : MachineType) (dll : List ℕ) (linked : List Placed) where
 
     -- a table asks for what is meant
     pub table_at : (es : List ExportView) (b : Bases) (a : ℕ) → AllByRecursion (CanBeAsked machine) es → BytesAt image a (thunk_bytes b es) →
-        BytesAt image b.hint_names (hint_bytes b es) → StrictTableAt image (thunk_width machine) a (map (ask_meant machine) es)
+        BytesAt image b.hint_names (hint_bytes b es) → StrictTableAt image (thunk_width machine) a (map (expected_ask machine) es)
     unfolding TableAt WholeTableAt thunk_bytes hint_bytes
     table_at [] b a fit stands hints = record {
       plain = record { bytes = zeros (thunk_width machine); stands = stands; count = length-replicate {A = ℕ} (thunk_width machine) 0; value = zeros_number machine };

@@ -5,10 +5,10 @@ use Rattle.std.specs.List.{AllByRecursion}
 use Rattle.std.specs.Str.{IsUtf8, bytes_eq, trim, trim_end}
 use Rattle.implib.specs.declared.def.lexer.TokenKind.{TokenKind}
 use Rattle.implib.specs.declared.def.lexer.TokenKind.TheVariants as kind
-use Rattle.implib.specs.Token.{IsKnown, DividesOnce, LexedOnce, text_of, Seen, Lexed, EndsInEof, Piece, Blank, Comment, LastComment, EqualSign, EqualSigns, CommaSign, Quoted, Unclosed, Word, spelling, keywords, kind_in, kind_of_word, token_of, tokens_from, value_start}
-use Rattle.implib.specs.Division.{pieces_in, tokens_left}
-use Rattle.implib.proofs.Gap.{AllByRecursion-append}
-use Rattle.implib.proofs.Division.{division, Divides-pieces_in}
+use Rattle.implib.specs.Token.{IsKnown, DividesOnce, LexedOnce, text_of, TokenView, Lexed, EndsInEof, Lexeme, Blank, Comment, LastComment, EqualSign, EqualSigns, CommaSign, Quoted, Unclosed, Word, lexeme_text, keywords, kind_in, kind_of_word, tokens_of_lexeme, tokens_of, value_start}
+use Rattle.implib.specs.Scanner.{lexemes_in, tokens_left}
+use Rattle.implib.proofs.Trivia.{AllByRecursion-append}
+use Rattle.implib.proofs.Scanner.{division, Divides-lexemes_in}
 
 -- no row of the table has this kind
 LacksKind : TokenKind → List (List ℕ × TokenKind) → Type 0
@@ -39,48 +39,48 @@ kind_of_word_known word =
     (λ e. cc, (λ e. cc, (λ e. cc, (λ e. cc, (λ e. cc, (λ e. cc, (λ e. cc, (λ e. cc, (λ e. cc, (λ e. cc, (λ e. cc, tt)))))))))))
 
 -- one more token in front
-EndsInEof-cons : (k : TokenKind) (value : List ℕ) (at : ℕ) (rest : List Seen) → k ≢ kind.Eof → EndsInEof rest → EndsInEof (record { kind = k; value = value; at = at } ∷ rest)
+EndsInEof-cons : (k : TokenKind) (value : List ℕ) (at : ℕ) (rest : List TokenView) → k ≢ kind.Eof → EndsInEof rest → EndsInEof (record { kind = k; value = value; at = at } ∷ rest)
 EndsInEof-cons k value at [] differs ends = absurd ends
 EndsInEof-cons k value at (next ∷ rest) differs ends = (differs, ends)
 
-EndsInEof-piece : (place : ℕ) (piece : Piece) (rest : List Seen) → EndsInEof rest → EndsInEof (token_of place piece ++ rest)
-EndsInEof-piece place (Blank c) rest ends = ends
-EndsInEof-piece place (Comment line) rest ends = ends
-EndsInEof-piece place (LastComment line) rest ends = ends
-EndsInEof-piece place EqualSign rest ends = EndsInEof-cons kind.Equal (61 ∷ []) place rest (λ e. cc) ends
-EndsInEof-piece place EqualSigns rest ends = EndsInEof-cons kind.EqualEqual (61 ∷ 61 ∷ []) place rest (λ e. cc) ends
-EndsInEof-piece place CommaSign rest ends = EndsInEof-cons kind.Comma (44 ∷ []) place rest (λ e. cc) ends
-EndsInEof-piece place (Quoted inside) rest ends = EndsInEof-cons kind.Identifier (trim inside) (place + 1 + value_start inside) rest (λ e. cc) ends
-EndsInEof-piece place (Unclosed inside) rest ends = EndsInEof-cons kind.Identifier [] (place + 1) rest (λ e. cc) ends
-EndsInEof-piece place (Word run) rest ends = EndsInEof-cons (kind_of_word (trim_end run)) (trim_end run) place rest (kind_of_word_not_eof (trim_end run)) ends
+EndsInEof-lexeme : (place : ℕ) (lexeme : Lexeme) (rest : List TokenView) → EndsInEof rest → EndsInEof (tokens_of_lexeme place lexeme ++ rest)
+EndsInEof-lexeme place (Blank c) rest ends = ends
+EndsInEof-lexeme place (Comment line) rest ends = ends
+EndsInEof-lexeme place (LastComment line) rest ends = ends
+EndsInEof-lexeme place EqualSign rest ends = EndsInEof-cons kind.Equal (61 ∷ []) place rest (λ e. cc) ends
+EndsInEof-lexeme place EqualSigns rest ends = EndsInEof-cons kind.EqualEqual (61 ∷ 61 ∷ []) place rest (λ e. cc) ends
+EndsInEof-lexeme place CommaSign rest ends = EndsInEof-cons kind.Comma (44 ∷ []) place rest (λ e. cc) ends
+EndsInEof-lexeme place (Quoted inside) rest ends = EndsInEof-cons kind.Identifier (trim inside) (place + 1 + value_start inside) rest (λ e. cc) ends
+EndsInEof-lexeme place (Unclosed inside) rest ends = EndsInEof-cons kind.Identifier [] (place + 1) rest (λ e. cc) ends
+EndsInEof-lexeme place (Word run) rest ends = EndsInEof-cons (kind_of_word (trim_end run)) (trim_end run) place rest (kind_of_word_not_eof (trim_end run)) ends
 
-EndsInEof-tokens_from : (place : ℕ) (pieces : List Piece) → EndsInEof (tokens_from place pieces)
-EndsInEof-tokens_from place [] = refl
-EndsInEof-tokens_from place (piece ∷ pieces) =
-    EndsInEof-piece place piece _ (EndsInEof-tokens_from (place + length (spelling piece)) pieces)
+EndsInEof-tokens_of : (place : ℕ) (lexemes : List Lexeme) → EndsInEof (tokens_of place lexemes)
+EndsInEof-tokens_of place [] = refl
+EndsInEof-tokens_of place (lexeme ∷ lexemes) =
+    EndsInEof-lexeme place lexeme _ (EndsInEof-tokens_of (place + length (lexeme_text lexeme)) lexemes)
 
 -- Eof comes once, last
-pub EndsInEof-from_Lexed : (text : List ℕ) (tokens : List Seen) → Lexed text tokens → EndsInEof tokens
-EndsInEof-from_Lexed text tokens lexed = subst EndsInEof (sym lexed.given) (EndsInEof-tokens_from 0 lexed.pieces)
+pub EndsInEof-from_Lexed : (text : List ℕ) (tokens : List TokenView) → Lexed text tokens → EndsInEof tokens
+EndsInEof-from_Lexed text tokens lexed = subst EndsInEof (sym lexed.given) (EndsInEof-tokens_of 0 lexed.lexemes)
 
 -- the tokens of a text are those of the pieces that the witness finds
-Lexed-tokens : (text : List ℕ) (tokens : List Seen) → IsUtf8 text → Lexed text tokens → tokens ≡ tokens_from 0 (pieces_in text)
+Lexed-tokens : (text : List ℕ) (tokens : List TokenView) → IsUtf8 text → Lexed text tokens → tokens ≡ tokens_of 0 (lexemes_in text)
 Lexed-tokens text tokens utf8 lexed =
-    lexed.given ∙ ap (tokens_from 0) (sym (Divides-pieces_in text lexed.pieces lexed.end utf8 lexed.divides))
+    lexed.given ∙ ap (tokens_of 0) (sym (Divides-lexemes_in text lexed.lexemes lexed.end utf8 lexed.divides))
 
 -- a text has at most one list of tokens
-pub Lexed-unique : (text : List ℕ) (a b : List Seen) → IsUtf8 text → Lexed text a → Lexed text b → a ≡ b
+pub Lexed-unique : (text : List ℕ) (a b : List TokenView) → IsUtf8 text → Lexed text a → Lexed text b → a ≡ b
 Lexed-unique text a b utf8 first second = Lexed-tokens text a utf8 first ∙ sym (Lexed-tokens text b utf8 second)
 
 -- a text has a list of tokens
-pub Lexed-exists : (text : List ℕ) → IsUtf8 text → Lexed text (tokens_from 0 (pieces_in text))
+pub Lexed-exists : (text : List ℕ) → IsUtf8 text → Lexed text (tokens_of 0 (lexemes_in text))
 Lexed-exists text utf8 =
     let d = division text utf8 in
     record {
-      pieces = d.pieces;
+      lexemes = d.lexemes;
       end = d.end;
       divides = d.divides;
-      given = ap (tokens_from 0) (Divides-pieces_in text d.pieces d.end utf8 d.divides);
+      given = ap (tokens_of 0) (Divides-lexemes_in text d.lexemes d.end utf8 d.divides);
     }
 
 -- a new lexer has all of them to give
@@ -88,35 +88,35 @@ pub Lexed-tokens_left : (text : List ℕ) → IsUtf8 text → Lexed text (tokens
 unfolding tokens_left
 Lexed-tokens_left text utf8 =
     let none : length text - length text ≡ 0 = omega arith in
-    subst (λ n. Lexed text (tokens_from n (pieces_in text))) (sym none) (Lexed-exists text utf8)
+    subst (λ n. Lexed text (tokens_of n (lexemes_in text))) (sym none) (Lexed-exists text utf8)
 
 -- pieces determine the end after them
-same_end : (pieces : List Piece) (a b : List ℕ) → text_of pieces a ≡ text_of pieces b → a ≡ b
+same_end : (lexemes : List Lexeme) (a b : List ℕ) → text_of lexemes a ≡ text_of lexemes b → a ≡ b
 same_end [] a b e = e
-same_end (piece ∷ pieces) a b e = same_end pieces a b (append_cancel_left (spelling piece) (text_of pieces a) (text_of pieces b) e)
+same_end (lexeme ∷ lexemes) a b e = same_end lexemes a b (append_cancel_left (lexeme_text lexeme) (text_of lexemes a) (text_of lexemes b) e)
 
 -- a text divides in one way
 pub DividesOnce-of_text : (text : List ℕ) → IsUtf8 text → DividesOnce text
 DividesOnce-of_text text utf8 =
     let d = division text utf8 in
     record {
-      pieces = d.pieces;
+      lexemes = d.lexemes;
       end = d.end;
       divides = d.divides;
       only = λ others rest other.
-          let same : others ≡ d.pieces = sym (Divides-pieces_in text others rest utf8 other) ∙ Divides-pieces_in text d.pieces d.end utf8 d.divides in
-          (same, same_end d.pieces rest d.end (ap (λ l. text_of l rest) (sym same) ∙ sym other.spelled ∙ d.divides.spelled));
+          let same : others ≡ d.lexemes = sym (Divides-lexemes_in text others rest utf8 other) ∙ Divides-lexemes_in text d.lexemes d.end utf8 d.divides in
+          (same, same_end d.lexemes rest d.end (ap (λ l. text_of l rest) (sym same) ∙ sym other.spelled ∙ d.divides.spelled));
     }
 
 -- a text has one list of tokens
 pub LexedOnce-of_text : (text : List ℕ) → IsUtf8 text → LexedOnce text
 LexedOnce-of_text text utf8 = record {
-  tokens = tokens_from 0 (pieces_in text);
+  tokens = tokens_of 0 (lexemes_in text);
   lexed = Lexed-exists text utf8;
-  only = λ others lexed. Lexed-unique text others (tokens_from 0 (pieces_in text)) utf8 lexed (Lexed-exists text utf8);
+  only = λ others lexed. Lexed-unique text others (tokens_of 0 (lexemes_in text)) utf8 lexed (Lexed-exists text utf8);
 }
 
-piece_known : (place : ℕ) (piece : Piece) → AllByRecursion IsKnown (token_of place piece)
+piece_known : (place : ℕ) (lexeme : Lexeme) → AllByRecursion IsKnown (tokens_of_lexeme place lexeme)
 piece_known place (Blank c) = tt
 piece_known place (Comment line) = tt
 piece_known place (LastComment line) = tt
@@ -127,12 +127,12 @@ piece_known place (Quoted inside) = (λ e. cc, tt)
 piece_known place (Unclosed inside) = (λ e. cc, tt)
 piece_known place (Word run) = (kind_of_word_known (trim_end run), tt)
 
-pieces_known : (place : ℕ) (pieces : List Piece) → AllByRecursion IsKnown (tokens_from place pieces)
+pieces_known : (place : ℕ) (lexemes : List Lexeme) → AllByRecursion IsKnown (tokens_of place lexemes)
 pieces_known place [] = (λ e. cc, tt)
-pieces_known place (piece ∷ pieces) =
-    let next = place + length (spelling piece) in
-    AllByRecursion-append IsKnown (token_of place piece) (tokens_from next pieces) (piece_known place piece) (pieces_known next pieces)
+pieces_known place (lexeme ∷ lexemes) =
+    let next = place + length (lexeme_text lexeme) in
+    AllByRecursion-append IsKnown (tokens_of_lexeme place lexeme) (tokens_of next lexemes) (piece_known place lexeme) (pieces_known next lexemes)
 
 -- no token is Unknown
-pub Lexed-known : (text : List ℕ) (tokens : List Seen) → Lexed text tokens → AllByRecursion IsKnown tokens
-Lexed-known text tokens lexed = subst (AllByRecursion IsKnown) (sym lexed.given) (pieces_known 0 lexed.pieces)
+pub Lexed-known : (text : List ℕ) (tokens : List TokenView) → Lexed text tokens → AllByRecursion IsKnown tokens
+Lexed-known text tokens lexed = subst (AllByRecursion IsKnown) (sym lexed.given) (pieces_known 0 lexed.lexemes)

@@ -3,7 +3,7 @@ use Rattle.std.proofs.Common.{◌≡◌, ◌≢◌, ℕ, Bool, true, ◌&&◌, n
 use Rattle.std.proofs.lemmas.Bool.{and_parts, false≢true}
 use Rattle.implib.specs.declared.def.lexer.TokenKind.{TokenKind}
 use Rattle.implib.specs.declared.def.lexer.TokenKind.TheVariants.{Unknown, Eof, Identifier, Comma, Equal, EqualEqual, KwBase, KwConstant, KwData, KwExports, KwHeapsize, KwLibrary, KwName, KwNoname, KwPrivate, KwStacksize, KwVersion}
-use Rattle.implib.specs.Refusal.{IsNoneOf}
+use Rattle.implib.specs.SyntaxError.{IsNoneOf}
 
 abbrev pub kind_number : TokenKind → ℕ
 kind_number Unknown = 0

@@ -7,7 +7,7 @@ use Rattle.std.proofs.lemmas.Bool.{and_parts, eqb-false, ne_eqb}
 use Rattle.std.proofs.lemmas.Str.Parse.{IsNumeralModel, numerals_by_value, tells_all_ascii_digits, not_in_digits, without_leading_plus_none}
 use Rattle.implib.specs.Grammar.{at_sign, full_stop, IsLoneAt, IsAtNumber, IsVersion}
 use Rattle.implib.specs.Number.{IsNumber, plus_sign, u16_limit, u32_limit}
-use Rattle.implib.specs.Reading.{number_by, number_of, cons_first, at_stop, both, version_by, version_of, AtWord, Lone, WithOrdinal, Plain, at_number, after_at, at_word}
+use Rattle.implib.specs.TokenReader.{number_by, number_of, cons_first, at_stop, both, version_by, version_of, AtWord, Lone, WithOrdinal, Plain, at_number, after_at, at_word}
 
 -- the texts of digits and their value, in the library's words
 abbrev own : IsNumeralModel (λ ds. all_ascii_digits ds ≡ true) (digits_value 10)

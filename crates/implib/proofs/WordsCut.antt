@@ -6,7 +6,7 @@ use Rattle.std.proofs.lemmas.Bool.{eqb-true, ne_eqb}
 use Rattle.std.proofs.lemmas.Str.Pattern.{IsSplitOnceResult, split_parts, strip_prefix_char}
 use Rattle.implib.specs.Grammar.{at_sign, full_stop}
 use Rattle.implib.specs.Number.{u16_limit, u32_limit}
-use Rattle.implib.specs.Reading.{Lone, Plain, after_at, at_number, at_stop, at_word, both, number_of, version_by, version_of}
+use Rattle.implib.specs.TokenReader.{Lone, Plain, after_at, at_number, at_stop, at_word, both, number_of, version_by, version_of}
 
 -- a word without a `.` is not cut
 at_stop-none : (value : List ℕ) → ((i : ℕ) → i < length value → get_or value i 0 ≢ full_stop) → at_stop value ≡ None

@@ -3,29 +3,30 @@ use Rattle.std.proofs.Common.{◌≡◌, ℕ, List, true, Ok, refl}
 use Rattle.std.specs.Str.{is_utf8}
 use Rattle.implib.specs.declared.machine.MachineType.{MachineType}
 use Rattle.implib.specs.Bytes.{u16_bytes, u32_bytes}
-use Rattle.implib.specs.Made.{alias_plans, export_plan, head_plan, refusal, renamed_refusal, tail_plan}
+use Rattle.implib.specs.GnuMembers.{alias_specs, export_spec, head_spec, tail_spec}
+use Rattle.implib.specs.Members.{refusal, renamed_refusal}
 use Rattle.implib.specs.Gnu.{export_object, five_digits, head_name, head_object, head_symbol, hint_name, name_symbol, numbered_name, relocations_of_stub, relocations_of_thunk, stem, stub, tail_name, tail_object, thunk}
-use Rattle.implib.specs.Picture.{auxiliary_bytes, auxiliary_count, contents, contents_place, layout_size, header_bytes, layout, name_field, offsets_from, place_of, record_count, records, relocation_bytes, section_header, section_headers, string_bytes_of, string_offsets, string_size, string_table, strings_size, symbol_bytes, symbols_place}
-use Rattle.implib.specs.Picture.{contents_size as section_size}
+use Rattle.implib.specs.Layout.{auxiliary_bytes, auxiliary_count, contents, contents_offset, encoded_size, header_bytes, encoded, name_field, offsets_from, pointer_or_zero, record_count, records, relocation_bytes, section_header, section_headers, string_bytes_of, string_offsets, string_size, string_table, strings_size, symbol_bytes, symbol_table_offset}
+use Rattle.implib.specs.Layout.{contents_size as section_size}
 use Rattle.std.specs.Fmt.{digits}
-use Rattle.implib.specs.Writer.{long_names, name_place, picture_of, symbol_written, with_long_name, with_name}
+use Rattle.implib.specs.Writer.{long_names, name_location, layout_of, symbol_written, with_long_name, with_name}
 use Rattle.implib.specs.Definition.{DefinitionView}
-use Rattle.implib.specs.Division.{pieces_in}
-use Rattle.implib.specs.MsvcObjects.{weak_object}
-use Rattle.implib.specs.Reading.{read}
-use Rattle.implib.specs.Token.{tokens_from}
+use Rattle.implib.specs.Scanner.{lexemes_in}
+use Rattle.implib.specs.WeakExternal.{weak_object}
+use Rattle.implib.specs.TokenReader.{read}
+use Rattle.implib.specs.Token.{tokens_of}
 use Rattle.implib.specs.WorkedGnu.{WorkedGnuBytes, WorkedGnuOutlines, WorkedGnuRefusals}
 use Rattle.implib.specs.WorkedMembers.{Means}
 use Rattle.implib.proofs.WorkedStatements.{opened as text_opened, parses}
 
 -- what the computing has to open
 abbrev opened : Unit {0}
-unfolding text_opened refusal renamed_refusal weak_object digits alias_plans export_plan head_plan tail_plan export_object five_digits head_name head_object head_symbol hint_name name_symbol numbered_name relocations_of_stub relocations_of_thunk stem stub tail_name tail_object thunk auxiliary_bytes auxiliary_count contents contents_place section_size header_bytes layout layout_size name_field offsets_from place_of record_count records relocation_bytes section_header section_headers string_bytes_of string_offsets string_size string_table strings_size symbol_bytes symbols_place u16_bytes u32_bytes long_names name_place picture_of symbol_written with_long_name with_name
+unfolding text_opened refusal renamed_refusal weak_object digits alias_specs export_spec head_spec tail_spec export_object five_digits head_name head_object head_symbol hint_name name_symbol numbered_name relocations_of_stub relocations_of_thunk stem stub tail_name tail_object thunk auxiliary_bytes auxiliary_count contents contents_offset section_size header_bytes encoded encoded_size name_field offsets_from pointer_or_zero record_count records relocation_bytes section_header section_headers string_bytes_of string_offsets string_size string_table strings_size symbol_bytes symbol_table_offset u16_bytes u32_bytes long_names name_location layout_of symbol_written with_long_name with_name
 opened = tt
 
 -- what is read from a text is what it means
 means : (P : DefinitionView → Type 0) (text : List ℕ) (machine : MachineType) (d : DefinitionView) →
-    is_utf8 text ≡ true → read machine (tokens_from 0 (pieces_in text)) ≡ Ok d → P d → Means text machine P
+    is_utf8 text ≡ true → read machine (tokens_of 0 (lexemes_in text)) ≡ Ok d → P d → Means text machine P
 means P text machine d utf8 e holds = (d, parses text machine d utf8 e, holds)
 
 pub worked_gnu_outlines : WorkedGnuOutlines

@@ -7,10 +7,11 @@ use Rattle.implib.specs.Bytes.{u16_bytes, u32_bytes}
 use Rattle.implib.specs.Gnu.{export_object, five_digits, head_name, head_object, head_symbol, hint_name, name_symbol, numbered_name, relocations_of_stub, relocations_of_thunk, stem, stub, tail_name, tail_object, thunk}
 use Rattle.implib.specs.Image.{with_address}
 use Rattle.implib.specs.Placement.{next_multiple}
-use Rattle.implib.specs.Made.{alias_plans, export_plan, head_plan, refusal, renamed_refusal, tail_plan}
+use Rattle.implib.specs.GnuMembers.{alias_specs, export_spec, head_spec, tail_spec}
+use Rattle.implib.specs.Members.{refusal, renamed_refusal}
 use Rattle.implib.specs.Object.{before_nul, bytes_at, data_at, each_at, entries_at, name_of, object_in, object_of_header, relocation_at, relocation_of, section_at, section_of, strings_at, symbol_of, u16_at, u32_at, up_to_nul}
-use Rattle.implib.specs.Picture.{auxiliary_bytes, auxiliary_count, contents, contents_place, contents_size, header_bytes, layout, layout_size, name_field, offsets_from, place_of, record_count, records, relocation_bytes, section_header, section_headers, string_bytes_of, string_offsets, string_size, string_table, strings_size, symbol_bytes, symbols_place}
-use Rattle.implib.specs.Writer.{long_names, name_place, picture_of, symbol_written, with_long_name, with_name}
+use Rattle.implib.specs.Layout.{auxiliary_bytes, auxiliary_count, contents, contents_offset, contents_size, header_bytes, encoded, encoded_size, name_field, offsets_from, pointer_or_zero, record_count, records, relocation_bytes, section_header, section_headers, string_bytes_of, string_offsets, string_size, string_table, strings_size, symbol_bytes, symbol_table_offset}
+use Rattle.implib.specs.Writer.{long_names, name_location, layout_of, symbol_written, with_long_name, with_name}
 use Rattle.implib.specs.WorkedLinks.{MayLink, PartsMayLink, WorkedLinks, bases_64, bases_of_two, foo, placed, placed_two, two_parts}
 use Rattle.implib.specs.declared.machine.MachineType.TheVariants.{AMD64}
 use Rattle.implib.specs.Image.{Range, image_of}
@@ -18,14 +19,14 @@ use Rattle.implib.proofs.Ranges.{apart_as_they_rise, ends_below}
 
 -- what the computing has to open
 abbrev opened : Unit {0}
-unfolding digits u16_bytes u32_bytes export_object five_digits head_name head_object head_symbol hint_name name_symbol numbered_name relocations_of_stub relocations_of_thunk stem stub tail_name tail_object thunk next_multiple with_address export_plan head_plan tail_plan before_nul bytes_at data_at each_at entries_at name_of object_in object_of_header relocation_at relocation_of section_at section_of strings_at symbol_of u16_at u32_at up_to_nul auxiliary_bytes auxiliary_count contents contents_place contents_size header_bytes layout name_field offsets_from place_of record_count records relocation_bytes section_header section_headers string_bytes_of string_offsets string_size string_table strings_size symbol_bytes symbols_place long_names name_place picture_of symbol_written with_long_name with_name
+unfolding digits u16_bytes u32_bytes export_object five_digits head_name head_object head_symbol hint_name name_symbol numbered_name relocations_of_stub relocations_of_thunk stem stub tail_name tail_object thunk next_multiple with_address export_spec head_spec tail_spec before_nul bytes_at data_at each_at entries_at name_of object_in object_of_header relocation_at relocation_of section_at section_of strings_at symbol_of u16_at u32_at up_to_nul auxiliary_bytes auxiliary_count contents contents_offset contents_size header_bytes encoded name_field offsets_from pointer_or_zero record_count records relocation_bytes section_header section_headers string_bytes_of string_offsets string_size string_table strings_size symbol_bytes symbol_table_offset long_names name_location layout_of symbol_written with_long_name with_name
 opened = tt
 
 abbrev both_image : List Range
 both_image = image_of AMD64 bases_64 (placed (foo (codes "bar") (codes "baz")) AMD64 bases_64 (0 ∷ 1 ∷ []))
 
 both_may_link : MayLink (foo (codes "bar") (codes "baz")) AMD64 bases_64 (0 ∷ 1 ∷ [])
-unfolding opened refusal renamed_refusal alias_plans layout_size IsDistinct
+unfolding opened refusal renamed_refusal alias_specs encoded_size IsDistinct
 both_may_link = record {
   made = record { accepted = refl; made = refl; ordinals = refl };
   distinct = ((refl, (refl, (refl, (refl, (refl, tt))))), ((refl, (refl, (refl, (refl, tt)))), ((refl, (refl, (refl, tt))), ((refl, (refl, tt)), ((refl, tt), (tt, tt))))));
@@ -44,7 +45,7 @@ abbrev two_image : List Range
 two_image = image_of AMD64 bases_of_two placed_two
 
 two_may_link : PartsMayLink AMD64 bases_of_two two_parts
-unfolding opened refusal renamed_refusal alias_plans layout_size IsDistinct
+unfolding opened refusal renamed_refusal alias_specs encoded_size IsDistinct
 two_may_link = record {
   made = (
     record { made = record { accepted = refl; made = refl; ordinals = refl }; numbers = (omega arith, tt); in_order = tt },

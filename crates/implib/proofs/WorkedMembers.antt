@@ -4,23 +4,25 @@ use Rattle.std.specs.Str.{is_utf8}
 use Rattle.implib.specs.declared.machine.MachineType.{MachineType}
 use Rattle.implib.specs.Bytes.{u16_bytes, u32_bytes}
 use Rattle.implib.specs.Definition.{DefinitionView}
-use Rattle.implib.specs.Division.{pieces_in}
-use Rattle.implib.specs.Made.{descriptor_plan, heading_plans, null_descriptor_plan, null_thunk_plan, refusal, renamed_refusal, weak_plans}
-use Rattle.implib.specs.MsvcObjects.{base_name, descriptor, descriptor_symbol, null_descriptor, null_descriptor_symbol, null_thunk, null_thunk_symbol, weak_object}
-use Rattle.implib.specs.Picture.{auxiliary_bytes, auxiliary_count, contents, contents_place, contents_size, header_bytes, layout, layout_size, name_field, offsets_from, place_of, record_count, records, relocation_bytes, section_header, section_headers, string_bytes_of, string_offsets, string_size, string_table, strings_size, symbol_bytes, symbols_place}
-use Rattle.implib.specs.Reading.{read}
-use Rattle.implib.specs.Token.{tokens_from}
+use Rattle.implib.specs.Scanner.{lexemes_in}
+use Rattle.implib.specs.MsvcMembers.{descriptor_spec, header_specs, null_descriptor_spec, null_thunk_spec, weak_specs}
+use Rattle.implib.specs.Members.{refusal, renamed_refusal}
+use Rattle.implib.specs.MsvcObjects.{base_name, descriptor, descriptor_symbol, null_descriptor, null_descriptor_symbol, null_thunk, null_thunk_symbol}
+use Rattle.implib.specs.WeakExternal.{weak_object}
+use Rattle.implib.specs.Layout.{auxiliary_bytes, auxiliary_count, contents, contents_offset, contents_size, header_bytes, encoded, encoded_size, name_field, offsets_from, pointer_or_zero, record_count, records, relocation_bytes, section_header, section_headers, string_bytes_of, string_offsets, string_size, string_table, strings_size, symbol_bytes, symbol_table_offset}
+use Rattle.implib.specs.TokenReader.{read}
+use Rattle.implib.specs.Token.{tokens_of}
 use Rattle.implib.specs.WorkedMembers.{Means, WorkedBytes, WorkedFields, WorkedMeanings, WorkedOutlines, WorkedRefusals}
 use Rattle.implib.proofs.WorkedStatements.{opened as text_opened, parses}
 
 -- what is read from a text is what it means
 means : (P : DefinitionView → Type 0) (text : List ℕ) (machine : MachineType) (d : DefinitionView) →
-    is_utf8 text ≡ true → read machine (tokens_from 0 (pieces_in text)) ≡ Ok d → P d → Means text machine P
+    is_utf8 text ≡ true → read machine (tokens_of 0 (lexemes_in text)) ≡ Ok d → P d → Means text machine P
 means P text machine d utf8 e holds = (d, parses text machine d utf8 e, holds)
 
 -- what the computing has to open
 abbrev opened : Unit {0}
-unfolding text_opened base_name descriptor descriptor_symbol null_descriptor null_descriptor_symbol null_thunk null_thunk_symbol weak_object descriptor_plan heading_plans null_descriptor_plan null_thunk_plan refusal renamed_refusal weak_plans auxiliary_bytes auxiliary_count contents contents_place contents_size header_bytes layout layout_size name_field offsets_from place_of record_count records relocation_bytes section_header section_headers string_bytes_of string_offsets string_size string_table strings_size symbol_bytes symbols_place u16_bytes u32_bytes
+unfolding text_opened base_name descriptor descriptor_symbol null_descriptor null_descriptor_symbol null_thunk null_thunk_symbol weak_object descriptor_spec header_specs null_descriptor_spec null_thunk_spec refusal renamed_refusal weak_specs auxiliary_bytes auxiliary_count contents contents_offset contents_size header_bytes encoded encoded_size name_field offsets_from pointer_or_zero record_count records relocation_bytes section_header section_headers string_bytes_of string_offsets string_size string_table strings_size symbol_bytes symbol_table_offset u16_bytes u32_bytes
 opened = tt
 
 pub worked_outlines : WorkedOutlines

@@ -1,12 +1,12 @@
 -- The worked objects, by computing.
 use Rattle.std.proofs.Common.{refl}
 use Rattle.implib.specs.Bytes.{u16_bytes, u32_bytes}
-use Rattle.implib.specs.Picture.{auxiliary_count, contents_place, contents_size, header_bytes, layout_size, offsets_from, record_count, records, string_offsets, string_size, strings_size, symbols_place}
+use Rattle.implib.specs.Layout.{auxiliary_count, contents_offset, contents_size, header_bytes, encoded_size, offsets_from, record_count, records, string_offsets, string_size, strings_size, symbol_table_offset}
 use Rattle.implib.specs.WorkedDigits.{bytes_of_digits}
 use Rattle.implib.specs.WorkedObjects.{WorkedObjects, descriptor, function, null_descriptor, null_thunk, one_section, places_from, two_names, weak}
 
 pub worked_objects : WorkedObjects
-unfolding bytes_of_digits two_names one_section function descriptor null_descriptor null_thunk weak places_from layout_size symbols_place contents_place contents_size records record_count auxiliary_count strings_size string_size string_offsets offsets_from header_bytes u16_bytes u32_bytes
+unfolding bytes_of_digits two_names one_section function descriptor null_descriptor null_thunk weak places_from encoded_size symbol_table_offset contents_offset contents_size records record_count auxiliary_count strings_size string_size string_offsets offsets_from header_bytes u16_bytes u32_bytes
 worked_objects = record {
   two_names_size = refl;
   one_section_size = refl;

@@ -8,22 +8,22 @@ use Rattle.implib.specs.declared.machine.MachineType.TheVariants.{AMD64}
 use Rattle.implib.specs.Definition.{DefinitionView}
 use Rattle.implib.specs.Fault.{Cause}
 use Rattle.implib.specs.Parses.{Parses, Refuses}
-use Rattle.implib.specs.Reading.{number_of, version_of, at_word, word_read, number_read, version_read, commit_read, sizes_read, sign_read, base_read, name_read, no_name_read, ordinal_read, attribute_read, many, target_read, attributes_read, export_read, exports_read, statement_read, statements_read, made_export, with_statements, read}
-use Rattle.implib.specs.Token.{kind_of_word, tokens_from}
-use Rattle.implib.specs.Division.{pieces_in, pieces_within}
+use Rattle.implib.specs.TokenReader.{number_of, version_of, at_word, word_read, number_read, version_read, commit_read, sizes_read, sign_read, base_read, name_read, no_name_read, ordinal_read, attribute_read, many, target_read, attributes_read, export_read, exports_read, statement_read, statements_read, made_export, with_statements, read}
+use Rattle.implib.specs.Token.{kind_of_word, tokens_of}
+use Rattle.implib.specs.Scanner.{lexemes_in, lexemes_within}
 use Rattle.implib.specs.WorkedStatements.{WorkedSettings, WorkedExports, WorkedRefusals, WorkedFronts, HasExports, front}
-use Rattle.implib.proofs.Reading.{Parses-from_read, Refuses-from_read}
+use Rattle.implib.proofs.TokenReader.{Parses-from_read, Refuses-from_read}
 use Rattle.implib.proofs.Token.{Lexed-exists}
 
-pub parses : (text : List ℕ) (machine : MachineType) (d : DefinitionView) → is_utf8 text ≡ true → read machine (tokens_from 0 (pieces_in text)) ≡ Ok d → Parses text machine d
-parses text machine d utf8 e = Parses-from_read text (tokens_from 0 (pieces_in text)) machine d (Lexed-exists text (IsUtf8-from_is_utf8 text utf8)) e
+pub parses : (text : List ℕ) (machine : MachineType) (d : DefinitionView) → is_utf8 text ≡ true → read machine (tokens_of 0 (lexemes_in text)) ≡ Ok d → Parses text machine d
+parses text machine d utf8 e = Parses-from_read text (tokens_of 0 (lexemes_in text)) machine d (Lexed-exists text (IsUtf8-from_is_utf8 text utf8)) e
 
-refuses : (text : List ℕ) (cause : Cause) → is_utf8 text ≡ true → read AMD64 (tokens_from 0 (pieces_in text)) ≡ Err cause → Refuses text cause
-refuses text cause utf8 e = Refuses-from_read text (tokens_from 0 (pieces_in text)) AMD64 cause (Lexed-exists text (IsUtf8-from_is_utf8 text utf8)) e
+refuses : (text : List ℕ) (cause : Cause) → is_utf8 text ≡ true → read AMD64 (tokens_of 0 (lexemes_in text)) ≡ Err cause → Refuses text cause
+refuses text cause utf8 e = Refuses-from_read text (tokens_of 0 (lexemes_in text)) AMD64 cause (Lexed-exists text (IsUtf8-from_is_utf8 text utf8)) e
 
 -- what the computing has to open
 unfoldable pub opened : Unit {0}
-unfolding chars is_utf8 encode_utf8 trim_end trim_start kind_of_word pieces_within number_of version_of at_word word_read number_read version_read commit_read sizes_read sign_read base_read name_read no_name_read ordinal_read attribute_read many target_read attributes_read export_read exports_read statement_read statements_read made_export with_statements read
+unfolding chars is_utf8 encode_utf8 trim_end trim_start kind_of_word lexemes_within number_of version_of at_word word_read number_read version_read commit_read sizes_read sign_read base_read name_read no_name_read ordinal_read attribute_read many target_read attributes_read export_read exports_read statement_read statements_read made_export with_statements read
 opened = tt
 
 pub worked_settings : WorkedSettings
@@ -93,12 +93,12 @@ abbrev Counts : ℕ → Result DefinitionView Cause → Type 0
 Counts count (Ok d) = length d.exports ≡ count
 Counts count (Err cause) = ⊥
 
-counted : (count n : ℕ) (r : Result DefinitionView Cause) → is_utf8 (front n) ≡ true → read AMD64 (tokens_from 0 (pieces_in (front n))) ≡ r → Counts count r → HasExports count n
+counted : (count n : ℕ) (r : Result DefinitionView Cause) → is_utf8 (front n) ≡ true → read AMD64 (tokens_of 0 (lexemes_in (front n))) ≡ r → Counts count r → HasExports count n
 counted count n (Ok d) utf8 e many = (d, parses (front n) AMD64 d utf8 e, many)
 counted count n (Err cause) utf8 e many = absurd many
 
-has_exports : (count n : ℕ) → is_utf8 (front n) ≡ true → Counts count (read AMD64 (tokens_from 0 (pieces_in (front n)))) → HasExports count n
-has_exports count n utf8 many = counted count n (read AMD64 (tokens_from 0 (pieces_in (front n)))) utf8 refl many
+has_exports : (count n : ℕ) → is_utf8 (front n) ≡ true → Counts count (read AMD64 (tokens_of 0 (lexemes_in (front n)))) → HasExports count n
+has_exports count n utf8 many = counted count n (read AMD64 (tokens_of 0 (lexemes_in (front n)))) utf8 refl many
 
 pub worked_fronts : WorkedFronts
 unfolding opened

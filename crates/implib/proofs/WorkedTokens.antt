@@ -3,17 +3,17 @@ use Rattle.std.proofs.Common.{◌≡◌, ℕ, List, true, refl, subst}
 use Rattle.std.proofs.lemmas.Str.{IsUtf8-from_is_utf8}
 use Rattle.std.specs.Char.{encode_utf8}
 use Rattle.std.specs.Str.{chars, is_utf8, trim_end, trim_start}
-use Rattle.implib.specs.Token.{kind_of_word, tokens_from, Lexed, Seen}
-use Rattle.implib.specs.Division.{pieces_in, pieces_within}
+use Rattle.implib.specs.Token.{kind_of_word, tokens_of, Lexed, TokenView}
+use Rattle.implib.specs.Scanner.{lexemes_in, lexemes_within}
 use Rattle.implib.specs.WorkedTokens.{WorkedTokens}
 use Rattle.implib.proofs.Token.{Lexed-exists}
 
 -- what the witness computes are the tokens
-Lexed-by_computing : (text : List ℕ) (tokens : List Seen) → is_utf8 text ≡ true → tokens_from 0 (pieces_in text) ≡ tokens → Lexed text tokens
+Lexed-by_computing : (text : List ℕ) (tokens : List TokenView) → is_utf8 text ≡ true → tokens_of 0 (lexemes_in text) ≡ tokens → Lexed text tokens
 Lexed-by_computing text tokens utf8 given = subst (Lexed text) given (Lexed-exists text (IsUtf8-from_is_utf8 text utf8))
 
 pub worked : WorkedTokens
-unfolding chars is_utf8 encode_utf8 trim_end trim_start kind_of_word pieces_within
+unfolding chars is_utf8 encode_utf8 trim_end trim_start kind_of_word lexemes_within
 worked = record {
   signs = Lexed-by_computing _ _ refl refl;
   three_equal_signs = Lexed-by_computing _ _ refl refl;

@@ -7,10 +7,10 @@ use Rattle.implib.specs.declared.coff.object.Place.{Place}
 use Rattle.implib.specs.declared.coff.object.Place.TheVariants.{Undefined, Section, Absolute, Debug}
 use Rattle.implib.specs.declared.coff.object.Relocation.{Relocation}
 use Rattle.implib.specs.Object.{Auxiliary, Entry, ObjectSection}
-use Rattle.implib.specs.Picture.{FitsRelocation, FitsSection, auxiliary_count}
+use Rattle.implib.specs.Layout.{FitsRelocation, FitsSection, auxiliary_count}
 use Rattle.implib.specs.declared.coff.object.Section.{Section as Held}
 use Rattle.implib.specs.Writer.{section_view}
-use Rattle.implib.specs.Writer.{AddedSymbol, HasRoomFor, Holding, IsPlaceAmong, IsSymbol, IsSymbolIndex, all_entries, entries_added, relocated, section_numbered, with_relocation, with_section, with_symbol}
+use Rattle.implib.specs.Writer.{AddedSymbol, HasRoomFor, WriterState, IsPlaceAmong, IsSymbol, IsSymbolIndex, all_entries, entries_added, sections_with_relocation, section_numbered, with_relocation, with_section, with_symbol}
 use Rattle.implib.specs.WriterView.{IsSound, IsSoundSection, IsSoundSymbol}
 
 all_push : {X : Type 0} (P : X → Type 0) (xs : List X) (x : X) → AllByRecursion P xs → P x → AllByRecursion P (xs ++ x ∷ [])
@@ -32,7 +32,7 @@ place_more count Debug among = tt
 symbol_more : (count : ℕ) (s : AddedSymbol) → IsSoundSymbol count s → IsSoundSymbol (count + 1) s
 symbol_more count s sound = record { named = sound.named; no_nul = sound.no_nul; value = sound.value; place = place_more count s.place sound.place; aux = sound.aux }
 
-pub sound_section : (h : Holding) (n : ℕ) (s : ObjectSection) → IsSound h n → length h.sections < 32767 → FitsSection s → s.relocations ≡ [] → IsSound (with_section h s) n
+pub sound_section : (h : WriterState) (n : ℕ) (s : ObjectSection) → IsSound h n → length h.sections < 32767 → FitsSection s → s.relocations ≡ [] → IsSound (with_section h s) n
 sound_section h n s sound room fits none = record {
   few = omega (arith, length-append h.sections (s ∷ []), room);
   records = sound.records;
@@ -70,7 +70,7 @@ section_more symbols t s sound = record {
       s.relocations sound.relocations;
 }
 
-pub sound_symbol : (h : Holding) (n m : ℕ) (s : AddedSymbol) → IsSound h n → IsSoundSymbol (length h.sections) s → m ≡ n + length (entries_added s) → IsSound (with_symbol h s) m
+pub sound_symbol : (h : WriterState) (n m : ℕ) (s : AddedSymbol) → IsSound h n → IsSoundSymbol (length h.sections) s → m ≡ n + length (entries_added s) → IsSound (with_symbol h s) m
 sound_symbol h n m s sound here count = record {
   few = sound.few;
   records = rw (flat_map-append entries_added h.symbols (s ∷ []), append-nil (entries_added s))
@@ -81,13 +81,13 @@ sound_symbol h n m s sound here count = record {
 
 -- a relocation more
 
-length-relocated : (ss : List ObjectSection) (number : ℕ) (r : Relocation) → length (relocated ss number r) ≡ length ss
-length-relocated [] number r = refl
-length-relocated (s ∷ ss) zero r = refl
-length-relocated (s ∷ ss) (suc zero) r = refl
-length-relocated (s ∷ ss) (suc (suc number)) r = ap suc (length-relocated ss (suc number) r)
+length-sections_with_relocation : (ss : List ObjectSection) (number : ℕ) (r : Relocation) → length (sections_with_relocation ss number r) ≡ length ss
+length-sections_with_relocation [] number r = refl
+length-sections_with_relocation (s ∷ ss) zero r = refl
+length-sections_with_relocation (s ∷ ss) (suc zero) r = refl
+length-sections_with_relocation (s ∷ ss) (suc (suc number)) r = ap suc (length-sections_with_relocation ss (suc number) r)
 
-relocated_sound : (symbols : List AddedSymbol) (ss : List ObjectSection) (number : ℕ) (r : Relocation) → AllByRecursion (IsSoundSection symbols) ss → IsSomeAnd (section_numbered ss number) (HasRoomFor r) → IsSymbolIndex symbols r.symbol → FitsRelocation r → AllByRecursion (IsSoundSection symbols) (relocated ss number r)
+relocated_sound : (symbols : List AddedSymbol) (ss : List ObjectSection) (number : ℕ) (r : Relocation) → AllByRecursion (IsSoundSection symbols) ss → IsSomeAnd (section_numbered ss number) (HasRoomFor r) → IsSymbolIndex symbols r.symbol → FitsRelocation r → AllByRecursion (IsSoundSection symbols) (sections_with_relocation ss number r)
 relocated_sound symbols [] number r all there index fits = tt
 relocated_sound symbols (s ∷ ss) zero r all there index fits = all
 relocated_sound symbols (s ∷ ss) (suc zero) r all there index fits = (
@@ -104,12 +104,12 @@ relocated_sound symbols (s ∷ ss) (suc zero) r all there index fits = (
 )
 relocated_sound symbols (s ∷ ss) (suc (suc number)) r all there index fits = (all.0, relocated_sound symbols ss (suc number) r all.1 there index fits)
 
-pub sound_relocation : (h : Holding) (n number : ℕ) (r : Relocation) → IsSound h n → IsSomeAnd (section_numbered h.sections number) (HasRoomFor r) → IsSymbolIndex h.symbols r.symbol → FitsRelocation r → IsSound (with_relocation h number r) n
+pub sound_relocation : (h : WriterState) (n number : ℕ) (r : Relocation) → IsSound h n → IsSomeAnd (section_numbered h.sections number) (HasRoomFor r) → IsSymbolIndex h.symbols r.symbol → FitsRelocation r → IsSound (with_relocation h number r) n
 sound_relocation h n number r sound there index fits = record {
-  few = rw (length-relocated h.sections number r) sound.few;
+  few = rw (length-sections_with_relocation h.sections number r) sound.few;
   records = sound.records;
   sections = relocated_sound h.symbols h.sections number r sound.sections there index fits;
-  symbols = rw (length-relocated h.sections number r) sound.symbols;
+  symbols = rw (length-sections_with_relocation h.sections number r) sound.symbols;
 }
 
 -- a section of the writer's list, with other relocations
@@ -122,21 +122,21 @@ sections-same [] i s x here e = refl
 sections-same (y ∷ ss) zero s x here e = ap (λ t. t ∷ map section_view ss) (e ∙ ap section_view here)
 sections-same (y ∷ ss) (suc i) s x here e = ap (λ t. section_view y ∷ t) (sections-same ss i s x here e)
 
-relocated-set : (ss : List Held) (i : ℕ) (r : Relocation) (s x : Held) → s ≡ get_or ss i s
+sections_with_relocation-set : (ss : List Held) (i : ℕ) (r : Relocation) (s x : Held) → s ≡ get_or ss i s
     → section_view x ≡ record (section_view s) { relocations = (section_view s).relocations ++ r ∷ [] }
-    → map section_view (set ss i x) ≡ relocated (map section_view ss) (suc i) r
-relocated-set [] i r s x here e = refl
-relocated-set (y ∷ ss) zero r s x here e =
+    → map section_view (set ss i x) ≡ sections_with_relocation (map section_view ss) (suc i) r
+sections_with_relocation-set [] i r s x here e = refl
+sections_with_relocation-set (y ∷ ss) zero r s x here e =
     ap (λ t. t ∷ map section_view ss) (e ∙ ap (λ (t : Held). record (section_view t) { relocations = (section_view t).relocations ++ r ∷ [] }) here)
-relocated-set (y ∷ ss) (suc i) r s x here e = ap (λ t. section_view y ∷ t) (relocated-set ss i r s x here e)
+sections_with_relocation-set (y ∷ ss) (suc i) r s x here e = ap (λ t. section_view y ∷ t) (sections_with_relocation-set ss i r s x here e)
 
 number_after : (ss : List ObjectSection) (number : ℕ) (P : ObjectSection → Type 0) → IsSomeAnd (section_numbered ss number) P → suc (number - 1) ≡ number
 number_after ss zero P there = absurd there
 number_after ss (suc n) P there = omega arith
 
-pub relocated-numbered : (ss : List Held) (number : ℕ) (r : Relocation) (s x : Held) (P : ObjectSection → Type 0) → IsSomeAnd (section_numbered (map section_view ss) number) P
+pub sections_with_relocation-numbered : (ss : List Held) (number : ℕ) (r : Relocation) (s x : Held) (P : ObjectSection → Type 0) → IsSomeAnd (section_numbered (map section_view ss) number) P
     → s ≡ get_or ss (number - 1) s
     → section_view x ≡ record (section_view s) { relocations = (section_view s).relocations ++ r ∷ [] }
-    → map section_view (set ss (number - 1) x) ≡ relocated (map section_view ss) number r
-relocated-numbered ss number r s x P there here e =
-    relocated-set ss (number - 1) r s x here e ∙ ap (λ n. relocated (map section_view ss) n r) (number_after (map section_view ss) number P there)
+    → map section_view (set ss (number - 1) x) ≡ sections_with_relocation (map section_view ss) number r
+sections_with_relocation-numbered ss number r s x P there here e =
+    sections_with_relocation-set ss (number - 1) r s x here e ∙ ap (λ n. sections_with_relocation (map section_view ss) n r) (number_after (map section_view ss) number P there)

@@ -7,7 +7,7 @@ use Rattle.implib.specs.Definition.{DefinitionView, ExportView}
 use Rattle.implib.specs.Grammar.{Export, Statement}
 use Rattle.implib.specs.Import.{asked_name}
 use Rattle.implib.specs.Meaning.{exports_in}
-use Rattle.implib.specs.Made.{asked_in}
+use Rattle.implib.specs.NameRules.{asked_in}
 use Rattle.implib.specs.Parses.{Parses}
 use Rattle.implib.specs.Renaming.{renamed}
 

@@ -4,69 +4,69 @@ use Rattle.implib.specs.declared.machine.MachineType.{MachineType}
 use Rattle.implib.specs.declared.machine.MachineType.TheVariants.{I386, ARMNT, AMD64, ARM64}
 
 -- "Section Flags"
-abbrev pub code : ℕ
-code = 0x20
+abbrev pub cnt_code : ℕ
+cnt_code = 0x20
 
-abbrev pub initialized_data : ℕ
-initialized_data = 0x40
+abbrev pub cnt_initialized_data : ℕ
+cnt_initialized_data = 0x40
 
-abbrev pub uninitialized_data : ℕ
-uninitialized_data = 0x80
+abbrev pub cnt_uninitialized_data : ℕ
+cnt_uninitialized_data = 0x80
 
-abbrev pub info : ℕ
-info = 0x200
+abbrev pub lnk_info : ℕ
+lnk_info = 0x200
 
-abbrev pub remove : ℕ
-remove = 0x800
+abbrev pub lnk_remove : ℕ
+lnk_remove = 0x800
 
-abbrev pub align_2 : ℕ
-align_2 = 0x0020_0000
+abbrev pub align_2bytes : ℕ
+align_2bytes = 0x0020_0000
 
-abbrev pub align_4 : ℕ
-align_4 = 0x0030_0000
+abbrev pub align_4bytes : ℕ
+align_4bytes = 0x0030_0000
 
-abbrev pub align_8 : ℕ
-align_8 = 0x0040_0000
+abbrev pub align_8bytes : ℕ
+align_8bytes = 0x0040_0000
 
-abbrev pub align_16 : ℕ
-align_16 = 0x0050_0000
+abbrev pub align_16bytes : ℕ
+align_16bytes = 0x0050_0000
 
-abbrev pub execute_read : ℕ
-execute_read = 0x2000_0000 + 0x4000_0000
+abbrev pub mem_execute_read : ℕ
+mem_execute_read = 0x2000_0000 + 0x4000_0000
 
-abbrev pub read_write : ℕ
-read_write = 0x4000_0000 + 0x8000_0000
+abbrev pub mem_read_write : ℕ
+mem_read_write = 0x4000_0000 + 0x8000_0000
 
 -- "Characteristics": words of 32 bits
 abbrev pub machine_32bit : ℕ
 machine_32bit = 0x100
 
 -- "Storage Class"
-abbrev pub external : ℕ
-external = 2
+abbrev pub class_external : ℕ
+class_external = 2
 
-abbrev pub static : ℕ
-static = 3
+abbrev pub class_static : ℕ
+class_static = 3
 
-abbrev pub file_class : ℕ
-file_class = 103
+abbrev pub class_file : ℕ
+class_file = 103
 
-abbrev pub section_class : ℕ
-section_class = 104
+abbrev pub class_section : ℕ
+class_section = 104
 
-abbrev pub weak_external : ℕ
-weak_external = 105
+abbrev pub class_weak_external : ℕ
+class_weak_external = 105
 
 -- "Section Number Values": a symbol of another object, and one whose value is no address
-abbrev pub undefined : ℕ
-undefined = 0
+abbrev pub section_undefined : ℕ
+section_undefined = 0
 
-abbrev pub absolute : ℕ
-absolute = 0xFFFF
+abbrev pub section_absolute : ℕ
+section_absolute = 0xFFFF
 
 -- "Auxiliary Format 3: Weak Externals": the name is another name for its default
-abbrev pub search_alias : ℕ
-search_alias = 3
+abbrev pub weak_search_alias : ℕ
+weak_search_alias = 3
 
 -- "Type Indicators": the address of the symbol relative to the image
 abbrev pub image_relative : MachineType → ℕ

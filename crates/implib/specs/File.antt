@@ -3,44 +3,44 @@
 use Rattle.std.specs.Prelude.{ℕ, Bool, ◌&&◌, ◌==◌, nat_le, List, [], ◌∷◌, slice_get, bytes_eq, codes, Option, Some, None, if◌then◌else◌}
 use Rattle.std.specs.List.{filter_map, find}
 use Rattle.std.specs.Option.{option_and_then, option_map}
-use Rattle.implib.specs.Constants.{external, weak_external}
+use Rattle.implib.specs.Constants.{class_external, class_weak_external}
 use Rattle.implib.specs.Import.{Alias, Import, import_symbols}
 use Rattle.implib.specs.Object.{Entry, ASymbol, Auxiliary, Object, ObjectSection, ObjectSymbol, object_in, u32_at, before_nul}
-use Rattle.implib.specs.Record.{ShortRecord, import_data, import_of_record, short_record_in}
+use Rattle.implib.specs.ShortImport.{ShortImport, import_data, import_of_short_import, short_import_in}
 
 -- a file that has been read
 pub data File : Type 0 where
-  RecordFile : ShortRecord → File
+  ShortImportFile : ShortImport → File
   ObjectFile : Object → File
 
 -- a record, or otherwise what is read as an object
-abbrev pub record_or_object : Option ShortRecord → Option Object → Option File
-record_or_object (Some r) o = Some (RecordFile r)
-record_or_object None o = option_map ObjectFile o
+abbrev pub short_import_or_object : Option ShortImport → Option Object → Option File
+short_import_or_object (Some r) o = Some (ShortImportFile r)
+short_import_or_object None o = option_map ObjectFile o
 
 -- the file in these bytes
 abbrev pub file_in : List ℕ → Option File
-file_in bytes = record_or_object (short_record_in bytes) (object_in bytes)
+file_in bytes = short_import_or_object (short_import_in bytes) (object_in bytes)
 
 -- whether a symbol is an external that its own object defines: sections count from 1, and numbers
 -- from 0x8000 on are negative
 abbrev pub is_defined_external : ObjectSymbol → Bool
-is_defined_external s = (s.class == external) && nat_le 1 s.section && nat_le s.section 0x7FFF
+is_defined_external s = (s.class == class_external) && nat_le 1 s.section && nat_le s.section 0x7FFF
 
 -- the name that an entry declares: of a defined external, or of a weak one
 abbrev pub declared_by_entry : Entry → Option (List ℕ)
 declared_by_entry (Auxiliary bytes) = None
 declared_by_entry (ASymbol s) =
     if is_defined_external s then Some s.name
-    else if s.class == weak_external then Some s.name
+    else if s.class == class_weak_external then Some s.name
     else None
 
 -- the symbols that a file declares, in order
 abbrev pub declared_by : File → List (List ℕ)
-declared_by (RecordFile r) = import_symbols (r.kind == import_data) r.symbol
+declared_by (ShortImportFile r) = import_symbols (r.kind == import_data) r.symbol
 declared_by (ObjectFile o) = filter_map declared_by_entry o.entries
 
--- the index of the symbol that a weak external stands for, in the auxiliary record behind it
+-- the tag index of a weak external: the symbol that replaces it, in the auxiliary record behind it
 abbrev pub tag_index : List Entry → Option ℕ
 tag_index [] = None
 tag_index (ASymbol s ∷ entries) = None
@@ -51,7 +51,7 @@ abbrev pub weak_symbols : List Entry → List (List ℕ × Option ℕ)
 weak_symbols [] = []
 weak_symbols (Auxiliary bytes ∷ entries) = weak_symbols entries
 weak_symbols (ASymbol s ∷ entries) =
-    if s.class == weak_external then (s.name, tag_index entries) ∷ weak_symbols entries else weak_symbols entries
+    if s.class == class_weak_external then (s.name, tag_index entries) ∷ weak_symbols entries else weak_symbols entries
 
 -- the name of an entry that is a symbol
 abbrev pub symbol_name : Entry → Option (List ℕ)
@@ -80,7 +80,7 @@ pub data Meaning : Type 0 where
 
 -- what a file means, where it means one of the two
 abbrev pub meaning_of : File → Option Meaning
-meaning_of (RecordFile r) = option_map AnImport (import_of_record r)
+meaning_of (ShortImportFile r) = option_map AnImport (import_of_short_import r)
 meaning_of (ObjectFile o) = option_map AnAlias (alias_of_object o)
 
 -- what the file in these bytes means
@@ -93,7 +93,7 @@ section_data name sections = option_map (λ s. s.bytes) (find (λ s. bytes_eq s.
 
 -- the DLL that a descriptor's file names: the text in its section of names
 abbrev pub dll_of : File → Option (List ℕ)
-dll_of (RecordFile r) = None
+dll_of (ShortImportFile r) = None
 dll_of (ObjectFile o) = option_and_then before_nul (section_data (codes ".idata$6") o.sections)
 
 -- the DLL that the descriptor in these bytes names

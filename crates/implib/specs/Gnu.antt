@@ -7,12 +7,12 @@ use Rattle.implib.specs.declared.coff.object.Relocation.{Relocation}
 use Rattle.implib.specs.declared.machine.MachineType.{MachineType}
 use Rattle.implib.specs.declared.machine.MachineType.TheVariants.{I386, ARMNT, AMD64, ARM64}
 use Rattle.implib.specs.Bytes.{u16_bytes}
-use Rattle.implib.specs.Constants.{code, initialized_data, uninitialized_data, align_2, align_4, align_16, execute_read, read_write, external, static, file_class, i386_dir32, amd64_rel32, arm_rel32, arm64_pagebase_rel21, arm64_pageoffset_12l}
+use Rattle.implib.specs.Constants.{cnt_code, cnt_initialized_data, cnt_uninitialized_data, align_2bytes, align_4bytes, align_16bytes, mem_execute_read, mem_read_write, class_external, class_static, class_file, i386_dir32, amd64_rel32, arm_rel32, arm64_pagebase_rel21, arm64_pageoffset_12l}
 use Rattle.implib.specs.Definition.{ExportView}
 use Rattle.implib.specs.Import.{address_symbol, asked_name, is_i386, underscore}
-use Rattle.implib.specs.MsvcObjects.{descriptor_size, relocation, thunk_width, zeros}
+use Rattle.implib.specs.ImportTables.{descriptor_size, relocation, thunk_width, zeros}
 use Rattle.implib.specs.Object.{ObjectSection}
-use Rattle.implib.specs.Writer.{AddedSymbol, Holding}
+use Rattle.implib.specs.Writer.{AddedSymbol, WriterState}
 
 abbrev pub full_stop : ℕ
 full_stop = 0x2E
@@ -25,7 +25,7 @@ without_full_stop byte = if byte == full_stop then underscore else byte
 unfoldable pub stem : List ℕ → List ℕ
 stem dll = map without_full_stop dll
 
--- a symbol of the linkage; on I386 with one more `_` in front
+-- a symbol of the head or the tail; on I386 with one more `_` in front
 abbrev pub linkage_symbol : MachineType → List ℕ → List ℕ
 linkage_symbol machine name = if is_i386 machine then underscore ∷ name else name
 
@@ -80,19 +80,19 @@ added name place class = record { name = name; value = 0; place = place; class =
 
 -- the symbol of the file's name: its auxiliary record says `fake`
 abbrev pub file_symbol : AddedSymbol
-file_symbol = record { name = codes ".file"; value = 0; place = Debug; class = file_class; aux = Some (codes "fake" ++ zeros 14) }
+file_symbol = record { name = codes ".file"; value = 0; place = Debug; class = class_file; aux = Some (codes "fake" ++ zeros 14) }
 
 -- the sections of the head and of the tail that hold nothing
 abbrev pub empty_sections : List ObjectSection
 empty_sections =
-    section text_name (code + align_16 + execute_read) [] []
-    ∷ section data_name (initialized_data + align_16 + read_write) [] []
-    ∷ section bss_name (uninitialized_data + align_16 + read_write) [] []
+    section text_name (cnt_code + align_16bytes + mem_execute_read) [] []
+    ∷ section data_name (cnt_initialized_data + align_16bytes + mem_read_write) [] []
+    ∷ section bss_name (cnt_uninitialized_data + align_16bytes + mem_read_write) [] []
     ∷ []
 
 -- the flags of what the head and the tail put into the import tables
 abbrev pub table_flags : ℕ
-table_flags = initialized_data + align_4 + read_write
+table_flags = cnt_initialized_data + align_4bytes + mem_read_write
 
 -- the head: the import descriptor, with the lookup table's address at 0, the address table's at 16,
 -- the name's at 12
@@ -109,14 +109,14 @@ head_sections machine =
 abbrev pub head_symbols : List ℕ → List ℕ → List AddedSymbol
 head_symbols head name =
     file_symbol
-    ∷ added (codes ".idata$5") (Section 5) static
-    ∷ added (codes ".idata$4") (Section 6) static
-    ∷ added head (Section 4) external
-    ∷ added name Undefined external
+    ∷ added (codes ".idata$5") (Section 5) class_static
+    ∷ added (codes ".idata$4") (Section 6) class_static
+    ∷ added head (Section 4) class_external
+    ∷ added name Undefined class_external
     ∷ []
 
 -- the head
-unfoldable pub head_object : MachineType → List ℕ → Holding
+unfoldable pub head_object : MachineType → List ℕ → WriterState
 head_object machine dll = record {
   machine = machine;
   sections = head_sections machine;
@@ -134,10 +134,10 @@ tail_sections machine dll =
 
 -- the symbols of the tail, by the name's
 abbrev pub tail_symbols : List ℕ → List AddedSymbol
-tail_symbols name = file_symbol ∷ added name (Section 6) external ∷ []
+tail_symbols name = file_symbol ∷ added name (Section 6) class_external ∷ []
 
 -- the tail
-unfoldable pub tail_object : MachineType → List ℕ → Holding
+unfoldable pub tail_object : MachineType → List ℕ → WriterState
 tail_object machine dll = record {
   machine = machine;
   sections = tail_sections machine dll;
@@ -190,35 +190,35 @@ hint_name machine e = if e.no_name then [] else u16_bytes e.ordinal ++ (asked_na
 
 -- the flags of what an export puts into the import tables
 abbrev pub entry_flags : ℕ
-entry_flags = align_4 + read_write
+entry_flags = align_4bytes + mem_read_write
 
 -- the sections of an export
 abbrev pub export_sections : MachineType → ExportView → List ObjectSection
 export_sections machine e =
-    section text_name (code + align_4 + execute_read) (stub machine e) (relocations_of_stub machine e)
-    ∷ section data_name (initialized_data + align_4 + read_write) [] []
-    ∷ section bss_name (uninitialized_data + align_4 + read_write) [] []
+    section text_name (cnt_code + align_4bytes + mem_execute_read) (stub machine e) (relocations_of_stub machine e)
+    ∷ section data_name (cnt_initialized_data + align_4bytes + mem_read_write) [] []
+    ∷ section bss_name (cnt_uninitialized_data + align_4bytes + mem_read_write) [] []
     ∷ section (codes ".idata$7") entry_flags (zeros 4) (relocation machine 0 0 ∷ [])
     ∷ section (codes ".idata$5") entry_flags (thunk machine e) (relocations_of_thunk machine e)
     ∷ section (codes ".idata$4") entry_flags (thunk machine e) (relocations_of_thunk machine e)
-    ∷ section (codes ".idata$6") (align_2 + read_write) (hint_name machine e) []
+    ∷ section (codes ".idata$6") (align_2bytes + mem_read_write) (hint_name machine e) []
     ∷ []
 
 -- the symbol of an export's code: data has none
 abbrev pub code_symbol : ExportView → List AddedSymbol
-code_symbol e = if e.is_data then [] else added e.name (Section 1) external ∷ []
+code_symbol e = if e.is_data then [] else added e.name (Section 1) class_external ∷ []
 
 -- the symbols of an export, by the descriptor's
 abbrev pub export_symbols : List ℕ → ExportView → List AddedSymbol
 export_symbols head e =
-    added head Undefined external
+    added head Undefined class_external
     ∷ (code_symbol e
-    ++ added (address_symbol e.name) (Section 5) external
-    ∷ added (codes ".idata$6") (Section 7) static
+    ++ added (address_symbol e.name) (Section 5) class_external
+    ∷ added (codes ".idata$6") (Section 7) class_static
     ∷ [])
 
 -- an export
-unfoldable pub export_object : MachineType → List ℕ → ExportView → Holding
+unfoldable pub export_object : MachineType → List ℕ → ExportView → WriterState
 export_object machine dll e = record {
   machine = machine;
   sections = export_sections machine e;

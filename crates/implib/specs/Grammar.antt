@@ -1,11 +1,11 @@
--- The statements of a module definition, and the tokens that each of them is spelled by.
+-- The statement grammar of a module definition: statements, and the terminals that each derives.
 use Rattle.std.specs.Prelude.{◌≡◌, ◌≢◌, ℕ, ◌⊎◌, Bool, true, false, List, [], ◌∷◌, ◌++◌, Option, Some, None}
 use Rattle.std.specs.List.{flat_map}
 use Rattle.implib.specs.declared.def.lexer.TokenKind.{TokenKind}
 use Rattle.implib.specs.declared.def.lexer.TokenKind.TheVariants.{Eof, Identifier, Comma, Equal, EqualEqual, KwBase, KwConstant, KwData, KwExports, KwHeapsize, KwLibrary, KwName, KwNoname, KwPrivate, KwStacksize, KwVersion}
 pub use Rattle.implib.specs.Ascii.{at_sign, full_stop}
 use Rattle.implib.specs.Number.{IsNumber, u16_limit, u32_limit, u64_limit}
-use Rattle.implib.specs.Token.{Seen}
+use Rattle.implib.specs.Token.{TokenView}
 
 -- the value is `@` alone
 abbrev pub IsLoneAt : List ℕ → Type 0
@@ -34,55 +34,55 @@ pub record IsMajorMinor (value : List ℕ) (major minor : ℕ) : Type 0 where
 abbrev pub IsVersion : List ℕ → ℕ → ℕ → Type 0
 IsVersion value major minor = IsMajorAlone value major minor ⊎ IsMajorMinor value major minor
 
--- what one token of a statement has to be
-pub data Wanted : Type 0 where
+-- a terminal: what one token of a statement has to be
+pub data Terminal : Type 0 where
   -- of this kind
-  Of : TokenKind → Wanted
+  Of : TokenKind → Terminal
   -- `NAME` or `LIBRARY`
-  NameOrLibrary : Wanted
+  NameOrLibrary : Terminal
   -- this word
-  Word : List ℕ → Wanted
+  Word : List ℕ → Terminal
   -- a word that is this number of 64 bits
-  Number : ℕ → Wanted
+  Number : ℕ → Terminal
   -- a word that is a version with this major and this minor number
-  Numbers : ℕ → ℕ → Wanted
+  Numbers : ℕ → ℕ → Terminal
   -- this word after the `=` of an export: any but `@`
-  Target : List ℕ → Wanted
+  Target : List ℕ → Terminal
   -- this word as the name of an export that follows another: any that begins no attribute
-  Later : List ℕ → Wanted
+  Later : List ℕ → Terminal
   -- `@` and this number of 16 bits in one word
-  At : ℕ → Wanted
+  At : ℕ → Terminal
   -- this number of 16 bits after the word `@`: a token of any kind but the end
-  Ordinal : ℕ → Wanted
+  Ordinal : ℕ → Terminal
 
 -- the token is an identifier with this value
-pub record IsWord (token : Seen) (value : List ℕ) : Type 0 where
+pub record IsWord (token : TokenView) (value : List ℕ) : Type 0 where
   pub kind : token.kind ≡ Identifier
   pub value_is : token.value ≡ value
 
 -- the name of an export that follows another: a word that begins no attribute
-pub record IsLaterName (token : Seen) (value : List ℕ) : Type 0 where
+pub record IsLaterName (token : TokenView) (value : List ℕ) : Type 0 where
   pub word : IsWord token value
   pub not_lone : ¬ (IsLoneAt value)
   pub not_ordinal : (n : ℕ) → ¬ (IsAtNumber value n)
 
--- the token is what is wanted
-abbrev pub Is : Wanted → Seen → Type 0
-Is (Of kind) token = token.kind ≡ kind
-Is NameOrLibrary token = (token.kind ≡ KwName) ⊎ (token.kind ≡ KwLibrary)
-Is (Word value) token = IsWord token value
-Is (Number n) token = (token.kind ≡ Identifier) × IsNumber token.value u64_limit n
-Is (Numbers major minor) token = (token.kind ≡ Identifier) × IsVersion token.value major minor
-Is (Target value) token = IsWord token value × (¬ (IsLoneAt value))
-Is (Later value) token = IsLaterName token value
-Is (At n) token = (token.kind ≡ Identifier) × IsAtNumber token.value n
-Is (Ordinal n) token = (token.kind ≢ Eof) × IsNumber token.value u16_limit n
+-- the token matches the terminal
+abbrev pub Matches : Terminal → TokenView → Type 0
+Matches (Of kind) token = token.kind ≡ kind
+Matches NameOrLibrary token = (token.kind ≡ KwName) ⊎ (token.kind ≡ KwLibrary)
+Matches (Word value) token = IsWord token value
+Matches (Number n) token = (token.kind ≡ Identifier) × IsNumber token.value u64_limit n
+Matches (Numbers major minor) token = (token.kind ≡ Identifier) × IsVersion token.value major minor
+Matches (Target value) token = IsWord token value × (¬ (IsLoneAt value))
+Matches (Later value) token = IsLaterName token value
+Matches (At n) token = (token.kind ≡ Identifier) × IsAtNumber token.value n
+Matches (Ordinal n) token = (token.kind ≢ Eof) × IsNumber token.value u16_limit n
 
--- the tokens begin with what is wanted, one for one, and then come the rest
-abbrev pub Begins : List Seen → List Wanted → List Seen → Type 0
-Begins tokens [] rest = tokens ≡ rest
-Begins [] (first ∷ wanted) rest = ⊥
-Begins (token ∷ tokens) (first ∷ wanted) rest = Is first token × Begins tokens wanted rest
+-- the tokens start with matches of the terminals, one for one, and the rest follows
+abbrev pub StartsWith : List TokenView → List Terminal → List TokenView → Type 0
+StartsWith tokens [] rest = tokens ≡ rest
+StartsWith [] (first ∷ wanted) rest = ⊥
+StartsWith (token ∷ tokens) (first ∷ wanted) rest = Matches first token × StartsWith tokens wanted rest
 
 -- what follows the name of an export and its target
 pub data Attribute : Type 0 where
@@ -114,74 +114,75 @@ pub data Region : Type 0 where
 pub data Statement : Type 0 where
   -- `EXPORTS` and the exports
   Exports : List Export → Statement
-  -- `HEAPSIZE` or `STACKSIZE`, the size to reserve and, where it stands, the size to commit
+  -- `HEAPSIZE` or `STACKSIZE`, the size to reserve and, if given, the size to commit
   Sizes : Region → ℕ → Option ℕ → Statement
   -- `NAME` or `LIBRARY` alone
   Nameless : Statement
-  -- `NAME` or `LIBRARY`, a name and, where it stands, the base
+  -- `NAME` or `LIBRARY`, a name and, if given, the base
   Named : List ℕ → Option ℕ → Statement
   -- `VERSION`, the major and the minor number
   Version : ℕ → ℕ → Statement
 
--- `NONAME`, where it stands
-abbrev pub no_name_spelling : Bool → List Wanted
-no_name_spelling true = Of KwNoname ∷ []
-no_name_spelling false = []
+-- [ `NONAME` ]
+abbrev pub no_name_terminals : Bool → List Terminal
+no_name_terminals true = Of KwNoname ∷ []
+no_name_terminals false = []
 
--- the tokens of an attribute
-abbrev pub attribute_spelling : Attribute → List Wanted
-attribute_spelling (Joined n no_name) = At n ∷ no_name_spelling no_name
-attribute_spelling (Apart n no_name) = Word (at_sign ∷ []) ∷ Ordinal n ∷ no_name_spelling no_name
-attribute_spelling Data = Of KwData ∷ []
-attribute_spelling Constant = Of KwConstant ∷ []
-attribute_spelling Private = Of KwPrivate ∷ []
-attribute_spelling (Alias value) = Of EqualEqual ∷ Word value ∷ []
+-- attribute = `@`n [`NONAME`] | `@` n [`NONAME`] | `DATA` | `CONSTANT` | `PRIVATE` | `==` word
+abbrev pub attribute_terminals : Attribute → List Terminal
+attribute_terminals (Joined n no_name) = At n ∷ no_name_terminals no_name
+attribute_terminals (Apart n no_name) = Word (at_sign ∷ []) ∷ Ordinal n ∷ no_name_terminals no_name
+attribute_terminals Data = Of KwData ∷ []
+attribute_terminals Constant = Of KwConstant ∷ []
+attribute_terminals Private = Of KwPrivate ∷ []
+attribute_terminals (Alias value) = Of EqualEqual ∷ Word value ∷ []
 
--- `=` and a word, where they stand
-abbrev pub target_spelling : Option (List ℕ) → List Wanted
-target_spelling None = []
-target_spelling (Some value) = Of Equal ∷ Target value ∷ []
+-- [ `=` word ]
+abbrev pub target_terminals : Option (List ℕ) → List Terminal
+target_terminals None = []
+target_terminals (Some value) = Of Equal ∷ Target value ∷ []
 
--- an export, whose name is wanted as a word or as a later name
-abbrev pub export_spelling : (List ℕ → Wanted) → Export → List Wanted
-export_spelling name e = name e.word ∷ (target_spelling e.target ++ flat_map attribute_spelling e.attributes)
+-- export = name [ `=` word ] { attribute }: the name is a word or a later name
+abbrev pub export_terminals : (List ℕ → Terminal) → Export → List Terminal
+export_terminals name e = name e.word ∷ (target_terminals e.target ++ flat_map attribute_terminals e.attributes)
 
--- exports one after another: only those that follow another have a later name
-abbrev pub exports_spelling : (List ℕ → Wanted) → List Export → List Wanted
-exports_spelling name [] = []
-exports_spelling name (e ∷ exports) = export_spelling name e ++ exports_spelling Later exports
+-- { export }: only those that follow another have a later name
+abbrev pub exports_terminals : (List ℕ → Terminal) → List Export → List Terminal
+exports_terminals name [] = []
+exports_terminals name (e ∷ exports) = export_terminals name e ++ exports_terminals Later exports
 
 -- the keyword of a region
 abbrev pub region_kind : Region → TokenKind
 region_kind Heap = KwHeapsize
 region_kind Stack = KwStacksize
 
--- a comma and the size to commit, where they stand
-abbrev pub commit_spelling : Option ℕ → List Wanted
-commit_spelling None = []
-commit_spelling (Some n) = Of Comma ∷ Number n ∷ []
+-- [ `,` number ]
+abbrev pub commit_terminals : Option ℕ → List Terminal
+commit_terminals None = []
+commit_terminals (Some n) = Of Comma ∷ Number n ∷ []
 
--- `BASE`, `=` and a number, where they stand
-abbrev pub base_spelling : Option ℕ → List Wanted
-base_spelling None = []
-base_spelling (Some n) = Of KwBase ∷ Of Equal ∷ Number n ∷ []
+-- [ `BASE` `=` number ]
+abbrev pub base_terminals : Option ℕ → List Terminal
+base_terminals None = []
+base_terminals (Some n) = Of KwBase ∷ Of Equal ∷ Number n ∷ []
 
--- the tokens of a statement
-abbrev pub statement_spelling : Statement → List Wanted
-statement_spelling (Exports exports) = Of KwExports ∷ exports_spelling Word exports
-statement_spelling (Sizes region reserve commit) = Of (region_kind region) ∷ Number reserve ∷ commit_spelling commit
-statement_spelling Nameless = NameOrLibrary ∷ []
-statement_spelling (Named name base) = NameOrLibrary ∷ Word name ∷ base_spelling base
-statement_spelling (Version major minor) = Of KwVersion ∷ Numbers major minor ∷ []
+-- statement = `EXPORTS` { export } | (`HEAPSIZE` | `STACKSIZE`) number [ `,` number ]
+--     | (`NAME` | `LIBRARY`) [ word [ `BASE` `=` number ] ] | `VERSION` version
+abbrev pub statement_terminals : Statement → List Terminal
+statement_terminals (Exports exports) = Of KwExports ∷ exports_terminals Word exports
+statement_terminals (Sizes region reserve commit) = Of (region_kind region) ∷ Number reserve ∷ commit_terminals commit
+statement_terminals Nameless = NameOrLibrary ∷ []
+statement_terminals (Named name base) = NameOrLibrary ∷ Word name ∷ base_terminals base
+statement_terminals (Version major minor) = Of KwVersion ∷ Numbers major minor ∷ []
 
--- the tokens of statements
-abbrev pub spelling : List Statement → List Wanted
-spelling statements = flat_map statement_spelling statements
+-- { statement }
+abbrev pub terminals : List Statement → List Terminal
+terminals statements = flat_map statement_terminals statements
 
--- all tokens are used up: the statements spell them, with Eof behind the last
-abbrev pub Sentence : List Seen → List Statement → Type 0
-Sentence tokens statements = Begins tokens (spelling statements ++ Of Eof ∷ []) []
+-- definition = { statement } Eof: the tokens are exactly those that the statements derive
+abbrev pub Sentence : List TokenView → List Statement → Type 0
+Sentence tokens statements = StartsWith tokens (terminals statements ++ Of Eof ∷ []) []
 
 -- the tokens are statements
-abbrev pub IsSentence : List Seen → Type 0
+abbrev pub IsSentence : List TokenView → Type 0
 IsSentence tokens = (statements : List Statement) × Sentence tokens statements

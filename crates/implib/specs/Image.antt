@@ -6,9 +6,9 @@ use Rattle.implib.specs.declared.coff.object.Relocation.{Relocation}
 use Rattle.implib.specs.declared.machine.MachineType.{MachineType}
 use Rattle.implib.specs.Bytes.{u32_bytes}
 use Rattle.implib.specs.Constants.{image_relative}
-use Rattle.implib.specs.MsvcObjects.{zeros}
+use Rattle.implib.specs.ImportTables.{zeros}
 use Rattle.implib.specs.Object.{Object, ObjectSection, u32_at}
-use Rattle.implib.specs.Placement.{At, Bases, Group, Nowhere, Place, Placed, base_of, groups, placed_from, same_group}
+use Rattle.implib.specs.Placement.{At, Bases, Group, Unplaced, SectionAddress, Placed, base_of, groups, placed_from, same_group}
 use Rattle.implib.specs.Resolution.{target_address}
 
 -- bytes with an address added to the 4-byte field at an offset
@@ -30,13 +30,13 @@ pub record Contribution : Type 0 where
   pub address : ℕ
   pub bytes : List ℕ
 
-abbrev pub contribution_at : Group → Place → List ℕ → List Contribution
-contribution_at group Nowhere bytes = []
+abbrev pub contribution_at : Group → SectionAddress → List ℕ → List Contribution
+contribution_at group Unplaced bytes = []
 contribution_at group (At other address) bytes =
     if same_group group other then record { address = address; bytes = bytes } ∷ [] else []
 
 -- the contributions of a group: sections at their places, relocated
-abbrev pub contributions_in : MachineType → List Placed → Placed → Group → List Place → List ObjectSection →
+abbrev pub contributions_in : MachineType → List Placed → Placed → Group → List SectionAddress → List ObjectSection →
     List Contribution
 contributions_in machine linked p group [] sections = []
 contributions_in machine linked p group (place ∷ places) [] = []

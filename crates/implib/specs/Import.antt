@@ -14,7 +14,7 @@ pub data Ask : Type 0 where
   Ordinal : ℕ → Ask
   Name : List ℕ → ℕ → Ask
 
--- an import: the DLL, the symbols that stand for it, and what is asked of the DLL
+-- an import: the DLL, its symbols, and what is asked of the DLL
 pub record Import : Type 0 where
   pub dll : List ℕ
   pub declared : List (List ℕ)
@@ -58,18 +58,18 @@ abbrev pub import_symbols : Bool → List ℕ → List (List ℕ)
 import_symbols is_data name = address_symbol name ∷ (if is_data then [] else name ∷ [])
 
 -- what an export asks for
-abbrev pub ask_meant : MachineType → ExportView → Ask
-ask_meant machine e = if e.no_name then Ordinal e.ordinal else Name (asked_name machine e.name) e.ordinal
+abbrev pub expected_ask : MachineType → ExportView → Ask
+expected_ask machine e = if e.no_name then Ordinal e.ordinal else Name (asked_name machine e.name) e.ordinal
 
 -- the import that an export means
-abbrev pub import_meant : MachineType → List ℕ → ExportView → Import
-import_meant machine dll e = record {
+abbrev pub expected_import : MachineType → List ℕ → ExportView → Import
+expected_import machine dll e = record {
   dll = dll;
   declared = import_symbols e.is_data e.name;
-  ask = ask_meant machine e;
+  ask = expected_ask machine e;
 }
 
--- a symbol that stands for another where nothing defines it (PE/COFF specification, "Auxiliary Format 3: Weak Externals")
+-- a weak external: a symbol that another one replaces where nothing defines it (PE/COFF specification, "Auxiliary Format 3: Weak Externals")
 pub record Alias : Type 0 where
   pub weak : List ℕ
   pub target : List ℕ
@@ -83,7 +83,7 @@ abbrev pub is_empty_text : List ℕ → Bool
 is_empty_text [] = true
 is_empty_text (first ∷ rest) = false
 
--- whether a symbol is to stand for an alias target: there is one, and it is another symbol
+-- whether a symbol is weak for an alias target: there is one, and it is another symbol
 abbrev pub is_alias : List ℕ → List ℕ → Bool
 is_alias target symbol = not (is_empty_text target) && not (same_name target symbol)
 
@@ -102,7 +102,7 @@ public_exports d = filter (λ e. not e.private) d.exports
 
 -- the imports that a definition means, in its order
 abbrev pub imports_of : MachineType → DefinitionView → List Import
-imports_of machine d = map (import_meant machine d.import_name) (public_exports (renamed d))
+imports_of machine d = map (expected_import machine d.import_name) (public_exports (renamed d))
 
 -- the aliases that a definition means, in its order
 abbrev pub aliases_of : DefinitionView → List Alias

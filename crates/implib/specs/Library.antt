@@ -7,10 +7,10 @@ use Rattle.implib.specs.declared.library.Flavor.{Flavor}
 use Rattle.implib.specs.declared.library.Member.{Member}
 use Rattle.implib.specs.declared.machine.MachineType.{MachineType}
 use Rattle.implib.specs.Definition.{DefinitionView, definition_view}
-use Rattle.implib.specs.Made.{MemberView}
+use Rattle.implib.specs.MemberSpec.{MemberView}
 use Rattle.implib.specs.Renaming.{renamed}
 use Rattle.implib.specs.Parses.{Parses}
-use Rattle.implib.specs.LinkedMembers.{Part, parts_of}
+use Rattle.implib.specs.LinkedMembers.{LinkInput, inputs_of}
 
 -- a definition, and what its members are made for
 pub record LibraryView : Type 0 where
@@ -36,7 +36,7 @@ pub record LibraryOf (text : List ℕ) (machine : MachineType) (flavor : Flavor)
   pub parses : Parses text machine meant
   pub held : library ≡ record { definition = renamed meant; machine = machine; flavor = flavor }
 
--- the parts that stand at one place in the program's lists of definitions, members and choices
-abbrev pub parts_held : {A B : Type 0} → List ModuleDef → List (Vec Member A) → List (Vec ℕ B) → List Part
-parts_held definitions members chosen =
-    parts_of (map definition_view definitions) (map (λ list. map member_view list.items) members) (map (λ list. list.items) chosen)
+-- the parts at one index of the program's lists of definitions, members and choices
+abbrev pub inputs_held : {A B : Type 0} → List ModuleDef → List (Vec Member A) → List (Vec ℕ B) → List LinkInput
+inputs_held definitions members chosen =
+    inputs_of (map definition_view definitions) (map (λ list. map member_view list.items) members) (map (λ list. list.items) chosen)

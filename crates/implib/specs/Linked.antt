@@ -8,10 +8,10 @@ use Rattle.implib.specs.declared.machine.MachineType.{MachineType}
 use Rattle.implib.specs.Definition.{ExportView}
 use Rattle.implib.specs.Gnu.{head_symbol}
 use Rattle.implib.specs.Image.{Range, image_of}
-use Rattle.implib.specs.Import.{address_symbol, ask_meant}
-use Rattle.implib.specs.LinkedMembers.{Part, chosen_exports, linked_members, objects_in}
+use Rattle.implib.specs.Import.{address_symbol, expected_ask}
+use Rattle.implib.specs.LinkedMembers.{LinkInput, chosen_exports, linked_members, objects_in}
 use Rattle.implib.specs.Load.{Loads, LoadsStrictly}
-use Rattle.implib.specs.MsvcObjects.{thunk_width}
+use Rattle.implib.specs.ImportTables.{thunk_width}
 use Rattle.implib.specs.Object.{ASymbol, Auxiliary, Entry, Object, object_in}
 use Rattle.implib.specs.Placement.{Bases, Placed, placed_from}
 use Rattle.implib.specs.Resolution.{SymbolDefinition, definitions_of, is_undefined_external, symbol_address}
@@ -63,7 +63,7 @@ pub record LinksAt (machine : MachineType) (image : List Range) (linked : List P
   pub descriptor : ℕ
   pub head : definitions_of (head_symbol machine dll) linked
       ≡ record { name = head_symbol machine dll; address = Some descriptor } ∷ []
-  pub loads : Loads image (thunk_width machine) descriptor dll (map (ask_meant machine) exports)
+  pub loads : Loads image (thunk_width machine) descriptor dll (map (expected_ask machine) exports)
   pub entries : EntriesAt linked (thunk_width machine) loads.addresses exports
 
 -- The same at this address, for a strict loader.
@@ -72,7 +72,7 @@ pub record LinksStrictlyAt (machine : MachineType) (image : List Range) (linked 
     (exports : List ExportView) : Type 0 where
   pub head : definitions_of (head_symbol machine dll) linked
       ≡ record { name = head_symbol machine dll; address = Some descriptor } ∷ []
-  pub loads : LoadsStrictly image (thunk_width machine) descriptor dll (map (ask_meant machine) exports)
+  pub loads : LoadsStrictly image (thunk_width machine) descriptor dll (map (expected_ask machine) exports)
   pub entries : EntriesAt linked (thunk_width machine) loads.plain.addresses exports
 
 -- Objects that are placed at bases link to an import of these exports from the DLL, and no symbol
@@ -86,18 +86,18 @@ pub record Links (machine : MachineType) (bases : Bases) (dll : List ℕ) (expor
       (undefined_names (placed_from bases objects))
 
 -- what is linked of a part are members of the part, and each reads as an object
-pub record IsLinked (machine : MachineType) (p : Part) : Type 0 where
+pub record IsLinked (machine : MachineType) (p : LinkInput) : Type 0 where
   pub from_members : AllByRecursion (Contains p.members) (linked_members p.definition machine p.chosen)
   pub read : map (λ m. object_in m.bytes) (linked_members p.definition machine p.chosen)
       ≡ map Some (objects_in (linked_members p.definition machine p.chosen))
 
 -- each part links among the others, and no symbol stays undefined or is ambiguous
-pub record AllLink (machine : MachineType) (bases : Bases) (parts : List Part) (objects : List Object)
+pub record AllLink (machine : MachineType) (bases : Bases) (inputs : List LinkInput) (objects : List Object)
     : Type 0 where
-  pub linked : AllByRecursion (IsLinked machine) parts
+  pub linked : AllByRecursion (IsLinked machine) inputs
   pub imports : AllByRecursion
       (λ p. LinksAt machine (image_of machine bases (placed_from bases objects)) (placed_from bases objects)
       p.definition.import_name (chosen_exports p.definition p.chosen))
-      parts
+      inputs
   pub defined : AllByRecursion (IsDefinedOnce (placed_from bases objects))
       (undefined_names (placed_from bases objects))

@@ -11,7 +11,9 @@ use Rattle.implib.specs.declared.machine.MachineType.{MachineType}
 use Rattle.implib.specs.Definition.{DefinitionView, ExportView}
 use Rattle.implib.specs.Gnu.{export_name, stem}
 use Rattle.implib.specs.Import.{public_exports}
-use Rattle.implib.specs.Made.{Made, MemberView, Plan, export_plan, head_plan, member_of, tail_plan}
+use Rattle.implib.specs.Members.{AreMembersOf}
+use Rattle.implib.specs.MemberSpec.{MemberView, MemberSpec, member_of}
+use Rattle.implib.specs.GnuMembers.{export_spec, head_spec, tail_spec}
 use Rattle.implib.specs.Object.{Object, object_in}
 use Rattle.implib.specs.Placement.{Bases}
 use Rattle.implib.specs.Renaming.{renamed}
@@ -20,20 +22,20 @@ use Rattle.implib.specs.Renaming.{renamed}
 abbrev pub chosen_exports : DefinitionView → List ℕ → List ExportView
 chosen_exports d chosen = filter_map (slice_get (public_exports (renamed d))) chosen
 
--- the plan of the member of the export of a number
-abbrev pub plan_numbered : MachineType → List ℕ → List ExportView → ℕ → Option Plan
-plan_numbered machine dll exports number =
-    option_map (export_plan machine dll number) (slice_get exports number)
+-- the specification of the member of the export of a number
+abbrev pub numbered_spec : MachineType → List ℕ → List ExportView → ℕ → Option MemberSpec
+numbered_spec machine dll exports number =
+    option_map (export_spec machine dll number) (slice_get exports number)
 
 -- what is linked: the head, the members of chosen exports, the tail
-abbrev pub linked_plans : DefinitionView → MachineType → List ℕ → List Plan
-linked_plans d machine chosen =
-    head_plan machine d.import_name
-    ∷ (filter_map (plan_numbered machine d.import_name (public_exports (renamed d))) chosen
-    ++ tail_plan machine d.import_name ∷ [])
+abbrev pub linked_specs : DefinitionView → MachineType → List ℕ → List MemberSpec
+linked_specs d machine chosen =
+    head_spec machine d.import_name
+    ∷ (filter_map (numbered_spec machine d.import_name (public_exports (renamed d))) chosen
+    ++ tail_spec machine d.import_name ∷ [])
 
 abbrev pub linked_members : DefinitionView → MachineType → List ℕ → List MemberView
-linked_members d machine chosen = map member_of (linked_plans d machine chosen)
+linked_members d machine chosen = map member_of (linked_specs d machine chosen)
 
 -- the objects that are read in members' bytes
 abbrev pub objects_in : List MemberView → List Object
@@ -60,44 +62,44 @@ bases_of bases = record {
 }
 
 -- a definition, its members, and the numbers of the exports that are chosen
-pub record Part : Type 0 where
+pub record LinkInput : Type 0 where
   pub definition : DefinitionView
   pub members : List MemberView
   pub chosen : List ℕ
 
--- the parts of definitions, members and choices that stand at one place
-abbrev pub parts_of : List DefinitionView → List (List MemberView) → List (List ℕ) → List Part
-parts_of [] members chosen = []
-parts_of (d ∷ definitions) [] chosen = []
-parts_of (d ∷ definitions) (m ∷ members) [] = []
-parts_of (d ∷ definitions) (m ∷ members) (c ∷ chosen) =
-    record { definition = d; members = m; chosen = c } ∷ parts_of definitions members chosen
+-- the parts of definitions, members and choices at one index
+abbrev pub inputs_of : List DefinitionView → List (List MemberView) → List (List ℕ) → List LinkInput
+inputs_of [] members chosen = []
+inputs_of (d ∷ definitions) [] chosen = []
+inputs_of (d ∷ definitions) (m ∷ members) [] = []
+inputs_of (d ∷ definitions) (m ∷ members) (c ∷ chosen) =
+    record { definition = d; members = m; chosen = c } ∷ inputs_of definitions members chosen
 
 -- the members are those of the definition
-abbrev pub IsMade : MachineType → Part → Type 0
-IsMade machine p = Made p.definition machine Gnu p.members
+abbrev pub IsMade : MachineType → LinkInput → Type 0
+IsMade machine p = AreMembersOf p.definition machine Gnu p.members
 
 -- the members are those of the definition, and the numbers are of exports in the order of their
 -- members' names
-pub record IsPart (machine : MachineType) (p : Part) : Type 0 where
-  pub made : Made p.definition machine Gnu p.members
+pub record IsLinkInput (machine : MachineType) (p : LinkInput) : Type 0 where
+  pub made : AreMembersOf p.definition machine Gnu p.members
   pub numbers : AllByRecursion (λ n. n < length (public_exports (renamed p.definition))) p.chosen
   pub in_order : AllRise (map (export_name p.definition.import_name) p.chosen)
 
 -- what the names of a definition's members begin with
-abbrev pub beginning : DefinitionView → List ℕ
-beginning d = stem d.import_name ++ codes "_a_"
+abbrev pub member_prefix : DefinitionView → List ℕ
+member_prefix d = stem d.import_name ++ codes "_a_"
 
 -- a text is the beginning of another
-abbrev pub Begins : List ℕ → List ℕ → Type 0
-Begins first second = (rest : List ℕ) × (second ≡ first ++ rest)
+abbrev pub IsPrefixOf : List ℕ → List ℕ → Type 0
+IsPrefixOf first second = (rest : List ℕ) × (second ≡ first ++ rest)
 
 -- no text is the beginning of another
-abbrev pub NoneBegins : List (List ℕ) → Type 0
-NoneBegins [] = Unit {0}
-NoneBegins (text ∷ others) =
-    AllByRecursion (λ other. (Begins text other → ⊥) × (Begins other text → ⊥)) others × NoneBegins others
+abbrev pub NoneIsPrefix : List (List ℕ) → Type 0
+NoneIsPrefix [] = Unit {0}
+NoneIsPrefix (text ∷ others) =
+    AllByRecursion (λ other. (IsPrefixOf text other → ⊥) × (IsPrefixOf other text → ⊥)) others × NoneIsPrefix others
 
 -- what is linked of all parts, one after another
-abbrev pub all_linked : MachineType → List Part → List MemberView
-all_linked machine parts = flat_map (λ p. linked_members p.definition machine p.chosen) parts
+abbrev pub all_linked : MachineType → List LinkInput → List MemberView
+all_linked machine inputs = flat_map (λ p. linked_members p.definition machine p.chosen) inputs

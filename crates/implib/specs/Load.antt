@@ -2,9 +2,9 @@
 use Rattle.std.specs.Prelude.{◌≡◌, ◌≢◌, ℕ, ◌+◌, ◌*◌, ◌-◌, ◌%◌, ◌^◌, ◌<◌, ◌≤◌, List, [], ◌∷◌, ◌++◌, length, Some}
 use Rattle.implib.specs.Import.{Ask, Ordinal, Name}
 use Rattle.implib.specs.Image.{Range, byte_at}
-use Rattle.implib.specs.Picture.{HasNoNul}
+use Rattle.implib.specs.Layout.{HasNoNul}
 
--- these bytes stand at an address
+-- the image has these bytes at an address
 unfoldable pub BytesAt : List Range → ℕ → List ℕ → Type 0
 BytesAt image address [] = Unit {0}
 BytesAt image address (byte ∷ bytes) = (byte_at image address ≡ Some byte) × BytesAt image (address + 1) bytes
@@ -14,23 +14,23 @@ abbrev pub number_in : List ℕ → ℕ
 number_in [] = 0
 number_in (byte ∷ bytes) = byte + 256 * number_in bytes
 
--- a number of so many bytes stands at an address
+-- the image has a number of `width` bytes at an address
 pub record NumberAt (image : List Range) (width : ℕ) (address : ℕ) (number : ℕ) : Type 0 where
   pub bytes : List ℕ
   pub stands : BytesAt image address bytes
   pub count : length bytes ≡ width
   pub value : number_in bytes ≡ number
 
--- a text, ended by NUL, stands at an address
+-- the image has a text, ended by NUL, at an address
 pub record TextAt (image : List Range) (address : ℕ) (text : List ℕ) : Type 0 where
   pub no_nul : HasNoNul text
   pub stands : BytesAt image address (text ++ 0 ∷ [])
 
 -- A thunk asks for this ("Import Lookup Table", "Hint/Name Table"): with its top bit set for the
 -- ordinal in its low 16 bits, otherwise for the hint and the name at the address in its low 31 bits.
-unfoldable pub AsksFor : List Range → ℕ → ℕ → Ask → Type 0
-AsksFor image width thunk (Ordinal n) = (2 ^ (8 * width - 1) ≤ thunk) × (thunk % 2 ^ 16 ≡ n)
-AsksFor image width thunk (Name text hint) =
+unfoldable pub ThunkAsksFor : List Range → ℕ → ℕ → Ask → Type 0
+ThunkAsksFor image width thunk (Ordinal n) = (2 ^ (8 * width - 1) ≤ thunk) × (thunk % 2 ^ 16 ≡ n)
+ThunkAsksFor image width thunk (Name text hint) =
     (thunk < 2 ^ (8 * width - 1)) × NumberAt image 2 (thunk % 2 ^ 31) hint
     × TextAt image (thunk % 2 ^ 31 + 2) text
 
@@ -39,9 +39,9 @@ pub record ThunkAt (image : List Range) (width : ℕ) (address : ℕ) (ask : Ask
   pub thunk : ℕ
   pub stands : NumberAt image width address thunk
   pub goes_on : thunk ≢ 0
-  pub asks : AsksFor image width thunk ask
+  pub asks : ThunkAsksFor image width thunk ask
 
--- thunks of so many bytes stand one after another from an address on and ask for these; a zero
+-- thunks of `width` bytes, one after another from an address on, ask for these; a zero
 -- thunk ends them
 unfoldable pub TableAt : List Range → ℕ → ℕ → List Ask → Type 0
 TableAt image width address [] = NumberAt image width address 0

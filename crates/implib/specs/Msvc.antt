@@ -5,23 +5,23 @@ use Rattle.implib.specs.Bytes.{u16_bytes, u32_bytes}
 use Rattle.implib.specs.Machine.{machine_number}
 use Rattle.implib.specs.Definition.{ExportView}
 use Rattle.implib.specs.Import.{is_i386, begins_with, holds, underscore, at_sign, import_symbols}
-use Rattle.implib.specs.Record.{ShortRecord, record_header_size, import_code, import_data, import_const, import_ordinal, import_name, import_name_noprefix, import_name_undecorate, asked_by_name_type}
+use Rattle.implib.specs.ShortImport.{ShortImport, short_import_header_size, import_code, import_data, import_const, import_ordinal, import_name, import_name_noprefix, import_name_undecorate, asked_by_name_type}
 
 -- the symbol of an export's record: its symbol name or, where that is empty, its name
 abbrev pub symbol_or_name : List ℕ → List ℕ → List ℕ
 symbol_or_name [] name = name
 symbol_or_name (first ∷ rest) name = first ∷ rest
 
-abbrev pub record_symbol : ExportView → List ℕ
-record_symbol e = symbol_or_name e.symbol_name e.name
+abbrev pub short_import_symbol : ExportView → List ℕ
+short_import_symbol e = symbol_or_name e.symbol_name e.name
 
 -- how the DLL is asked, by the first rule that holds
 abbrev pub name_type_of : MachineType → ExportView → ℕ
 name_type_of machine e =
     if e.no_name then import_ordinal
     else if begins_with underscore e.name && holds at_sign e.name then import_name
-    else if not (bytes_eq (record_symbol e) e.name) then import_name_undecorate
-    else if is_i386 machine && begins_with underscore (record_symbol e) then import_name_noprefix
+    else if not (bytes_eq (short_import_symbol e) e.name) then import_name_undecorate
+    else if is_i386 machine && begins_with underscore (short_import_symbol e) then import_name_noprefix
     else import_name
 
 -- what is imported
@@ -29,40 +29,40 @@ abbrev pub kind_of : ExportView → ℕ
 kind_of e = if e.is_data then import_data else if e.constant then import_const else import_code
 
 -- the record of an export
-abbrev pub record_of : MachineType → List ℕ → ExportView → ShortRecord
-record_of machine dll e = record {
+abbrev pub short_import_of : MachineType → List ℕ → ExportView → ShortImport
+short_import_of machine dll e = record {
   version = 0;
   machine = machine_number machine;
   time = 0;
   ordinal = e.ordinal;
   kind = kind_of e;
   name_type = name_type_of machine e;
-  symbol = record_symbol e;
+  symbol = short_import_symbol e;
   dll = dll;
 }
 
 -- the bytes after the header: two texts, each with its NUL
-abbrev pub record_data_size : ShortRecord → ℕ
-record_data_size r = length r.symbol + length r.dll + 2
+abbrev pub short_import_data_size : ShortImport → ℕ
+short_import_data_size r = length r.symbol + length r.dll + 2
 
 -- the bytes of a record
-abbrev pub record_size : ShortRecord → ℕ
-record_size r = record_header_size + record_data_size r
+abbrev pub short_import_size : ShortImport → ℕ
+short_import_size r = short_import_header_size + short_import_data_size r
 
 -- the header: 0, 0xFFFF, version, machine, time, size of the data, ordinal or hint, the two types
-abbrev pub record_header : ShortRecord → List ℕ
-record_header r =
+abbrev pub short_import_header : ShortImport → List ℕ
+short_import_header r =
     u16_bytes 0 ++ (u16_bytes 0xFFFF ++ (u16_bytes r.version ++ (u16_bytes r.machine ++ (u32_bytes r.time ++
-    (u32_bytes (record_data_size r) ++ (u16_bytes r.ordinal ++ u16_bytes (r.kind + 4 * r.name_type)))))))
+    (u32_bytes (short_import_data_size r) ++ (u16_bytes r.ordinal ++ u16_bytes (r.kind + 4 * r.name_type)))))))
 
 -- a record
-abbrev pub record_bytes : ShortRecord → List ℕ
-record_bytes r = record_header r ++ (r.symbol ++ 0 ∷ (r.dll ++ 0 ∷ []))
+abbrev pub short_import_bytes : ShortImport → List ℕ
+short_import_bytes r = short_import_header r ++ (r.symbol ++ 0 ∷ (r.dll ++ 0 ∷ []))
 
 -- the symbols that a record is listed for
-abbrev pub record_listed : ExportView → List (List ℕ)
-record_listed e = import_symbols e.is_data (record_symbol e)
+abbrev pub short_import_listed : ExportView → List (List ℕ)
+short_import_listed e = import_symbols e.is_data (short_import_symbol e)
 
 -- the name that an export's record asks for
-abbrev pub asked_by_record : MachineType → ExportView → List ℕ
-asked_by_record machine e = asked_by_name_type (name_type_of machine e) (record_symbol e)
+abbrev pub asked_by_short_import : MachineType → ExportView → List ℕ
+asked_by_short_import machine e = asked_by_name_type (name_type_of machine e) (short_import_symbol e)

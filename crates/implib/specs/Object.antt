@@ -35,7 +35,7 @@ pub record Object : Type 0 where
   pub sections : List ObjectSection
   pub entries : List Entry
 
--- the bytes from a place on, so many, if they are there
+-- `size` bytes from an offset on, if they are there
 unfoldable pub bytes_at : List ℕ → ℕ → ℕ → Option (List ℕ)
 bytes_at bytes place count =
     if nat_le (place + count) (length bytes) then Some (take count (drop place bytes)) else None
@@ -48,7 +48,7 @@ u16_at bytes offset = from_le_bytes w16 (take 2 (drop offset bytes))
 unfoldable pub u32_at : List ℕ → ℕ → ℕ
 u32_at bytes offset = from_le_bytes w32 (take 4 (drop offset bytes))
 
--- what is read at a place, then at the next one a width further on, so many times
+-- what is read at an offset and at each further one a width apart, `count` times
 unfoldable pub each_at : {X : Type 0} → (ℕ → Option X) → ℕ → ℕ → ℕ → Option (List X)
 each_at read place width zero = Some []
 each_at read place width (suc count) = option_and_then
@@ -118,7 +118,7 @@ symbol_of strings record_bytes = option_map
     })
     (name_of strings (take 8 record_bytes))
 
--- so many entries from a place on, the first few of them auxiliary records
+-- `count` entries from an offset on, the first few of them auxiliary records
 unfoldable pub entries_at : List ℕ → List ℕ → ℕ → ℕ → ℕ → Option (List Entry)
 entries_at bytes strings place zero zero = Some []
 entries_at bytes strings place (suc auxiliary) zero = None
@@ -144,7 +144,7 @@ strings_at bytes place = option_and_then
 -- the object that a header of 20 bytes describes
 unfoldable pub object_of_header : List ℕ → List ℕ → Option Object
 object_of_header bytes header =
-    let symbols_place : ℕ = u32_at header 8 in
+    let symbol_table_offset : ℕ = u32_at header 8 in
     let records : ℕ = u32_at header 12 in
     option_and_then
     (λ strings. option_and_then
@@ -157,9 +157,9 @@ object_of_header bytes header =
       sections = sections;
       entries = entries;
     })
-    (entries_at bytes strings symbols_place 0 records))
+    (entries_at bytes strings symbol_table_offset 0 records))
     (each_at (section_at bytes) (20 + u16_at header 16) 40 (u16_at header 2)))
-    (strings_at bytes (symbols_place + 18 * records))
+    (strings_at bytes (symbol_table_offset + 18 * records))
 
 -- the object in a file's bytes
 unfoldable pub object_in : List ℕ → Option Object

@@ -4,11 +4,11 @@ use Rattle.implib.specs.declared.machine.MachineType.{MachineType}
 use Rattle.implib.specs.Definition.{DefinitionView}
 use Rattle.implib.specs.Fault.{Cause}
 use Rattle.implib.specs.Parses.{Parses, Refuses}
-use Rattle.implib.specs.Token.{Lexed, Seen}
+use Rattle.implib.specs.Token.{Lexed, TokenView}
 
 -- the tokens of a text, and the machine that they are read for
 pub record Source : Type 0 where
-  pub tokens : List Seen
+  pub tokens : List TokenView
   pub machine : MachineType
 
 -- the text with these tokens means this definition on this machine

@@ -5,12 +5,12 @@ use Rattle.implib.specs.Definition.{DefinitionView}
 use Rattle.implib.specs.Fault.{Cause}
 use Rattle.implib.specs.Grammar.{Sentence, Statement}
 use Rattle.implib.specs.Meaning.{meaning}
-use Rattle.implib.specs.Refusal.{Broken}
-use Rattle.implib.specs.Token.{Lexed, Seen}
+use Rattle.implib.specs.SyntaxError.{IsSyntaxError}
+use Rattle.implib.specs.Token.{Lexed, TokenView}
 
 -- the text's tokens are statements, which mean this definition on this machine
 pub record Parses (text : List ℕ) (machine : MachineType) (definition : DefinitionView) : Type 0 where
-  pub tokens : List Seen
+  pub tokens : List TokenView
   pub statements : List Statement
   pub lexed : Lexed text tokens
   pub sentence : Sentence tokens statements
@@ -18,14 +18,14 @@ pub record Parses (text : List ℕ) (machine : MachineType) (definition : Defini
 
 -- the text's tokens are no statements, for this cause
 pub record Refuses (text : List ℕ) (cause : Cause) : Type 0 where
-  pub tokens : List Seen
+  pub tokens : List TokenView
   pub lexed : Lexed text tokens
-  pub broken : Broken tokens cause
+  pub broken : IsSyntaxError tokens cause
 
 -- on each machine the text means a definition
 abbrev pub InGrammar : List ℕ → Type 0
 InGrammar text = (machine : MachineType) → (definition : DefinitionView) × Parses text machine definition
 
 -- the text is refused, for some cause
-abbrev pub IsBroken : List ℕ → Type 0
-IsBroken text = (cause : Cause) × Refuses text cause
+abbrev pub IsIllFormed : List ℕ → Type 0
+IsIllFormed text = (cause : Cause) × Refuses text cause

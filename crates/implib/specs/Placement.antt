@@ -69,37 +69,37 @@ unfoldable pub next_multiple : ℕ → ℕ → ℕ
 next_multiple step n = n + (step - n % step) % step
 
 -- where a section stands: nowhere, if it is of no group
-pub data Place : Type 0 where
-  Nowhere : Place
-  At : Group → ℕ → Place
+pub data SectionAddress : Type 0 where
+  Unplaced : SectionAddress
+  At : Group → ℕ → SectionAddress
 
 -- the place after the ends of what is placed already
-abbrev pub place_after : Bases → ℕ → Option Group → Place
-place_after ends flags None = Nowhere
+abbrev pub place_after : Bases → ℕ → Option Group → SectionAddress
+place_after ends flags None = Unplaced
 place_after ends flags (Some group) = At group (next_multiple (alignment flags) (base_of group ends))
 
 -- the ends, when so many bytes stand at this place too
-abbrev pub end_after : Bases → Place → ℕ → Bases
-end_after ends Nowhere size = ends
+abbrev pub end_after : Bases → SectionAddress → ℕ → Bases
+end_after ends Unplaced size = ends
 end_after ends (At group address) size = with_base group (address + size) ends
 
-abbrev pub place_of : Bases → ObjectSection → Place
-place_of ends s = place_after ends s.flags (group_named s.name)
+abbrev pub section_address_of : Bases → ObjectSection → SectionAddress
+section_address_of ends s = place_after ends s.flags (group_named s.name)
 
 -- the places of sections that are placed one after another, and the ends after them
-abbrev pub places_of : Bases → List ObjectSection → List Place
+abbrev pub places_of : Bases → List ObjectSection → List SectionAddress
 places_of ends [] = []
 places_of ends (s ∷ sections) =
-    place_of ends s ∷ places_of (end_after ends (place_of ends s) (length s.bytes)) sections
+    section_address_of ends s ∷ places_of (end_after ends (section_address_of ends s) (length s.bytes)) sections
 
 abbrev pub ends_after : Bases → List ObjectSection → Bases
 ends_after ends [] = ends
-ends_after ends (s ∷ sections) = ends_after (end_after ends (place_of ends s) (length s.bytes)) sections
+ends_after ends (s ∷ sections) = ends_after (end_after ends (section_address_of ends s) (length s.bytes)) sections
 
 -- an object with the places of its sections
 pub record Placed : Type 0 where
   pub object : Object
-  pub places : List Place
+  pub places : List SectionAddress
 
 -- Objects that are placed in their order. Each group has an address from which on it is free: its base,
 -- and then the end of the last section placed. A section goes there, or as far behind it as its

@@ -3,18 +3,18 @@
 use Rattle.std.specs.Prelude.{ℕ, zero, suc, ◌+◌, Bool, ◌&&◌, ◌==◌, List, [], ◌∷◌, bytes_eq, slice_get, Option, Some, None, if◌then◌else◌}
 use Rattle.std.specs.List.{filter, filter_map, flat_map}
 use Rattle.std.specs.Option.{option_and_then}
-use Rattle.implib.specs.Constants.{external, undefined}
+use Rattle.implib.specs.Constants.{class_external, section_undefined}
 use Rattle.implib.specs.File.{is_defined_external}
 use Rattle.implib.specs.Object.{ASymbol, Auxiliary, Entry, ObjectSymbol}
-use Rattle.implib.specs.Placement.{At, Nowhere, Place, Placed}
+use Rattle.implib.specs.Placement.{At, Unplaced, SectionAddress, Placed}
 
 -- the address of a value at a place
-abbrev pub address_at : Place → ℕ → Option ℕ
-address_at Nowhere value = None
+abbrev pub address_at : SectionAddress → ℕ → Option ℕ
+address_at Unplaced value = None
 address_at (At group address) value = Some (address + value)
 
 -- the address of a value in the section of a number, which counts from 1
-abbrev pub address_in : List Place → ℕ → ℕ → Option ℕ
+abbrev pub address_in : List SectionAddress → ℕ → ℕ → Option ℕ
 address_in places zero value = None
 address_in places (suc index) value =
     option_and_then (λ place. address_at place value) (slice_get places index)
@@ -24,7 +24,7 @@ pub record SymbolDefinition : Type 0 where
   pub name : List ℕ
   pub address : Option ℕ
 
-abbrev pub defined_by_entry : List Place → Entry → Option SymbolDefinition
+abbrev pub defined_by_entry : List SectionAddress → Entry → Option SymbolDefinition
 defined_by_entry places (Auxiliary bytes) = None
 defined_by_entry places (ASymbol s) =
     if is_defined_external s
@@ -48,7 +48,7 @@ first_address (d ∷ others) = d.address
 
 -- whether a symbol is one of another object
 abbrev pub is_undefined_external : ObjectSymbol → Bool
-is_undefined_external s = (s.class == external) && (s.section == undefined)
+is_undefined_external s = (s.class == class_external) && (s.section == section_undefined)
 
 -- the address of a symbol of an object: of its own sections, or where another object defines it
 abbrev pub symbol_address : List Placed → Placed → Entry → Option ℕ

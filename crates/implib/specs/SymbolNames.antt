@@ -1,7 +1,7 @@
 -- The symbol names of a definition that a text means.
 use Rattle.std.specs.Prelude.{◌≡◌, true}
 use Rattle.implib.specs.Definition.{DefinitionView}
-use Rattle.implib.specs.Reads.{has_no_symbol_names}
+use Rattle.implib.specs.ReadBack.{has_no_symbol_names}
 use Rattle.implib.specs.Renaming.{renamed}
 
 -- no export of the definition has a symbol name, nor has one under its name to link by

@@ -6,8 +6,8 @@ use Rattle.implib.specs.declared.gnu.table.SectionRow.{SectionRow}
 use Rattle.implib.specs.declared.gnu.table.SymbolRow.{SymbolRow}
 use Rattle.implib.specs.declared.machine.MachineType.{MachineType}
 use Rattle.implib.specs.Object.{ObjectSection}
-use Rattle.implib.specs.Picture.{HasNoNul}
-use Rattle.implib.specs.Writer.{AddedSymbol, Holding, IsPlaceAmong, IsSymbolIndex, all_entries}
+use Rattle.implib.specs.Layout.{HasNoNul}
+use Rattle.implib.specs.Writer.{AddedSymbol, WriterState, IsPlaceAmong, IsSymbolIndex, all_entries}
 
 -- the section that a row is
 abbrev pub section_row : SectionRow → ObjectSection
@@ -38,7 +38,7 @@ symbol_row row = record {
 }
 
 -- what a writer holds once it has taken all rows of a table
-abbrev pub table_view : MachineType → List SectionRow → List SymbolRow → Holding
+abbrev pub table_view : MachineType → List SectionRow → List SymbolRow → WriterState
 table_view machine sections symbols = record {
   machine = machine;
   sections = map section_row sections;
@@ -70,7 +70,7 @@ pub record HasRoomForAll (symbols : List AddedSymbol) (more : List Relocation) (
   pub each : AllByRecursion (LiesIn symbols s) more
 
 -- a writer can take each part of what it is to hold: the sections, the symbols, the relocations
-pub record CanBeHeld (h : Holding) : Type 0 where
+pub record CanBeHeld (h : WriterState) : Type 0 where
   pub few : length h.sections ≤ 32767
   pub records : length (all_entries h.symbols) < 2 ^ 32
   pub symbols : AllByRecursion (CanBeAdded (length h.sections)) h.symbols

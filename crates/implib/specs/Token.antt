@@ -1,4 +1,4 @@
--- The tokens of a text, as its bytes say them: the text is a list of pieces and then its end.
+-- The tokens of a text, by its bytes: the text is a list of lexemes (trivia included), then its end.
 use Rattle.std.specs.Prelude.{◌≡◌, ◌≢◌, ℕ, ◌+◌, ◌-◌, ◌<◌, ◌≤◌, Bool, true, false, ◌||◌, ◌==◌, ◌⊎◌, List, [], ◌∷◌, ◌++◌, drop, length, take, codes, if◌then◌else◌, slice_index}
 use Rattle.std.specs.Char.{encode_utf8, is_whitespace, IsScalar}
 use Rattle.std.specs.Str.{NonePass, bytes_eq, trim, trim_end, trim_start}
@@ -6,15 +6,15 @@ use Rattle.implib.specs.declared.def.lexer.Token.{Token}
 use Rattle.implib.specs.declared.def.lexer.TokenKind.{TokenKind}
 use Rattle.implib.specs.declared.def.lexer.TokenKind.TheVariants as kind
 
--- a token as a clause sees it: its kind, the bytes of its value, and the place of its value in the text
-pub record Seen : Type 0 where
+-- the view of a token in clauses: its kind, the bytes of its value, and the offset of its value in the text
+pub record TokenView : Type 0 where
   pub kind : TokenKind
   pub value : List ℕ
   pub at : ℕ
 
--- what a token of the program shows
-abbrev pub seen : Token → Seen
-seen t = record { kind = t.kind; value = t.value.now; at = t.at }
+-- the view of a token of the program
+abbrev pub token_view : Token → TokenView
+token_view t = record { kind = t.kind; value = t.value.now; at = t.at }
 
 -- the byte ends a line
 abbrev pub is_line_feed : ℕ → Bool
@@ -39,38 +39,38 @@ pub record IsWordEnd (bytes : List ℕ) (from end : ℕ) : Type 0 where
   pub none_before : (k : ℕ) → from ≤ k → k < end → is_delimiter (slice_index bytes k) ≡ false
   pub stops : end < length bytes → is_delimiter (slice_index bytes end) ≡ true
 
--- a part of a text, with what it holds
-pub data Piece : Type 0 where
+-- a lexeme: a part of a text, with its contents; blanks and comments are trivia
+pub data Lexeme : Type 0 where
   -- one character of white space
-  Blank : ℕ → Piece
+  Blank : ℕ → Lexeme
   -- `;`, the rest of its line, and the line feed
-  Comment : List ℕ → Piece
+  Comment : List ℕ → Lexeme
   -- `;` and the rest of the text
-  LastComment : List ℕ → Piece
+  LastComment : List ℕ → Lexeme
   -- `=`
-  EqualSign : Piece
+  EqualSign : Lexeme
   -- `==`
-  EqualSigns : Piece
+  EqualSigns : Lexeme
   -- `,`
-  CommaSign : Piece
+  CommaSign : Lexeme
   -- a name between two `"`
-  Quoted : List ℕ → Piece
+  Quoted : List ℕ → Lexeme
   -- `"` and the rest of the text
-  Unclosed : List ℕ → Piece
+  Unclosed : List ℕ → Lexeme
   -- a word, up to its delimiter
-  Word : List ℕ → Piece
+  Word : List ℕ → Lexeme
 
--- the bytes of a piece
-abbrev pub spelling : Piece → List ℕ
-spelling (Blank character) = encode_utf8 character
-spelling (Comment line) = 59 ∷ (line ++ 10 ∷ [])
-spelling (LastComment line) = 59 ∷ line
-spelling EqualSign = 61 ∷ []
-spelling EqualSigns = 61 ∷ 61 ∷ []
-spelling CommaSign = 44 ∷ []
-spelling (Quoted inside) = 34 ∷ (inside ++ 34 ∷ [])
-spelling (Unclosed inside) = 34 ∷ inside
-spelling (Word run) = run
+-- the bytes of a lexeme
+abbrev pub lexeme_text : Lexeme → List ℕ
+lexeme_text (Blank character) = encode_utf8 character
+lexeme_text (Comment line) = 59 ∷ (line ++ 10 ∷ [])
+lexeme_text (LastComment line) = 59 ∷ line
+lexeme_text EqualSign = 61 ∷ []
+lexeme_text EqualSigns = 61 ∷ 61 ∷ []
+lexeme_text CommaSign = 44 ∷ []
+lexeme_text (Quoted inside) = 34 ∷ (inside ++ 34 ∷ [])
+lexeme_text (Unclosed inside) = 34 ∷ inside
+lexeme_text (Word run) = run
 
 -- the text begins with a byte that passes the test
 abbrev pub begins : (ℕ → Bool) → List ℕ → Bool
@@ -87,37 +87,37 @@ pub record BeginsWord (run : List ℕ) : Type 0 where
   pub not_nul : character ≢ 0
   pub not_quote : character ≢ 34
 
--- what a piece holds, and what may follow it in the text: a piece is as long as it can be
-abbrev pub Stands : Piece → List ℕ → Type 0
-Stands (Blank character) after = is_whitespace character ≡ true
-Stands (Comment line) after = NonePass is_line_feed line
-Stands (LastComment line) after = NonePass is_line_feed line × (after ≡ [])
-Stands EqualSign after = begins is_equal_sign after ≡ false
-Stands EqualSigns after = Unit {0}
-Stands CommaSign after = Unit {0}
-Stands (Quoted inside) after = NonePass is_quote inside
-Stands (Unclosed inside) after = NonePass is_quote inside × (after ≡ [])
-Stands (Word run) after = BeginsWord run × NonePass is_delimiter run × ((after ≡ []) ⊎ (begins is_delimiter after ≡ true))
+-- the contents of a lexeme, and what may follow it in the text: the longest match
+abbrev pub IsLexemeBefore : Lexeme → List ℕ → Type 0
+IsLexemeBefore (Blank character) after = is_whitespace character ≡ true
+IsLexemeBefore (Comment line) after = NonePass is_line_feed line
+IsLexemeBefore (LastComment line) after = NonePass is_line_feed line × (after ≡ [])
+IsLexemeBefore EqualSign after = begins is_equal_sign after ≡ false
+IsLexemeBefore EqualSigns after = Unit {0}
+IsLexemeBefore CommaSign after = Unit {0}
+IsLexemeBefore (Quoted inside) after = NonePass is_quote inside
+IsLexemeBefore (Unclosed inside) after = NonePass is_quote inside × (after ≡ [])
+IsLexemeBefore (Word run) after = BeginsWord run × NonePass is_delimiter run × ((after ≡ []) ⊎ (begins is_delimiter after ≡ true))
 
 -- the text ends here, or a NUL ends it and what follows is ignored
 abbrev pub IsEnd : List ℕ → Type 0
 IsEnd [] = Unit {0}
 IsEnd (b ∷ ignored) = b ≡ 0
 
--- the pieces one after another, and then the end
-abbrev pub text_of : List Piece → List ℕ → List ℕ
+-- the lexemes one after another, and then the end
+abbrev pub text_of : List Lexeme → List ℕ → List ℕ
 text_of [] end = end
-text_of (piece ∷ pieces) end = spelling piece ++ text_of pieces end
+text_of (lexeme ∷ lexemes) end = lexeme_text lexeme ++ text_of lexemes end
 
--- each piece stands before what follows it
-abbrev pub EachStands : List Piece → List ℕ → Type 0
-EachStands [] end = Unit {0}
-EachStands (piece ∷ pieces) end = Stands piece (text_of pieces end) × EachStands pieces end
+-- each lexeme is the longest match before what follows it
+abbrev pub EachIsLexeme : List Lexeme → List ℕ → Type 0
+EachIsLexeme [] end = Unit {0}
+EachIsLexeme (lexeme ∷ lexemes) end = IsLexemeBefore lexeme (text_of lexemes end) × EachIsLexeme lexemes end
 
--- the text is these pieces and then this end
-pub record Divides (text : List ℕ) (pieces : List Piece) (end : List ℕ) : Type 0 where
-  pub spelled : text ≡ text_of pieces end
-  pub each_stands : EachStands pieces end
+-- the text is these lexemes, and then this end
+pub record Divides (text : List ℕ) (lexemes : List Lexeme) (end : List ℕ) : Type 0 where
+  pub spelled : text ≡ text_of lexemes end
+  pub each_is_lexeme : EachIsLexeme lexemes end
   pub ends : IsEnd end
 
 -- the words that are keywords, in this case alone
@@ -141,57 +141,57 @@ kind_of_word word = kind_in keywords word
 abbrev pub value_start : List ℕ → ℕ
 value_start inside = if length (trim inside) == 0 then 0 else length inside - length (trim_start inside)
 
--- the token of a piece that stands at a place; white space and comments have none
-abbrev pub token_of : ℕ → Piece → List Seen
-token_of place (Blank character) = []
-token_of place (Comment line) = []
-token_of place (LastComment line) = []
-token_of place EqualSign = record { kind = kind.Equal; value = 61 ∷ []; at = place } ∷ []
-token_of place EqualSigns = record { kind = kind.EqualEqual; value = 61 ∷ 61 ∷ []; at = place } ∷ []
-token_of place CommaSign = record { kind = kind.Comma; value = 44 ∷ []; at = place } ∷ []
-token_of place (Quoted inside) = record { kind = kind.Identifier; value = trim inside; at = place + 1 + value_start inside } ∷ []
-token_of place (Unclosed inside) = record { kind = kind.Identifier; value = []; at = place + 1 } ∷ []
-token_of place (Word run) = record { kind = kind_of_word (trim_end run); value = trim_end run; at = place } ∷ []
+-- the token of a lexeme at an offset; trivia has none
+abbrev pub tokens_of_lexeme : ℕ → Lexeme → List TokenView
+tokens_of_lexeme place (Blank character) = []
+tokens_of_lexeme place (Comment line) = []
+tokens_of_lexeme place (LastComment line) = []
+tokens_of_lexeme place EqualSign = record { kind = kind.Equal; value = 61 ∷ []; at = place } ∷ []
+tokens_of_lexeme place EqualSigns = record { kind = kind.EqualEqual; value = 61 ∷ 61 ∷ []; at = place } ∷ []
+tokens_of_lexeme place CommaSign = record { kind = kind.Comma; value = 44 ∷ []; at = place } ∷ []
+tokens_of_lexeme place (Quoted inside) = record { kind = kind.Identifier; value = trim inside; at = place + 1 + value_start inside } ∷ []
+tokens_of_lexeme place (Unclosed inside) = record { kind = kind.Identifier; value = []; at = place + 1 } ∷ []
+tokens_of_lexeme place (Word run) = record { kind = kind_of_word (trim_end run); value = trim_end run; at = place } ∷ []
 
 -- the token at the end
-abbrev pub eof : ℕ → Seen
+abbrev pub eof : ℕ → TokenView
 eof place = record { kind = kind.Eof; value = []; at = place }
 
--- the tokens of pieces that begin at a place, and then Eof
-abbrev pub tokens_from : ℕ → List Piece → List Seen
-tokens_from place [] = eof place ∷ []
-tokens_from place (piece ∷ pieces) = token_of place piece ++ tokens_from (place + length (spelling piece)) pieces
+-- the tokens of lexemes from an offset on, and then Eof
+abbrev pub tokens_of : ℕ → List Lexeme → List TokenView
+tokens_of place [] = eof place ∷ []
+tokens_of place (lexeme ∷ lexemes) = tokens_of_lexeme place lexeme ++ tokens_of (place + length (lexeme_text lexeme)) lexemes
 
 -- the tokens of a text
-pub record Lexed (text : List ℕ) (tokens : List Seen) : Type 0 where
-  pub pieces : List Piece
+pub record Lexed (text : List ℕ) (tokens : List TokenView) : Type 0 where
+  pub lexemes : List Lexeme
   pub end : List ℕ
-  pub divides : Divides text pieces end
-  pub given : tokens ≡ tokens_from 0 pieces
+  pub divides : Divides text lexemes end
+  pub given : tokens ≡ tokens_of 0 lexemes
 
--- Eof is the last token, and stands nowhere else
-abbrev pub EndsInEof : List Seen → Type 0
+-- Eof is the last token, and only the last
+abbrev pub EndsInEof : List TokenView → Type 0
 EndsInEof [] = ⊥
 EndsInEof (token ∷ []) = token.kind ≡ kind.Eof
 EndsInEof (token ∷ next ∷ rest) = (token.kind ≢ kind.Eof) × EndsInEof (next ∷ rest)
 
 -- a text divides in one way
 pub record DividesOnce (text : List ℕ) : Type 0 where
-  pub pieces : List Piece
+  pub lexemes : List Lexeme
   pub end : List ℕ
-  pub divides : Divides text pieces end
-  pub only : (others : List Piece) (rest : List ℕ) → Divides text others rest → (others ≡ pieces) × (rest ≡ end)
+  pub divides : Divides text lexemes end
+  pub only : (others : List Lexeme) (rest : List ℕ) → Divides text others rest → (others ≡ lexemes) × (rest ≡ end)
 
 -- a text has one list of tokens
 pub record LexedOnce (text : List ℕ) : Type 0 where
-  pub tokens : List Seen
+  pub tokens : List TokenView
   pub lexed : Lexed text tokens
-  pub only : (others : List Seen) → Lexed text others → others ≡ tokens
+  pub only : (others : List TokenView) → Lexed text others → others ≡ tokens
 
 -- the kind says something
-abbrev pub IsKnown : Seen → Type 0
+abbrev pub IsKnown : TokenView → Type 0
 IsKnown token = token.kind ≢ kind.Unknown
 
 -- the value of the token is cut from the text at the token's place
-abbrev pub IsSliceOf : List ℕ → Seen → Type 0
+abbrev pub IsSliceOf : List ℕ → TokenView → Type 0
 IsSliceOf text token = take (length token.value) (drop token.at text) ≡ token.value

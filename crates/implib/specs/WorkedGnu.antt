@@ -6,14 +6,15 @@ use Rattle.implib.specs.declared.machine.MachineType.{MachineType}
 use Rattle.implib.specs.declared.machine.MachineType.TheVariants.{I386, ARMNT, AMD64, ARM64}
 use Rattle.implib.specs.Definition.{DefinitionView, empty_export}
 use Rattle.implib.specs.Fault.{Cause, EmptyName, NulInExport, EmptyAskedName}
-use Rattle.implib.specs.Made.{Plan, contents_bytes, plans_of, refusal}
+use Rattle.implib.specs.MemberSpec.{MemberSpec, file_bytes}
+use Rattle.implib.specs.Members.{member_specs, refusal}
 use Rattle.implib.specs.Renaming.{renamed}
 use Rattle.implib.specs.WorkedMembers.{Means, Outline, bar_text, baz_text, nul, of_dll, outline}
 use Rattle.implib.specs.WorkedStatements.{plain_export}
 
--- the plans of a definition's members for GNU's linker
-abbrev pub gnu_plans_of : DefinitionView → MachineType → List Plan
-gnu_plans_of d machine = plans_of (renamed d) machine Gnu
+-- the specifications of a definition's members for GNU's linker
+abbrev pub gnu_plans_of : DefinitionView → MachineType → List MemberSpec
+gnu_plans_of d machine = member_specs (renamed d) machine Gnu
 
 -- the definition is accepted, and these are its members, their bytes aside
 pub record HasGnuMembers (d : DefinitionView) (machine : MachineType) (members : List Outline) : Type 0 where
@@ -45,7 +46,7 @@ bar_member size = shown (codes "foo_dll_a_s00000.o") size (codes "bar" ∷ codes
 
 -- the bytes of the member of an index
 abbrev pub gnu_bytes_at : DefinitionView → MachineType → ℕ → Option (List ℕ)
-gnu_bytes_at d machine index = option_map (λ p. contents_bytes p.contents) (slice_get (gnu_plans_of d machine) index)
+gnu_bytes_at d machine index = option_map (λ p. file_bytes p.contents) (slice_get (gnu_plans_of d machine) index)
 
 -- so many bytes from a place on of the member of the only export, which has no alias
 abbrev pub part_of_export : ℕ → ℕ → DefinitionView → MachineType → Option (List ℕ)
@@ -75,7 +76,7 @@ pub record WorkedGnuOutlines : Type 0 where
       ∷ shown (codes "foo_dll_a_x00000.o") 174 (codes "__imp_foo" ∷ [])
       ∷ shown (codes "foo_dll_a_w00000.o") 162 (codes "foo" ∷ [])
       ∷ [])
-  -- the head's symbol is exported too: its name stands once in the string table
+  -- the head's symbol is exported too: its name is once in the string table
   pub head_exported : TextHasGnuMembers (codes "LIBRARY foo.dll\nEXPORTS\n_head_foo_dll") AMD64
       (foo_linkage ++ shown (codes "foo_dll_a_s00000.o") 494 (codes "_head_foo_dll" ∷ codes "__imp__head_foo_dll" ∷ []) ∷ [])
   pub underscore_by_ordinal : HasGnuMembers (of_dll (codes "foo.dll") (record empty_export { name = codes "_"; no_name = true; ordinal = 3 } ∷ [])) I386

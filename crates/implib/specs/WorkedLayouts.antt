@@ -3,7 +3,7 @@
 use Rattle.std.specs.Prelude.{◌≡◌, ℕ, List, [], ◌∷◌, codes}
 use Rattle.std.specs.List.{concat}
 use Rattle.implib.specs.declared.machine.MachineType.TheVariants.{I386, ARMNT, AMD64, ARM64}
-use Rattle.implib.specs.Picture.{layout}
+use Rattle.implib.specs.Layout.{encoded}
 use Rattle.implib.specs.WorkedDigits.{hex}
 use Rattle.implib.specs.WorkedMachines.{numbers}
 use Rattle.implib.specs.WorkedObjects.{descriptor, function, head, null_descriptor, null_thunk, one_section, tail, two_names, weak}
@@ -231,13 +231,13 @@ function_bytes_arm64 = concat (
 
 -- The objects are laid out as these bytes.
 pub record WorkedLayouts : Type 0 where
-  pub two_names : layout two_names ≡ two_names_bytes
-  pub one_section : layout one_section ≡ one_section_bytes
-  pub descriptor : layout (descriptor (numbers AMD64)) ≡ descriptor_bytes
-  pub null_descriptor : layout (null_descriptor (numbers ARM64)) ≡ null_descriptor_bytes
-  pub null_thunk : layout (null_thunk (numbers I386)) ≡ null_thunk_bytes
-  pub weak : layout (weak (numbers I386) (codes "baz") (codes "foo")) ≡ weak_bytes
-  pub head : layout (head (numbers I386)) ≡ head_bytes
-  pub tail : layout (tail (numbers ARMNT)) ≡ tail_bytes
-  pub function_on_amd64 : layout (function (numbers AMD64)) ≡ function_bytes
-  pub function_on_arm64 : layout (function (numbers ARM64)) ≡ function_bytes_arm64
+  pub two_names : encoded two_names ≡ two_names_bytes
+  pub one_section : encoded one_section ≡ one_section_bytes
+  pub descriptor : encoded (descriptor (numbers AMD64)) ≡ descriptor_bytes
+  pub null_descriptor : encoded (null_descriptor (numbers ARM64)) ≡ null_descriptor_bytes
+  pub null_thunk : encoded (null_thunk (numbers I386)) ≡ null_thunk_bytes
+  pub weak : encoded (weak (numbers I386) (codes "baz") (codes "foo")) ≡ weak_bytes
+  pub head : encoded (head (numbers I386)) ≡ head_bytes
+  pub tail : encoded (tail (numbers ARMNT)) ≡ tail_bytes
+  pub function_on_amd64 : encoded (function (numbers AMD64)) ≡ function_bytes
+  pub function_on_arm64 : encoded (function (numbers ARM64)) ≡ function_bytes_arm64

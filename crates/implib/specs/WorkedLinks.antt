@@ -11,10 +11,11 @@ use Rattle.implib.specs.Image.{IsAdmissible, Range, byte_at, image_of}
 use Rattle.implib.specs.Placement.{Bases, Placed, placed_from}
 use Rattle.implib.specs.Resolution.{definitions_of}
 use Rattle.implib.specs.Load.{number_in}
-use Rattle.implib.specs.Made.{Made, member_of, plans_of}
+use Rattle.implib.specs.Members.{AreMembersOf, member_specs}
+use Rattle.implib.specs.MemberSpec.{member_of}
 use Rattle.implib.specs.Object.{each_at}
 use Rattle.implib.specs.Renaming.{renamed}
-use Rattle.implib.specs.LinkedMembers.{AllRise, ComesBefore, IsPart, NoneBegins, Part, all_linked, beginning, linked_members, objects_in}
+use Rattle.implib.specs.LinkedMembers.{AllRise, ComesBefore, IsLinkInput, NoneIsPrefix, LinkInput, all_linked, member_prefix, linked_members, objects_in}
 use Rattle.implib.specs.WorkedMembers.{of_dll}
 use Rattle.implib.specs.WorkedStatements.{plain_export}
 
@@ -75,15 +76,15 @@ abbrev pub bases_32 : Bases
 bases_32 = record { descriptors = 0x1000; lookups = 0x1014; addresses = 0x1020; hint_names = 0x102C; dll_names = 0x1034 }
 
 -- two DLLs with one export each
-abbrev pub part : List ℕ → List ℕ → Part
-part dll name = record {
+abbrev pub input : List ℕ → List ℕ → LinkInput
+input dll name = record {
   definition = of_dll dll (plain_export name ∷ []);
-  members = map member_of (plans_of (renamed (of_dll dll (plain_export name ∷ []))) AMD64 Gnu);
+  members = map member_of (member_specs (renamed (of_dll dll (plain_export name ∷ []))) AMD64 Gnu);
   chosen = 0 ∷ [];
 }
 
-abbrev pub two_parts : List Part
-two_parts = part (codes "foo.dll") (codes "bar") ∷ part (codes "zed.dll") (codes "qux") ∷ []
+abbrev pub two_parts : List LinkInput
+two_parts = input (codes "foo.dll") (codes "bar") ∷ input (codes "zed.dll") (codes "qux") ∷ []
 
 abbrev pub bases_of_two : Bases
 bases_of_two = record { descriptors = 0x1000; lookups = 0x1030; addresses = 0x1050; hint_names = 0x1070; dll_names = 0x1080 }
@@ -104,17 +105,17 @@ pub record TwoLink : Type 0 where
 -- The law of linking speaks of these: they are the members of a definition that is not refused, they
 -- are placed where they may be, and their listed symbols are distinct.
 pub record MayLink (d : DefinitionView) (machine : MachineType) (bases : Bases) (chosen : List ℕ) : Type 0 where
-  pub made : Made d machine Gnu (map member_of (plans_of (renamed d) machine Gnu))
+  pub made : AreMembersOf d machine Gnu (map member_of (member_specs (renamed d) machine Gnu))
   pub distinct : IsDistinct bytes_eq (flat_map (λ m. m.symbols) (linked_members d machine chosen))
   pub admissible : IsAdmissible machine bases (objects_in (linked_members d machine chosen))
 
 -- and so does the law of linking several
-pub record PartsMayLink (machine : MachineType) (bases : Bases) (parts : List Part) : Type 0 where
-  pub made : AllByRecursion (IsPart machine) parts
-  pub rising : AllRise (map (λ p. beginning p.definition) parts)
-  pub apart : NoneBegins (map (λ p. beginning p.definition) parts)
-  pub distinct : IsDistinct bytes_eq (flat_map (λ m. m.symbols) (all_linked machine parts))
-  pub admissible : IsAdmissible machine bases (objects_in (all_linked machine parts))
+pub record PartsMayLink (machine : MachineType) (bases : Bases) (inputs : List LinkInput) : Type 0 where
+  pub made : AllByRecursion (IsLinkInput machine) inputs
+  pub rising : AllRise (map (λ p. member_prefix p.definition) inputs)
+  pub apart : NoneIsPrefix (map (λ p. member_prefix p.definition) inputs)
+  pub distinct : IsDistinct bytes_eq (flat_map (λ m. m.symbols) (all_linked machine inputs))
+  pub admissible : IsAdmissible machine bases (objects_in (all_linked machine inputs))
 
 -- linked by hand
 pub record WorkedLinks : Type 0 where

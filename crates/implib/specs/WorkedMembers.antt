@@ -7,10 +7,11 @@ use Rattle.implib.specs.declared.machine.MachineType.TheVariants.{I386, ARMNT, A
 use Rattle.implib.specs.Definition.{DefinitionView, ExportView, empty_definition, empty_export}
 use Rattle.implib.specs.Fault.{Cause, EmptyImportName, NulInImportName, EmptyName, NulInExport, EmptyAskedName}
 use Rattle.implib.specs.Import.{Alias, Ask, Ordinal, Name, aliases_for}
-use Rattle.implib.specs.Made.{Plan, contents_bytes, contents_size, plans_of, refusal}
-use Rattle.implib.specs.Msvc.{record_symbol}
+use Rattle.implib.specs.MemberSpec.{MemberSpec, file_bytes, file_size}
+use Rattle.implib.specs.Members.{member_specs, refusal}
+use Rattle.implib.specs.Msvc.{short_import_symbol}
 use Rattle.implib.specs.Parses.{Parses}
-use Rattle.implib.specs.Reads.{ask_written}
+use Rattle.implib.specs.ReadBack.{ask_written}
 use Rattle.implib.specs.Renaming.{renamed}
 use Rattle.implib.specs.WorkedStatements.{plain_export}
 
@@ -20,21 +21,21 @@ pub record Outline : Type 0 where
   pub size : ℕ
   pub listed : List (List ℕ)
 
-abbrev pub outline : Plan → Outline
-outline p = record { name = p.name; size = contents_size p.contents; listed = p.listed }
+abbrev pub outline : MemberSpec → Outline
+outline p = record { name = p.name; size = file_size p.contents; listed = p.listed }
 
 -- a definition of an import name and exports
 abbrev pub of_dll : List ℕ → List ExportView → DefinitionView
 of_dll name exports = record empty_definition { import_name = name; exports = exports }
 
--- the plans of a definition's members for Microsoft's linker
-abbrev pub plans : DefinitionView → MachineType → List Plan
-plans d machine = plans_of (renamed d) machine Msvc
+-- the specifications of a definition's members for Microsoft's linker
+abbrev pub specs : DefinitionView → MachineType → List MemberSpec
+specs d machine = member_specs (renamed d) machine Msvc
 
 -- the definition is accepted, and these are its members, their bytes aside
 pub record HasMembers (d : DefinitionView) (machine : MachineType) (members : List Outline) : Type 0 where
   pub accepted : refusal d machine Msvc ≡ None
-  pub outlines : map outline (plans d machine) ≡ members
+  pub outlines : map outline (specs d machine) ≡ members
 
 -- the definition is refused for this cause
 abbrev pub IsRefused : DefinitionView → MachineType → Cause → Type 0
@@ -54,7 +55,7 @@ TextIsRefused text machine cause = Means text machine (λ d. IsRefused d machine
 
 -- the bytes of the member of an index
 abbrev pub bytes_at : DefinitionView → MachineType → ℕ → Option (List ℕ)
-bytes_at d machine index = option_map (λ p. contents_bytes p.contents) (slice_get (plans d machine) index)
+bytes_at d machine index = option_map (λ p. file_bytes p.contents) (slice_get (specs d machine) index)
 
 -- what the records of the exports ask for
 abbrev pub asks : DefinitionView → MachineType → List Ask
@@ -170,7 +171,7 @@ weak_for weak target = record { weak = weak; target = target }
 
 -- the aliases of each export, by the symbol of its record
 abbrev pub aliases_written : DefinitionView → List (List Alias)
-aliases_written d = map (λ e. aliases_for (record_symbol e) e.alias_target) (renamed d).exports
+aliases_written d = map (λ e. aliases_for (short_import_symbol e) e.alias_target) (renamed d).exports
 
 -- what is asked for, and what is weak for what
 pub record WorkedMeanings : Type 0 where

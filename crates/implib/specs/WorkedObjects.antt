@@ -3,12 +3,12 @@ use Rattle.std.specs.Prelude.{◌≡◌, ℕ, ◌+◌, List, [], ◌∷◌, ◌+
 use Rattle.implib.specs.declared.coff.object.Relocation.{Relocation}
 use Rattle.implib.specs.declared.machine.MachineType.TheVariants.{I386, AMD64}
 use Rattle.implib.specs.Object.{ObjectSection}
-use Rattle.implib.specs.Picture.{InRecord, Listed, Picture, PictureSymbol, SymbolName, contents_place, contents_size, header_bytes, layout_size, string_offsets, strings_size, symbols_place}
+use Rattle.implib.specs.Layout.{InRecord, InStringTable, ObjectLayout, LayoutSymbol, SymbolName, contents_offset, contents_size, header_bytes, encoded_size, string_offsets, strings_size, symbol_table_offset}
 use Rattle.implib.specs.WorkedDigits.{hex}
 use Rattle.implib.specs.WorkedMachines.{Numbers, at, numbers}
 
 -- a symbol of value 0 without an auxiliary record
-abbrev pub symbol : SymbolName → ℕ → ℕ → PictureSymbol
+abbrev pub symbol : SymbolName → ℕ → ℕ → LayoutSymbol
 symbol name section class = record { name = name; value = 0; section = section; class = class; aux = None }
 
 abbrev pub section : List ℕ → ℕ → List ℕ → List Relocation → ObjectSection
@@ -28,17 +28,17 @@ places_from place [] = []
 places_from place (s ∷ rest) = place ∷ places_from (place + contents_size s) rest
 
 -- two undefined externals, of 8 and of 9 bytes
-unfoldable pub two_names : Picture
+unfoldable pub two_names : ObjectLayout
 two_names = record {
   machine = 0x8664;
   characteristics = 0;
   sections = [];
-  symbols = symbol (InRecord (codes "abcdefgh")) 0 2 ∷ symbol (Listed 0) 0 2 ∷ [];
+  symbols = symbol (InRecord (codes "abcdefgh")) 0 2 ∷ symbol (InStringTable 0) 0 2 ∷ [];
   strings = codes "abcdefghi" ∷ [];
 }
 
 -- a section with one relocation, and the symbol that it names
-unfoldable pub one_section : Picture
+unfoldable pub one_section : ObjectLayout
 one_section = record {
   machine = 0xAA64;
   characteristics = 0;
@@ -50,7 +50,7 @@ one_section = record {
 -- For Microsoft's linker, by the numbers of the machine.
 
 -- the import descriptor of foo.dll
-unfoldable pub descriptor : Numbers → Picture
+unfoldable pub descriptor : Numbers → ObjectLayout
 descriptor n = record {
   machine = n.machine;
   characteristics = n.characteristics;
@@ -60,13 +60,13 @@ descriptor n = record {
       ∷ section (codes ".idata$6") 0xC0200040 (codes "foo.dll" ++ zeros 1) []
       ∷ [];
   symbols =
-      symbol (Listed 0) 1 2
+      symbol (InStringTable 0) 1 2
       ∷ symbol (InRecord (codes ".idata$2")) 1 104
       ∷ symbol (InRecord (codes ".idata$6")) 2 3
       ∷ symbol (InRecord (codes ".idata$4")) 0 104
       ∷ symbol (InRecord (codes ".idata$5")) 0 104
-      ∷ symbol (Listed 1) 0 2
-      ∷ symbol (Listed 2) 0 2
+      ∷ symbol (InStringTable 1) 0 2
+      ∷ symbol (InStringTable 2) 0 2
       ∷ [];
   strings =
       codes "__IMPORT_DESCRIPTOR_foo"
@@ -76,17 +76,17 @@ descriptor n = record {
 }
 
 -- the null descriptor
-unfoldable pub null_descriptor : Numbers → Picture
+unfoldable pub null_descriptor : Numbers → ObjectLayout
 null_descriptor n = record {
   machine = n.machine;
   characteristics = n.characteristics;
   sections = section (codes ".idata$3") 0xC0300040 (zeros 20) [] ∷ [];
-  symbols = symbol (Listed 0) 1 2 ∷ [];
+  symbols = symbol (InStringTable 0) 1 2 ∷ [];
   strings = codes "__NULL_IMPORT_DESCRIPTOR" ∷ [];
 }
 
 -- the null thunk of foo.dll
-unfoldable pub null_thunk : Numbers → Picture
+unfoldable pub null_thunk : Numbers → ObjectLayout
 null_thunk n = record {
   machine = n.machine;
   characteristics = n.characteristics;
@@ -94,12 +94,12 @@ null_thunk n = record {
       section (codes ".idata$5") n.null_thunk_flags n.null_thunk []
       ∷ section (codes ".idata$4") n.null_thunk_flags n.null_thunk []
       ∷ [];
-  symbols = symbol (Listed 0) 1 2 ∷ [];
+  symbols = symbol (InStringTable 0) 1 2 ∷ [];
   strings = (0x7F ∷ codes "foo_NULL_THUNK_DATA") ∷ [];
 }
 
 -- a weak external: the second name for the first
-unfoldable pub weak : Numbers → List ℕ → List ℕ → Picture
+unfoldable pub weak : Numbers → List ℕ → List ℕ → ObjectLayout
 weak n target name = record {
   machine = n.machine;
   characteristics = 0;
@@ -107,9 +107,9 @@ weak n target name = record {
   symbols =
       symbol (InRecord (codes "@comp.id")) 0xFFFF 3
       ∷ symbol (InRecord (codes "@feat.00")) 0xFFFF 3
-      ∷ symbol (Listed 0) 0 2
+      ∷ symbol (InStringTable 0) 0 2
       ∷ record {
-        name = Listed 1;
+        name = InStringTable 1;
         value = 0;
         section = 0;
         class = 105;
@@ -122,7 +122,7 @@ weak n target name = record {
 -- For GNU's linker, by the numbers of the machine.
 
 -- the symbol of a file's name: section -2, one auxiliary record
-abbrev pub file : PictureSymbol
+abbrev pub file : LayoutSymbol
 file = record {
   name = InRecord (codes ".file");
   value = 0;
@@ -140,7 +140,7 @@ empty_sections =
     ∷ []
 
 -- the head of foo.dll
-unfoldable pub head : Numbers → Picture
+unfoldable pub head : Numbers → ObjectLayout
 head n = record {
   machine = n.machine;
   characteristics = 0;
@@ -155,14 +155,14 @@ head n = record {
       file
       ∷ symbol (InRecord (codes ".idata$5")) 5 3
       ∷ symbol (InRecord (codes ".idata$4")) 6 3
-      ∷ symbol (Listed 0) 4 2
-      ∷ symbol (Listed 1) 0 2
+      ∷ symbol (InStringTable 0) 4 2
+      ∷ symbol (InStringTable 1) 0 2
       ∷ [];
   strings = n.head ∷ n.iname ∷ [];
 }
 
 -- the tail of foo.dll
-unfoldable pub tail : Numbers → Picture
+unfoldable pub tail : Numbers → ObjectLayout
 tail n = record {
   machine = n.machine;
   characteristics = 0;
@@ -172,7 +172,7 @@ tail n = record {
       ∷ section (codes ".idata$5") 0xC0300040 n.null_thunk []
       ∷ section (codes ".idata$7") 0xC0300040 (codes "foo.dll" ++ zeros 1) []
       ∷ [];
-  symbols = file ∷ symbol (Listed 0) 6 2 ∷ [];
+  symbols = file ∷ symbol (InStringTable 0) 6 2 ∷ [];
   strings = n.iname ∷ [];
 }
 
@@ -191,75 +191,75 @@ export_sections n code code_relocations entry entry_relocations hint_and_name =
     ∷ []
 
 -- an export of foo.dll with code, by its name of at most 8 bytes and the symbol of its address
-abbrev pub with_code : Numbers → List ℕ → List ℕ → List ObjectSection → Picture
+abbrev pub with_code : Numbers → List ℕ → List ℕ → List ObjectSection → ObjectLayout
 with_code n name address sections = record {
   machine = n.machine;
   characteristics = 0;
   sections = sections;
   symbols =
-      symbol (Listed 0) 0 2
+      symbol (InStringTable 0) 0 2
       ∷ symbol (InRecord name) 1 2
-      ∷ symbol (Listed 1) 5 2
+      ∷ symbol (InStringTable 1) 5 2
       ∷ symbol (InRecord (codes ".idata$6")) 7 3
       ∷ [];
   strings = n.head ∷ address ∷ [];
 }
 
 -- the variable bar of foo.dll: no code
-abbrev pub without_code : Numbers → List ObjectSection → Picture
+abbrev pub without_code : Numbers → List ObjectSection → ObjectLayout
 without_code n sections = record {
   machine = n.machine;
   characteristics = 0;
   sections = sections;
-  symbols = symbol (Listed 0) 0 2 ∷ symbol (Listed 1) 5 2 ∷ symbol (InRecord (codes ".idata$6")) 7 3 ∷ [];
+  symbols = symbol (InStringTable 0) 0 2 ∷ symbol (InStringTable 1) 5 2 ∷ symbol (InRecord (codes ".idata$6")) 7 3 ∷ [];
   strings = n.head ∷ codes "__imp_bar" ∷ [];
 }
 
 -- the function bar
-unfoldable pub function : Numbers → Picture
+unfoldable pub function : Numbers → ObjectLayout
 function n = with_code n (codes "bar") (codes "__imp_bar")
     (export_sections n n.stub n.stub_relocations n.null_thunk (at 0 3 n.image_relative ∷ [])
     (hex "00 00 62 61 72 00"))
 
 -- a function of this name, which is asked for by this hint and name
-unfoldable pub function_asking : Numbers → List ℕ → List ℕ → List ℕ → Picture
+unfoldable pub function_asking : Numbers → List ℕ → List ℕ → List ℕ → ObjectLayout
 function_asking n name address hint_and_name = with_code n name address
     (export_sections n n.stub n.stub_relocations n.null_thunk (at 0 3 n.image_relative ∷ []) hint_and_name)
 
 -- the function bar by the ordinal 258
-unfoldable pub function_by_ordinal : Numbers → Picture
+unfoldable pub function_by_ordinal : Numbers → ObjectLayout
 function_by_ordinal n = with_code n (codes "bar") (codes "__imp_bar")
     (export_sections n n.stub n.stub_relocations n.thunk_of_258 [] [])
 
 -- the variable bar with the hint 258
-unfoldable pub variable : Numbers → Picture
+unfoldable pub variable : Numbers → ObjectLayout
 variable n = without_code n
     (export_sections n [] [] n.null_thunk (at 0 2 n.image_relative ∷ []) (hex "02 01 62 61 72 00"))
 
 -- the variable bar by the ordinal 258
-unfoldable pub variable_by_ordinal : Numbers → Picture
+unfoldable pub variable_by_ordinal : Numbers → ObjectLayout
 variable_by_ordinal n = without_code n (export_sections n [] [] n.thunk_of_258 [] [])
 
 -- what is worked of them: sizes in bytes, places from the begin of the file
 pub record WorkedObjects : Type 0 where
-  pub two_names_size : layout_size two_names ≡ 70
-  pub one_section_size : layout_size one_section ≡ 112
-  pub one_section_places : places_from (contents_place one_section) one_section.sections ≡ 60 ∷ []
-  pub one_section_symbols : symbols_place one_section ≡ 90
-  pub function_size : layout_size (function (numbers AMD64)) ≡ 474
+  pub two_names_size : encoded_size two_names ≡ 70
+  pub one_section_size : encoded_size one_section ≡ 112
+  pub one_section_places : places_from (contents_offset one_section) one_section.sections ≡ 60 ∷ []
+  pub one_section_symbols : symbol_table_offset one_section ≡ 90
+  pub function_size : encoded_size (function (numbers AMD64)) ≡ 474
   pub function_places :
-      places_from (contents_place (function (numbers AMD64))) (function (numbers AMD64)).sections
+      places_from (contents_offset (function (numbers AMD64))) (function (numbers AMD64)).sections
       ≡ 300 ∷ 318 ∷ 318 ∷ 318 ∷ 332 ∷ 350 ∷ 368 ∷ []
-  pub function_symbols : symbols_place (function (numbers AMD64)) ≡ 374
+  pub function_symbols : symbol_table_offset (function (numbers AMD64)) ≡ 374
   pub function_strings : strings_size (function (numbers AMD64)).strings ≡ 28
-  pub descriptor_size : layout_size (descriptor (numbers AMD64)) ≡ 358
+  pub descriptor_size : encoded_size (descriptor (numbers AMD64)) ≡ 358
   pub descriptor_header : header_bytes (descriptor (numbers AMD64))
       ≡ hex "64 86 02 00 00 00 00 00 9e 00 00 00 07 00 00 00 00 00 00 00"
   pub descriptor_offsets : string_offsets (descriptor (numbers AMD64)).strings ≡ 4 ∷ 28 ∷ 53 ∷ []
   pub descriptor_strings : strings_size (descriptor (numbers AMD64)).strings ≡ 74
-  pub null_descriptor_size : layout_size (null_descriptor (numbers AMD64)) ≡ 127
-  pub null_thunk_size : layout_size (null_thunk (numbers AMD64)) ≡ 159
-  pub null_thunk_size_32 : layout_size (null_thunk (numbers I386)) ≡ 151
-  pub weak_size : layout_size (weak (numbers AMD64) (codes "baz") (codes "foo")) ≡ 162
-  pub weak_size_imp : layout_size (weak (numbers AMD64) (codes "__imp_baz") (codes "__imp_foo")) ≡ 174
-  pub weak_symbols : symbols_place (weak (numbers AMD64) (codes "baz") (codes "foo")) ≡ 60
+  pub null_descriptor_size : encoded_size (null_descriptor (numbers AMD64)) ≡ 127
+  pub null_thunk_size : encoded_size (null_thunk (numbers AMD64)) ≡ 159
+  pub null_thunk_size_32 : encoded_size (null_thunk (numbers I386)) ≡ 151
+  pub weak_size : encoded_size (weak (numbers AMD64) (codes "baz") (codes "foo")) ≡ 162
+  pub weak_size_imp : encoded_size (weak (numbers AMD64) (codes "__imp_baz") (codes "__imp_foo")) ≡ 174
+  pub weak_symbols : symbol_table_offset (weak (numbers AMD64) (codes "baz") (codes "foo")) ≡ 60

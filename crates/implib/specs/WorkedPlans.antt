@@ -3,7 +3,8 @@ use Rattle.std.specs.Prelude.{◌≡◌, ℕ, List, [], ◌∷◌, codes}
 use Rattle.implib.specs.declared.library.Flavor.TheVariants.{Msvc, Gnu}
 use Rattle.implib.specs.declared.machine.MachineType.{MachineType}
 use Rattle.implib.specs.Definition.{DefinitionView, empty_definition}
-use Rattle.implib.specs.Made.{AnObject, ARecord, Contents, Plan, plans_of}
+use Rattle.implib.specs.MemberSpec.{AnObject, AShortImport, Contents, MemberSpec}
+use Rattle.implib.specs.Members.{member_specs}
 use Rattle.implib.specs.Renaming.{renamed}
 use Rattle.implib.specs.WorkedMachines.{Numbers, numbers}
 use Rattle.implib.specs.WorkedObjects.{descriptor, function, head, null_descriptor, null_thunk, tail, weak}
@@ -13,12 +14,12 @@ abbrev pub definition : DefinitionView
 definition = record empty_definition { import_name = foo_dll; exports = record bar { alias_target = codes "baz" } ∷ [] }
 
 -- a member that is listed for one symbol
-abbrev pub member : List ℕ → Contents → List ℕ → Plan
+abbrev pub member : List ℕ → Contents → List ℕ → MemberSpec
 member name contents symbol = record { name = name; contents = contents; listed = symbol ∷ [] }
 
 -- the record of bar
 abbrev pub record_of_bar : Numbers → Contents
-record_of_bar n = ARecord (record {
+record_of_bar n = AShortImport (record {
   version = 0;
   machine = n.machine;
   time = 0;
@@ -37,7 +38,7 @@ abbrev pub weak_address : Numbers → Contents
 weak_address n = AnObject (weak n (codes "__imp_baz") (codes "__imp_bar"))
 
 -- the members for Microsoft's linker
-abbrev pub msvc_plans : Numbers → List Plan
+abbrev pub msvc_plans : Numbers → List MemberSpec
 msvc_plans n =
     member foo_dll (AnObject (descriptor n)) (codes "__IMPORT_DESCRIPTOR_foo")
     ∷ member foo_dll (AnObject (null_descriptor n)) (codes "__NULL_IMPORT_DESCRIPTOR")
@@ -48,7 +49,7 @@ msvc_plans n =
     ∷ []
 
 -- the members for GNU's linker
-abbrev pub gnu_plans : Numbers → List Plan
+abbrev pub gnu_plans : Numbers → List MemberSpec
 gnu_plans n =
     member (codes "foo_dll_a_t.o") (AnObject (tail n)) n.iname
     ∷ member (codes "foo_dll_a_h.o") (AnObject (head n)) n.head
@@ -63,5 +64,5 @@ gnu_plans n =
 
 -- The members of the definition on a machine.
 pub record WorkedPlans (machine : MachineType) : Type 0 where
-  pub for_microsoft : plans_of (renamed definition) machine Msvc ≡ msvc_plans (numbers machine)
-  pub for_gnu : plans_of (renamed definition) machine Gnu ≡ gnu_plans (numbers machine)
+  pub for_microsoft : member_specs (renamed definition) machine Msvc ≡ msvc_plans (numbers machine)
+  pub for_gnu : member_specs (renamed definition) machine Gnu ≡ gnu_plans (numbers machine)

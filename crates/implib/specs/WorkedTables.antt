@@ -4,11 +4,12 @@ use Rattle.implib.specs.declared.machine.MachineType.{MachineType}
 use Rattle.implib.specs.declared.machine.MachineType.TheVariants.{I386, ARMNT, AMD64, ARM64}
 use Rattle.implib.specs.Definition.{ExportView, empty_export}
 use Rattle.implib.specs.Gnu.{export_object, five_digits, head_object, stem, tail_object}
-use Rattle.implib.specs.Msvc.{asked_by_record, record_bytes, record_of}
-use Rattle.implib.specs.MsvcObjects.{base_name, weak_object}
+use Rattle.implib.specs.Msvc.{asked_by_short_import, short_import_bytes, short_import_of}
+use Rattle.implib.specs.MsvcObjects.{base_name}
+use Rattle.implib.specs.WeakExternal.{weak_object}
 use Rattle.implib.specs.MsvcObjects as msvc
-use Rattle.implib.specs.Picture.{Picture}
-use Rattle.implib.specs.Writer.{picture_of}
+use Rattle.implib.specs.Layout.{ObjectLayout}
+use Rattle.implib.specs.Writer.{layout_of}
 use Rattle.implib.specs.WorkedDigits.{hex}
 use Rattle.implib.specs.WorkedMachines.{numbers}
 use Rattle.implib.specs.WorkedObjects.{descriptor, function, function_asking, function_by_ordinal, head, null_descriptor, null_thunk, tail, variable, variable_by_ordinal, weak}
@@ -26,8 +27,8 @@ pub record WorkedMsvcTables (machine : MachineType) : Type 0 where
       ≡ weak (numbers machine) (codes "baz") (codes "foo")
 
 -- the object of an export of foo.dll for GNU's linker
-abbrev pub gnu_export : MachineType → ExportView → Picture
-gnu_export machine e = picture_of (export_object machine foo_dll e)
+abbrev pub gnu_export : MachineType → ExportView → ObjectLayout
+gnu_export machine e = layout_of (export_object machine foo_dll e)
 
 -- the function bar
 abbrev pub bar : ExportView
@@ -35,8 +36,8 @@ bar = plain_export (codes "bar")
 
 -- The objects for GNU's linker.
 pub record WorkedGnuTables (machine : MachineType) : Type 0 where
-  pub head : picture_of (head_object machine foo_dll) ≡ head (numbers machine)
-  pub tail : picture_of (tail_object machine foo_dll) ≡ tail (numbers machine)
+  pub head : layout_of (head_object machine foo_dll) ≡ head (numbers machine)
+  pub tail : layout_of (tail_object machine foo_dll) ≡ tail (numbers machine)
   pub function : gnu_export machine bar ≡ function (numbers machine)
   pub function_by_ordinal : gnu_export machine (record bar { no_name = true; ordinal = 258 })
       ≡ function_by_ordinal (numbers machine)
@@ -75,7 +76,7 @@ pub record WorkedNames : Type 0 where
 
 -- the record of an export of foo.dll
 abbrev pub record_for : MachineType → ExportView → List ℕ
-record_for machine e = record_bytes (record_of machine foo_dll e)
+record_for machine e = short_import_bytes (short_import_of machine foo_dll e)
 
 -- a function that is linked by another name than the DLL's
 abbrev pub under_symbol : List ℕ → List ℕ → ExportView
@@ -129,11 +130,11 @@ pub record WorkedNameTypes : Type 0 where
 
 -- What records ask for, by their name type.
 pub record WorkedAskedNames : Type 0 where
-  pub whole : asked_by_record AMD64 (plain_export (codes "_f")) ≡ codes "_f"
-  pub whole_decorated : asked_by_record I386 (under_symbol (codes "_f@8") (codes "_g@4")) ≡ codes "_g@4"
-  pub without_prefix : asked_by_record I386 (plain_export (codes "__f")) ≡ codes "_f"
-  pub without_question_mark : asked_by_record AMD64 (under_symbol (codes "f") (codes "?f@@YAXXZ")) ≡ codes "f"
-  pub without_at_sign : asked_by_record AMD64 (under_symbol (codes "f") (codes "@g@4")) ≡ codes "g"
-  pub without_underscore : asked_by_record AMD64 (under_symbol (codes "f") (codes "_g@4")) ≡ codes "g"
-  pub one_prefix_alone : asked_by_record AMD64 (under_symbol (codes "f") (codes "??g")) ≡ codes "?g"
-  pub without_prefix_or_end : asked_by_record AMD64 (under_symbol (codes "f") (codes "g")) ≡ codes "g"
+  pub whole : asked_by_short_import AMD64 (plain_export (codes "_f")) ≡ codes "_f"
+  pub whole_decorated : asked_by_short_import I386 (under_symbol (codes "_f@8") (codes "_g@4")) ≡ codes "_g@4"
+  pub without_prefix : asked_by_short_import I386 (plain_export (codes "__f")) ≡ codes "_f"
+  pub without_question_mark : asked_by_short_import AMD64 (under_symbol (codes "f") (codes "?f@@YAXXZ")) ≡ codes "f"
+  pub without_at_sign : asked_by_short_import AMD64 (under_symbol (codes "f") (codes "@g@4")) ≡ codes "g"
+  pub without_underscore : asked_by_short_import AMD64 (under_symbol (codes "f") (codes "_g@4")) ≡ codes "g"
+  pub one_prefix_alone : asked_by_short_import AMD64 (under_symbol (codes "f") (codes "??g")) ≡ codes "?g"
+  pub without_prefix_or_end : asked_by_short_import AMD64 (under_symbol (codes "f") (codes "g")) ≡ codes "g"

@@ -2,13 +2,13 @@
 use Rattle.std.specs.Prelude.{ℕ, List, [], ◌∷◌, ◌++◌, codes}
 use Rattle.implib.specs.declared.def.lexer.TokenKind.{TokenKind}
 use Rattle.implib.specs.declared.def.lexer.TokenKind.TheVariants as kind
-use Rattle.implib.specs.Token.{eof, Lexed, Seen}
+use Rattle.implib.specs.Token.{eof, Lexed, TokenView}
 
 -- a token of this kind, with this value, at this place
-abbrev pub token : TokenKind → List ℕ → ℕ → Seen
+abbrev pub token : TokenKind → List ℕ → ℕ → TokenView
 token k value at = record { kind = k; value = value; at = at }
 
-abbrev pub identifier : List ℕ → ℕ → Seen
+abbrev pub identifier : List ℕ → ℕ → TokenView
 identifier value at = token kind.Identifier value at
 
 -- the bytes of a no-break space, an em space and an ideographic space
@@ -41,7 +41,7 @@ pub record WorkedTokens : Type 0 where
   pub nul_in_comment : Lexed (codes "; a\0b\nDATA") (token kind.KwData (codes "DATA") 6 ∷ eof 10 ∷ [])
   pub nul_in_word : Lexed (codes "LIBRARY a\0b") (token kind.KwLibrary (codes "LIBRARY") 0 ∷ identifier (codes "a\0b") 8 ∷ eof 11 ∷ [])
   pub nul_in_name : Lexed (codes "\"a\0b\"") (identifier (codes "a\0b") 1 ∷ eof 5 ∷ [])
-  -- a quoted name is trimmed, and stands after its quote where nothing is left; without an end it is empty
+  -- a quoted name is trimmed, and is right behind its quote where nothing is left; unclosed, it is empty
   pub blank_name : Lexed (codes "\" \"") (identifier [] 1 ∷ eof 3 ∷ [])
   pub trimmed_name : Lexed (codes "\" a b \"") (identifier (codes "a b") 2 ∷ eof 7 ∷ [])
   pub quotes_in_word : Lexed (codes "x\"y\"") (identifier (codes "x\"y\"") 0 ∷ eof 4 ∷ [])

@@ -1,4 +1,4 @@
--- What a writer of objects holds, and the picture that it writes (this project's layout,
+-- The state of an object writer, and the layout that it encodes (this project's layout,
 -- docs/FORMATS.md, "The layout of an object").
 use Rattle.std.specs.Prelude.{ℕ, zero, suc, ◌+◌, ◌<◌, ◌≤◌, Bool, List, [], ◌∷◌, ◌++◌, Option, None, Some, IsSomeAnd, length, map, fold, flat_map, slice_get, nat_lt, string_bytes, if◌then◌else◌, bytes_eq}
 use Rattle.std.specs.List.{list_any, position_or_len}
@@ -10,7 +10,7 @@ use Rattle.implib.specs.declared.coff.object.Symbol.{Symbol}
 use Rattle.implib.specs.declared.machine.MachineType.{MachineType}
 use Rattle.implib.specs.Machine.{machine_number}
 use Rattle.implib.specs.Object.{ASymbol, Auxiliary, Entry, Object, ObjectSection}
-use Rattle.implib.specs.Picture.{InRecord, Listed, Picture, PictureSymbol, SymbolName}
+use Rattle.implib.specs.Layout.{InRecord, InStringTable, ObjectLayout, LayoutSymbol, SymbolName}
 
 -- a symbol that was added
 pub record AddedSymbol : Type 0 where
@@ -40,7 +40,7 @@ added_view s = record {
 }
 
 -- what a writer holds: all that was added, in order
-pub record Holding : Type 0 where
+pub record WriterState : Type 0 where
   pub machine : MachineType
   pub sections : List ObjectSection
   pub symbols : List AddedSymbol
@@ -67,9 +67,9 @@ entries_added s =
 abbrev pub all_entries : List AddedSymbol → List Entry
 all_entries symbols = flat_map entries_added symbols
 
--- the object that a writer stands for
-abbrev pub object_held : Holding → Object
-object_held h = record {
+-- the object that a writer holds
+abbrev pub written_object : WriterState → Object
+written_object h = record {
   machine = machine_number h.machine;
   time = 0;
   optional_header_size = 0;
@@ -92,7 +92,7 @@ abbrev pub section_numbered : List ObjectSection → ℕ → Option ObjectSectio
 section_numbered sections zero = None
 section_numbered sections (suc index) = slice_get sections index
 
--- a section that the place names is among so many
+-- the place names no section, or one of `count` sections
 abbrev pub IsPlaceAmong : ℕ → Place → Type 0
 IsPlaceAmong count Undefined = Unit {0}
 IsPlaceAmong count (Section number) = (0 < number) × (number ≤ count)
@@ -100,11 +100,11 @@ IsPlaceAmong count Absolute = Unit {0}
 IsPlaceAmong count Debug = Unit {0}
 
 -- one section more
-abbrev pub with_section : Holding → ObjectSection → Holding
+abbrev pub with_section : WriterState → ObjectSection → WriterState
 with_section h s = record h { sections = h.sections ++ s ∷ [] }
 
 -- one symbol more
-abbrev pub with_symbol : Holding → AddedSymbol → Holding
+abbrev pub with_symbol : WriterState → AddedSymbol → WriterState
 with_symbol h s = record h { symbols = h.symbols ++ s ∷ [] }
 
 -- the section has room for the relocation, and data where it is
@@ -113,16 +113,16 @@ pub record HasRoomFor (r : Relocation) (s : ObjectSection) : Type 0 where
   pub within : r.offset + 4 ≤ length s.bytes
 
 -- one relocation more, in the section of a number
-abbrev pub relocated : List ObjectSection → ℕ → Relocation → List ObjectSection
-relocated [] number r = []
-relocated (s ∷ rest) zero r = s ∷ rest
-relocated (s ∷ rest) (suc zero) r = record s { relocations = s.relocations ++ r ∷ [] } ∷ rest
-relocated (s ∷ rest) (suc (suc number)) r = s ∷ relocated rest (suc number) r
+abbrev pub sections_with_relocation : List ObjectSection → ℕ → Relocation → List ObjectSection
+sections_with_relocation [] number r = []
+sections_with_relocation (s ∷ rest) zero r = s ∷ rest
+sections_with_relocation (s ∷ rest) (suc zero) r = record s { relocations = s.relocations ++ r ∷ [] } ∷ rest
+sections_with_relocation (s ∷ rest) (suc (suc number)) r = s ∷ sections_with_relocation rest (suc number) r
 
-abbrev pub with_relocation : Holding → ℕ → Relocation → Holding
-with_relocation h number r = record h { sections = relocated h.sections number r }
+abbrev pub with_relocation : WriterState → ℕ → Relocation → WriterState
+with_relocation h number r = record h { sections = sections_with_relocation h.sections number r }
 
--- a name of more than 8 bytes stands in the string table
+-- a name of more than 8 bytes is in the string table
 abbrev pub is_long : List ℕ → Bool
 is_long name = nat_lt 8 (length name)
 
@@ -138,23 +138,23 @@ with_long_name names name = if is_long name then with_name names name else names
 unfoldable pub long_names : List AddedSymbol → List (List ℕ)
 long_names symbols = fold with_long_name [] (map (λ s. s.name) symbols)
 
--- where a name stands
-unfoldable pub name_place : List (List ℕ) → List ℕ → SymbolName
-name_place names name = if is_long name then Listed (position_or_len (bytes_eq name) names) else InRecord name
+-- the location of a name
+unfoldable pub name_location : List (List ℕ) → List ℕ → SymbolName
+name_location names name = if is_long name then InStringTable (position_or_len (bytes_eq name) names) else InRecord name
 
 -- a symbol as it is written
-unfoldable pub symbol_written : List (List ℕ) → AddedSymbol → PictureSymbol
+unfoldable pub symbol_written : List (List ℕ) → AddedSymbol → LayoutSymbol
 symbol_written names s = record {
-  name = name_place names s.name;
+  name = name_location names s.name;
   value = s.value;
   section = section_number s.place;
   class = s.class;
   aux = s.aux;
 }
 
--- the picture that a writer writes
-unfoldable pub picture_of : Holding → Picture
-picture_of h = record {
+-- the layout that a writer encodes
+unfoldable pub layout_of : WriterState → ObjectLayout
+layout_of h = record {
   machine = machine_number h.machine;
   characteristics = 0;
   sections = h.sections;

@@ -5,12 +5,12 @@ use Rattle.implib.specs.declared.coff.object.Section.{Section}
 use Rattle.implib.specs.declared.coff.object.Symbol.{Symbol}
 use Rattle.implib.specs.declared.machine.MachineType.{MachineType}
 use Rattle.implib.specs.Object.{ObjectSection}
-use Rattle.implib.specs.Picture.{FitsAuxiliary, FitsSection, HasNoNul}
-use Rattle.implib.specs.Writer.{AddedSymbol, added_view, section_view, Holding, IsPlaceAmong, IsSymbolIndex, all_entries}
+use Rattle.implib.specs.Layout.{FitsAuxiliary, FitsSection, HasNoNul}
+use Rattle.implib.specs.Writer.{AddedSymbol, added_view, section_view, WriterState, IsPlaceAmong, IsSymbolIndex, all_entries}
 
 -- what the lists of a writer hold
-abbrev pub holding_view : MachineType → List Section → List Symbol → Holding
-holding_view machine sections symbols = record {
+abbrev pub writer_state : MachineType → List Section → List Symbol → WriterState
+writer_state machine sections symbols = record {
   machine = machine;
   sections = map section_view sections;
   symbols = map added_view symbols;
@@ -21,7 +21,7 @@ pub record IsSoundSection (symbols : List AddedSymbol) (s : ObjectSection) : Typ
   pub fits : FitsSection s
   pub relocations : AllByRecursion (λ r. IsSymbolIndex symbols r.symbol) s.relocations
 
--- a symbol can be written beside so many sections
+-- a symbol can be written beside `sections` sections
 pub record IsSoundSymbol (sections : ℕ) (s : AddedSymbol) : Type 0 where
   pub named : 0 < length s.name
   pub no_nul : HasNoNul s.name
@@ -30,7 +30,7 @@ pub record IsSoundSymbol (sections : ℕ) (s : AddedSymbol) : Type 0 where
   pub aux : FitsAuxiliary s.aux
 
 -- what a writer keeps
-pub record IsSound (h : Holding) (count : ℕ) : Type 0 where
+pub record IsSound (h : WriterState) (count : ℕ) : Type 0 where
   pub few : length h.sections ≤ 32767
   pub records : count ≡ length (all_entries h.symbols)
   pub sections : AllByRecursion (IsSoundSection h.symbols) h.sections

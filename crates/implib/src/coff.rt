@@ -1,9 +1,9 @@
 //! COFF objects.
 
 mod constants;
+pub(crate) mod layout;
 pub mod object;
 pub mod pass;
-pub(crate) mod picture;
 pub mod writer;
 
 pub use constants::{characteristics, class, flags, machine, relocation, weak};

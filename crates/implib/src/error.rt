@@ -14,19 +14,19 @@ pub enum Fault {
     /// `parse`: a statement begins with this value, which is no directive.
     #[error("unknown directive: {0}")]
     UnknownDirective(String),
-    /// `parse`: a token of this kind stands where an identifier is owed.
+    /// `parse`: found this token where an identifier was expected.
     #[error("expected identifier, found: {0}")]
     ExpectedIdentifier(TokenKind),
-    /// `parse`: a token of this kind stands where `=` is owed.
+    /// `parse`: found this token where `=` was expected.
     #[error("expected equal, found: {0}")]
     ExpectedEqual(TokenKind),
-    /// `parse`: an identifier is no number of the type that is owed.
+    /// `parse`: an identifier is not a number of the expected type.
     #[error("expected integer")]
     ExpectedInteger,
     /// `parse`: the value after `@` is no `u16` number.
     #[error("invalid ordinal: {0}")]
     InvalidOrdinal(String),
-    /// `parse`: `@` stands as the name after `=`.
+    /// `parse`: the name after `=` is `@`.
     #[error("lone @ after =")]
     LoneAt,
     /// `members`: the import name is empty.
@@ -49,7 +49,7 @@ pub enum Fault {
     MemberTooLong,
 }
 
-/// A fault of the input, or a growth that was refused.
+/// A fault of the input, or a failed allocation.
 #[derive(Debug, Drop, thiserror::Error)]
 pub enum Error {
     /// The text or the definition is refused.

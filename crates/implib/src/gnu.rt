@@ -5,8 +5,11 @@ ghost use Rattle.implib.specs.Fault.{IfInvalid, MemberTooLong};
 ghost use Rattle.implib.specs.Gnu.{export_listed, head_symbol};
 ghost use Rattle.implib.specs.Import.{address_symbol, holds, is_alias, is_empty_text, public_exports};
 ghost use Rattle.implib.specs.Library.{member_view};
-ghost use Rattle.implib.specs.Made.{Made, RefusesAlways, alias_plan, alias_plans, definition_names_refusal, export_plan, gnu_member_count, has_u16_ordinal, head_plan, holds_nul, is_too_long, member_of, numbered_plans, numbered_plans_of, plans_of, refusal, tail_plan};
-ghost use Rattle.implib.specs.Reads.{Reads};
+ghost use Rattle.implib.specs.Members.{AreMembersOf, has_u16_ordinal, is_too_long, member_specs, refusal};
+ghost use Rattle.implib.specs.NameRules.{RefusesAlways, definition_names_refusal, holds_nul};
+ghost use Rattle.implib.specs.GnuMembers.{alias_spec, alias_specs, export_spec, gnu_member_count, head_spec, numbered_specs, numbered_specs_of, tail_spec};
+ghost use Rattle.implib.specs.MemberSpec.{member_of};
+ghost use Rattle.implib.specs.ReadBack.{ReadBack};
 ghost use Rattle.implib.specs.Renaming.{renamed};
 ghost use Rattle.implib.specs.declared.library.Flavor.TheVariants.{Gnu};
 ghost use Rattle.std.specs.List.{list_all, list_any, sum_by};
@@ -63,9 +66,9 @@ impl GnuImportLibrary {
     /// The members, in order; refuses as [`ImportLibrary::members`](crate::ImportLibrary::members).
     pub fn members(&self) -> Result<Vec<Member>, Error>
         ensures ok { IfOk result (λ members.
-            Made self.now.definition self.now.machine Gnu (map member_view members.items)) }
+            AreMembersOf self.now.definition self.now.machine Gnu (map member_view members.items)) }
         ensures reads { IfOk result (λ members.
-            Reads self.now.definition self.now.machine Gnu (map member_view members.items)) }
+            ReadBack self.now.definition self.now.machine Gnu (map member_view members.items)) }
         ensures refused { IfInvalid result (λ cause. refusal self.now.definition self.now.machine Gnu ≡ Some cause) }
         ensures names_refused_always { RefusesAlways self.now.definition self.now.machine Gnu result }
     {
@@ -77,11 +80,11 @@ impl GnuImportLibrary {
 #[tactic(auto, using(crate::proofs::GnuLoop::long_built))]
 pub(crate) fn members(def: &ModuleDef, machine: MachineType) -> Result<Vec<Member>, Error>
     requires { definition_names_refusal (definition_view def.now) machine Gnu ≡ None }
-    ensures ok { IfOk result (λ members. map member_view members.items ≡ map member_of (plans_of (definition_view def.now) machine Gnu)) }
-    ensures fit { OnOk result (list_any is_too_long (plans_of (definition_view def.now) machine Gnu) ≡ false) }
+    ensures ok { IfOk result (λ members. map member_view members.items ≡ map member_of (member_specs (definition_view def.now) machine Gnu)) }
+    ensures fit { OnOk result (list_any is_too_long (member_specs (definition_view def.now) machine Gnu) ≡ false) }
     ensures ordinals { OnOk result (list_all has_u16_ordinal (public_exports (definition_view def.now)) ≡ true) }
     ensures too_long { IfInvalid result (λ cause. (cause ≡ MemberTooLong)
-        × (list_any is_too_long (plans_of (definition_view def.now) machine Gnu) ≡ true)) }
+        × (list_any is_too_long (member_specs (definition_view def.now) machine Gnu) ≡ true)) }
 {
     let dll = def.import_name.as_str();
     let head = head_symbol(*def.exports.allocator(), machine, dll)?;
@@ -97,12 +100,12 @@ fn build(def: &ModuleDef, machine: MachineType, head: &str) -> Result<Vec<Member
     requires names { definition_names_refusal (definition_view def.now) machine Gnu ≡ None }
     requires head { head.now ≡ head_symbol machine (definition_view def.now).import_name }
     ensures ok { IfOk result (λ members. map member_view members.items
-        ≡ map member_of (numbered_plans machine (definition_view def.now).import_name 0 (public_exports (definition_view def.now)))) }
+        ≡ map member_of (numbered_specs machine (definition_view def.now).import_name 0 (public_exports (definition_view def.now)))) }
     ensures fit { OnOk result (list_any is_too_long
-        (numbered_plans machine (definition_view def.now).import_name 0 (public_exports (definition_view def.now))) ≡ false) }
+        (numbered_specs machine (definition_view def.now).import_name 0 (public_exports (definition_view def.now))) ≡ false) }
     ensures ordinals { OnOk result (list_all has_u16_ordinal (public_exports (definition_view def.now)) ≡ true) }
     ensures too_long { IfInvalid result (λ cause. (cause ≡ MemberTooLong) × (list_any is_too_long
-        (numbered_plans machine (definition_view def.now).import_name 0 (public_exports (definition_view def.now))) ≡ true)) }
+        (numbered_specs machine (definition_view def.now).import_name 0 (public_exports (definition_view def.now))) ≡ true)) }
 {
     let dll = def.import_name.as_str();
     let mut members = Vec::with_capacity(*def.exports.allocator(), member_count(def))?;
@@ -141,10 +144,10 @@ fn has_aliases(export: &ShortExport) -> bool
 fn push_linkage(members: &mut Vec<Member>, machine: MachineType, dll: &str) -> Result<(), Error>
     requires { holds 0 dll.now ≡ false }
     ensures ok { OnOk result (map member_view members.new.items
-        ≡ map member_view members.old.items ++ map member_of (head_plan machine dll.now ∷ tail_plan machine dll.now ∷ [])) }
-    ensures fit { OnOk result (list_any is_too_long (head_plan machine dll.now ∷ tail_plan machine dll.now ∷ []) ≡ false) }
+        ≡ map member_view members.old.items ++ map member_of (head_spec machine dll.now ∷ tail_spec machine dll.now ∷ [])) }
+    ensures fit { OnOk result (list_any is_too_long (head_spec machine dll.now ∷ tail_spec machine dll.now ∷ []) ≡ false) }
     ensures too_long { IfInvalid result (λ cause. (cause ≡ MemberTooLong)
-        × (list_any is_too_long (head_plan machine dll.now ∷ tail_plan machine dll.now ∷ []) ≡ true)) }
+        × (list_any is_too_long (head_spec machine dll.now ∷ tail_spec machine dll.now ∷ []) ≡ true)) }
 {
     members.push(head_member(*members.allocator(), machine, dll)?)?;
     members.push(tail_member(*members.allocator(), machine, dll)?)?;
@@ -173,12 +176,12 @@ fn linkage_member(
 }
 
 // The head.
-#[tactic(auto, unfolding(crate::specs::Made::head_plan))]
+#[tactic(auto, unfolding(crate::specs::GnuMembers::head_spec))]
 fn head_member(alloc: Global, machine: MachineType, dll: &str) -> Result<Member, Error>
     requires { holds 0 dll.now ≡ false }
-    ensures ok { IfOk result (λ m. member_view m ≡ member_of (head_plan machine dll.now)) }
-    ensures fit { OnOk result (is_too_long (head_plan machine dll.now) ≡ false) }
-    ensures too_long { IfInvalid result (λ cause. (cause ≡ MemberTooLong) × (is_too_long (head_plan machine dll.now) ≡ true)) }
+    ensures ok { IfOk result (λ m. member_view m ≡ member_of (head_spec machine dll.now)) }
+    ensures fit { OnOk result (is_too_long (head_spec machine dll.now) ≡ false) }
+    ensures too_long { IfInvalid result (λ cause. (cause ≡ MemberTooLong) × (is_too_long (head_spec machine dll.now) ≡ true)) }
 {
     let symbol = head_symbol(alloc, machine, dll)?;
     let name = name_symbol(alloc, machine, dll)?;
@@ -187,12 +190,12 @@ fn head_member(alloc: Global, machine: MachineType, dll: &str) -> Result<Member,
 }
 
 // The tail.
-#[tactic(auto, unfolding(crate::specs::Made::tail_plan))]
+#[tactic(auto, unfolding(crate::specs::GnuMembers::tail_spec))]
 fn tail_member(alloc: Global, machine: MachineType, dll: &str) -> Result<Member, Error>
     requires { holds 0 dll.now ≡ false }
-    ensures ok { IfOk result (λ m. member_view m ≡ member_of (tail_plan machine dll.now)) }
-    ensures fit { OnOk result (is_too_long (tail_plan machine dll.now) ≡ false) }
-    ensures too_long { IfInvalid result (λ cause. (cause ≡ MemberTooLong) × (is_too_long (tail_plan machine dll.now) ≡ true)) }
+    ensures ok { IfOk result (λ m. member_view m ≡ member_of (tail_spec machine dll.now)) }
+    ensures fit { OnOk result (is_too_long (tail_spec machine dll.now) ≡ false) }
+    ensures too_long { IfInvalid result (λ cause. (cause ≡ MemberTooLong) × (is_too_long (tail_spec machine dll.now) ≡ true)) }
 {
     let symbol = name_symbol(alloc, machine, dll)?;
     let bytes = tail_object(alloc, machine, dll, symbol.as_str())?;
@@ -200,7 +203,7 @@ fn tail_member(alloc: Global, machine: MachineType, dll: &str) -> Result<Member,
 }
 
 // Pushes the weak externals of an export, if any, and then the export; the number is the export's.
-#[tactic(auto, unfolding(crate::specs::Made::alias_plans))]
+#[tactic(auto, unfolding(crate::specs::GnuMembers::alias_specs))]
 fn push_export(
     members: &mut Vec<Member>,
     export: &ShortExport,
@@ -214,11 +217,11 @@ fn push_export(
     requires nul { holds_nul (export_view export.now) ≡ false }
     requires filled { is_empty_text (export_view export.now).name ≡ false }
     ensures ok { OnOk result (map member_view members.new.items
-        ≡ map member_view members.old.items ++ map member_of (numbered_plans_of machine dll.now number (export_view export.now))) }
-    ensures fit { OnOk result (list_any is_too_long (numbered_plans_of machine dll.now number (export_view export.now)) ≡ false) }
+        ≡ map member_view members.old.items ++ map member_of (numbered_specs_of machine dll.now number (export_view export.now))) }
+    ensures fit { OnOk result (list_any is_too_long (numbered_specs_of machine dll.now number (export_view export.now)) ≡ false) }
     ensures ordinal { OnOk result (has_u16_ordinal (export_view export.now) ≡ true) }
     ensures too_long { IfInvalid result (λ cause. (cause ≡ MemberTooLong)
-        × (list_any is_too_long (numbered_plans_of machine dll.now number (export_view export.now)) ≡ true)) }
+        × (list_any is_too_long (numbered_specs_of machine dll.now number (export_view export.now)) ≡ true)) }
 {
     if has_aliases(export) {
         push_weak_externals(members, export, number, machine, dll)?;
@@ -228,7 +231,7 @@ fn push_export(
 }
 
 // Pushes the weak externals of an export: of its name, and of its address.
-#[tactic(auto, unfolding(crate::specs::Made::alias_plans))]
+#[tactic(auto, unfolding(crate::specs::GnuMembers::alias_specs))]
 fn push_weak_externals(
     members: &mut Vec<Member>,
     export: &ShortExport,
@@ -239,10 +242,10 @@ fn push_weak_externals(
     requires nul { holds_nul (export_view export.now) ≡ false }
     requires aliases { is_alias (export_view export.now).alias_target (export_view export.now).name ≡ true }
     ensures ok { OnOk result (map member_view members.new.items
-        ≡ map member_view members.old.items ++ map member_of (alias_plans machine dll.now number (export_view export.now))) }
-    ensures fit { OnOk result (list_any is_too_long (alias_plans machine dll.now number (export_view export.now)) ≡ false) }
+        ≡ map member_view members.old.items ++ map member_of (alias_specs machine dll.now number (export_view export.now))) }
+    ensures fit { OnOk result (list_any is_too_long (alias_specs machine dll.now number (export_view export.now)) ≡ false) }
     ensures too_long { IfInvalid result (λ cause. (cause ≡ MemberTooLong)
-        × (list_any is_too_long (alias_plans machine dll.now number (export_view export.now)) ≡ true)) }
+        × (list_any is_too_long (alias_specs machine dll.now number (export_view export.now)) ≡ true)) }
 {
     let alloc = *members.allocator();
     let weak = export.name.as_str();
@@ -266,10 +269,10 @@ fn alias_member(
 ) -> Result<Member, Error>
     requires weak_text { holds 0 weak.now ≡ false }
     requires target_text { holds 0 target.now ≡ false }
-    ensures ok { IfOk result (λ m. member_view m ≡ member_of (alias_plan machine (string_bytes name) weak.now target.now)) }
-    ensures fit { OnOk result (is_too_long (alias_plan machine (string_bytes name) weak.now target.now) ≡ false) }
+    ensures ok { IfOk result (λ m. member_view m ≡ member_of (alias_spec machine (string_bytes name) weak.now target.now)) }
+    ensures fit { OnOk result (is_too_long (alias_spec machine (string_bytes name) weak.now target.now) ≡ false) }
     ensures too_long { IfInvalid result (λ cause. (cause ≡ MemberTooLong)
-        × (is_too_long (alias_plan machine (string_bytes name) weak.now target.now) ≡ true)) }
+        × (is_too_long (alias_spec machine (string_bytes name) weak.now target.now) ≡ true)) }
 {
     let bytes = weak_external(alloc, machine, weak, target)?;
     let symbol = String::from_str(alloc, weak)?;
@@ -293,7 +296,7 @@ fn export_listed(
 }
 
 // The member of the export of this number.
-#[tactic(auto, unfolding(crate::specs::Made::export_plan))]
+#[tactic(auto, unfolding(crate::specs::GnuMembers::export_spec))]
 fn export_member(
     alloc: Global,
     export: &ShortExport,
@@ -306,11 +309,11 @@ fn export_member(
     requires head { head.now ≡ head_symbol machine dll.now }
     requires name_text { holds 0 (export_view export.now).name ≡ false }
     requires filled { is_empty_text (export_view export.now).name ≡ false }
-    ensures ok { IfOk result (λ m. member_view m ≡ member_of (export_plan machine dll.now number (export_view export.now))) }
-    ensures fit { OnOk result (is_too_long (export_plan machine dll.now number (export_view export.now)) ≡ false) }
+    ensures ok { IfOk result (λ m. member_view m ≡ member_of (export_spec machine dll.now number (export_view export.now))) }
+    ensures fit { OnOk result (is_too_long (export_spec machine dll.now number (export_view export.now)) ≡ false) }
     ensures ordinal { OnOk result (has_u16_ordinal (export_view export.now) ≡ true) }
     ensures too_long { IfInvalid result (λ cause. (cause ≡ MemberTooLong)
-        × (is_too_long (export_plan machine dll.now number (export_view export.now)) ≡ true)) }
+        × (is_too_long (export_spec machine dll.now number (export_view export.now)) ≡ true)) }
 {
     let _ordinal = export.ordinal;
     let address = address_symbol(alloc, export.name.as_str())?;

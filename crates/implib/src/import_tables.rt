@@ -1,14 +1,14 @@
 //! What the import tables of an object are made of, for either linker.
 
 ghost use Rattle.implib.specs.Constants.{image_relative};
-ghost use Rattle.implib.specs.MsvcObjects.{relocation, thunk_width, zeros};
+ghost use Rattle.implib.specs.ImportTables.{relocation, thunk_width, zeros};
 ghost use Rattle.std.specs.Prelude.{◌≡◌, IfOk};
 
 use crate::coff::{Relocation, relocation};
 use crate::machine::MachineType;
 use std::alloc::{AllocError, Global};
 
-/// The bytes of an import descriptor.
+/// The size in bytes of an import descriptor.
 pub(crate) const DESCRIPTOR_SIZE: usize = 20;
 
 // The type of an image-relative relocation.
@@ -23,14 +23,14 @@ fn image_relative(machine: MachineType) -> u16
     }
 }
 
-/// The bytes of an entry of the address table and the lookup table.
+/// The size in bytes of an entry of the address table and the lookup table.
 pub(crate) fn thunk_width(machine: MachineType) -> usize
     ensures { result ≡ thunk_width machine }
 {
     if machine.is_32bit() { 4 } else { 8 }
 }
 
-/// So many zero bytes.
+/// `count` zero bytes.
 pub(crate) fn zeros(alloc: Global, count: usize) -> Result<Vec<u8>, AllocError>
     ensures { IfOk result (λ bytes. bytes.items ≡ zeros count) }
 {

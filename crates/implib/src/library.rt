@@ -3,9 +3,10 @@
 ghost use Rattle.implib.specs.Definition.{definition_view, export_view};
 ghost use Rattle.implib.specs.Fault.{IfInvalid, error_cause};
 ghost use Rattle.implib.specs.Library.{LibraryOf, library_view, member_view};
-ghost use Rattle.implib.specs.Made.{Made, RefusesAlways, refusal};
+ghost use Rattle.implib.specs.Members.{AreMembersOf, refusal};
+ghost use Rattle.implib.specs.NameRules.{RefusesAlways};
 ghost use Rattle.implib.specs.Parses.{Refuses};
-ghost use Rattle.implib.specs.Reads.{Reads};
+ghost use Rattle.implib.specs.ReadBack.{ReadBack};
 ghost use Rattle.implib.specs.Renaming.{is_renamed, renamed};
 ghost use Rattle.std.specs.Prelude.{◌≡◌, IfErr, IfOk, None, Some, map, true};
 
@@ -17,7 +18,7 @@ use crate::{gnu, msvc};
 use std::alloc::Global;
 use std::marker::Model;
 
-/// Whose import objects are made.
+/// The linker that the members are for.
 #[derive(Clone, Copy, Debug)]
 pub enum Flavor {
     /// Microsoft's.
@@ -48,7 +49,7 @@ pub struct ImportLibrary {
 impl Model for ImportLibrary {
     ghost use Rattle.implib.specs.Definition.{export_view};
     ghost use Rattle.implib.specs.Library.{LibraryView, library_view};
-    ghost use Rattle.implib.specs.Reads.{Reads};
+    ghost use Rattle.implib.specs.ReadBack.{ReadBack};
     ghost use Rattle.implib.specs.Renaming.{is_renamed};
     ghost use Rattle.std.specs.Prelude.{◌≡◌, map, true};
 
@@ -105,9 +106,9 @@ impl ImportLibrary {
     /// others can be preceded by `OutOfMemory`.
     pub fn members(&self) -> Result<Vec<Member>, Error>
         ensures ok { IfOk result (λ members.
-            Made self.now.definition self.now.machine self.now.flavor (map member_view members.items)) }
+            AreMembersOf self.now.definition self.now.machine self.now.flavor (map member_view members.items)) }
         ensures reads { IfOk result (λ members.
-            Reads self.now.definition self.now.machine self.now.flavor (map member_view members.items)) }
+            ReadBack self.now.definition self.now.machine self.now.flavor (map member_view members.items)) }
         ensures refused { IfInvalid result (λ cause.
             refusal self.now.definition self.now.machine self.now.flavor ≡ Some cause) }
         ensures names_refused_always { RefusesAlways self.now.definition self.now.machine self.now.flavor result }
@@ -135,8 +136,8 @@ pub(crate) fn members_of(
     flavor: Flavor,
 ) -> Result<Vec<Member>, Error>
     requires { is_renamed (map export_view def.now.exports.items) ≡ true }
-    ensures ok { IfOk result (λ members. Made (definition_view def.now) machine flavor (map member_view members.items)) }
-    ensures reads { IfOk result (λ members. Reads (definition_view def.now) machine flavor (map member_view members.items)) }
+    ensures ok { IfOk result (λ members. AreMembersOf (definition_view def.now) machine flavor (map member_view members.items)) }
+    ensures reads { IfOk result (λ members. ReadBack (definition_view def.now) machine flavor (map member_view members.items)) }
     ensures refused { IfInvalid result (λ cause. refusal (definition_view def.now) machine flavor ≡ Some cause) }
     ensures names_refused_always { RefusesAlways (definition_view def.now) machine flavor result }
 {

@@ -19,7 +19,7 @@ pub enum MachineType {
 }
 
 impl MachineType {
-    /// The number that stands for the machine in a file header.
+    /// The machine's number in a file header.
     pub fn number(self) -> u16
         ensures { result ≡ machine_number self }
     {

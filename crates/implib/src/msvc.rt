@@ -4,10 +4,13 @@ ghost use Rattle.implib.specs.Definition.{definition_view, export_view};
 ghost use Rattle.implib.specs.Fault.{IfInvalid, MemberTooLong};
 ghost use Rattle.implib.specs.Import.{holds, is_alias, public_exports};
 ghost use Rattle.implib.specs.Library.{member_view};
-ghost use Rattle.implib.specs.Made.{Made, RefusesAlways, definition_names_refusal, export_plans, has_u16_ordinal, heading_plans, holds_nul, is_too_long, member_count, member_of, plans_of, refusal, weak_plans};
-ghost use Rattle.implib.specs.Reads.{Reads};
+ghost use Rattle.implib.specs.Members.{AreMembersOf, has_u16_ordinal, is_too_long, member_specs, refusal};
+ghost use Rattle.implib.specs.NameRules.{RefusesAlways, definition_names_refusal, holds_nul};
+ghost use Rattle.implib.specs.MsvcMembers.{export_specs, header_specs, member_count, weak_specs};
+ghost use Rattle.implib.specs.MemberSpec.{member_of};
+ghost use Rattle.implib.specs.ReadBack.{ReadBack};
 ghost use Rattle.implib.specs.Renaming.{renamed};
-ghost use Rattle.implib.specs.Msvc.{record_symbol};
+ghost use Rattle.implib.specs.Msvc.{short_import_symbol};
 ghost use Rattle.implib.specs.declared.library.Flavor.TheVariants.{Msvc};
 ghost use Rattle.std.specs.List.{list_all, list_any, sum_by};
 ghost use Rattle.std.specs.Prelude.{None, Some, false, map, true, ◌+◌, ◌++◌, ◌≡◌, IfOk, OnOk, min};
@@ -19,12 +22,12 @@ use crate::machine::MachineType;
 use std::marker::Model;
 
 mod objects;
-mod record;
+mod short_import;
 
 pub(crate) use objects::weak_external;
 use objects::{descriptor_member, null_descriptor_member, null_thunk_member, weak_member};
-pub(crate) use record::{address_symbol, asked};
-use record::{record_member, record_symbol};
+pub(crate) use short_import::{address_symbol, asked};
+use short_import::{record_member, short_import_symbol};
 
 /// The import library of a module definition for Microsoft's linker.
 #[derive(Drop)]
@@ -61,9 +64,9 @@ impl MsvcImportLibrary {
     /// The members, in order; refuses as [`ImportLibrary::members`](crate::ImportLibrary::members).
     pub fn members(&self) -> Result<Vec<Member>, Error>
         ensures ok { IfOk result (λ members.
-            Made self.now.definition self.now.machine Msvc (map member_view members.items)) }
+            AreMembersOf self.now.definition self.now.machine Msvc (map member_view members.items)) }
         ensures reads { IfOk result (λ members.
-            Reads self.now.definition self.now.machine Msvc (map member_view members.items)) }
+            ReadBack self.now.definition self.now.machine Msvc (map member_view members.items)) }
         ensures refused { IfInvalid result (λ cause. refusal self.now.definition self.now.machine Msvc ≡ Some cause) }
         ensures names_refused_always { RefusesAlways self.now.definition self.now.machine Msvc result }
     {
@@ -74,16 +77,16 @@ impl MsvcImportLibrary {
 /// The members of a definition that breaks no rule on names, in order.
 pub(crate) fn members(def: &ModuleDef, machine: MachineType) -> Result<Vec<Member>, Error>
     requires { definition_names_refusal (definition_view def.now) machine Msvc ≡ None }
-    ensures ok { IfOk result (λ members. map member_view members.items ≡ map member_of (plans_of (definition_view def.now) machine Msvc)) }
-    ensures fit { OnOk result (list_any is_too_long (plans_of (definition_view def.now) machine Msvc) ≡ false) }
+    ensures ok { IfOk result (λ members. map member_view members.items ≡ map member_of (member_specs (definition_view def.now) machine Msvc)) }
+    ensures fit { OnOk result (list_any is_too_long (member_specs (definition_view def.now) machine Msvc) ≡ false) }
     ensures ordinals { OnOk result (list_all has_u16_ordinal (public_exports (definition_view def.now)) ≡ true) }
     ensures too_long { IfInvalid result (λ cause. (cause ≡ MemberTooLong)
-        × (list_any is_too_long (plans_of (definition_view def.now) machine Msvc) ≡ true)) }
+        × (list_any is_too_long (member_specs (definition_view def.now) machine Msvc) ≡ true)) }
 {
     let alloc = *def.exports.allocator();
     let dll = def.import_name.as_str();
     let mut members = Vec::with_capacity(alloc, member_count(def))?;
-    push_heading(&mut members, machine, dll)?;
+    push_header_members(&mut members, machine, dll)?;
     for export in def.exports.iter() {
         if !export.private {
             push_export(&mut members, export, machine, dll)?;
@@ -107,20 +110,24 @@ fn member_count(def: &ModuleDef) -> usize
 
 // Whether the export's symbol is weak for another.
 fn has_aliases(export: &ShortExport) -> bool
-    ensures { result ≡ is_alias (export_view export.now).alias_target (record_symbol (export_view export.now)) }
+    ensures { result ≡ is_alias (export_view export.now).alias_target (short_import_symbol (export_view export.now)) }
 {
     let target = export.alias_target.as_str();
-    !target.is_empty() && target != record_symbol(export)
+    !target.is_empty() && target != short_import_symbol(export)
 }
 
-// Pushes the import descriptor, the null descriptor and the null thunk.
-#[tactic(auto, unfolding(crate::specs::Made::heading_plans))]
-fn push_heading(members: &mut Vec<Member>, machine: MachineType, dll: &str) -> Result<(), Error>
+// Pushes the header members: import descriptor, null descriptor and null thunk.
+#[tactic(auto, unfolding(crate::specs::MsvcMembers::header_specs))]
+fn push_header_members(
+    members: &mut Vec<Member>,
+    machine: MachineType,
+    dll: &str,
+) -> Result<(), Error>
     requires { holds 0 dll.now ≡ false }
     ensures ok { OnOk result (map member_view members.new.items
-        ≡ map member_view members.old.items ++ map member_of (heading_plans machine dll.now)) }
-    ensures fit { OnOk result (list_any is_too_long (heading_plans machine dll.now) ≡ false) }
-    ensures too_long { IfInvalid result (λ cause. (cause ≡ MemberTooLong) × (list_any is_too_long (heading_plans machine dll.now) ≡ true)) }
+        ≡ map member_view members.old.items ++ map member_of (header_specs machine dll.now)) }
+    ensures fit { OnOk result (list_any is_too_long (header_specs machine dll.now) ≡ false) }
+    ensures too_long { IfInvalid result (λ cause. (cause ≡ MemberTooLong) × (list_any is_too_long (header_specs machine dll.now) ≡ true)) }
 {
     members.push(descriptor_member(*members.allocator(), machine, dll)?)?;
     members.push(null_descriptor_member(*members.allocator(), machine, dll)?)?;
@@ -129,7 +136,7 @@ fn push_heading(members: &mut Vec<Member>, machine: MachineType, dll: &str) -> R
 }
 
 // Pushes the weak externals of an export, if any, and then its record.
-#[tactic(auto, unfolding(crate::specs::Made::weak_plans))]
+#[tactic(auto, unfolding(crate::specs::MsvcMembers::weak_specs))]
 fn push_export(
     members: &mut Vec<Member>,
     export: &ShortExport,
@@ -138,11 +145,11 @@ fn push_export(
 ) -> Result<(), Error>
     requires { holds_nul (export_view export.now) ≡ false }
     ensures ok { OnOk result (map member_view members.new.items
-        ≡ map member_view members.old.items ++ map member_of (export_plans machine dll.now (export_view export.now))) }
-    ensures fit { OnOk result (list_any is_too_long (export_plans machine dll.now (export_view export.now)) ≡ false) }
+        ≡ map member_view members.old.items ++ map member_of (export_specs machine dll.now (export_view export.now))) }
+    ensures fit { OnOk result (list_any is_too_long (export_specs machine dll.now (export_view export.now)) ≡ false) }
     ensures ordinal { OnOk result (has_u16_ordinal (export_view export.now) ≡ true) }
     ensures too_long { IfInvalid result (λ cause. (cause ≡ MemberTooLong)
-        × (list_any is_too_long (export_plans machine dll.now (export_view export.now)) ≡ true)) }
+        × (list_any is_too_long (export_specs machine dll.now (export_view export.now)) ≡ true)) }
 {
     if has_aliases(export) {
         push_weak_externals(members, export, machine, dll)?;
@@ -152,7 +159,7 @@ fn push_export(
 }
 
 // Pushes the weak externals of an export: of its symbol, and of its address.
-#[tactic(auto, unfolding(crate::specs::Made::weak_plans))]
+#[tactic(auto, unfolding(crate::specs::MsvcMembers::weak_specs))]
 fn push_weak_externals(
     members: &mut Vec<Member>,
     export: &ShortExport,
@@ -160,15 +167,15 @@ fn push_weak_externals(
     dll: &str,
 ) -> Result<(), Error>
     requires nul { holds_nul (export_view export.now) ≡ false }
-    requires aliases { is_alias (export_view export.now).alias_target (record_symbol (export_view export.now)) ≡ true }
+    requires aliases { is_alias (export_view export.now).alias_target (short_import_symbol (export_view export.now)) ≡ true }
     ensures ok { OnOk result (map member_view members.new.items
-        ≡ map member_view members.old.items ++ map member_of (weak_plans machine dll.now (export_view export.now))) }
-    ensures fit { OnOk result (list_any is_too_long (weak_plans machine dll.now (export_view export.now)) ≡ false) }
+        ≡ map member_view members.old.items ++ map member_of (weak_specs machine dll.now (export_view export.now))) }
+    ensures fit { OnOk result (list_any is_too_long (weak_specs machine dll.now (export_view export.now)) ≡ false) }
     ensures too_long { IfInvalid result (λ cause. (cause ≡ MemberTooLong)
-        × (list_any is_too_long (weak_plans machine dll.now (export_view export.now)) ≡ true)) }
+        × (list_any is_too_long (weak_specs machine dll.now (export_view export.now)) ≡ true)) }
 {
     let alloc = *members.allocator();
-    let symbol = record_symbol(export);
+    let symbol = short_import_symbol(export);
     let target = export.alias_target.as_str();
     members.push(weak_member(alloc, machine, dll, symbol, target)?)?;
     let symbol = address_symbol(alloc, symbol)?;

@@ -3,7 +3,7 @@
 ghost use Rattle.implib.specs.Definition.{definition_view, export_view};
 ghost use Rattle.implib.specs.Fault.{cause_of};
 ghost use Rattle.implib.specs.Import.{holds};
-ghost use Rattle.implib.specs.Made.{asked_in, definition_names_refusal, import_name_refusal, name_refusal, names_refusal};
+ghost use Rattle.implib.specs.NameRules.{asked_in, definition_names_refusal, import_name_refusal, name_refusal, names_refusal};
 ghost use Rattle.std.specs.Option.{option_map};
 ghost use Rattle.std.specs.Prelude.{map, string_bytes, ◌≡◌};
 

@@ -6,7 +6,7 @@ use Rattle.implib.specs.declared.machine.MachineType.{MachineType}
 use Rattle.implib.specs.Definition.{ExportView}
 use Rattle.implib.specs.Gnu.{export_object, head_object, tail_object}
 use Rattle.implib.specs.Image.{IsAdmissible}
-use Rattle.implib.specs.LinkedMembers.{IsMade, Part, all_linked, objects_in}
+use Rattle.implib.specs.LinkedMembers.{IsMade, LinkInput, all_linked, objects_in}
 use Rattle.implib.specs.Object.{Object}
 use Rattle.implib.specs.Placement.{Bases}
 use Rattle.implib.proofs.LinkedBlocks.{Block, blocks_objects}
@@ -52,20 +52,20 @@ none_left : (objects : List Object) → AllHave objects → filter (λ o. not (h
 none_left [] all = refl
 none_left (o ∷ objects) all = rw all.0 (none_left objects all.1)
 
-pub members_have : (machine : MachineType) (parts : List Part) → AllByRecursion (IsMade machine) parts →
-    AllByRecursion (λ o. has_tables o ≡ true) (objects_in (all_linked machine parts) ++ null_descriptor ∷ [])
-members_have machine parts made =
-    subst AllHave (sym (ap (λ members. members ++ null_descriptor ∷ []) (parts_objects machine parts made) ∙ objects_behind machine (map block_of parts) (null_descriptor ∷ [])))
-    (blocks_have machine (map block_of parts) (null_descriptor ∷ []) (null_has, tt))
+pub members_have : (machine : MachineType) (inputs : List LinkInput) → AllByRecursion (IsMade machine) inputs →
+    AllByRecursion (λ o. has_tables o ≡ true) (objects_in (all_linked machine inputs) ++ null_descriptor ∷ [])
+members_have machine inputs made =
+    subst AllHave (sym (ap (λ members. members ++ null_descriptor ∷ []) (parts_objects machine inputs made) ∙ objects_behind machine (map block_of inputs) (null_descriptor ∷ [])))
+    (blocks_have machine (map block_of inputs) (null_descriptor ∷ []) (null_has, tt))
 
-pub members_are_program : (machine : MachineType) (bases : Bases) (parts : List Part) → AllByRecursion (IsMade machine) parts →
-    IsDistinct bytes_eq (linked_symbols machine parts) → IsAdmissible machine bases (objects_in (all_linked machine parts) ++ null_descriptor ∷ []) →
-    IsProgram machine bases parts (objects_in (all_linked machine parts) ++ null_descriptor ∷ [])
-members_are_program machine bases parts made distinct admissible =
-    let objects : List Object = objects_in (all_linked machine parts) ++ null_descriptor ∷ [] in
+pub members_are_program : (machine : MachineType) (bases : Bases) (inputs : List LinkInput) → AllByRecursion (IsMade machine) inputs →
+    IsDistinct bytes_eq (linked_symbols machine inputs) → IsAdmissible machine bases (objects_in (all_linked machine inputs) ++ null_descriptor ∷ []) →
+    IsProgram machine bases inputs (objects_in (all_linked machine inputs) ++ null_descriptor ∷ [])
+members_are_program machine bases inputs made distinct admissible =
+    let objects : List Object = objects_in (all_linked machine inputs) ++ null_descriptor ∷ [] in
     record {
       distinct = distinct;
-      tables = all_kept objects (members_have machine parts made);
-      others = subst (AllByRecursion (ClaimsNone (linked_symbols machine parts))) (sym (none_left objects (members_have machine parts made))) tt;
+      tables = all_kept objects (members_have machine inputs made);
+      others = subst (AllByRecursion (ClaimsNone (linked_symbols machine inputs))) (sym (none_left objects (members_have machine inputs made))) tt;
       admissible = admissible;
     }

@@ -6,9 +6,9 @@ use Rattle.std.proofs.lemmas.List.{append_assoc}
 use Rattle.implib.specs.declared.machine.MachineType.{MachineType}
 use Rattle.implib.specs.Definition.{ExportView}
 use Rattle.implib.specs.Image.{Range}
-use Rattle.implib.specs.LinkedMembers.{Part, chosen_exports}
+use Rattle.implib.specs.LinkedMembers.{LinkInput, chosen_exports}
 use Rattle.implib.specs.Load.{BytesAt}
-use Rattle.implib.specs.MsvcObjects.{thunk_width, zeros}
+use Rattle.implib.specs.ImportTables.{thunk_width, zeros}
 use Rattle.implib.specs.Object.{Object}
 use Rattle.implib.specs.Placement.{Bases, Placed, next_multiple}
 use Rattle.implib.proofs.LinkedBlocks.{Block, BlocksLink, blocks_objects, ends_of_blocks}
@@ -73,45 +73,45 @@ plus_zero : (a w : ℕ) → a ≡ a + w * 0
 plus_zero a w = let none : w * 0 ≡ 0 = mul-zero w in omega arith
 
 -- what is known of the i-th block
-pub nth_block : (machine : MachineType) (linked : List Placed) (image : List Range) (parts : List Part) (b : Bases) →
-    BlocksLink machine linked image b (map block_of parts) → (i : ℕ) (p : Part) → slice_get parts i ≡ Some p →
-    (c : Bases) × ((c.descriptors ≡ b.descriptors + 20 * i) × ((c.addresses ≡ b.addresses + thunk_width machine * thunks_before i parts)
+pub nth_block : (machine : MachineType) (linked : List Placed) (image : List Range) (inputs : List LinkInput) (b : Bases) →
+    BlocksLink machine linked image b (map block_of inputs) → (i : ℕ) (p : LinkInput) → slice_get inputs i ≡ Some p →
+    (c : Bases) × ((c.descriptors ≡ b.descriptors + 20 * i) × ((c.addresses ≡ b.addresses + thunk_width machine * thunks_before i inputs)
     × BlockLinks machine linked image c p.definition.import_name (chosen_exports p.definition p.chosen)))
 unfolding BlocksLink
 nth_block machine linked image [] b links i p is = cc
-nth_block machine linked image (q ∷ parts) b links zero p is =
+nth_block machine linked image (q ∷ inputs) b links zero p is =
     let same : q ≡ p = cc in (
       b,
       (
         omega arith,
         (
           plus_zero b.addresses (thunk_width machine),
-          subst (λ (r : Part). BlockLinks machine linked image b r.definition.import_name (chosen_exports r.definition r.chosen)) same links.0,
+          subst (λ (r : LinkInput). BlockLinks machine linked image b r.definition.import_name (chosen_exports r.definition r.chosen)) same links.0,
         ),
       ),
     )
-nth_block machine linked image (q ∷ parts) b links (suc i) p is =
+nth_block machine linked image (q ∷ inputs) b links (suc i) p is =
     let dll : List ℕ = q.definition.import_name in
     let exports : List ExportView = chosen_exports q.definition q.chosen in
     let later : Bases = ends_of_block machine dll b exports in
-    let found = nth_block machine linked image parts later links.1 i p is in
+    let found = nth_block machine linked image inputs later links.1 i p is in
     let at_descriptor : later.descriptors + 20 * i ≡ b.descriptors + 20 * suc i =
     ap (λ n. n + 20 * i) (sym (descriptors_after machine dll b exports)) ∙ plus_sum b.descriptors i 0 in
-    let at_table : later.addresses + thunk_width machine * thunks_before i parts ≡ b.addresses + thunk_width machine * (length exports + 1 + thunks_before i parts) =
-    ap (λ n. n + thunk_width machine * thunks_before i parts) (addresses_after machine dll (ends_of_head machine dll b) exports)
-    ∙ table_sum b.addresses (thunk_width machine) (length exports + 1) (thunks_before i parts) in
+    let at_table : later.addresses + thunk_width machine * thunks_before i inputs ≡ b.addresses + thunk_width machine * (length exports + 1 + thunks_before i inputs) =
+    ap (λ n. n + thunk_width machine * thunks_before i inputs) (addresses_after machine dll (ends_of_head machine dll b) exports)
+    ∙ table_sum b.addresses (thunk_width machine) (length exports + 1) (thunks_before i inputs) in
     (found.0, (found.1.0 ∙ at_descriptor, (found.1.1.0 ∙ at_table, found.1.1.1)))
 
 -- blocks and the null descriptor behind them are a directory
-pub directory_of : (machine : MachineType) (linked : List Placed) (image : List Range) (parts : List Part) (b : Bases) →
-    BlocksLink machine linked image b (map block_of parts) → BytesAt image (ends_of_blocks machine b (map block_of parts)).descriptors (zeros 20) →
-    DirectoryAt image (thunk_width machine) b.descriptors (map (imported machine) parts)
+pub directory_of : (machine : MachineType) (linked : List Placed) (image : List Range) (inputs : List LinkInput) (b : Bases) →
+    BlocksLink machine linked image b (map block_of inputs) → BytesAt image (ends_of_blocks machine b (map block_of inputs)).descriptors (zeros 20) →
+    DirectoryAt image (thunk_width machine) b.descriptors (map (imported machine) inputs)
 unfolding BlocksLink DirectoryAt ends_of_blocks
 directory_of machine linked image [] b links null = null
-directory_of machine linked image (p ∷ parts) b links null =
+directory_of machine linked image (p ∷ inputs) b links null =
     let dll : List ℕ = p.definition.import_name in
     let exports : List ExportView = chosen_exports p.definition p.chosen in (
       links.0.strictly.loads,
-      subst (λ n. DirectoryAt image (thunk_width machine) n (map (imported machine) parts)) (sym (descriptors_after machine dll b exports))
-          (directory_of machine linked image parts (ends_of_block machine dll b exports) links.1 null),
+      subst (λ n. DirectoryAt image (thunk_width machine) n (map (imported machine) inputs)) (sym (descriptors_after machine dll b exports))
+          (directory_of machine linked image inputs (ends_of_block machine dll b exports) links.1 null),
     )

@@ -2,7 +2,7 @@
 use Rattle.std.proofs.Common.{◌≡◌, ℕ, ◌+◌, ◌<◌, List, [], ◌∷◌, refl, ap, ◌∙◌, inl, inr, arith}
 use Rattle.implib.specs.Image.{Range}
 use Rattle.implib.specs.Load.{BytesAt, LoadsStrictly, NumberAt}
-use Rattle.implib.specs.MsvcObjects.{zeros}
+use Rattle.implib.specs.ImportTables.{zeros}
 use Rattle.implib.proofs.Loading.{asks_once, dll_once, number_once}
 use Rattle.implib.proofs.Ranges.{stands_parts}
 use Rattle.implib_link.specs.Directory.{DirectoryAt, GoesOnBy, Imported, StopsAt, WalkFinds}

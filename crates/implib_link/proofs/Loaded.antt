@@ -9,11 +9,11 @@ use Rattle.std.proofs.lemmas.Option.{slice_get-map}
 use Rattle.implib.specs.declared.machine.MachineType.{MachineType}
 use Rattle.implib.specs.Definition.{ExportView}
 use Rattle.implib.specs.Image.{Range, byte_at, image_of, is_in, range_end}
-use Rattle.implib.specs.Import.{Ask, address_symbol, ask_meant}
+use Rattle.implib.specs.Import.{Ask, address_symbol, expected_ask}
 use Rattle.implib.specs.Linked.{EntriesAt}
-use Rattle.implib.specs.LinkedMembers.{IsMade, Part, chosen_exports}
+use Rattle.implib.specs.LinkedMembers.{IsMade, LinkInput, chosen_exports}
 use Rattle.implib.specs.Load.{BytesAt, NumberAt}
-use Rattle.implib.specs.MsvcObjects.{thunk_width}
+use Rattle.implib.specs.ImportTables.{thunk_width}
 use Rattle.implib.specs.Object.{Object}
 use Rattle.implib.specs.Placement.{Bases, Placed, placed_from}
 use Rattle.implib.specs.Resolution.{definitions_of}
@@ -59,8 +59,8 @@ behind_front r rs (b ∷ bytes) a past stands = (rw (past_end a r past) stands.0
 pub kept_outside : (written ranges : List Range) (a : ℕ) → list_any (is_in a) written ≡ false → byte_at (written ++ ranges) a ≡ byte_at ranges a
 kept_outside [] ranges a none = refl
 kept_outside (r ∷ written) ranges a none =
-    let parts = or_parts (is_in a r) (list_any (is_in a) written) none in
-    rw parts.0 (kept_outside written ranges a parts.1)
+    let inputs = or_parts (is_in a r) (list_any (is_in a) written) none in
+    rw inputs.0 (kept_outside written ranges a inputs.1)
 
 -- The entries of one table.
 
@@ -114,114 +114,114 @@ module _ (machine : MachineType) (gives : List ℕ → Ask → List ℕ) where
   abbrev width : ℕ
   width = thunk_width machine
 
-  abbrev asks_of : Part → List Ask
+  abbrev asks_of : LinkInput → List Ask
   asks_of p = (imported machine p).asks
 
-  abbrev exports_of : Part → List ExportView
+  abbrev exports_of : LinkInput → List ExportView
   exports_of p = chosen_exports p.definition p.chosen
 
-  abbrev next_table : ℕ → Part → ℕ
+  abbrev next_table : ℕ → LinkInput → ℕ
   next_table a p = a + thunk_width machine * (length (chosen_exports p.definition p.chosen) + 1)
 
-  tables_written : ℕ → List Part → List Range
+  tables_written : ℕ → List LinkInput → List Range
   tables_written a [] = []
-  tables_written a (p ∷ parts) = entries_written (thunk_width machine) a (gives p.definition.import_name) (asks_of p) ++ tables_written (next_table a p) parts
+  tables_written a (p ∷ inputs) = entries_written (thunk_width machine) a (gives p.definition.import_name) (asks_of p) ++ tables_written (next_table a p) inputs
 
-  count_asks : (p : Part) → length (asks_of p) ≡ length (exports_of p)
-  count_asks p = length-map (exports_of p) (ask_meant machine)
+  count_asks : (p : LinkInput) → length (asks_of p) ≡ length (exports_of p)
+  count_asks p = length-map (exports_of p) (expected_ask machine)
 
-  before_next : (a : ℕ) (p : Part) → a + thunk_width machine * length (asks_of p) ≤ next_table a p
+  before_next : (a : ℕ) (p : LinkInput) → a + thunk_width machine * length (asks_of p) ≤ next_table a p
   before_next a p =
       let split : thunk_width machine * (length (exports_of p) + 1) ≡ thunk_width machine * length (exports_of p) + thunk_width machine * 1 = mul-add (thunk_width machine) (length (exports_of p)) 1 in
       let same : thunk_width machine * length (asks_of p) ≡ thunk_width machine * length (exports_of p) = ap (λ n. thunk_width machine * n) (count_asks p) in
       omega arith
 
-  table_next : (a : ℕ) (p : Part) (n : ℕ) → next_table a p + thunk_width machine * n ≡ a + thunk_width machine * (length (exports_of p) + 1 + n)
+  table_next : (a : ℕ) (p : LinkInput) (n : ℕ) → next_table a p + thunk_width machine * n ≡ a + thunk_width machine * (length (exports_of p) + 1 + n)
   table_next a p n =
       let split : thunk_width machine * (length (exports_of p) + 1 + n) ≡ thunk_width machine * (length (exports_of p) + 1) + thunk_width machine * n = mul-add (thunk_width machine) (length (exports_of p) + 1) n in
       omega arith
 
   -- each descriptor's field at 16 has the address of its DLL's table
-  Fields : List Range → ℕ → ℕ → List Part → Type 0
-  Fields image descriptor a parts =
-      (i : ℕ) (p : Part) → slice_get parts i ≡ Some p → NumberAt image 4 (descriptor + 20 * i + 16) (a + thunk_width machine * thunks_before i parts)
+  Fields : List Range → ℕ → ℕ → List LinkInput → Type 0
+  Fields image descriptor a inputs =
+      (i : ℕ) (p : LinkInput) → slice_get inputs i ≡ Some p → NumberAt image 4 (descriptor + 20 * i + 16) (a + thunk_width machine * thunks_before i inputs)
 
-  first_field : (image : List Range) (descriptor a : ℕ) (p : Part) (parts : List Part) → Fields image descriptor a (p ∷ parts) → NumberAt image 4 (descriptor + 16) a
+  first_field : (image : List Range) (descriptor a : ℕ) (p : LinkInput) (inputs : List LinkInput) → Fields image descriptor a (p ∷ inputs) → NumberAt image 4 (descriptor + 16) a
   unfolding Fields
-  first_field image descriptor a p parts fields =
+  first_field image descriptor a p inputs fields =
       let place : descriptor + 20 * 0 + 16 ≡ descriptor + 16 = omega arith in
       subst (λ n. NumberAt image 4 n a) place (subst (NumberAt image 4 (descriptor + 20 * 0 + 16)) (sym (times_none a (thunk_width machine))) (fields 0 p refl))
 
-  later_fields : (image : List Range) (descriptor a : ℕ) (p : Part) (parts : List Part) → Fields image descriptor a (p ∷ parts) → Fields image (descriptor + 20) (next_table a p) parts
+  later_fields : (image : List Range) (descriptor a : ℕ) (p : LinkInput) (inputs : List LinkInput) → Fields image descriptor a (p ∷ inputs) → Fields image (descriptor + 20) (next_table a p) inputs
   unfolding Fields
-  later_fields image descriptor a p parts fields i q is =
+  later_fields image descriptor a p inputs fields i q is =
       let place : descriptor + 20 * suc i + 16 ≡ descriptor + 20 + 20 * i + 16 = omega arith in
-      subst (λ n. NumberAt image 4 n (next_table a p + thunk_width machine * thunks_before i parts)) place
-      (subst (NumberAt image 4 (descriptor + 20 * suc i + 16)) (sym (table_next a p (thunks_before i parts))) (fields (suc i) q is))
+      subst (λ n. NumberAt image 4 n (next_table a p + thunk_width machine * thunks_before i inputs)) place
+      (subst (NumberAt image 4 (descriptor + 20 * suc i + 16)) (sym (table_next a p (thunks_before i inputs))) (fields (suc i) q is))
 
-  writes_are : (image : List Range) (parts : List Part) (descriptor a : ℕ) (written : List Range) → Fields image descriptor a parts →
-      Writes image (thunk_width machine) gives descriptor (map (imported machine) parts) written → written ≡ tables_written a parts
+  writes_are : (image : List Range) (inputs : List LinkInput) (descriptor a : ℕ) (written : List Range) → Fields image descriptor a inputs →
+      Writes image (thunk_width machine) gives descriptor (map (imported machine) inputs) written → written ≡ tables_written a inputs
   unfolding Writes tables_written
   writes_are image [] descriptor a written fields writes = writes
-  writes_are image (p ∷ parts) descriptor a written fields writes =
-      let table : writes.0 ≡ a = number_once image 4 (descriptor + 16) writes.0 a writes.1.0 (first_field image descriptor a p parts fields) in
-      let behind : writes.1.1.0 ≡ tables_written (next_table a p) parts =
-      writes_are image parts (descriptor + 20) (next_table a p) writes.1.1.0 (later_fields image descriptor a p parts fields) writes.1.1.1.1 in
+  writes_are image (p ∷ inputs) descriptor a written fields writes =
+      let table : writes.0 ≡ a = number_once image 4 (descriptor + 16) writes.0 a writes.1.0 (first_field image descriptor a p inputs fields) in
+      let behind : writes.1.1.0 ≡ tables_written (next_table a p) inputs =
+      writes_are image inputs (descriptor + 20) (next_table a p) writes.1.1.0 (later_fields image descriptor a p inputs fields) writes.1.1.1.1 in
       writes.1.1.1.0
       ∙ ap (λ n. entries_written (thunk_width machine) n (gives p.definition.import_name) (asks_of p) ++ writes.1.1.0) table
       ∙ ap (λ rest. entries_written (thunk_width machine) a (gives p.definition.import_name) (asks_of p) ++ rest) behind
 
-  writes_stand : (image : List Range) (parts : List Part) (descriptor a : ℕ) → Fields image descriptor a parts →
-      Writes image (thunk_width machine) gives descriptor (map (imported machine) parts) (tables_written a parts)
+  writes_stand : (image : List Range) (inputs : List LinkInput) (descriptor a : ℕ) → Fields image descriptor a inputs →
+      Writes image (thunk_width machine) gives descriptor (map (imported machine) inputs) (tables_written a inputs)
   unfolding Writes tables_written
   writes_stand image [] descriptor a fields = refl
-  writes_stand image (p ∷ parts) descriptor a fields = (
+  writes_stand image (p ∷ inputs) descriptor a fields = (
     a,
     (
-      first_field image descriptor a p parts fields,
+      first_field image descriptor a p inputs fields,
       (
-        tables_written (next_table a p) parts,
+        tables_written (next_table a p) inputs,
         (
           refl,
-          writes_stand image parts (descriptor + 20) (next_table a p) (later_fields image descriptor a p parts fields),
+          writes_stand image inputs (descriptor + 20) (next_table a p) (later_fields image descriptor a p inputs fields),
         ),
       ),
     ),
   )
 
   module _ (wide : (dll : List ℕ) (ask : Ask) → length (gives dll ask) ≡ thunk_width machine) where
-    tables_stand : (parts : List Part) (a : ℕ) (ranges : List Range) (i j : ℕ) (p : Part) (ask : Ask) → slice_get parts i ≡ Some p → slice_get (asks_of p) j ≡ Some ask →
-        BytesAt (tables_written a parts ++ ranges) (a + thunk_width machine * thunks_before i parts + thunk_width machine * j) (gives p.definition.import_name ask)
+    tables_stand : (inputs : List LinkInput) (a : ℕ) (ranges : List Range) (i j : ℕ) (p : LinkInput) (ask : Ask) → slice_get inputs i ≡ Some p → slice_get (asks_of p) j ≡ Some ask →
+        BytesAt (tables_written a inputs ++ ranges) (a + thunk_width machine * thunks_before i inputs + thunk_width machine * j) (gives p.definition.import_name ask)
     unfolding tables_written
     tables_stand [] a ranges i j p ask is asked = cc
-    tables_stand (q ∷ parts) a ranges zero j p ask is asked =
+    tables_stand (q ∷ inputs) a ranges zero j p ask is asked =
         let same : q ≡ p = cc in
-        subst (λ (r : Part). BytesAt (tables_written a (q ∷ parts) ++ ranges) (a + thunk_width machine * 0 + thunk_width machine * j) (gives r.definition.import_name ask)) same
-        (subst (λ n. BytesAt (tables_written a (q ∷ parts) ++ ranges) (n + thunk_width machine * j) (gives q.definition.import_name ask)) (times_none a (thunk_width machine))
+        subst (λ (r : LinkInput). BytesAt (tables_written a (q ∷ inputs) ++ ranges) (a + thunk_width machine * 0 + thunk_width machine * j) (gives r.definition.import_name ask)) same
+        (subst (λ n. BytesAt (tables_written a (q ∷ inputs) ++ ranges) (n + thunk_width machine * j) (gives q.definition.import_name ask)) (times_none a (thunk_width machine))
         (subst (λ rs. BytesAt rs (a + thunk_width machine * j) (gives q.definition.import_name ask))
-        (sym (append_assoc (entries_written (thunk_width machine) a (gives q.definition.import_name) (asks_of q)) (tables_written (next_table a q) parts) ranges))
-        (entry_stands (thunk_width machine) (gives q.definition.import_name) (wide q.definition.import_name) (asks_of q) a (tables_written (next_table a q) parts ++ ranges) j ask
-        (subst (λ (r : Part). slice_get (asks_of r) j ≡ Some ask) (sym same) asked))))
-    tables_stand (q ∷ parts) a ranges (suc i) j p ask is asked =
-        let later = tables_stand parts (next_table a q) ranges i j p ask is asked in
-        let place : next_table a q + thunk_width machine * thunks_before i parts ≡ a + thunk_width machine * thunks_before (suc i) (q ∷ parts) = table_next a q (thunks_before i parts) in
+        (sym (append_assoc (entries_written (thunk_width machine) a (gives q.definition.import_name) (asks_of q)) (tables_written (next_table a q) inputs) ranges))
+        (entry_stands (thunk_width machine) (gives q.definition.import_name) (wide q.definition.import_name) (asks_of q) a (tables_written (next_table a q) inputs ++ ranges) j ask
+        (subst (λ (r : LinkInput). slice_get (asks_of r) j ≡ Some ask) (sym same) asked))))
+    tables_stand (q ∷ inputs) a ranges (suc i) j p ask is asked =
+        let later = tables_stand inputs (next_table a q) ranges i j p ask is asked in
+        let place : next_table a q + thunk_width machine * thunks_before i inputs ≡ a + thunk_width machine * thunks_before (suc i) (q ∷ inputs) = table_next a q (thunks_before i inputs) in
         let past = before_next a q in
-        subst (λ n. BytesAt (tables_written a (q ∷ parts) ++ ranges) (n + thunk_width machine * j) (gives p.definition.import_name ask)) place
-        (subst (λ rs. BytesAt rs (next_table a q + thunk_width machine * thunks_before i parts + thunk_width machine * j) (gives p.definition.import_name ask))
-        (sym (append_assoc (entries_written (thunk_width machine) a (gives q.definition.import_name) (asks_of q)) (tables_written (next_table a q) parts) ranges))
-        (behind_entries (thunk_width machine) (gives q.definition.import_name) (wide q.definition.import_name) (asks_of q) a (tables_written (next_table a q) parts ++ ranges)
-        (next_table a q + thunk_width machine * thunks_before i parts + thunk_width machine * j) (gives p.definition.import_name ask) (omega arith) later))
+        subst (λ n. BytesAt (tables_written a (q ∷ inputs) ++ ranges) (n + thunk_width machine * j) (gives p.definition.import_name ask)) place
+        (subst (λ rs. BytesAt rs (next_table a q + thunk_width machine * thunks_before i inputs + thunk_width machine * j) (gives p.definition.import_name ask))
+        (sym (append_assoc (entries_written (thunk_width machine) a (gives q.definition.import_name) (asks_of q)) (tables_written (next_table a q) inputs) ranges))
+        (behind_entries (thunk_width machine) (gives q.definition.import_name) (wide q.definition.import_name) (asks_of q) a (tables_written (next_table a q) inputs ++ ranges)
+        (next_table a q + thunk_width machine * thunks_before i inputs + thunk_width machine * j) (gives p.definition.import_name ask) (omega arith) later))
 
-    tables_within : (parts : List Part) (a low high : ℕ) → low ≤ a → a + thunk_width machine * thunks_before (length parts) parts ≤ high →
-        AllByRecursion (λ r. (low ≤ r.start) × (range_end r ≤ high)) (tables_written a parts)
+    tables_within : (inputs : List LinkInput) (a low high : ℕ) → low ≤ a → a + thunk_width machine * thunks_before (length inputs) inputs ≤ high →
+        AllByRecursion (λ r. (low ≤ r.start) × (range_end r ≤ high)) (tables_written a inputs)
     unfolding tables_written
     tables_within [] a low high above below = tt
-    tables_within (p ∷ parts) a low high above below =
-        let next = table_next a p (thunks_before (length parts) parts) in
+    tables_within (p ∷ inputs) a low high above below =
+        let next = table_next a p (thunks_before (length inputs) inputs) in
         let past = before_next a p in
-        all_append (λ r. (low ≤ r.start) × (range_end r ≤ high)) (entries_written (thunk_width machine) a (gives p.definition.import_name) (asks_of p)) (tables_written (next_table a p) parts)
+        all_append (λ r. (low ≤ r.start) × (range_end r ≤ high)) (entries_written (thunk_width machine) a (gives p.definition.import_name) (asks_of p)) (tables_written (next_table a p) inputs)
         (entries_within (thunk_width machine) (gives p.definition.import_name) (wide p.definition.import_name) (asks_of p) a low high above (omega arith))
-        (tables_within parts (next_table a p) low high (omega arith) (omega arith))
+        (tables_within inputs (next_table a p) low high (omega arith) (omega arith))
 
 -- the j-th entry is the only definition of its symbol
 pub entry_once : (linked : List Placed) (width a : ℕ) (exports : List ExportView) (j : ℕ) (e : ExportView) → EntriesAt linked width a exports → slice_get exports j ≡ Some e →
@@ -236,44 +236,44 @@ entry_once linked width a (x ∷ exports) (suc j) e entries is =
     subst (λ n. definitions_of (address_symbol e.name) linked ≡ record { name = address_symbol e.name; address = Some n } ∷ []) (times_next a width j)
     (entry_once linked width (a + width) exports j e entries.1 is)
 
-fields_of : (machine : MachineType) (bases : Bases) (parts : List Part) (objects : List Object) (gives : List ℕ → Ask → List ℕ) → LinksAmong machine bases parts objects →
-    Fields machine gives (image_of machine bases (placed_from bases objects)) bases.descriptors bases.addresses parts
+fields_of : (machine : MachineType) (bases : Bases) (inputs : List LinkInput) (objects : List Object) (gives : List ℕ → Ask → List ℕ) → LinksAmong machine bases inputs objects →
+    Fields machine gives (image_of machine bases (placed_from bases objects)) bases.descriptors bases.addresses inputs
 unfolding Fields
-fields_of machine bases parts objects gives links i p is =
+fields_of machine bases inputs objects gives links i p is =
     let one = links.imports i p is in
     subst (NumberAt (image_of machine bases (placed_from bases objects)) 4 (bases.descriptors + 20 * i + 16)) one.table_stands one.strictly.loads.plain.addresses_field
 
-pub program_loads : (machine : MachineType) (bases : Bases) (parts : List Part) (objects : List Object) (gives : List ℕ → Ask → List ℕ) (written : List Range) →
-    AllByRecursion (IsMade machine) parts → IsProgram machine bases parts objects → ((dll : List ℕ) (ask : Ask) → length (gives dll ask) ≡ thunk_width machine) →
-    Writes (image_of machine bases (placed_from bases objects)) (thunk_width machine) gives bases.descriptors (map (imported machine) parts) written →
-    IsLoaded machine bases parts objects gives written
-program_loads machine bases parts objects gives written made program wide writes =
-    let links = program_links machine bases parts objects made program in
+pub program_loads : (machine : MachineType) (bases : Bases) (inputs : List LinkInput) (objects : List Object) (gives : List ℕ → Ask → List ℕ) (written : List Range) →
+    AllByRecursion (IsMade machine) inputs → IsProgram machine bases inputs objects → ((dll : List ℕ) (ask : Ask) → length (gives dll ask) ≡ thunk_width machine) →
+    Writes (image_of machine bases (placed_from bases objects)) (thunk_width machine) gives bases.descriptors (map (imported machine) inputs) written →
+    IsLoaded machine bases inputs objects gives written
+program_loads machine bases inputs objects gives written made program wide writes =
+    let links = program_links machine bases inputs objects made program in
     let image : List Range = image_of machine bases (placed_from bases objects) in
-    let is : written ≡ tables_written machine gives bases.addresses parts =
-    writes_are machine gives image parts bases.descriptors bases.addresses written (fields_of machine bases parts objects gives links) writes in
+    let is : written ≡ tables_written machine gives bases.addresses inputs =
+    writes_are machine gives image inputs bases.descriptors bases.addresses written (fields_of machine bases inputs objects gives links) writes in
     record {
-      entries = λ i j p e part chosen.
-          let one = links.imports i p part in
-          let table : ℕ = bases.addresses + thunk_width machine * thunks_before i parts in
-          let asked : slice_get (map (ask_meant machine) (chosen_exports p.definition p.chosen)) j ≡ Some (ask_meant machine e) =
-          slice_get-map (ask_meant machine) (chosen_exports p.definition p.chosen) j ∙ ap (option_map (ask_meant machine)) chosen in
+      entries = λ i j p e input chosen.
+          let one = links.imports i p input in
+          let table : ℕ = bases.addresses + thunk_width machine * thunks_before i inputs in
+          let asked : slice_get (map (expected_ask machine) (chosen_exports p.definition p.chosen)) j ≡ Some (expected_ask machine e) =
+          slice_get-map (expected_ask machine) (chosen_exports p.definition p.chosen) j ∙ ap (option_map (expected_ask machine)) chosen in
           record {
             address = table + thunk_width machine * j;
             once = entry_once (placed_from bases objects) (thunk_width machine) table (chosen_exports p.definition p.chosen) j e
                 (subst (λ n. EntriesAt (placed_from bases objects) (thunk_width machine) n (chosen_exports p.definition p.chosen)) one.table_stands one.strictly.entries) chosen;
-            stands = subst (λ rs. BytesAt (rs ++ image) (table + thunk_width machine * j) (gives p.definition.import_name (ask_meant machine e))) (sym is)
-                (tables_stand machine gives wide parts bases.addresses image i j p (ask_meant machine e) part asked);
+            stands = subst (λ rs. BytesAt (rs ++ image) (table + thunk_width machine * j) (gives p.definition.import_name (expected_ask machine e))) (sym is)
+                (tables_stand machine gives wide inputs bases.addresses image i j p (expected_ask machine e) input asked);
           };
-      within = subst (AllByRecursion (λ r. (bases.addresses ≤ r.start) × (range_end r ≤ bases.addresses + thunk_width machine * thunks_before (length parts) parts))) (sym is)
-          (tables_within machine gives wide parts bases.addresses bases.addresses (bases.addresses + thunk_width machine * thunks_before (length parts) parts) (omega arith) (omega arith));
+      within = subst (AllByRecursion (λ r. (bases.addresses ≤ r.start) × (range_end r ≤ bases.addresses + thunk_width machine * thunks_before (length inputs) inputs))) (sym is)
+          (tables_within machine gives wide inputs bases.addresses bases.addresses (bases.addresses + thunk_width machine * thunks_before (length inputs) inputs) (omega arith) (omega arith));
       kept = λ address none. kept_outside written image address none;
     }
 
-pub program_writes : (machine : MachineType) (bases : Bases) (parts : List Part) (objects : List Object) (gives : List ℕ → Ask → List ℕ) →
-    AllByRecursion (IsMade machine) parts → IsProgram machine bases parts objects →
-    (written : List Range) × Writes (image_of machine bases (placed_from bases objects)) (thunk_width machine) gives bases.descriptors (map (imported machine) parts) written
-program_writes machine bases parts objects gives made program =
-    let links = program_links machine bases parts objects made program in
+pub program_writes : (machine : MachineType) (bases : Bases) (inputs : List LinkInput) (objects : List Object) (gives : List ℕ → Ask → List ℕ) →
+    AllByRecursion (IsMade machine) inputs → IsProgram machine bases inputs objects →
+    (written : List Range) × Writes (image_of machine bases (placed_from bases objects)) (thunk_width machine) gives bases.descriptors (map (imported machine) inputs) written
+program_writes machine bases inputs objects gives made program =
+    let links = program_links machine bases inputs objects made program in
     let image : List Range = image_of machine bases (placed_from bases objects) in
-    (tables_written machine gives bases.addresses parts, writes_stand machine gives image parts bases.descriptors bases.addresses (fields_of machine bases parts objects gives links))
+    (tables_written machine gives bases.addresses inputs, writes_stand machine gives image inputs bases.descriptors bases.addresses (fields_of machine bases inputs objects gives links))

@@ -6,11 +6,11 @@ use Rattle.std.proofs.lemmas.Bool.{and_parts, cases_Bool, false_from_ne_true, le
 use Rattle.std.proofs.lemmas.List.Elements.{filter-append}
 use Rattle.std.proofs.lemmas.Slice.Eq.{bytes_eq-Decides}
 use Rattle.implib.specs.declared.machine.MachineType.{MachineType}
-use Rattle.implib.specs.Constants.{external, undefined}
+use Rattle.implib.specs.Constants.{class_external, section_undefined}
 use Rattle.implib.specs.File.{is_defined_external}
 use Rattle.implib.specs.Image.{contributions, contributions_in}
 use Rattle.implib.specs.Object.{ASymbol, Auxiliary, Entry, Object, ObjectSection, ObjectSymbol}
-use Rattle.implib.specs.Placement.{Bases, Group, Nowhere, Place, Placed, ends_after, group_named, place_of, placed_from, places_of}
+use Rattle.implib.specs.Placement.{Bases, Group, Unplaced, SectionAddress, Placed, ends_after, group_named, section_address_of, placed_from, places_of}
 use Rattle.implib.specs.Resolution.{SymbolDefinition, defined_by_entry, definitions, definitions_of}
 use Rattle.implib_link.specs.Program.{claimed_name, claimed_names, has_tables, is_reference, is_shared, is_table}
 
@@ -30,7 +30,7 @@ no_group name other =
       other_name name (codes ".idata$7") refl other,
     ) refl
 
-nowhere : (b : Bases) (s : ObjectSection) → is_table s ≡ false → place_of b s ≡ Nowhere
+nowhere : (b : Bases) (s : ObjectSection) → is_table s ≡ false → section_address_of b s ≡ Unplaced
 nowhere b s other = rw (no_group s.name other) refl
 
 no_ends : (b : Bases) (sections : List ObjectSection) → list_any is_table sections ≡ false → ends_after b sections ≡ b
@@ -77,10 +77,10 @@ placed_kept b (o ∷ objects) =
 -- a symbol that an object defines is one that it claims
 defined_is_claimed : (s : ObjectSymbol) → is_defined_external s ≡ true → (is_shared s && not (is_reference s)) ≡ true
 defined_is_claimed s is =
-    let first = and_parts ((s.class == external) && nat_le 1 s.section) (nat_le s.section 0x7FFF) is in
-    let second = and_parts (s.class == external) (nat_le 1 s.section) first.0 in
+    let first = and_parts ((s.class == class_external) && nat_le 1 s.section) (nat_le s.section 0x7FFF) is in
+    let second = and_parts (s.class == class_external) (nat_le 1 s.section) first.0 in
     let above : 1 ≤ s.section = leb-true 1 s.section second.1 in
-    let placed : (s.section == undefined) ≡ false = ne_eqb s.section 0 (λ none. omega arith) in
+    let placed : (s.section == section_undefined) ≡ false = ne_eqb s.section 0 (λ none. omega arith) in
     rw (second.0, placed) refl
 
 claims_fewer : (name : List ℕ) (s : ObjectSymbol) (entries : List Entry) → list_any (bytes_eq name) (filter_map claimed_name (ASymbol s ∷ entries)) ≡ false →
@@ -91,7 +91,7 @@ claims_fewer name s entries none =
       | inr is ↦ rw is at none
     ]
 
-defines_none : (name : List ℕ) (places : List Place) (entries : List Entry) → list_any (bytes_eq name) (filter_map claimed_name entries) ≡ false →
+defines_none : (name : List ℕ) (places : List SectionAddress) (entries : List Entry) → list_any (bytes_eq name) (filter_map claimed_name entries) ≡ false →
     filter (λ (d : SymbolDefinition). bytes_eq name d.name) (filter_map (defined_by_entry places) entries) ≡ []
 defines_none name places [] none = refl
 defines_none name places (Auxiliary bytes ∷ entries) none = defines_none name places entries none

@@ -6,10 +6,10 @@ use Rattle.std.proofs.lemmas.Bool.{and_parts, cases_Bool, leb-true, ltb-true, or
 use Rattle.std.proofs.lemmas.List.{append_assoc, length-append, length-replicate}
 use Rattle.implib.specs.declared.machine.MachineType.{MachineType}
 use Rattle.implib.specs.Image.{AllApart, AreApart, Contribution, IsAdmissible, IsBase, Range, contribution_at, contributions, contributions_in, filled, image_of, range_end, range_of, relocated}
-use Rattle.implib.specs.LinkedMembers.{IsMade, Part, all_linked, objects_in}
-use Rattle.implib.specs.MsvcObjects.{zeros}
+use Rattle.implib.specs.LinkedMembers.{IsMade, LinkInput, all_linked, objects_in}
+use Rattle.implib.specs.ImportTables.{zeros}
 use Rattle.implib.specs.Object.{Object, ObjectSection}
-use Rattle.implib.specs.Placement.{Addresses, Bases, Descriptors, DllNames, Group, HintNames, Lookups, Placed, alignment, base_of, end_after, ends_after, group_named, next_multiple, place_after, place_of, placed_from, places_of, same_group, with_base}
+use Rattle.implib.specs.Placement.{Addresses, Bases, Descriptors, DllNames, Group, HintNames, Lookups, Placed, alignment, base_of, end_after, ends_after, group_named, next_multiple, place_after, section_address_of, placed_from, places_of, same_group, with_base}
 use Rattle.implib.proofs.LinkedParts.{block_of, parts_objects}
 use Rattle.implib.proofs.Placement.{at_least}
 use Rattle.implib_link.specs.Packed.{end_with, group_end, packed, packed_addresses, packed_descriptors, packed_dll_names, packed_end, packed_hint_names, packed_lookups, sections_end}
@@ -52,7 +52,7 @@ end_of_sections : (group : Group) (b : Bases) (sections : List ObjectSection) �
 unfolding sections_end
 end_of_sections group b [] = refl
 end_of_sections group b (s ∷ sections) =
-    end_of_sections group (end_after b (place_of b s) (length s.bytes)) sections
+    end_of_sections group (end_after b (section_address_of b s) (length s.bytes)) sections
     ∙ ap (λ n. sections_end group n sections) (end_of_section group b s (group_named s.name))
 
 -- Where contributions end.
@@ -97,8 +97,8 @@ module _ (machine : MachineType) (linked : List Placed) (group : Group) where
   unfolding sections_end
   span_sections p b [] cs sized = refl
   span_sections p b (s ∷ sections) cs sized =
-      let later : Bases = end_after b (place_of b s) (length s.bytes) in
-      let own : List Contribution = contribution_at group (place_of b s) (relocated machine linked p s.relocations s.bytes) in
+      let later : Bases = end_after b (section_address_of b s) (length s.bytes) in
+      let own : List Contribution = contribution_at group (section_address_of b s) (relocated machine linked p s.relocations s.bytes) in
       let others : List Contribution = contributions_in machine linked p group (places_of later sections) sections in
       ap (span (base_of group b)) (append_assoc own others cs)
       ∙ span_section p b s (group_named s.name) (others ++ cs) sized.0
@@ -123,8 +123,8 @@ end_without : (group : Group) (n : ℕ) (sections : List ObjectSection) → list
 unfolding sections_end
 end_without group n [] none = refl
 end_without group n (s ∷ sections) none =
-    let parts = or_parts (is_table s) (list_any is_table sections) none in
-    rw (no_group s.name parts.0) (end_without group n sections parts.1)
+    let inputs = or_parts (is_table s) (list_any is_table sections) none in
+    rw (no_group s.name inputs.0) (end_without group n sections inputs.1)
 
 end_kept : (group : Group) (n : ℕ) (objects : List Object) → group_end group n objects ≡ group_end group n (filter has_tables objects)
 unfolding group_end has_tables
@@ -220,8 +220,8 @@ above_zero group n objects base =
     let end = ends_rise group n objects in
     aligned_base (group_end group n objects) (omega arith)
 
-module _ (machine : MachineType) (first : ℕ) (parts : List Part) (objects : List Object) (made : AllByRecursion (IsMade machine) parts)
-    (tables : filter has_tables objects ≡ objects_in (all_linked machine parts) ++ null_descriptor ∷ [])
+module _ (machine : MachineType) (first : ℕ) (inputs : List LinkInput) (objects : List Object) (made : AllByRecursion (IsMade machine) inputs)
+    (tables : filter has_tables objects ≡ objects_in (all_linked machine inputs) ++ null_descriptor ∷ [])
     (above : 0 < first) (below : packed_end first objects < 2 ^ 31) where
   abbrev bases : Bases
   bases = packed first objects
@@ -232,8 +232,8 @@ module _ (machine : MachineType) (first : ℕ) (parts : List Part) (objects : Li
   sized : AllByRecursion IsSized (filter has_tables objects)
   sized =
       subst (AllByRecursion IsSized)
-      (sym (tables ∙ ap (λ members. members ++ null_descriptor ∷ []) (parts_objects machine parts made) ∙ objects_behind machine (map block_of parts) (null_descriptor ∷ [])))
-      (blocks_sized machine (map block_of parts))
+      (sym (tables ∙ ap (λ members. members ++ null_descriptor ∷ []) (parts_objects machine inputs made) ∙ objects_behind machine (map block_of inputs) (null_descriptor ∷ [])))
+      (blocks_sized machine (map block_of inputs))
 
   group_span : (group : Group) → span (base_of group bases) (contributions machine linked group linked) ≡ group_end group (base_of group bases) objects
   group_span group =
@@ -278,18 +278,18 @@ module _ (machine : MachineType) (first : ℕ) (parts : List Part) (objects : Li
     apart = rising_apart (packed_descriptors first) (packed_end first objects) (image_of machine (packed first objects) (placed_from (packed first objects) objects)) all_rise;
   }
 
-pub packed_is_admissible : (machine : MachineType) (first : ℕ) (parts : List Part) (objects : List Object) → AllByRecursion (IsMade machine) parts →
-    filter has_tables objects ≡ objects_in (all_linked machine parts) ++ null_descriptor ∷ [] → 0 < first → packed_end first objects < 2 ^ 31 →
+pub packed_is_admissible : (machine : MachineType) (first : ℕ) (inputs : List LinkInput) (objects : List Object) → AllByRecursion (IsMade machine) inputs →
+    filter has_tables objects ≡ objects_in (all_linked machine inputs) ++ null_descriptor ∷ [] → 0 < first → packed_end first objects < 2 ^ 31 →
     IsAdmissible machine (packed first objects) objects
-packed_is_admissible machine first parts objects made tables above below = admissible machine first parts objects made tables above below
+packed_is_admissible machine first inputs objects made tables above below = admissible machine first inputs objects made tables above below
 
-pub packed_is_program : (machine : MachineType) (first : ℕ) (parts : List Part) → AllByRecursion (IsMade machine) parts →
-    IsDistinct bytes_eq (linked_symbols machine parts) → 0 < first → packed_end first (objects_in (all_linked machine parts) ++ null_descriptor ∷ []) < 2 ^ 31 →
-    IsProgram machine (packed first (objects_in (all_linked machine parts) ++ null_descriptor ∷ [])) parts (objects_in (all_linked machine parts) ++ null_descriptor ∷ [])
-packed_is_program machine first parts made distinct above below =
-    let objects : List Object = objects_in (all_linked machine parts) ++ null_descriptor ∷ [] in
-    members_are_program machine (packed first objects) parts made distinct
-    (packed_is_admissible machine first parts objects made (all_kept objects (members_have machine parts made)) above below)
+pub packed_is_program : (machine : MachineType) (first : ℕ) (inputs : List LinkInput) → AllByRecursion (IsMade machine) inputs →
+    IsDistinct bytes_eq (linked_symbols machine inputs) → 0 < first → packed_end first (objects_in (all_linked machine inputs) ++ null_descriptor ∷ []) < 2 ^ 31 →
+    IsProgram machine (packed first (objects_in (all_linked machine inputs) ++ null_descriptor ∷ [])) inputs (objects_in (all_linked machine inputs) ++ null_descriptor ∷ [])
+packed_is_program machine first inputs made distinct above below =
+    let objects : List Object = objects_in (all_linked machine inputs) ++ null_descriptor ∷ [] in
+    members_are_program machine (packed first objects) inputs made distinct
+    (packed_is_admissible machine first inputs objects made (all_kept objects (members_have machine inputs made)) above below)
 
 pub packed_eights : (first : ℕ) (objects : List Object) → (packed first objects).addresses % 8 ≡ 0
 unfolding next_multiple

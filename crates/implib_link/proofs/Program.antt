@@ -8,9 +8,9 @@ use Rattle.implib.specs.Definition.{ExportView}
 use Rattle.implib.specs.Image.{Range, contributions, filled, image_of}
 use Rattle.implib.specs.Import.{address_symbol}
 use Rattle.implib.specs.Linked.{AllFind, EntriesAt, LinksStrictlyAt, IsDefinedOnce, undefined_names, IsDefinedAt}
-use Rattle.implib.specs.LinkedMembers.{IsMade, Part, chosen_exports}
+use Rattle.implib.specs.LinkedMembers.{IsMade, LinkInput, chosen_exports}
 use Rattle.implib.specs.Load.{BytesAt}
-use Rattle.implib.specs.MsvcObjects.{thunk_width, zeros}
+use Rattle.implib.specs.ImportTables.{thunk_width, zeros}
 use Rattle.implib.specs.Object.{Object}
 use Rattle.implib.specs.Placement.{Addresses, Bases, Descriptors, DllNames, Group, HintNames, Lookups, Placed, base_of, placed_from}
 use Rattle.implib.specs.Resolution.{SymbolDefinition, definitions_of}
@@ -62,8 +62,8 @@ imports_by machine image linked own descriptor begin table dll exports place beg
           (each_gets linked (thunk_width machine) strictly.loads.plain.addresses exports strictly.entries);
     })
 
-module _ (machine : MachineType) (b : Bases) (parts : List Part) (objects : List Object) (made : AllByRecursion (IsMade machine) parts)
-    (program : IsProgram machine b parts objects) where
+module _ (machine : MachineType) (b : Bases) (inputs : List LinkInput) (objects : List Object) (made : AllByRecursion (IsMade machine) inputs)
+    (program : IsProgram machine b inputs objects) where
   abbrev linked : List Placed
   linked = placed_from b objects
 
@@ -71,7 +71,7 @@ module _ (machine : MachineType) (b : Bases) (parts : List Part) (objects : List
   image = image_of machine b (placed_from b objects)
 
   abbrev dlls : List Block
-  dlls = map block_of parts
+  dlls = map block_of inputs
 
   abbrev behind : List Object
   behind = null_descriptor ∷ []
@@ -79,7 +79,7 @@ module _ (machine : MachineType) (b : Bases) (parts : List Part) (objects : List
   kept_are : filter has_tables objects ≡ blocks_objects machine dlls behind
   kept_are =
       program.tables
-      ∙ ap (λ members. members ++ behind) (parts_objects machine parts made)
+      ∙ ap (λ members. members ++ behind) (parts_objects machine inputs made)
       ∙ objects_behind machine dlls behind
 
   group_stands : (group : Group) → BytesAt image (base_of group b) (filled (base_of group b) (contributions machine linked group linked)) →
@@ -102,46 +102,46 @@ module _ (machine : MachineType) (b : Bases) (parts : List Part) (objects : List
   abbrev defined : List SymbolDefinition
   defined = blocks_definitions machine b dlls
 
-  names_are : map (λ (d : SymbolDefinition). d.name) defined ≡ linked_symbols machine parts
-  names_are = names-blocks machine b dlls ∙ sym (parts_symbols machine parts made)
+  names_are : map (λ (d : SymbolDefinition). d.name) defined ≡ linked_symbols machine inputs
+  names_are = names-blocks machine b dlls ∙ sym (parts_symbols machine inputs made)
 
-  only : (d : SymbolDefinition) → Among d (blocks_definitions machine b (map block_of parts)) → definitions_of d.name (placed_from b objects) ≡ d ∷ []
+  only : (d : SymbolDefinition) → Among d (blocks_definitions machine b (map block_of inputs)) → definitions_of d.name (placed_from b objects) ≡ d ∷ []
   only d m =
-      let listed : Among d.name (linked_symbols machine parts) = subst (Among d.name) names_are (among_map (λ (x : SymbolDefinition). x.name) d defined m) in
-      definitions_kept d.name b objects (all_claim d.name (linked_symbols machine parts) listed (filter (λ o. not (has_tables o)) objects) program.others)
+      let listed : Among d.name (linked_symbols machine inputs) = subst (Among d.name) names_are (among_map (λ (x : SymbolDefinition). x.name) d defined m) in
+      definitions_kept d.name b objects (all_claim d.name (linked_symbols machine inputs) listed (filter (λ o. not (has_tables o)) objects) program.others)
       ∙ ap (λ os. definitions_of d.name (placed_from b os)) kept_are
       ∙ ap (λ ds. filter (λ (x : SymbolDefinition). bytes_eq d.name x.name) ds)
       (definitions-blocks machine b dlls behind (even machine b objects program.admissible) ∙ append-nil defined)
       ∙ only_definition d defined m (subst (IsDistinct bytes_eq) (sym names_are) program.distinct)
 
-  pub each : EachLinks machine (placed_from b objects) (image_of machine b (placed_from b objects)) b (map block_of parts) (null_descriptor ∷ [])
+  pub each : EachLinks machine (placed_from b objects) (image_of machine b (placed_from b objects)) b (map block_of inputs) (null_descriptor ∷ [])
   each = each_links machine linked image behind (starts machine b objects program.admissible) (ends machine b objects program.admissible)
-      dlls b (parts_fit machine parts made) (even machine b objects program.admissible) only stands
+      dlls b (parts_fit machine inputs made) (even machine b objects program.admissible) only stands
 
-  null : BytesAt image (ends_of_blocks machine b (map block_of parts)).descriptors (zeros 20)
+  null : BytesAt image (ends_of_blocks machine b (map block_of inputs)).descriptors (zeros 20)
   null = null_stands machine linked image (ends_of_blocks machine b dlls) (aligned_blocks machine b dlls (even machine b objects program.admissible)) each.stands
 
-  nth_imports : (i : ℕ) (p : Part) → slice_get parts i ≡ Some p →
-      ImportsBy machine (image_of machine b (placed_from b objects)) (placed_from b objects) (b.descriptors + 20 * i) (b.addresses + thunk_width machine * thunks_before i parts)
+  nth_imports : (i : ℕ) (p : LinkInput) → slice_get inputs i ≡ Some p →
+      ImportsBy machine (image_of machine b (placed_from b objects)) (placed_from b objects) (b.descriptors + 20 * i) (b.addresses + thunk_width machine * thunks_before i inputs)
       p.definition.import_name (chosen_exports p.definition p.chosen)
   nth_imports i p is =
-      let found = nth_block machine linked image parts b each.imports i p is in
-      imports_by machine image linked found.0.descriptors (b.descriptors + 20 * i) found.0.addresses (b.addresses + thunk_width machine * thunks_before i parts)
+      let found = nth_block machine linked image inputs b each.imports i p is in
+      imports_by machine image linked found.0.descriptors (b.descriptors + 20 * i) found.0.addresses (b.addresses + thunk_width machine * thunks_before i inputs)
       p.definition.import_name (chosen_exports p.definition p.chosen) found.1.0 found.1.1.0 found.1.1.1.strictly found.1.1.1.addresses
 
-  pub kept_placed : with_tables (placed_from b objects) ≡ placed_from b (blocks_objects machine (map block_of parts) (null_descriptor ∷ []))
+  pub kept_placed : with_tables (placed_from b objects) ≡ placed_from b (blocks_objects machine (map block_of inputs) (null_descriptor ∷ []))
   kept_placed = placed_kept b objects ∙ ap (placed_from b) kept_are
 
-pub program_links : (machine : MachineType) (bases : Bases) (parts : List Part) (objects : List Object) → AllByRecursion (IsMade machine) parts →
-    IsProgram machine bases parts objects → LinksAmong machine bases parts objects
-program_links machine b parts objects made program =
-    let found = each machine b parts objects made program in
+pub program_links : (machine : MachineType) (bases : Bases) (inputs : List LinkInput) (objects : List Object) → AllByRecursion (IsMade machine) inputs →
+    IsProgram machine bases inputs objects → LinksAmong machine bases inputs objects
+program_links machine b inputs objects made program =
+    let found = each machine b inputs objects made program in
     record {
-      linked = parts_linked machine parts made;
-      imports = nth_imports machine b parts objects made program;
-      directory = directory_of machine (placed_from b objects) (image_of machine b (placed_from b objects)) parts b found.imports (null machine b parts objects made program);
-      targets = subst (AllByRecursion (AllFind (placed_from b objects))) (sym (kept_placed machine b parts objects made program)) (found.targets ((tt, tt), tt));
-      defined = subst (λ ps. AllByRecursion (IsDefinedAt (placed_from b objects)) (undefined_names ps)) (sym (kept_placed machine b parts objects made program)) (found.defined tt);
-      listed = subst (AllByRecursion (IsDefinedOnce (placed_from b objects))) (names_are machine b parts objects made program)
-          (once_of (placed_from b objects) (defined machine b parts objects made program) (only machine b parts objects made program));
+      linked = parts_linked machine inputs made;
+      imports = nth_imports machine b inputs objects made program;
+      directory = directory_of machine (placed_from b objects) (image_of machine b (placed_from b objects)) inputs b found.imports (null machine b inputs objects made program);
+      targets = subst (AllByRecursion (AllFind (placed_from b objects))) (sym (kept_placed machine b inputs objects made program)) (found.targets ((tt, tt), tt));
+      defined = subst (λ ps. AllByRecursion (IsDefinedAt (placed_from b objects)) (undefined_names ps)) (sym (kept_placed machine b inputs objects made program)) (found.defined tt);
+      listed = subst (AllByRecursion (IsDefinedOnce (placed_from b objects))) (names_are machine b inputs objects made program)
+          (once_of (placed_from b objects) (defined machine b inputs objects made program) (only machine b inputs objects made program));
     }

@@ -8,8 +8,8 @@ use Rattle.implib.specs.Gnu.{head_symbol, stem}
 use Rattle.implib.specs.Image.{Range, byte_at}
 use Rattle.implib.specs.Import.{Ordinal, address_symbol}
 use Rattle.implib.specs.Linked.{EntriesAt, LinksStrictlyAt}
-use Rattle.implib.specs.Load.{AsksFor, BytesAt, IsWhole, Loads, LoadsStrictly, NumberAt, TableAt, TextAt, ThunkAt, WholeTableAt, WholeThunkAt, number_in}
-use Rattle.implib.specs.MsvcObjects.{zeros}
+use Rattle.implib.specs.Load.{ThunkAsksFor, BytesAt, IsWhole, Loads, LoadsStrictly, NumberAt, TableAt, TextAt, ThunkAt, WholeTableAt, WholeThunkAt, number_in}
+use Rattle.implib.specs.ImportTables.{zeros}
 use Rattle.implib.specs.Resolution.{definitions_of}
 use Rattle.implib.proofs.Loading.{dll_once, number_once}
 use Rattle.implib_link.specs.Directory.{DirectoryAt}
@@ -47,7 +47,7 @@ number image width a n bytes is count value = record { bytes = bytes; stands = s
 -- Tables of both thunks.
 
 thunk_8 : (image : List Range) (a n : ℕ) → n < 2 ^ 8 → NumberAt image 8 a (0x8000_0000_0000_0000 + n) → ThunkAt image 8 a (Ordinal n)
-unfolding AsksFor
+unfolding ThunkAsksFor
 thunk_8 image a n small stands = record { thunk = 0x8000_0000_0000_0000 + n; stands = stands; goes_on = λ none. omega arith; asks = (omega arith, omega arith) }
 
 whole_8 : (image : List Range) (a n : ℕ) → NumberAt image 8 a (0x8000_0000_0000_0000 + n) → WholeThunkAt image 8 a (Ordinal n)
@@ -224,7 +224,7 @@ wide loads =
     second.goes_on (number_once wide_image 4 0x102C second.thunk 0 second.stands wide_second)
 
 thunk_4 : (a : ℕ) → NumberAt wide_image 4 a 0x8000_0005 → ThunkAt wide_image 4 a (Ordinal 5)
-unfolding AsksFor
+unfolding ThunkAsksFor
 thunk_4 a stands = record { thunk = 0x8000_0005; stands = stands; goes_on = λ none. differ 0 0x8000_0005 (sym none) (omega arith); asks = (omega arith, refl) }
 
 wide_stops : Loads wide_image 4 0x1000 foo (Ordinal 5 ∷ [])

@@ -1,5 +1,5 @@
 -- What a linker takes of the members for GNU's linker.
-use Rattle.std.proofs.Common.{◌≡◌, ℕ, zero, suc, ◌+◌, ◌<◌, true, false, List, [], ◌∷◌, ◌++◌, Option, Some, None, refl, ap, sym, ◌∙◌, subst, inl, inr, ◌⊎◌, arith}
+use Rattle.std.proofs.Common.{◌≡◌, ℕ, zero, suc, ◌+◌, ◌<◌, true, List, [], ◌∷◌, ◌++◌, Option, Some, None, refl, ap, sym, ◌∙◌, subst, inl, inr, ◌⊎◌, arith}
 use Rattle.std.specs.Prelude.{bytes_eq, slice_get, slice_index}
 use Rattle.std.specs.List.{IsDistinct, cons_option, filter_map, flat_map, list_any}
 use Rattle.std.proofs.lemmas.Bool.{cases_Bool, false_from_ne_true, true≢false}
@@ -9,9 +9,11 @@ use Rattle.implib.specs.declared.machine.MachineType.{MachineType}
 use Rattle.implib.specs.Definition.{DefinitionView, ExportView}
 use Rattle.implib.specs.Gnu.{export_listed, export_name, export_object, head_object, head_symbol, name_symbol, numbered_name, stem, tail_object, weak_address_name}
 use Rattle.implib.specs.Import.{address_symbol, is_alias, public_exports}
-use Rattle.implib.specs.LinkedMembers.{linked_members, objects_in, plan_numbered}
+use Rattle.implib.specs.LinkedMembers.{linked_members, objects_in, numbered_spec}
 use Rattle.std.specs.Option.{option_map}
-use Rattle.implib.specs.Made.{Made, MemberView, Plan, alias_plan, alias_plans, export_plan, gnu_plans, head_plan, member_of, numbered_plans, numbered_plans_of, tail_plan}
+use Rattle.implib.specs.Members.{AreMembersOf}
+use Rattle.implib.specs.MemberSpec.{MemberView, MemberSpec, member_of}
+use Rattle.implib.specs.GnuMembers.{alias_spec, alias_specs, export_spec, gnu_specs, head_spec, numbered_specs, numbered_specs_of, tail_spec}
 use Rattle.implib.specs.Object.{Object, object_in}
 use Rattle.implib.specs.Renaming.{renamed}
 use Rattle.implib.proofs.LinkedMembers.{among_contains, among_map, among_reverse, dll_free, export_reads, head_reads, not_long, sound, tail_reads}
@@ -24,37 +26,37 @@ use Rattle.implib_link.proofs.SearchLists.{all_listed, among_any, among_either, 
 -- What plans there are.
 
 -- one export's plans are among those of all
-pub numbered_in : (machine : MachineType) (dll : List ℕ) (exports : List ExportView) (start n : ℕ) (e : ExportView) (p : Plan) → slice_get exports n ≡ Some e →
-    Among p (numbered_plans_of machine dll (start + n) e) → Among p (numbered_plans machine dll start exports)
+pub numbered_in : (machine : MachineType) (dll : List ℕ) (exports : List ExportView) (start n : ℕ) (e : ExportView) (p : MemberSpec) → slice_get exports n ≡ Some e →
+    Among p (numbered_specs_of machine dll (start + n) e) → Among p (numbered_specs machine dll start exports)
 numbered_in machine dll [] start n e p is held = cc
 numbered_in machine dll (x ∷ exports) start zero e p is held =
     let same : e ≡ x = cc in
     let place : start + 0 ≡ start = omega arith in
-    among_front p (numbered_plans_of machine dll start x) (numbered_plans machine dll (start + 1) exports)
-    (subst (λ n. Among p (numbered_plans_of machine dll n x)) place (subst (λ y. Among p (numbered_plans_of machine dll (start + 0) y)) same held))
+    among_front p (numbered_specs_of machine dll start x) (numbered_specs machine dll (start + 1) exports)
+    (subst (λ n. Among p (numbered_specs_of machine dll n x)) place (subst (λ y. Among p (numbered_specs_of machine dll (start + 0) y)) same held))
 numbered_in machine dll (x ∷ exports) start (suc n) e p is held =
     let place : start + suc n ≡ start + 1 + n = omega arith in
-    among_back p (numbered_plans_of machine dll start x) (numbered_plans machine dll (start + 1) exports)
-    (numbered_in machine dll exports (start + 1) n e p is (subst (λ n. Among p (numbered_plans_of machine dll n e)) place held))
+    among_back p (numbered_specs_of machine dll start x) (numbered_specs machine dll (start + 1) exports)
+    (numbered_in machine dll exports (start + 1) n e p is (subst (λ n. Among p (numbered_specs_of machine dll n e)) place held))
 
 -- a plan of an export: of its member, or it has an alias
-abbrev pub OfExport : MachineType → List ℕ → List ExportView → ℕ → Plan → Type 0
+abbrev pub OfExport : MachineType → List ℕ → List ExportView → ℕ → MemberSpec → Type 0
 OfExport machine dll exports start p =
-    (n : ℕ) × (e : ExportView) × (slice_get exports n ≡ Some e) × ((p ≡ export_plan machine dll (start + n) e) ⊎ (is_alias e.alias_target e.name ≡ true))
+    (n : ℕ) × (e : ExportView) × (slice_get exports n ≡ Some e) × ((p ≡ export_spec machine dll (start + n) e) ⊎ (is_alias e.alias_target e.name ≡ true))
 
-pub numbered_is : (machine : MachineType) (dll : List ℕ) (exports : List ExportView) (start : ℕ) (p : Plan) → Among p (numbered_plans machine dll start exports) →
+pub numbered_is : (machine : MachineType) (dll : List ℕ) (exports : List ExportView) (start : ℕ) (p : MemberSpec) → Among p (numbered_specs machine dll start exports) →
     OfExport machine dll exports start p
-unfolding Among alias_plans
+unfolding Among alias_specs
 numbered_is machine dll [] start p held = absurd held
 numbered_is machine dll (x ∷ exports) start p held =
-    elim (among_either p (numbered_plans_of machine dll start x) (numbered_plans machine dll (start + 1) exports) held) [
+    elim (among_either p (numbered_specs_of machine dll start x) (numbered_specs machine dll (start + 1) exports) held) [
       | inl own ↦ elim (cases_Bool (is_alias x.alias_target x.name)) [
         | inl alias ↦ (0, x, refl, inr alias)
         | inr none ↦
             let place : start ≡ start + 0 = omega arith in
-            let only : Among p (export_plan machine dll start x ∷ []) = rw none at own in
+            let only : Among p (export_spec machine dll start x ∷ []) = rw none at own in
             elim only [
-              | inl is ↦ (0, x, refl, inl (subst (λ n. p ≡ export_plan machine dll n x) place is))
+              | inl is ↦ (0, x, refl, inl (subst (λ n. p ≡ export_spec machine dll n x) place is))
               | inr nothing ↦ absurd nothing
             ]
       ]
@@ -65,7 +67,7 @@ numbered_is machine dll (x ∷ exports) start p held =
             later.1,
             later.2,
             elim later.3 [
-              | inl is ↦ inl (subst (λ n. p ≡ export_plan machine dll n later.1) place is)
+              | inl is ↦ inl (subst (λ n. p ≡ export_spec machine dll n later.1) place is)
               | inr alias ↦ inr alias
             ],
           )
@@ -134,31 +136,31 @@ among_option x None xs held = held
 among_option x (Some y) xs held = inr held
 
 pub plan_chosen : (machine : MachineType) (dll : List ℕ) (exports : List ExportView) (chosen : List ℕ) (n : ℕ) (e : ExportView) → Among n chosen →
-    slice_get exports n ≡ Some e → Among (export_plan machine dll n e) (filter_map (plan_numbered machine dll exports) chosen)
+    slice_get exports n ≡ Some e → Among (export_spec machine dll n e) (filter_map (numbered_spec machine dll exports) chosen)
 unfolding Among
 plan_chosen machine dll exports [] n e held is = absurd held
 plan_chosen machine dll exports (k ∷ chosen) n e (inl same) is =
     let here : slice_get exports k ≡ Some e = subst (λ m. slice_get exports m ≡ Some e) same is in
-    rw here (inl (ap (λ m. export_plan machine dll m e) same))
+    rw here (inl (ap (λ m. export_spec machine dll m e) same))
 plan_chosen machine dll exports (k ∷ chosen) n e (inr held) is =
-    among_option (export_plan machine dll n e) (plan_numbered machine dll exports k) (filter_map (plan_numbered machine dll exports) chosen)
+    among_option (export_spec machine dll n e) (numbered_spec machine dll exports k) (filter_map (numbered_spec machine dll exports) chosen)
     (plan_chosen machine dll exports chosen n e held is)
 
 -- a plan of a chosen export
-abbrev pub Chosen : MachineType → List ℕ → List ExportView → List ℕ → Plan → Type 0
+abbrev pub Chosen : MachineType → List ℕ → List ExportView → List ℕ → MemberSpec → Type 0
 Chosen machine dll exports chosen p =
-    (n : ℕ) × (e : ExportView) × Among n chosen × (slice_get exports n ≡ Some e) × (p ≡ export_plan machine dll n e)
+    (n : ℕ) × (e : ExportView) × Among n chosen × (slice_get exports n ≡ Some e) × (p ≡ export_spec machine dll n e)
 
-first_chosen : (machine : MachineType) (dll : List ℕ) (exports : List ExportView) (k : ℕ) (chosen : List ℕ) (p : Plan) (o : Option ExportView) → slice_get exports k ≡ o →
-    (Among p (filter_map (plan_numbered machine dll exports) chosen) → Chosen machine dll exports chosen p) →
-    Among p (cons_option (option_map (export_plan machine dll k) o) (filter_map (plan_numbered machine dll exports) chosen)) → Chosen machine dll exports (k ∷ chosen) p
+first_chosen : (machine : MachineType) (dll : List ℕ) (exports : List ExportView) (k : ℕ) (chosen : List ℕ) (p : MemberSpec) (o : Option ExportView) → slice_get exports k ≡ o →
+    (Among p (filter_map (numbered_spec machine dll exports) chosen) → Chosen machine dll exports chosen p) →
+    Among p (cons_option (option_map (export_spec machine dll k) o) (filter_map (numbered_spec machine dll exports) chosen)) → Chosen machine dll exports (k ∷ chosen) p
 unfolding Among
 first_chosen machine dll exports k chosen p None is next held = let later = next held in (later.0, later.1, inr later.2, later.3, later.4)
 first_chosen machine dll exports k chosen p (Some e) is next (inl same) = (k, e, inl refl, is, same)
 first_chosen machine dll exports k chosen p (Some e) is next (inr held) = let later = next held in (later.0, later.1, inr later.2, later.3, later.4)
 
-pub chosen_plan : (machine : MachineType) (dll : List ℕ) (exports : List ExportView) (chosen : List ℕ) (p : Plan) →
-    Among p (filter_map (plan_numbered machine dll exports) chosen) → Chosen machine dll exports chosen p
+pub chosen_plan : (machine : MachineType) (dll : List ℕ) (exports : List ExportView) (chosen : List ℕ) (p : MemberSpec) →
+    Among p (filter_map (numbered_spec machine dll exports) chosen) → Chosen machine dll exports chosen p
 unfolding Among
 chosen_plan machine dll exports [] p held = absurd held
 chosen_plan machine dll exports (k ∷ chosen) p held =
@@ -190,16 +192,16 @@ claimed_export : (machine : MachineType) (dll : List ℕ) (e : ExportView) → c
 unfolding export_object
 claimed_export machine dll e = elim (cases_Bool e.is_data) [ inl is ↦ rw is refl | inr is ↦ rw is refl ]
 
-listed_tail : (machine : MachineType) (dll : List ℕ) → (member_of (tail_plan machine dll)).symbols ≡ name_symbol machine dll ∷ []
-unfolding tail_plan
+listed_tail : (machine : MachineType) (dll : List ℕ) → (member_of (tail_spec machine dll)).symbols ≡ name_symbol machine dll ∷ []
+unfolding tail_spec
 listed_tail machine dll = refl
 
-pub listed_head : (machine : MachineType) (dll : List ℕ) → (member_of (head_plan machine dll)).symbols ≡ head_symbol machine dll ∷ []
-unfolding head_plan
+pub listed_head : (machine : MachineType) (dll : List ℕ) → (member_of (head_spec machine dll)).symbols ≡ head_symbol machine dll ∷ []
+unfolding head_spec
 listed_head machine dll = refl
 
-pub listed_export : (machine : MachineType) (dll : List ℕ) (n : ℕ) (e : ExportView) → (member_of (export_plan machine dll n e)).symbols ≡ export_listed e
-unfolding export_plan
+pub listed_export : (machine : MachineType) (dll : List ℕ) (n : ℕ) (e : ExportView) → (member_of (export_spec machine dll n e)).symbols ≡ export_listed e
+unfolding export_spec
 listed_export machine dll n e = refl
 
 pub address_listed : (e : ExportView) → Among (address_symbol e.name) (export_listed e)
@@ -237,17 +239,17 @@ pub record IsExport (machine : MachineType) (dll : List ℕ) (exports : List Exp
   pub number : ℕ
   pub export : ExportView
   pub is : slice_get exports number ≡ Some export
-  pub same : m ≡ member_of (export_plan machine dll number export)
+  pub same : m ≡ member_of (export_spec machine dll number export)
 
 pub data Kind (machine : MachineType) (dll : List ℕ) (exports : List ExportView) (m : MemberView) : Type 0 where
-  IsTail : m ≡ member_of (tail_plan machine dll) → Kind machine dll exports m
-  IsHead : m ≡ member_of (head_plan machine dll) → Kind machine dll exports m
+  IsTail : m ≡ member_of (tail_spec machine dll) → Kind machine dll exports m
+  IsHead : m ≡ member_of (head_spec machine dll) → Kind machine dll exports m
   OfAnExport : IsExport machine dll exports m → Kind machine dll exports m
 
 -- a member that is needed for wanted names
 pub data Needed (machine : MachineType) (dll : List ℕ) (exports : List ExportView) (wanted : List (List ℕ)) (m : MemberView) : Type 0 where
-  TheTail : m ≡ member_of (tail_plan machine dll) → AnyWanted exports wanted → Needed machine dll exports wanted m
-  TheHead : m ≡ member_of (head_plan machine dll) → AnyWanted exports wanted → Needed machine dll exports wanted m
+  TheTail : m ≡ member_of (tail_spec machine dll) → AnyWanted exports wanted → Needed machine dll exports wanted m
+  TheHead : m ≡ member_of (head_spec machine dll) → AnyWanted exports wanted → Needed machine dll exports wanted m
   AnExport : (x : IsExport machine dll exports m) → is_wanted wanted x.export ≡ true → Needed machine dll exports wanted m
 
 pub any_wanted : (machine : MachineType) (dll : List ℕ) (exports : List ExportView) (wanted : List (List ℕ)) (m : MemberView) → Needed machine dll exports wanted m → AnyWanted exports wanted
@@ -255,71 +257,71 @@ any_wanted machine dll exports wanted m (TheTail same any) = any
 any_wanted machine dll exports wanted m (TheHead same any) = any
 any_wanted machine dll exports wanted m (AnExport x want) = record { number = x.number; export = x.export; is = x.is; want = want }
 
-module _ (d : DefinitionView) (machine : MachineType) (members : List MemberView) (made : Made d machine Gnu members)
+module _ (d : DefinitionView) (machine : MachineType) (members : List MemberView) (made : AreMembersOf d machine Gnu members)
     (distinct : IsDistinct bytes_eq (all_listed members)) where
   abbrev pub public : List ExportView
   public = public_exports (renamed d)
 
   abbrev pub the_head : MemberView
-  the_head = member_of (head_plan machine d.import_name)
+  the_head = member_of (head_spec machine d.import_name)
 
   abbrev pub the_tail : MemberView
-  the_tail = member_of (tail_plan machine d.import_name)
+  the_tail = member_of (tail_spec machine d.import_name)
 
   abbrev pub the_export : ℕ → ExportView → MemberView
-  the_export n e = member_of (export_plan machine d.import_name n e)
+  the_export n e = member_of (export_spec machine d.import_name n e)
 
-  planned : (p : Plan) → Among p (gnu_plans machine d.import_name public) → Among (member_of p) members
-  planned p held = subst (Among (member_of p)) (sym made.made) (among_map member_of p (gnu_plans machine d.import_name public) held)
+  planned : (p : MemberSpec) → Among p (gnu_specs machine d.import_name public) → Among (member_of p) members
+  planned p held = subst (Among (member_of p)) (sym made.made) (among_map member_of p (gnu_specs machine d.import_name public) held)
 
   pub tail_held : Among the_tail members
-  tail_held = planned (tail_plan machine d.import_name) (among_first _ _)
+  tail_held = planned (tail_spec machine d.import_name) (among_first _ _)
 
   pub head_held : Among the_head members
-  head_held = planned (head_plan machine d.import_name) (among_later _ _ _ (among_first _ _))
+  head_held = planned (head_spec machine d.import_name) (among_later _ _ _ (among_first _ _))
 
-  plan_held : (n : ℕ) (e : ExportView) (p : Plan) → slice_get public n ≡ Some e → Among p (numbered_plans_of machine d.import_name n e) → Among (member_of p) members
+  plan_held : (n : ℕ) (e : ExportView) (p : MemberSpec) → slice_get public n ≡ Some e → Among p (numbered_specs_of machine d.import_name n e) → Among (member_of p) members
   plan_held n e p is held =
       let place : n ≡ 0 + n = omega arith in
-      planned p (among_later _ _ _ (among_later _ _ _ (among_reverse p (numbered_plans machine d.import_name 0 public)
-      (numbered_in machine d.import_name public 0 n e p is (subst (λ k. Among p (numbered_plans_of machine d.import_name k e)) place held)))))
+      planned p (among_later _ _ _ (among_later _ _ _ (among_reverse p (numbered_specs machine d.import_name 0 public)
+      (numbered_in machine d.import_name public 0 n e p is (subst (λ k. Among p (numbered_specs_of machine d.import_name k e)) place held)))))
 
   pub export_held : (n : ℕ) (e : ExportView) → slice_get public n ≡ Some e → Among (the_export n e) members
   export_held n e is =
-      plan_held n e (export_plan machine d.import_name n e) is
-      (among_back (export_plan machine d.import_name n e) (alias_plans machine d.import_name n e) (export_plan machine d.import_name n e ∷ []) (among_first _ _))
+      plan_held n e (export_spec machine d.import_name n e) is
+      (among_back (export_spec machine d.import_name n e) (alias_specs machine d.import_name n e) (export_spec machine d.import_name n e ∷ []) (among_first _ _))
 
-  abbrev alias_of : ℕ → ExportView → Plan
-  alias_of n e = alias_plan machine (weak_address_name d.import_name n) (address_symbol e.name) (address_symbol e.alias_target)
+  abbrev alias_of : ℕ → ExportView → MemberSpec
+  alias_of n e = alias_spec machine (weak_address_name d.import_name n) (address_symbol e.name) (address_symbol e.alias_target)
 
-  alias_there : (n : ℕ) (e : ExportView) → is_alias e.alias_target e.name ≡ true → Among (alias_of n e) (alias_plans machine d.import_name n e)
-  unfolding alias_plans
+  alias_there : (n : ℕ) (e : ExportView) → is_alias e.alias_target e.name ≡ true → Among (alias_of n e) (alias_specs machine d.import_name n e)
+  unfolding alias_specs
   alias_there n e alias = rw alias (among_later _ _ _ (among_first _ _))
 
   -- an alias is listed for a symbol of its export
   no_alias : (n : ℕ) (e : ExportView) → slice_get public n ≡ Some e → is_alias e.alias_target e.name ≡ true → ⊥
-  unfolding export_plan
+  unfolding export_spec
   no_alias n e is alias =
       names_apart d.import_name n (ap (λ (m : MemberView). m.name)
       (one_member members (address_symbol e.name) (member_of (alias_of n e)) (the_export n e) distinct
-      (plan_held n e (alias_of n e) is (among_front (alias_of n e) (alias_plans machine d.import_name n e) (export_plan machine d.import_name n e ∷ []) (alias_there n e alias)))
+      (plan_held n e (alias_of n e) is (among_front (alias_of n e) (alias_specs machine d.import_name n e) (export_spec machine d.import_name n e ∷ []) (alias_there n e alias)))
       (export_held n e is) (among_first _ _) (address_listed e)))
 
-  kind_planned : (m : MemberView) (p : Plan) → m ≡ member_of p → Among p (gnu_plans machine d.import_name public) → Kind machine d.import_name public m
+  kind_planned : (m : MemberView) (p : MemberSpec) → m ≡ member_of p → Among p (gnu_specs machine d.import_name public) → Kind machine d.import_name public m
   unfolding Among
   kind_planned m p same (inl e) = IsTail (same ∙ ap member_of e)
   kind_planned m p same (inr (inl e)) = IsHead (same ∙ ap member_of e)
   kind_planned m p same (inr (inr held)) =
-      let own = numbered_is machine d.import_name public 0 p (among_reversed p (numbered_plans machine d.import_name 0 public) held) in
+      let own = numbered_is machine d.import_name public 0 p (among_reversed p (numbered_specs machine d.import_name 0 public) held) in
       let place : 0 + own.0 ≡ own.0 = omega arith in
       elim own.3 [
-        | inl e ↦ OfAnExport (record { number = own.0; export = own.1; is = own.2; same = same ∙ ap member_of (e ∙ ap (λ n. export_plan machine d.import_name n own.1) place) })
+        | inl e ↦ OfAnExport (record { number = own.0; export = own.1; is = own.2; same = same ∙ ap member_of (e ∙ ap (λ n. export_spec machine d.import_name n own.1) place) })
         | inr alias ↦ absurd (no_alias own.0 own.1 own.2 alias)
       ]
 
   pub kind : (m : MemberView) → Among m members → Kind machine d.import_name public m
   kind m held =
-      let p = among_mapped member_of m (gnu_plans machine d.import_name public) (subst (Among m) made.made held) in
+      let p = among_mapped member_of m (gnu_specs machine d.import_name public) (subst (Among m) made.made held) in
       kind_planned m p.0 p.2 p.1
 
   tail_is : object_in the_tail.bytes ≡ Some (tail machine d.import_name)
@@ -485,17 +487,17 @@ numbers_are_wanted exports wanted = record {
       subst (λ n. Among n (numbers_wanted wanted 0 exports)) same (number_wanted wanted exports 0 k e is want);
 }
 
-abbrev plans_linked : MachineType → List ℕ → List ExportView → List ℕ → List Plan
-plans_linked machine dll exports chosen = head_plan machine dll ∷ (filter_map (plan_numbered machine dll exports) chosen ++ tail_plan machine dll ∷ [])
+abbrev plans_linked : MachineType → List ℕ → List ExportView → List ℕ → List MemberSpec
+plans_linked machine dll exports chosen = head_spec machine dll ∷ (filter_map (numbered_spec machine dll exports) chosen ++ tail_spec machine dll ∷ [])
 
-plan_linked : (machine : MachineType) (dll : List ℕ) (exports : List ExportView) (chosen : List ℕ) (p : Plan) → Among p (plans_linked machine dll exports chosen) →
-    (p ≡ head_plan machine dll) ⊎ ((p ≡ tail_plan machine dll) ⊎ Chosen machine dll exports chosen p)
+plan_linked : (machine : MachineType) (dll : List ℕ) (exports : List ExportView) (chosen : List ℕ) (p : MemberSpec) → Among p (plans_linked machine dll exports chosen) →
+    (p ≡ head_spec machine dll) ⊎ ((p ≡ tail_spec machine dll) ⊎ Chosen machine dll exports chosen p)
 unfolding Among
 plan_linked machine dll exports chosen p (inl e) = inl e
 plan_linked machine dll exports chosen p (inr held) =
-    elim (among_either p (filter_map (plan_numbered machine dll exports) chosen) (tail_plan machine dll ∷ []) held) [
+    elim (among_either p (filter_map (numbered_spec machine dll exports) chosen) (tail_spec machine dll ∷ []) held) [
       | inl own ↦ inr (inr (chosen_plan machine dll exports chosen p own))
-      | inr last ↦ inr (inl (only_one p (tail_plan machine dll) last))
+      | inr last ↦ inr (inl (only_one p (tail_spec machine dll) last))
     ]
 
 some_chosen : (d : DefinitionView) (machine : MachineType) (chosen : List ℕ) (k : ℕ) (m : MemberView) → Among k chosen → Among m (linked_members d machine chosen) →
@@ -510,28 +512,28 @@ linked_some d machine [] m held = absurd (in_nothing m held)
 linked_some d machine (n ∷ chosen) m held = (n, among_first n chosen, held)
 
 module _ (d : DefinitionView) (machine : MachineType) (wanted : List (List ℕ)) (chosen : List ℕ) (are : AreWanted (public_exports (renamed d)) wanted chosen) where
-  pub plan_in : (p : Plan) → Among p (plans_linked machine d.import_name (public_exports (renamed d)) chosen) → Among (member_of p) (linked_members d machine chosen)
+  pub plan_in : (p : MemberSpec) → Among p (plans_linked machine d.import_name (public_exports (renamed d)) chosen) → Among (member_of p) (linked_members d machine chosen)
   plan_in p held = among_map member_of p (plans_linked machine d.import_name (public_exports (renamed d)) chosen) held
 
   pub linked_if_needed : (m : MemberView) → Needed machine d.import_name (public_exports (renamed d)) wanted m → Among m (linked_if_any d machine chosen)
   linked_if_needed m (TheTail same any) =
       some_chosen d machine chosen any.number m (are.all any.number any.export any.is any.want) (subst (λ x. Among x (linked_members d machine chosen)) (sym same)
-      (plan_in (tail_plan machine d.import_name) (among_later _ _ _
-      (among_back _ (filter_map (plan_numbered machine d.import_name (public_exports (renamed d))) chosen) (tail_plan machine d.import_name ∷ []) (among_first _ _)))))
+      (plan_in (tail_spec machine d.import_name) (among_later _ _ _
+      (among_back _ (filter_map (numbered_spec machine d.import_name (public_exports (renamed d))) chosen) (tail_spec machine d.import_name ∷ []) (among_first _ _)))))
   linked_if_needed m (TheHead same any) =
       some_chosen d machine chosen any.number m (are.all any.number any.export any.is any.want) (subst (λ x. Among x (linked_members d machine chosen)) (sym same)
-      (plan_in (head_plan machine d.import_name) (among_first _ _)))
+      (plan_in (head_spec machine d.import_name) (among_first _ _)))
   linked_if_needed m (AnExport x want) =
       some_chosen d machine chosen x.number m (are.all x.number x.export x.is want) (subst (λ y. Among y (linked_members d machine chosen)) (sym x.same)
-      (plan_in (export_plan machine d.import_name x.number x.export) (among_later _ _ _
-      (among_front _ (filter_map (plan_numbered machine d.import_name (public_exports (renamed d))) chosen) (tail_plan machine d.import_name ∷ [])
+      (plan_in (export_spec machine d.import_name x.number x.export) (among_later _ _ _
+      (among_front _ (filter_map (numbered_spec machine d.import_name (public_exports (renamed d))) chosen) (tail_spec machine d.import_name ∷ [])
       (plan_chosen machine d.import_name (public_exports (renamed d)) chosen x.number x.export (are.all x.number x.export x.is want) x.is)))))
 
   any_of : (k : ℕ) → Among k chosen → AnyWanted (public_exports (renamed d)) wanted
   any_of k held = let found = are.only k held in record { number = k; export = found.0; is = found.1; want = found.2 }
 
-  needed_plan : (m : MemberView) (p : Plan) → m ≡ member_of p → AnyWanted (public_exports (renamed d)) wanted →
-      (p ≡ head_plan machine d.import_name) ⊎ ((p ≡ tail_plan machine d.import_name) ⊎ Chosen machine d.import_name (public_exports (renamed d)) chosen p) →
+  needed_plan : (m : MemberView) (p : MemberSpec) → m ≡ member_of p → AnyWanted (public_exports (renamed d)) wanted →
+      (p ≡ head_spec machine d.import_name) ⊎ ((p ≡ tail_spec machine d.import_name) ⊎ Chosen machine d.import_name (public_exports (renamed d)) chosen p) →
       Needed machine d.import_name (public_exports (renamed d)) wanted m
   needed_plan m p same any (inl e) = TheHead (same ∙ ap member_of e) any
   needed_plan m p same any (inr (inl e)) = TheTail (same ∙ ap member_of e) any
@@ -546,14 +548,14 @@ module _ (d : DefinitionView) (machine : MachineType) (wanted : List (List ℕ))
       let p = among_mapped member_of m (plans_linked machine d.import_name (public_exports (renamed d)) chosen) some.2 in
       needed_plan m p.0 p.2 (any_of some.0 some.1) (plan_linked machine d.import_name (public_exports (renamed d)) chosen p.0 p.1)
 
-  takes_chosen : (members taken : List MemberView) (made : Made d machine Gnu members) (distinct : IsDistinct bytes_eq (all_listed members))
+  takes_chosen : (members taken : List MemberView) (made : AreMembersOf d machine Gnu members) (distinct : IsDistinct bytes_eq (all_listed members))
       (plain : NamesNoLinkage machine d.import_name wanted) → Takes members wanted taken → HaveSame taken (linked_if_any d machine chosen)
   takes_chosen members taken made distinct plain takes m = (
     λ has. among_contains m _ (linked_if_needed m (needed d machine members made distinct wanted plain taken takes.in_turn m (contains_among m taken has))),
     λ has. among_contains m taken (taken_if_needed d machine members made distinct wanted plain taken takes m (needed_if_linked m (contains_among m _ has))),
   )
 
-pub takes_wanted : (machine : MachineType) (d : DefinitionView) (members taken : List MemberView) (wanted : List (List ℕ)) → Made d machine Gnu members →
+pub takes_wanted : (machine : MachineType) (d : DefinitionView) (members taken : List MemberView) (wanted : List (List ℕ)) → AreMembersOf d machine Gnu members →
     IsDistinct bytes_eq (all_listed members) → NamesNoLinkage machine d.import_name wanted → Takes members wanted taken →
     HaveSame taken (linked_if_any d machine (exports_wanted d wanted))
 takes_wanted machine d members taken wanted made distinct plain takes =

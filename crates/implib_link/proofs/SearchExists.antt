@@ -10,8 +10,10 @@ use Rattle.implib.specs.declared.machine.MachineType.{MachineType}
 use Rattle.implib.specs.Definition.{DefinitionView, ExportView}
 use Rattle.implib.specs.Gnu.{export_listed, export_name, head_name, head_symbol, name_symbol, numbered_name, stem, tail_name}
 use Rattle.implib.specs.Import.{address_symbol, public_exports}
-use Rattle.implib.specs.LinkedMembers.{plan_numbered}
-use Rattle.implib.specs.Made.{Made, MemberView, Plan, alias_plans, export_plan, head_plan, member_of, numbered_plans, numbered_plans_of, tail_plan}
+use Rattle.implib.specs.LinkedMembers.{numbered_spec}
+use Rattle.implib.specs.Members.{AreMembersOf}
+use Rattle.implib.specs.MemberSpec.{MemberView, MemberSpec, member_of}
+use Rattle.implib.specs.GnuMembers.{alias_specs, export_spec, head_spec, numbered_specs, numbered_specs_of, tail_spec}
 use Rattle.implib.specs.Renaming.{renamed}
 use Rattle.implib.proofs.LinkedMembers.{among_contains, among_map}
 use Rattle.implib.proofs.Placement.{export, head}
@@ -32,49 +34,49 @@ ends_apart : (dll : List ℕ) → tail_name dll ≡ head_name dll → ⊥
 unfolding tail_name head_name
 ends_apart dll same = name_differs 0x74 0x68 (ap (λ text. slice_index text 3) (append_cancel_left (stem dll) _ _ same)) (omega arith)
 
-pub head_no_export : (machine : MachineType) (dll : List ℕ) (n : ℕ) (e : ExportView) → member_of (head_plan machine dll) ≡ member_of (export_plan machine dll n e) → ⊥
-unfolding head_plan export_plan
+pub head_no_export : (machine : MachineType) (dll : List ℕ) (n : ℕ) (e : ExportView) → member_of (head_spec machine dll) ≡ member_of (export_spec machine dll n e) → ⊥
+unfolding head_spec export_spec
 head_no_export machine dll n e same = head_apart dll n (ap (λ (m : MemberView). m.name) same)
 
-pub tail_no_export : (machine : MachineType) (dll : List ℕ) (n : ℕ) (e : ExportView) → member_of (tail_plan machine dll) ≡ member_of (export_plan machine dll n e) → ⊥
-unfolding tail_plan export_plan
+pub tail_no_export : (machine : MachineType) (dll : List ℕ) (n : ℕ) (e : ExportView) → member_of (tail_spec machine dll) ≡ member_of (export_spec machine dll n e) → ⊥
+unfolding tail_spec export_spec
 tail_no_export machine dll n e same = tail_apart dll n (ap (λ (m : MemberView). m.name) same)
 
-pub tail_no_head : (machine : MachineType) (dll : List ℕ) → member_of (tail_plan machine dll) ≡ member_of (head_plan machine dll) → ⊥
-unfolding tail_plan head_plan
+pub tail_no_head : (machine : MachineType) (dll : List ℕ) → member_of (tail_spec machine dll) ≡ member_of (head_spec machine dll) → ⊥
+unfolding tail_spec head_spec
 tail_no_head machine dll same = ends_apart dll (ap (λ (m : MemberView). m.name) same)
 
 -- One name is not listed for two exports.
 
 listed_own : (machine : MachineType) (dll : List ℕ) (n : ℕ) (e : ExportView) (name : List ℕ) → Among name (export_listed e) →
-    Among name (flat_map (λ (p : Plan). p.listed) (numbered_plans_of machine dll n e))
-unfolding export_plan
+    Among name (flat_map (λ (p : MemberSpec). p.listed) (numbered_specs_of machine dll n e))
+unfolding export_spec
 listed_own machine dll n e name listed =
-    flat_map_among (λ (p : Plan). p.listed) name (numbered_plans_of machine dll n e) (export_plan machine dll n e)
-    (among_back (export_plan machine dll n e) (alias_plans machine dll n e) (export_plan machine dll n e ∷ []) (among_first _ _)) listed
+    flat_map_among (λ (p : MemberSpec). p.listed) name (numbered_specs_of machine dll n e) (export_spec machine dll n e)
+    (among_back (export_spec machine dll n e) (alias_specs machine dll n e) (export_spec machine dll n e ∷ []) (among_first _ _)) listed
 
 listed_later : (machine : MachineType) (dll : List ℕ) (exports : List ExportView) (start k : ℕ) (e : ExportView) (name : List ℕ) → slice_get exports k ≡ Some e →
-    Among name (export_listed e) → Among name (flat_map (λ (p : Plan). p.listed) (numbered_plans machine dll start exports))
-unfolding export_plan
+    Among name (export_listed e) → Among name (flat_map (λ (p : MemberSpec). p.listed) (numbered_specs machine dll start exports))
+unfolding export_spec
 listed_later machine dll exports start k e name is listed =
-    flat_map_among (λ (p : Plan). p.listed) name (numbered_plans machine dll start exports) (export_plan machine dll (start + k) e)
-    (numbered_in machine dll exports start k e (export_plan machine dll (start + k) e) is
-    (among_back (export_plan machine dll (start + k) e) (alias_plans machine dll (start + k) e) (export_plan machine dll (start + k) e ∷ []) (among_first _ _))) listed
+    flat_map_among (λ (p : MemberSpec). p.listed) name (numbered_specs machine dll start exports) (export_spec machine dll (start + k) e)
+    (numbered_in machine dll exports start k e (export_spec machine dll (start + k) e) is
+    (among_back (export_spec machine dll (start + k) e) (alias_specs machine dll (start + k) e) (export_spec machine dll (start + k) e ∷ []) (among_first _ _))) listed
 
 -- the names of one export's plans and of those behind
 plans_apart : (machine : MachineType) (dll : List ℕ) (x : ExportView) (exports : List ExportView) (start k : ℕ) (e : ExportView) (name : List ℕ) →
-    IsDistinct bytes_eq (flat_map (λ (p : Plan). p.listed) (numbered_plans machine dll start (x ∷ exports))) → slice_get exports k ≡ Some e →
+    IsDistinct bytes_eq (flat_map (λ (p : MemberSpec). p.listed) (numbered_specs machine dll start (x ∷ exports))) → slice_get exports k ≡ Some e →
     Among name (export_listed x) → Among name (export_listed e) → ⊥
 plans_apart machine dll x exports start k e name distinct is here there =
-    distinct_apart (flat_map (λ (p : Plan). p.listed) (numbered_plans_of machine dll start x)) (flat_map (λ (p : Plan). p.listed) (numbered_plans machine dll (start + 1) exports)) name
-    (subst (IsDistinct bytes_eq) (flat_map-append (λ (p : Plan). p.listed) (numbered_plans_of machine dll start x) (numbered_plans machine dll (start + 1) exports)) distinct)
+    distinct_apart (flat_map (λ (p : MemberSpec). p.listed) (numbered_specs_of machine dll start x)) (flat_map (λ (p : MemberSpec). p.listed) (numbered_specs machine dll (start + 1) exports)) name
+    (subst (IsDistinct bytes_eq) (flat_map-append (λ (p : MemberSpec). p.listed) (numbered_specs_of machine dll start x) (numbered_specs machine dll (start + 1) exports)) distinct)
     (listed_own machine dll start x name here) (listed_later machine dll exports (start + 1) k e name is there)
 
 same_listed : (name : List ℕ) (x e : ExportView) → Some x ≡ Some e → Among name (export_listed e) → Among name (export_listed x)
 same_listed name x e same = λ listed. subst (λ y. Among name (export_listed y)) (sym (same_export x e same)) listed
 
 one_place : (machine : MachineType) (dll : List ℕ) (exports : List ExportView) (start n k : ℕ) (e other : ExportView) (name : List ℕ) →
-    IsDistinct bytes_eq (flat_map (λ (p : Plan). p.listed) (numbered_plans machine dll start exports)) →
+    IsDistinct bytes_eq (flat_map (λ (p : MemberSpec). p.listed) (numbered_specs machine dll start exports)) →
     slice_get exports n ≡ Some e → slice_get exports k ≡ Some other → Among name (export_listed e) → Among name (export_listed other) → n ≡ k
 one_place machine dll [] start n k e other name distinct is is_too listed listed_too = cc
 one_place machine dll (x ∷ exports) start zero zero e other name distinct is is_too listed listed_too = refl
@@ -84,11 +86,11 @@ one_place machine dll (x ∷ exports) start (suc n) zero e other name distinct i
     absurd (plans_apart machine dll x exports start n e name distinct is (same_listed name x other is_too listed_too) listed)
 one_place machine dll (x ∷ exports) start (suc n) (suc k) e other name distinct is is_too listed listed_too =
     ap suc (one_place machine dll exports (start + 1) n k e other name
-    (distinct_later (flat_map (λ (p : Plan). p.listed) (numbered_plans_of machine dll start x)) (flat_map (λ (p : Plan). p.listed) (numbered_plans machine dll (start + 1) exports))
-    (subst (IsDistinct bytes_eq) (flat_map-append (λ (p : Plan). p.listed) (numbered_plans_of machine dll start x) (numbered_plans machine dll (start + 1) exports)) distinct))
+    (distinct_later (flat_map (λ (p : MemberSpec). p.listed) (numbered_specs_of machine dll start x)) (flat_map (λ (p : MemberSpec). p.listed) (numbered_specs machine dll (start + 1) exports))
+    (subst (IsDistinct bytes_eq) (flat_map-append (λ (p : MemberSpec). p.listed) (numbered_specs_of machine dll start x) (numbered_specs machine dll (start + 1) exports)) distinct))
     is is_too listed listed_too)
 
-listed_mapped : (ps : List Plan) → all_listed (map member_of ps) ≡ flat_map (λ (p : Plan). p.listed) ps
+listed_mapped : (ps : List MemberSpec) → all_listed (map member_of ps) ≡ flat_map (λ (p : MemberSpec). p.listed) ps
 listed_mapped [] = refl
 listed_mapped (p ∷ ps) = ap (λ names. p.listed ++ names) (listed_mapped ps)
 
@@ -112,24 +114,24 @@ numbers_apart wanted (x ∷ exports) start =
       | inr none ↦ rw none (numbers_apart wanted exports (start + 1))
     ]
 
-module _ (d : DefinitionView) (machine : MachineType) (members : List MemberView) (made : Made d machine Gnu members)
+module _ (d : DefinitionView) (machine : MachineType) (members : List MemberView) (made : AreMembersOf d machine Gnu members)
     (distinct : IsDistinct bytes_eq (all_listed members)) where
   pub one_number : (n k : ℕ) (e other : ExportView) (name : List ℕ) → slice_get (public_exports (renamed d)) n ≡ Some e → slice_get (public_exports (renamed d)) k ≡ Some other →
       Among name (export_listed e) → Among name (export_listed other) → n ≡ k
   one_number n k e other name is is_too listed listed_too =
       let exports : List ExportView = public_exports (renamed d) in
-      let behind : List Plan = reverse (numbered_plans machine d.import_name 0 exports) in
-      let all : IsDistinct bytes_eq ((tail_plan machine d.import_name).listed ++ ((head_plan machine d.import_name).listed ++ flat_map (λ (p : Plan). p.listed) behind)) =
-      subst (IsDistinct bytes_eq) (ap all_listed made.made ∙ listed_mapped (tail_plan machine d.import_name ∷ head_plan machine d.import_name ∷ behind)) distinct in
+      let behind : List MemberSpec = reverse (numbered_specs machine d.import_name 0 exports) in
+      let all : IsDistinct bytes_eq ((tail_spec machine d.import_name).listed ++ ((head_spec machine d.import_name).listed ++ flat_map (λ (p : MemberSpec). p.listed) behind)) =
+      subst (IsDistinct bytes_eq) (ap all_listed made.made ∙ listed_mapped (tail_spec machine d.import_name ∷ head_spec machine d.import_name ∷ behind)) distinct in
       one_place machine d.import_name exports 0 n k e other name
-      (distinct_reversed (λ (p : Plan). p.listed) (numbered_plans machine d.import_name 0 exports)
-      (distinct_later (head_plan machine d.import_name).listed (flat_map (λ (p : Plan). p.listed) behind)
-      (distinct_later (tail_plan machine d.import_name).listed ((head_plan machine d.import_name).listed ++ flat_map (λ (p : Plan). p.listed) behind) all)))
+      (distinct_reversed (λ (p : MemberSpec). p.listed) (numbered_specs machine d.import_name 0 exports)
+      (distinct_later (head_spec machine d.import_name).listed (flat_map (λ (p : MemberSpec). p.listed) behind)
+      (distinct_later (tail_spec machine d.import_name).listed ((head_spec machine d.import_name).listed ++ flat_map (λ (p : MemberSpec). p.listed) behind) all)))
       is is_too listed listed_too
 
   -- one member is not that of two exports
   pub same_number : (n k : ℕ) (e other : ExportView) → slice_get (public_exports (renamed d)) n ≡ Some e → slice_get (public_exports (renamed d)) k ≡ Some other →
-      member_of (export_plan machine d.import_name n e) ≡ member_of (export_plan machine d.import_name k other) → n ≡ k
+      member_of (export_spec machine d.import_name n e) ≡ member_of (export_spec machine d.import_name k other) → n ≡ k
   same_number n k e other is is_too same =
       one_number n k e other (address_symbol e.name) is is_too (address_listed e)
       (subst (Among (address_symbol e.name)) (sym (listed_export machine d.import_name n e) ∙ ap (λ (m : MemberView). m.symbols) same ∙ listed_export machine d.import_name k other) (address_listed e))
@@ -139,12 +141,12 @@ module _ (d : DefinitionView) (machine : MachineType) (members : List MemberView
     exports = public_exports (renamed d)
 
     abbrev taken_of : List ℕ → List MemberView
-    taken_of ns = map member_of (filter_map (plan_numbered machine d.import_name exports) ns)
+    taken_of ns = map member_of (filter_map (numbered_spec machine d.import_name exports) ns)
 
     from_chosen : (ns : List ℕ) (m : MemberView) → Among m (taken_of ns) →
-        (k : ℕ) × (e : ExportView) × Among k ns × (slice_get exports k ≡ Some e) × (m ≡ member_of (export_plan machine d.import_name k e))
+        (k : ℕ) × (e : ExportView) × Among k ns × (slice_get exports k ≡ Some e) × (m ≡ member_of (export_spec machine d.import_name k e))
     from_chosen ns m held =
-        let p = among_mapped member_of m (filter_map (plan_numbered machine d.import_name exports) ns) held in
+        let p = among_mapped member_of m (filter_map (numbered_spec machine d.import_name exports) ns) held in
         let c = chosen_plan machine d.import_name exports ns p.0 p.1 in
         (c.0, c.1, c.2, c.3, p.2 ∙ ap member_of c.4)
 
@@ -153,9 +155,9 @@ module _ (d : DefinitionView) (machine : MachineType) (members : List MemberView
         let c = from_chosen ns m held in
         subst (λ x. Among x members) (sym c.4) (export_held d machine members made distinct c.0 c.1 c.3)
 
-    in_chosen : (ns : List ℕ) (n : ℕ) (e : ExportView) → Among n ns → slice_get exports n ≡ Some e → Among (member_of (export_plan machine d.import_name n e)) (taken_of ns)
+    in_chosen : (ns : List ℕ) (n : ℕ) (e : ExportView) → Among n ns → slice_get exports n ≡ Some e → Among (member_of (export_spec machine d.import_name n e)) (taken_of ns)
     in_chosen ns n e held is =
-        among_map member_of (export_plan machine d.import_name n e) (filter_map (plan_numbered machine d.import_name exports) ns)
+        among_map member_of (export_spec machine d.import_name n e) (filter_map (numbered_spec machine d.import_name exports) ns)
         (plan_chosen machine d.import_name exports ns n e held is)
 
     exports_in_turn : (ns : List ℕ) → Apart ns → ((k : ℕ) → Among k ns → (e : ExportView) × (slice_get exports k ≡ Some e) × (is_wanted wanted e ≡ true)) →
@@ -169,12 +171,12 @@ module _ (d : DefinitionView) (machine : MachineType) (members : List MemberView
         rw found.1 (
           (
             name.0,
-            asks_for d machine members made distinct wanted plain (taken_of ns) (chosen_held ns) name.0 (member_of (export_plan machine d.import_name n e))
+            asks_for d machine members made distinct wanted plain (taken_of ns) (chosen_held ns) name.0 (member_of (export_spec machine d.import_name n e))
                 (export_held d machine members made distinct n e found.1)
                 (subst (Among name.0) (sym (listed_export machine d.import_name n e)) name.1)
                 (among_front name.0 wanted (names_left (taken_of ns)) name.2)
                 (λ held.
-                let c = from_chosen ns (member_of (export_plan machine d.import_name n e)) held in
+                let c = from_chosen ns (member_of (export_spec machine d.import_name n e)) held in
                 apart.0 (subst (λ k. Among k ns) (sym (same_number n c.0 e c.1 found.1 c.3 c.4)) c.2)),
           ),
           exports_in_turn ns apart.1 (λ k held. only k (among_later k n ns held)),
@@ -182,14 +184,14 @@ module _ (d : DefinitionView) (machine : MachineType) (members : List MemberView
 
     -- all that is needed
     abbrev all_of : List ℕ → List MemberView
-    all_of ns = member_of (tail_plan machine d.import_name) ∷ member_of (head_plan machine d.import_name) ∷ taken_of ns
+    all_of ns = member_of (tail_spec machine d.import_name) ∷ member_of (head_spec machine d.import_name) ∷ taken_of ns
 
-    head_held_too : (ns : List ℕ) (m : MemberView) → Among m (member_of (head_plan machine d.import_name) ∷ taken_of ns) → Among m members
+    head_held_too : (ns : List ℕ) (m : MemberView) → Among m (member_of (head_spec machine d.import_name) ∷ taken_of ns) → Among m members
     unfolding Among
     head_held_too ns m (inl e) = subst (λ x. Among x members) (sym e) (head_held d machine members made distinct)
     head_held_too ns m (inr held) = chosen_held ns m held
 
-    tail_new : (ns : List ℕ) → Among (member_of (tail_plan machine d.import_name)) (member_of (head_plan machine d.import_name) ∷ taken_of ns) → ⊥
+    tail_new : (ns : List ℕ) → Among (member_of (tail_spec machine d.import_name)) (member_of (head_spec machine d.import_name) ∷ taken_of ns) → ⊥
     unfolding Among
     tail_new ns (inl same) = tail_no_head machine d.import_name same
     tail_new ns (inr held) = let c = from_chosen ns _ held in tail_no_export machine d.import_name c.0 c.1 c.4
@@ -202,11 +204,11 @@ module _ (d : DefinitionView) (machine : MachineType) (members : List MemberView
         let e : ExportView = found.0 in (
           (
             name_symbol machine d.import_name,
-            asks_for d machine members made distinct wanted plain (member_of (head_plan machine d.import_name) ∷ taken_of ns) (head_held_too ns)
-                (name_symbol machine d.import_name) (member_of (tail_plan machine d.import_name))
+            asks_for d machine members made distinct wanted plain (member_of (head_spec machine d.import_name) ∷ taken_of ns) (head_held_too ns)
+                (name_symbol machine d.import_name) (member_of (tail_spec machine d.import_name))
                 (tail_held d machine members made distinct) (tail_listed d machine members made distinct)
-                (among_back _ wanted (names_left (member_of (head_plan machine d.import_name) ∷ taken_of ns))
-                (read_name left_by _ (member_of (head_plan machine d.import_name) ∷ taken_of ns) (member_of (head_plan machine d.import_name)) (head machine d.import_name)
+                (among_back _ wanted (names_left (member_of (head_spec machine d.import_name) ∷ taken_of ns))
+                (read_name left_by _ (member_of (head_spec machine d.import_name) ∷ taken_of ns) (member_of (head_spec machine d.import_name)) (head machine d.import_name)
                 (among_first _ _) (head_is d machine members made distinct)
                 (subst (Among (name_symbol machine d.import_name)) (sym (left_head machine d.import_name)) (among_first _ _))))
                 (tail_new ns),
@@ -215,10 +217,10 @@ module _ (d : DefinitionView) (machine : MachineType) (members : List MemberView
             (
               head_symbol machine d.import_name,
               asks_for d machine members made distinct wanted plain (taken_of ns) (chosen_held ns)
-                  (head_symbol machine d.import_name) (member_of (head_plan machine d.import_name))
+                  (head_symbol machine d.import_name) (member_of (head_spec machine d.import_name))
                   (head_held d machine members made distinct) (head_listed d machine members made distinct)
                   (among_back _ wanted (names_left (taken_of ns))
-                  (read_name left_by _ (taken_of ns) (member_of (export_plan machine d.import_name n e)) (export machine d.import_name e)
+                  (read_name left_by _ (taken_of ns) (member_of (export_spec machine d.import_name n e)) (export machine d.import_name e)
                   (in_chosen ns n e held found.1) (export_is d machine members made distinct n e found.1)
                   (subst (Among (head_symbol machine d.import_name)) (sym (left_export machine d.import_name e)) (among_first _ _))))
                   (λ has. let c = from_chosen ns _ has in head_no_export machine d.import_name c.0 c.1 c.4),
@@ -259,7 +261,7 @@ module _ (d : DefinitionView) (machine : MachineType) (members : List MemberView
           },
         )
 
-pub search_ends : (machine : MachineType) (d : DefinitionView) (members : List MemberView) (wanted : List (List ℕ)) → Made d machine Gnu members →
+pub search_ends : (machine : MachineType) (d : DefinitionView) (members : List MemberView) (wanted : List (List ℕ)) → AreMembersOf d machine Gnu members →
     IsDistinct bytes_eq (all_listed members) → NamesNoLinkage machine d.import_name wanted → (taken : List MemberView) × Takes members wanted taken
 search_ends machine d members wanted made distinct plain =
     search_of d machine members made distinct wanted plain (exports_wanted d wanted) (numbers_are_wanted (public_exports (renamed d)) wanted)

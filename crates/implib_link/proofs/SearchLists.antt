@@ -7,7 +7,7 @@ use Rattle.std.proofs.lemmas.List.{reverse-append}
 use Rattle.std.proofs.lemmas.Grind.{flat_map-append}
 use Rattle.std.proofs.lemmas.Slice.Eq.{bytes_eq-Decides}
 use Rattle.implib.specs.LinkedMembers.{objects_in}
-use Rattle.implib.specs.Made.{MemberView}
+use Rattle.implib.specs.MemberSpec.{MemberView}
 use Rattle.implib.specs.Object.{Object, object_in}
 use Rattle.implib.proofs.LinkedMembers.{among_map, among_reverse}
 use Rattle.implib.proofs.Ranges.{Among, all_among, among_back, among_front}

@@ -1,9 +1,8 @@
 -- Taken members in the order of their names.
 use Rattle.std.proofs.Common.{◌≡◌, ℕ, false, List, [], ◌∷◌, ◌++◌, map, refl, ap, sym, ◌∙◌, subst, inl, inr, ◌⊎◌}
 use Rattle.std.specs.Prelude.{bytes_eq}
-use Rattle.std.specs.Cmp.Lexicographic.{slice_cmp}
 use Rattle.std.specs.List.{AllByRecursion, Contains, IsDistinct}
-use Rattle.std.specs.Ordering.{nat_cmp, ordering_reverse}
+use Rattle.std.specs.Ordering.{ordering_reverse}
 use Rattle.std.specs.declared.cmp.Ordering.TheVariants.{Greater, Less}
 use Rattle.std.proofs.lemmas.Bool.{false_from_ne_true}
 use Rattle.std.proofs.lemmas.Cmp.{nat_list_cmp_total}
@@ -13,13 +12,15 @@ use Rattle.implib.specs.declared.machine.MachineType.{MachineType}
 use Rattle.implib.specs.Definition.{DefinitionView, ExportView}
 use Rattle.implib.specs.Import.{public_exports}
 use Rattle.implib.specs.LinkedMembers.{AllRise, ComesBefore}
-use Rattle.implib.specs.Made.{Made, MemberView, export_plan, head_plan, member_of, tail_plan}
+use Rattle.implib.specs.Members.{AreMembersOf}
+use Rattle.implib.specs.MemberSpec.{MemberView, member_of}
+use Rattle.implib.specs.GnuMembers.{export_spec, head_spec, tail_spec}
 use Rattle.implib.specs.Renaming.{renamed}
 use Rattle.implib.proofs.LinkedMembers.{among_contains, head_before_tail, head_first, tail_last}
 use Rattle.implib.proofs.Ranges.{Among, among_first, among_later}
 use Rattle.implib_link.specs.Search.{HaveSame, IsArranged, NamesNoLinkage, Takes, exports_wanted}
 use Rattle.implib_link.proofs.SearchLists.{all_listed, contains_among}
-use Rattle.implib_link.proofs.Search.{AnExport, AnyWanted, Needed, TheHead, TheTail, in_nothing, needed, numbers_are_wanted, taken_if_needed}
+use Rattle.implib_link.proofs.Search.{AnExport, AnyWanted, Needed, TheHead, TheTail, needed, numbers_are_wanted, taken_if_needed}
 
 less_or_greater : Less ≡ Greater → ⊥
 less_or_greater same = cc
@@ -77,34 +78,34 @@ last_of last (x ∷ y ∷ members) rise (inr held) all =
     (x ∷ later.0, ap (λ ms. x ∷ ms) later.1)
 
 head_then_export : (machine : MachineType) (dll : List ℕ) (n : ℕ) (e : ExportView) →
-    ComesBefore (member_of (head_plan machine dll)).name (member_of (export_plan machine dll n e)).name
-unfolding head_plan export_plan
+    ComesBefore (member_of (head_spec machine dll)).name (member_of (export_spec machine dll n e)).name
+unfolding head_spec export_spec
 head_then_export machine dll n e = head_first dll n
 
 export_then_tail : (machine : MachineType) (dll : List ℕ) (n : ℕ) (e : ExportView) →
-    ComesBefore (member_of (export_plan machine dll n e)).name (member_of (tail_plan machine dll)).name
-unfolding tail_plan export_plan
+    ComesBefore (member_of (export_spec machine dll n e)).name (member_of (tail_spec machine dll)).name
+unfolding tail_spec export_spec
 export_then_tail machine dll n e = tail_last dll n
 
-head_then_tail : (machine : MachineType) (dll : List ℕ) → ComesBefore (member_of (head_plan machine dll)).name (member_of (tail_plan machine dll)).name
-unfolding head_plan tail_plan
+head_then_tail : (machine : MachineType) (dll : List ℕ) → ComesBefore (member_of (head_spec machine dll)).name (member_of (tail_spec machine dll)).name
+unfolding head_spec tail_spec
 head_then_tail machine dll = head_before_tail dll
 
 behind_head : (machine : MachineType) (dll : List ℕ) (exports : List ExportView) (wanted : List (List ℕ)) (m : MemberView) → Needed machine dll exports wanted m →
-    (m ≡ member_of (head_plan machine dll)) ⊎ ComesBefore (member_of (head_plan machine dll)).name m.name
+    (m ≡ member_of (head_spec machine dll)) ⊎ ComesBefore (member_of (head_spec machine dll)).name m.name
 behind_head machine dll exports wanted m (TheTail same any) =
-    inr (subst (λ (z : MemberView). ComesBefore (member_of (head_plan machine dll)).name z.name) (sym same) (head_then_tail machine dll))
+    inr (subst (λ (z : MemberView). ComesBefore (member_of (head_spec machine dll)).name z.name) (sym same) (head_then_tail machine dll))
 behind_head machine dll exports wanted m (TheHead same any) = inl same
 behind_head machine dll exports wanted m (AnExport x want) =
-    inr (subst (λ (z : MemberView). ComesBefore (member_of (head_plan machine dll)).name z.name) (sym x.same) (head_then_export machine dll x.number x.export))
+    inr (subst (λ (z : MemberView). ComesBefore (member_of (head_spec machine dll)).name z.name) (sym x.same) (head_then_export machine dll x.number x.export))
 
 before_tail : (machine : MachineType) (dll : List ℕ) (exports : List ExportView) (wanted : List (List ℕ)) (m : MemberView) → Needed machine dll exports wanted m →
-    (m ≡ member_of (tail_plan machine dll)) ⊎ ComesBefore m.name (member_of (tail_plan machine dll)).name
+    (m ≡ member_of (tail_spec machine dll)) ⊎ ComesBefore m.name (member_of (tail_spec machine dll)).name
 before_tail machine dll exports wanted m (TheTail same any) = inl same
 before_tail machine dll exports wanted m (TheHead same any) =
-    inr (subst (λ (z : MemberView). ComesBefore z.name (member_of (tail_plan machine dll)).name) (sym same) (head_then_tail machine dll))
+    inr (subst (λ (z : MemberView). ComesBefore z.name (member_of (tail_spec machine dll)).name) (sym same) (head_then_tail machine dll))
 before_tail machine dll exports wanted m (AnExport x want) =
-    inr (subst (λ (z : MemberView). ComesBefore z.name (member_of (tail_plan machine dll)).name) (sym x.same) (export_then_tail machine dll x.number x.export))
+    inr (subst (λ (z : MemberView). ComesBefore z.name (member_of (tail_spec machine dll)).name) (sym x.same) (export_then_tail machine dll x.number x.export))
 
 -- members that rise, the first one and the last one among them
 ordered : (first last : MemberView) (members : List MemberView) → AllRise (names members) → Among first members → Among last members → ComesBefore first.name last.name →
@@ -125,7 +126,7 @@ ordered first last (x ∷ members) rise (inl e) (inr held) apart behind before =
     (rest.0, ap (λ m. m ∷ members) (sym e) ∙ ap (λ ms. first ∷ ms) rest.1)
 
 pub sorted_is_arranged : (machine : MachineType) (d : DefinitionView) (members taken arranged : List MemberView) (wanted : List (List ℕ)) (number : ℕ) →
-    Made d machine Gnu members → IsDistinct bytes_eq (all_listed members) → NamesNoLinkage machine d.import_name wanted → Takes members wanted taken →
+    AreMembersOf d machine Gnu members → IsDistinct bytes_eq (all_listed members) → NamesNoLinkage machine d.import_name wanted → Takes members wanted taken →
     Contains (exports_wanted d wanted) number → HaveSame taken arranged → AllRise (map (λ (m : MemberView). m.name) arranged) → IsArranged machine d.import_name taken arranged
 sorted_is_arranged machine d members taken arranged wanted number made distinct plain takes some same rise =
     let exports : List ExportView = public_exports (renamed d) in
@@ -135,8 +136,8 @@ sorted_is_arranged machine d members taken arranged wanted number made distinct 
     needed d machine members made distinct wanted plain taken takes.in_turn m (contains_among m taken ((same m).1 (among_contains m arranged held))) in
     let is_there = λ (m : MemberView) (need : Needed machine d.import_name exports wanted m).
     contains_among m arranged ((same m).0 (among_contains m taken (taken_if_needed d machine members made distinct wanted plain taken takes m need))) in
-    let order = ordered (member_of (head_plan machine d.import_name)) (member_of (tail_plan machine d.import_name)) arranged rise
-    (is_there (member_of (head_plan machine d.import_name)) (TheHead refl any)) (is_there (member_of (tail_plan machine d.import_name)) (TheTail refl any))
+    let order = ordered (member_of (head_spec machine d.import_name)) (member_of (tail_spec machine d.import_name)) arranged rise
+    (is_there (member_of (head_spec machine d.import_name)) (TheHead refl any)) (is_there (member_of (tail_spec machine d.import_name)) (TheTail refl any))
     (head_then_tail machine d.import_name)
     (λ m held. behind_head machine d.import_name exports wanted m (is_needed m held)) (λ m held. before_tail machine d.import_name exports wanted m (is_needed m held)) in
     record { between = order.0; order = order.1; same = same; once = rising_differ arranged rise }

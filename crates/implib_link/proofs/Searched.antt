@@ -8,8 +8,10 @@ use Rattle.implib.specs.declared.machine.MachineType.{MachineType}
 use Rattle.implib.specs.Definition.{DefinitionView, ExportView}
 use Rattle.implib.specs.Image.{IsAdmissible}
 use Rattle.implib.specs.Import.{public_exports}
-use Rattle.implib.specs.LinkedMembers.{Part, all_linked, linked_members, objects_in, plan_numbered}
-use Rattle.implib.specs.Made.{Made, MemberView, export_plan, head_plan, member_of, tail_plan}
+use Rattle.implib.specs.LinkedMembers.{LinkInput, all_linked, linked_members, objects_in, numbered_spec}
+use Rattle.implib.specs.Members.{AreMembersOf}
+use Rattle.implib.specs.MemberSpec.{MemberView, member_of}
+use Rattle.implib.specs.GnuMembers.{export_spec, head_spec, tail_spec}
 use Rattle.implib.specs.Object.{Object}
 use Rattle.implib.specs.Placement.{Bases}
 use Rattle.implib.specs.Renaming.{renamed}
@@ -29,7 +31,7 @@ OfWanted machine dll exports wanted m = (x : IsExport machine dll exports m) × 
 -- members of wanted exports are those of some numbers
 abbrev HaveNumbers : MachineType → List ℕ → List ExportView → List (List ℕ) → List MemberView → Type 0
 HaveNumbers machine dll exports wanted members =
-    (ns : List ℕ) × (members ≡ map member_of (filter_map (plan_numbered machine dll exports) ns))
+    (ns : List ℕ) × (members ≡ map member_of (filter_map (numbered_spec machine dll exports) ns))
     × ((k : ℕ) → Among k ns → (e : ExportView) × (slice_get exports k ≡ Some e) × (is_wanted wanted e ≡ true))
 
 numbers_of : (machine : MachineType) (dll : List ℕ) (exports : List ExportView) (wanted : List (List ℕ)) (members : List MemberView) →
@@ -41,7 +43,7 @@ numbers_of machine dll exports wanted (x ∷ members) all =
     let n : ℕ = first.0.number in
     let e : ExportView = first.0.export in (
       n ∷ later.0,
-      rw first.0.is (ap (λ m. m ∷ members) first.0.same ∙ ap (λ ms. member_of (export_plan machine dll n e) ∷ ms) later.1),
+      rw first.0.is (ap (λ m. m ∷ members) first.0.same ∙ ap (λ ms. member_of (export_spec machine dll n e) ∷ ms) later.1),
       λ k held. first_or_later k n later.0 held (λ same. (e, subst (λ i. slice_get exports i ≡ Some e) (sym same) first.0.is, first.1)) (later.2 k),
     )
   where
@@ -49,16 +51,16 @@ numbers_of machine dll exports wanted (x ∷ members) all =
     first_or_later k n ns held here there = elim (among_either k (n ∷ []) ns held) [ inl e ↦ here (only_one k n e) | inr m ↦ there m ]
 
 module _ (machine : MachineType) (d : DefinitionView) (members taken arranged : List MemberView) (wanted : List (List ℕ))
-    (made : Made d machine Gnu members) (distinct : IsDistinct bytes_eq (all_listed members)) (plain : NamesNoLinkage machine d.import_name wanted)
+    (made : AreMembersOf d machine Gnu members) (distinct : IsDistinct bytes_eq (all_listed members)) (plain : NamesNoLinkage machine d.import_name wanted)
     (takes : Takes members wanted taken) (is_arranged : IsArranged machine d.import_name taken arranged) where
   abbrev exports : List ExportView
   exports = public_exports (renamed d)
 
   abbrev head_member : MemberView
-  head_member = member_of (head_plan machine d.import_name)
+  head_member = member_of (head_spec machine d.import_name)
 
   abbrev tail_member : MemberView
-  tail_member = member_of (tail_plan machine d.import_name)
+  tail_member = member_of (tail_spec machine d.import_name)
 
   abbrev between : List MemberView
   between = is_arranged.between
@@ -93,26 +95,26 @@ module _ (machine : MachineType) (d : DefinitionView) (members taken arranged : 
       (needed d machine members made distinct wanted plain taken takes.in_turn m
       (is_taken m (among_later m head_member (between ++ tail_member ∷ []) (among_front m between (tail_member ∷ []) held)))))
 
-  abbrev part : Part
-  part = record { definition = d; members = members; chosen = numbers.0 }
+  abbrev input : LinkInput
+  input = record { definition = d; members = members; chosen = numbers.0 }
 
   are_linked : arranged ≡ linked_members d machine numbers.0
   are_linked =
       is_arranged.order
       ∙ ap (λ b. head_member ∷ (b ++ tail_member ∷ [])) numbers.1
-      ∙ ap (λ ms. head_member ∷ ms) (sym (map-append member_of (filter_map (plan_numbered machine d.import_name exports) numbers.0) (tail_plan machine d.import_name ∷ [])))
+      ∙ ap (λ ms. head_member ∷ ms) (sym (map-append member_of (filter_map (numbered_spec machine d.import_name exports) numbers.0) (tail_spec machine d.import_name ∷ [])))
 
-  all_are : arranged ≡ all_linked machine (part ∷ [])
+  all_are : arranged ≡ all_linked machine (input ∷ [])
   all_are = are_linked ∙ sym (append-nil (linked_members d machine numbers.0))
 
-  number_in : (k : ℕ) (e : ExportView) → slice_get exports k ≡ Some e → Among (member_of (export_plan machine d.import_name k e)) in_order → Among k numbers.0
+  number_in : (k : ℕ) (e : ExportView) → slice_get exports k ≡ Some e → Among (member_of (export_spec machine d.import_name k e)) in_order → Among k numbers.0
   number_in k e is held =
-      let m : MemberView = member_of (export_plan machine d.import_name k e) in
+      let m : MemberView = member_of (export_spec machine d.import_name k e) in
       elim (among_either m (head_member ∷ []) (between ++ tail_member ∷ []) held) [
         | inl first ↦ absurd (head_no_export machine d.import_name k e (sym (only_one m head_member first)))
         | inr behind ↦ elim (among_either m between (tail_member ∷ []) behind) [
           | inl own ↦
-              let p = among_mapped member_of m (filter_map (plan_numbered machine d.import_name exports) numbers.0) (subst (Among m) numbers.1 own) in
+              let p = among_mapped member_of m (filter_map (numbered_spec machine d.import_name exports) numbers.0) (subst (Among m) numbers.1 own) in
               let c = chosen_plan machine d.import_name exports numbers.0 p.0 p.1 in
               subst (λ n. Among n numbers.0) (sym (same_number d machine members made distinct k c.0 e c.1 is c.3 (p.2 ∙ ap member_of c.4))) c.2
           | inr last ↦ absurd (tail_no_export machine d.import_name k e (sym (only_one m tail_member last)))
@@ -126,8 +128,8 @@ module _ (machine : MachineType) (d : DefinitionView) (members taken arranged : 
         among_contains k (exports_wanted d wanted) ((numbers_are_wanted exports wanted).all k found.0 found.1 found.2),
     λ has.
         let found = (numbers_are_wanted exports wanted).only k (contains_among k (exports_wanted d wanted) has) in
-        among_contains k numbers.0 (number_in k found.0 found.1 (is_in_order (member_of (export_plan machine d.import_name k found.0))
-        (taken_if_needed d machine members made distinct wanted plain taken takes (member_of (export_plan machine d.import_name k found.0))
+        among_contains k numbers.0 (number_in k found.0 found.1 (is_in_order (member_of (export_spec machine d.import_name k found.0))
+        (taken_if_needed d machine members made distinct wanted plain taken takes (member_of (export_spec machine d.import_name k found.0))
         (AnExport (record { number = k; export = found.0; is = found.1; same = refl }) found.2)))),
   )
 
@@ -136,7 +138,7 @@ module _ (machine : MachineType) (d : DefinitionView) (members taken arranged : 
 
   is_program : (bases : Bases) (objects : List Object) → filter has_tables objects ≡ objects_in arranged ++ null_descriptor ∷ [] →
       AllByRecursion (ClaimsNone (all_listed arranged)) (filter (λ o. not (has_tables o)) objects) → IsAdmissible machine bases objects →
-      IsProgram machine bases (part ∷ []) objects
+      IsProgram machine bases (input ∷ []) objects
   is_program bases objects tables others admissible = record {
     distinct = subst (λ ms. IsDistinct bytes_eq (all_listed ms)) all_are (some_distinct members arranged distinct
         (λ m held. taken_held d machine members made distinct wanted plain taken takes.in_turn m (is_taken m (subst (Among m) is_arranged.order held)))
@@ -152,17 +154,17 @@ module _ (machine : MachineType) (d : DefinitionView) (members taken arranged : 
   imports_wanted bases objects tables others admissible = record {
     chosen = numbers.0;
     same = same_numbers;
-    links = program_links machine bases (part ∷ []) objects (made, tt) (is_program bases objects tables others admissible);
+    links = program_links machine bases (input ∷ []) objects (made, tt) (is_program bases objects tables others admissible);
   }
 
-pub linked_in_order : (machine : MachineType) (d : DefinitionView) (members taken arranged : List MemberView) (wanted : List (List ℕ)) → Made d machine Gnu members →
+pub linked_in_order : (machine : MachineType) (d : DefinitionView) (members taken arranged : List MemberView) (wanted : List (List ℕ)) → AreMembersOf d machine Gnu members →
     IsDistinct bytes_eq (all_listed members) → NamesNoLinkage machine d.import_name wanted → Takes members wanted taken →
     IsArranged machine d.import_name taken arranged → IsLinkedOfWanted machine d wanted arranged
 linked_in_order machine d members taken arranged wanted made distinct plain takes is_arranged =
     linked_of_wanted machine d members taken arranged wanted made distinct plain takes is_arranged
 
 pub searched_links : (machine : MachineType) (d : DefinitionView) (members taken : List MemberView) (wanted : List (List ℕ)) (bases : Bases) (objects : List Object) →
-    Made d machine Gnu members → IsDistinct bytes_eq (all_listed members) → NamesNoLinkage machine d.import_name wanted → Takes members wanted taken →
+    AreMembersOf d machine Gnu members → IsDistinct bytes_eq (all_listed members) → NamesNoLinkage machine d.import_name wanted → Takes members wanted taken →
     IsLinkedWith machine d.import_name bases taken objects → ImportsWanted machine d members wanted bases objects
 searched_links machine d members taken wanted bases objects made distinct plain takes program =
     imports_wanted machine d members taken program.arranged wanted made distinct plain takes program.is_arranged bases objects

@@ -12,7 +12,7 @@ use Rattle.implib.specs.Constants.{image_relative}
 use Rattle.implib.specs.Definition.{ExportView}
 use Rattle.implib.specs.Gnu.{export_object, head_object, relocations_of_stub, relocations_of_thunk, stub, tail_object, thunk}
 use Rattle.implib.specs.Image.{relocated, with_address}
-use Rattle.implib.specs.MsvcObjects.{thunk_width}
+use Rattle.implib.specs.ImportTables.{thunk_width}
 use Rattle.implib.specs.Object.{Object, u32_at}
 use Rattle.implib.specs.Placement.{Placed}
 use Rattle.implib.specs.Resolution.{target_address}

@@ -6,15 +6,15 @@ use Rattle.std.proofs.lemmas.Bool.{cases_Bool}
 use Rattle.std.proofs.lemmas.Option.{slice_get-map}
 use Rattle.implib.specs.declared.machine.MachineType.{MachineType}
 use Rattle.implib.specs.declared.machine.MachineType.TheVariants.{I386, ARMNT, AMD64, ARM64}
-use Rattle.implib.specs.Constants.{align_4, code, execute_read, external}
+use Rattle.implib.specs.Constants.{align_4bytes, cnt_code, mem_execute_read, class_external}
 use Rattle.implib.specs.Definition.{ExportView}
 use Rattle.implib.specs.Gnu.{export_object, relocations_of_stub, section, stub, stub_bytes, stub_relocations, text_name}
 use Rattle.implib.specs.Image.{Range, image_of, range_end}
-use Rattle.implib.specs.Import.{Ask, address_symbol, ask_meant}
+use Rattle.implib.specs.Import.{Ask, address_symbol, expected_ask}
 use Rattle.implib.specs.Linked.{EntriesAt}
-use Rattle.implib.specs.LinkedMembers.{IsMade, Part, chosen_exports}
+use Rattle.implib.specs.LinkedMembers.{IsMade, LinkInput, chosen_exports}
 use Rattle.implib.specs.Load.{BytesAt, TableAt}
-use Rattle.implib.specs.MsvcObjects.{thunk_width}
+use Rattle.implib.specs.ImportTables.{thunk_width}
 use Rattle.implib.specs.Object.{ASymbol, Object}
 use Rattle.implib.specs.Placement.{Bases, Placed, placed_from}
 use Rattle.implib.specs.Resolution.{SymbolDefinition, address_or_zero, definitions_of, first_address, target_address}
@@ -74,40 +74,40 @@ first_sum c a w m is = is ∙ ap (λ k. k + w * m) (times_none a w)
 later_sum : (c a b w m : ℕ) → c ≡ a + w * m → a ≡ b → c ≡ b + w * m
 later_sum c a b w m is same = is ∙ ap (λ n. n + w * m) same
 
-block_placed : (machine : MachineType) (parts : List Part) (b : Bases) (rest : List Object) → AreAligned b → (i j : ℕ) (p : Part) (e : ExportView) → slice_get parts i ≡ Some p →
+block_placed : (machine : MachineType) (inputs : List LinkInput) (b : Bases) (rest : List Object) → AreAligned b → (i j : ℕ) (p : LinkInput) (e : ExportView) → slice_get inputs i ≡ Some p →
     slice_get (chosen_exports p.definition p.chosen) j ≡ Some e →
-    (c : Bases) × (Among (placed_export machine p.definition.import_name c e) (placed_from b (blocks_objects machine (map block_of parts) rest))
-    × (c.addresses ≡ b.addresses + thunk_width machine * thunks_before i parts + thunk_width machine * j))
+    (c : Bases) × (Among (placed_export machine p.definition.import_name c e) (placed_from b (blocks_objects machine (map block_of inputs) rest))
+    × (c.addresses ≡ b.addresses + thunk_width machine * thunks_before i inputs + thunk_width machine * j))
 block_placed machine [] b rest even i j p e is chosen = cc
-block_placed machine (q ∷ parts) b rest even zero j p e is chosen =
+block_placed machine (q ∷ inputs) b rest even zero j p e is chosen =
     let same : q ≡ p = cc in
     let dll : List ℕ = q.definition.import_name in
     let exports : List ExportView = chosen_exports q.definition q.chosen in
-    let behind : List Object = blocks_objects machine (map block_of parts) rest in
+    let behind : List Object = blocks_objects machine (map block_of inputs) rest in
     let found = export_placed machine dll exports (ends_of_head machine dll b) behind (aligned_head machine dll b even) j e
-    (subst (λ (r : Part). slice_get (chosen_exports r.definition r.chosen) j ≡ Some e) (sym same) chosen) in (
+    (subst (λ (r : LinkInput). slice_get (chosen_exports r.definition r.chosen) j ≡ Some e) (sym same) chosen) in (
       found.0,
       (
-        subst (λ (r : Part). Among (placed_export machine r.definition.import_name found.0 e) (placed_from b (blocks_objects machine (map block_of (q ∷ parts)) rest))) same
+        subst (λ (r : LinkInput). Among (placed_export machine r.definition.import_name found.0 e) (placed_from b (blocks_objects machine (map block_of (q ∷ inputs)) rest))) same
             (subst (Among (placed_export machine dll found.0 e)) (sym (placed-head machine dll b (after_head machine dll exports behind) even)) (among_later (placed_export machine dll found.0 e) _ _ found.1.0)),
         first_sum found.0.addresses b.addresses (thunk_width machine) j found.1.1,
       ),
     )
-block_placed machine (q ∷ parts) b rest even (suc i) j p e is chosen =
+block_placed machine (q ∷ inputs) b rest even (suc i) j p e is chosen =
     let dll : List ℕ = q.definition.import_name in
     let exports : List ExportView = chosen_exports q.definition q.chosen in
-    let behind : List Object = blocks_objects machine (map block_of parts) rest in
+    let behind : List Object = blocks_objects machine (map block_of inputs) rest in
     let later : Bases = ends_of_block machine dll b exports in
-    let found = block_placed machine parts later rest (aligned_block machine dll b exports even) i j p e is chosen in
-    let table : later.addresses + thunk_width machine * thunks_before i parts ≡ b.addresses + thunk_width machine * (length exports + 1 + thunks_before i parts) =
-    ap (λ n. n + thunk_width machine * thunks_before i parts) (addresses_after machine dll (ends_of_head machine dll b) exports)
-    ∙ table_sum b.addresses (thunk_width machine) (length exports + 1) (thunks_before i parts) in (
+    let found = block_placed machine inputs later rest (aligned_block machine dll b exports even) i j p e is chosen in
+    let table : later.addresses + thunk_width machine * thunks_before i inputs ≡ b.addresses + thunk_width machine * (length exports + 1 + thunks_before i inputs) =
+    ap (λ n. n + thunk_width machine * thunks_before i inputs) (addresses_after machine dll (ends_of_head machine dll b) exports)
+    ∙ table_sum b.addresses (thunk_width machine) (length exports + 1) (thunks_before i inputs) in (
       found.0,
       (
         subst (Among (placed_export machine p.definition.import_name found.0 e)) (sym (placed-head machine dll b (after_head machine dll exports behind) even))
             (among_later (placed_export machine p.definition.import_name found.0 e) _ _
             (behind_exports machine dll exports (ends_of_head machine dll b) behind (placed_export machine p.definition.import_name found.0 e) (aligned_head machine dll b even) found.1.0)),
-        later_sum found.0.addresses (later.addresses + thunk_width machine * thunks_before i parts) (b.addresses + thunk_width machine * (length exports + 1 + thunks_before i parts)) (thunk_width machine) j found.1.1 table,
+        later_sum found.0.addresses (later.addresses + thunk_width machine * thunks_before i inputs) (b.addresses + thunk_width machine * (length exports + 1 + thunks_before i inputs)) (thunk_width machine) j found.1.1 table,
       ),
     )
 
@@ -154,12 +154,12 @@ wide_thunk ARM64 = omega arith
 -- The code of an export.
 
 code_defined : (machine : MachineType) (dll : List ℕ) (b : Bases) (e : ExportView) → e.is_data ≡ false →
-    Among (ASymbol (record { name = e.name; value = 0; section = 1; kind = 0; class = external })) (placed_export machine dll b e).object.entries
+    Among (ASymbol (record { name = e.name; value = 0; section = 1; kind = 0; class = class_external })) (placed_export machine dll b e).object.entries
 unfolding export_object
 code_defined machine dll b e is = rw is (among_later _ _ _ (among_first _ _))
 
 code_here : (machine : MachineType) (dll : List ℕ) (b : Bases) (e : ExportView) →
-    slice_get (placed_export machine dll b e).object.sections 0 ≡ Some (section text_name (code + align_4 + execute_read) (stub machine e) (relocations_of_stub machine e))
+    slice_get (placed_export machine dll b e).object.sections 0 ≡ Some (section text_name (cnt_code + align_4bytes + mem_execute_read) (stub machine e) (relocations_of_stub machine e))
 unfolding export_object
 code_here machine dll b e = refl
 
@@ -192,37 +192,37 @@ jump_by AMD64 image_base bases n m place linked p can near small target = amd64_
 jump_by ARM64 image_base bases n m place linked p can near small target =
     arm64_jumps image_base place _ linked p near small can.0 (eights bases.addresses n m can.1) target
 
-pub stubs_jump : (machine : MachineType) (image_base : ℕ) (bases : Bases) (parts : List Part) (objects : List Object) (i j : ℕ) (p : Part) (e : ExportView) →
-    AllByRecursion (IsMade machine) parts → IsProgram machine bases parts objects → CanJump machine image_base bases → slice_get parts i ≡ Some p →
+pub stubs_jump : (machine : MachineType) (image_base : ℕ) (bases : Bases) (inputs : List LinkInput) (objects : List Object) (i j : ℕ) (p : LinkInput) (e : ExportView) →
+    AllByRecursion (IsMade machine) inputs → IsProgram machine bases inputs objects → CanJump machine image_base bases → slice_get inputs i ≡ Some p →
     slice_get (chosen_exports p.definition p.chosen) j ≡ Some e → e.is_data ≡ false →
-    JumpsThrough machine image_base (placed_from bases objects) e.name (bases.addresses + thunk_width machine * thunks_before i parts + thunk_width machine * j)
-stubs_jump machine image_base bases parts objects i j p e made program can part chosen is =
+    JumpsThrough machine image_base (placed_from bases objects) e.name (bases.addresses + thunk_width machine * thunks_before i inputs + thunk_width machine * j)
+stubs_jump machine image_base bases inputs objects i j p e made program can input chosen is =
     let linked : List Placed = placed_from bases objects in
     let dll : List ℕ = p.definition.import_name in
-    let links = (program_links machine bases parts objects made program).imports i p part in
-    let found = block_placed machine parts bases (null_descriptor ∷ []) (even machine bases objects program.admissible) i j p e part chosen in
+    let links = (program_links machine bases inputs objects made program).imports i p input in
+    let found = block_placed machine inputs bases (null_descriptor ∷ []) (even machine bases objects program.admissible) i j p e input chosen in
     let own : Placed = placed_export machine dll found.0 e in
-    let kept : Among own (filter (λ (q : Placed). has_tables q.object) linked) = subst (Among own) (sym (kept_placed machine bases parts objects made program)) found.1.0 in
-    let small : bases.addresses + thunk_width machine * thunks_before i parts + thunk_width machine * j < 2 ^ 31 =
+    let kept : Among own (filter (λ (q : Placed). has_tables q.object) linked) = subst (Among own) (sym (kept_placed machine bases inputs objects made program)) found.1.0 in
+    let small : bases.addresses + thunk_width machine * thunks_before i inputs + thunk_width machine * j < 2 ^ 31 =
     thunk_below (image_of machine bases linked) (starts machine bases objects program.admissible) (ends machine bases objects program.admissible) (thunk_width machine) (wide_thunk machine)
-    (map (ask_meant machine) (chosen_exports p.definition p.chosen)) (bases.addresses + thunk_width machine * thunks_before i parts) j (ask_meant machine e)
-    (subst (λ n. TableAt (image_of machine bases linked) (thunk_width machine) n (map (ask_meant machine) (chosen_exports p.definition p.chosen))) links.table_stands links.strictly.loads.plain.address_table)
-    (slice_get-map (ask_meant machine) (chosen_exports p.definition p.chosen) j ∙ ap (option_map (ask_meant machine)) chosen) in
+    (map (expected_ask machine) (chosen_exports p.definition p.chosen)) (bases.addresses + thunk_width machine * thunks_before i inputs) j (expected_ask machine e)
+    (subst (λ n. TableAt (image_of machine bases linked) (thunk_width machine) n (map (expected_ask machine) (chosen_exports p.definition p.chosen))) links.table_stands links.strictly.loads.plain.address_table)
+    (slice_get-map (expected_ask machine) (chosen_exports p.definition p.chosen) j ∙ ap (option_map (expected_ask machine)) chosen) in
     record {
       from = own;
       held = among_contains own linked (among_filter (λ (q : Placed). has_tables q.object) own linked kept);
-      symbol = record { name = e.name; value = 0; section = 1; kind = 0; class = external };
+      symbol = record { name = e.name; value = 0; section = 1; kind = 0; class = class_external };
       defined = among_contains _ _ (code_defined machine dll found.0 e is);
       named = refl;
       shared = refl;
       first = refl;
       begins = refl;
-      code = section text_name (code + align_4 + execute_read) (stub machine e) (relocations_of_stub machine e);
+      code = section text_name (cnt_code + align_4bytes + mem_execute_read) (stub machine e) (relocations_of_stub machine e);
       here = code_here machine dll found.0 e;
       jumps = λ place near.
           ap (λ rs. jump_reads machine (image_base + place) (code_relocated machine image_base linked own place rs (stub machine e))) (code_relocations machine e is)
           ∙ ap (λ bytes. jump_reads machine (image_base + place) (code_relocated machine image_base linked own place (stub_relocations machine 2) bytes)) (code_bytes machine e is)
-          ∙ jump_by machine image_base bases (thunks_before i parts) j place linked own can near small (target_is machine dll linked found.0 e _ is found.1.1);
+          ∙ jump_by machine image_base bases (thunks_before i inputs) j place linked own can near small (target_is machine dll linked found.0 e _ is found.1.1);
     }
 
 pub same_address : (name : List ℕ) (a b : ℕ) (ds : List SymbolDefinition) → ds ≡ record { name = name; address = Some a } ∷ [] → ds ≡ record { name = name; address = Some b } ∷ [] → a ≡ b
@@ -230,23 +230,23 @@ same_address name a b ds first second =
     let same : Some a ≡ Some b = ap first_address (sym first ∙ second) in
     cc
 
-pub calls_reach : (machine : MachineType) (image_base : ℕ) (bases : Bases) (parts : List Part) (objects : List Object) (gives : List ℕ → Ask → List ℕ) (written : List Range) (i j : ℕ) (p : Part) (e : ExportView) →
-    AllByRecursion (IsMade machine) parts → IsProgram machine bases parts objects → CanJump machine image_base bases → ((dll : List ℕ) (ask : Ask) → length (gives dll ask) ≡ thunk_width machine) →
-    Writes (image_of machine bases (placed_from bases objects)) (thunk_width machine) gives bases.descriptors (map (imported machine) parts) written →
-    slice_get parts i ≡ Some p → slice_get (chosen_exports p.definition p.chosen) j ≡ Some e → e.is_data ≡ false →
-    CallReaches machine image_base (written ++ image_of machine bases (placed_from bases objects)) (placed_from bases objects) e.name (gives p.definition.import_name (ask_meant machine e))
-calls_reach machine image_base bases parts objects gives written i j p e made program can wide writes part chosen is =
+pub calls_reach : (machine : MachineType) (image_base : ℕ) (bases : Bases) (inputs : List LinkInput) (objects : List Object) (gives : List ℕ → Ask → List ℕ) (written : List Range) (i j : ℕ) (p : LinkInput) (e : ExportView) →
+    AllByRecursion (IsMade machine) inputs → IsProgram machine bases inputs objects → CanJump machine image_base bases → ((dll : List ℕ) (ask : Ask) → length (gives dll ask) ≡ thunk_width machine) →
+    Writes (image_of machine bases (placed_from bases objects)) (thunk_width machine) gives bases.descriptors (map (imported machine) inputs) written →
+    slice_get inputs i ≡ Some p → slice_get (chosen_exports p.definition p.chosen) j ≡ Some e → e.is_data ≡ false →
+    CallReaches machine image_base (written ++ image_of machine bases (placed_from bases objects)) (placed_from bases objects) e.name (gives p.definition.import_name (expected_ask machine e))
+calls_reach machine image_base bases inputs objects gives written i j p e made program can wide writes input chosen is =
     let linked : List Placed = placed_from bases objects in
-    let links = (program_links machine bases parts objects made program).imports i p part in
-    let table : ℕ = bases.addresses + thunk_width machine * thunks_before i parts in
+    let links = (program_links machine bases inputs objects made program).imports i p input in
+    let table : ℕ = bases.addresses + thunk_width machine * thunks_before i inputs in
     let once : definitions_of (address_symbol e.name) linked ≡ record { name = address_symbol e.name; address = Some (table + thunk_width machine * j) } ∷ [] =
     entry_once linked (thunk_width machine) table (chosen_exports p.definition p.chosen) j e
     (subst (λ n. EntriesAt linked (thunk_width machine) n (chosen_exports p.definition p.chosen)) links.table_stands links.strictly.entries) chosen in
-    let holds = (program_loads machine bases parts objects gives written made program wide writes).entries i j p e part chosen in
+    let holds = (program_loads machine bases inputs objects gives written made program wide writes).entries i j p e input chosen in
     let same : holds.address ≡ table + thunk_width machine * j = same_address (address_symbol e.name) holds.address (table + thunk_width machine * j) (definitions_of (address_symbol e.name) linked) holds.once once in
     record {
       entry = table + thunk_width machine * j;
       once = once;
-      jumps = stubs_jump machine image_base bases parts objects i j p e made program can part chosen is;
-      stands = subst (λ n. BytesAt (written ++ image_of machine bases linked) n (gives p.definition.import_name (ask_meant machine e))) same holds.stands;
+      jumps = stubs_jump machine image_base bases inputs objects i j p e made program can input chosen is;
+      stands = subst (λ n. BytesAt (written ++ image_of machine bases linked) n (gives p.definition.import_name (expected_ask machine e))) same holds.stands;
     }

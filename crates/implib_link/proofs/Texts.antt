@@ -11,11 +11,11 @@ use Rattle.implib.specs.Asked.{EachAsksForItsWord, exports_of_text, external_wor
 use Rattle.implib.specs.Definition.{DefinitionView, ExportView}
 use Rattle.implib.specs.Grammar.{Export}
 use Rattle.implib.specs.Image.{Range, image_of}
-use Rattle.implib.specs.Import.{Name, Ordinal, ask_meant, public_exports}
+use Rattle.implib.specs.Import.{Name, Ordinal, expected_ask, public_exports}
 use Rattle.implib.specs.Library.{LibraryView}
 use Rattle.implib.specs.LinkedMembers.{IsMade, chosen_exports}
-use Rattle.implib.specs.Made.{Made}
-use Rattle.implib.specs.MsvcObjects.{thunk_width}
+use Rattle.implib.specs.Members.{AreMembersOf}
+use Rattle.implib.specs.ImportTables.{thunk_width}
 use Rattle.implib.specs.Object.{Object}
 use Rattle.implib.specs.Placement.{Bases, Placed, placed_from}
 use Rattle.implib.specs.Renaming.{renamed}
@@ -36,7 +36,7 @@ exports_stated machine (e ∷ exports) (s ∷ statements) each = ap (λ others. 
 
 -- each asks for the word of its statement
 AsksAsStated : MachineType → Stated → Type 0
-AsksAsStated machine s = ask_meant machine s.export ≡ ask_stated s
+AsksAsStated machine s = expected_ask machine s.export ≡ ask_stated s
 
 stated_ask : (no_name : Bool) (ordinal : ℕ) (meant word : List ℕ) → (no_name ≡ false → meant ≡ word) →
     (if no_name then Ordinal ordinal else Name meant ordinal) ≡ (if no_name then Ordinal ordinal else Name word ordinal)
@@ -85,10 +85,10 @@ map_chosen f xs (n ∷ chosen) =
     ∙ ap (λ o. cons_option o (filter_map (slice_get (map f xs)) chosen)) (sym (slice_get-map f xs n))
 
 same_asks : (machine : MachineType) (xs : List Stated) → AllByRecursion (AsksAsStated machine) xs →
-    map (ask_meant machine) (map (λ (s : Stated). s.export) xs) ≡ map ask_stated xs
+    map (expected_ask machine) (map (λ (s : Stated). s.export) xs) ≡ map ask_stated xs
 unfolding AsksAsStated
 same_asks machine [] all = refl
-same_asks machine (x ∷ xs) all = ap (λ ask. ask ∷ map (ask_meant machine) (map (λ (s : Stated). s.export) xs)) all.0 ∙ ap (λ others. ask_stated x ∷ others) (same_asks machine xs all.1)
+same_asks machine (x ∷ xs) all = ap (λ ask. ask ∷ map (expected_ask machine) (map (λ (s : Stated). s.export) xs)) all.0 ∙ ap (λ others. ask_stated x ∷ others) (same_asks machine xs all.1)
 
 module _ (machine : MachineType) (d : DefinitionView) (statements : List Export) (each : EachAsksForItsWord machine (renamed d).exports statements) (chosen : List ℕ) where
   pub statements_are : map (λ (s : Stated). s.export) (chosen_stated d statements chosen) ≡ chosen_exports d chosen
@@ -98,9 +98,9 @@ module _ (machine : MachineType) (d : DefinitionView) (statements : List Export)
       (map_filter (λ (s : Stated). s.export) (λ (e : ExportView). not e.private) (stated (renamed d).exports statements)
       ∙ ap (filter (λ (e : ExportView). not e.private)) (exports_stated machine (renamed d).exports statements each))
 
-  pub asks_are : map (ask_meant machine) (chosen_exports d chosen) ≡ map ask_stated (chosen_stated d statements chosen)
+  pub asks_are : map (expected_ask machine) (chosen_exports d chosen) ≡ map ask_stated (chosen_stated d statements chosen)
   asks_are =
-      ap (map (ask_meant machine)) (sym statements_are)
+      ap (map (expected_ask machine)) (sym statements_are)
       ∙ same_asks machine (chosen_stated d statements chosen)
       (all_chosen (AsksAsStated machine) (filter (λ s. not s.export.private) (stated (renamed d).exports statements)) chosen
       (all_filter (AsksAsStated machine) (λ s. not s.export.private) (stated (renamed d).exports statements) (each_stated machine (renamed d).exports statements each)))
@@ -108,8 +108,8 @@ module _ (machine : MachineType) (d : DefinitionView) (statements : List Export)
 -- a source's part is made
 source_made : (machine : MachineType) (s : Source) → IsSource machine s → IsMade machine (part_of s)
 source_made machine s is =
-    let here : Made s.library.definition machine Gnu s.members =
-    subst (λ (l : LibraryView). Made s.library.definition l.machine l.flavor s.members) is.of_text.held is.made in
+    let here : AreMembersOf s.library.definition machine Gnu s.members =
+    subst (λ (l : LibraryView). AreMembersOf s.library.definition l.machine l.flavor s.members) is.of_text.held is.made in
     here
 
 sources_made : (machine : MachineType) (sources : List Source) → AllByRecursion (IsSource machine) sources → AllByRecursion (IsMade machine) (map part_of sources)

@@ -8,19 +8,20 @@ use Rattle.implib.specs.declared.machine.MachineType.TheVariants.{I386, ARMNT, A
 use Rattle.implib.specs.Bytes.{u16_bytes, u32_bytes}
 use Rattle.implib.specs.Gnu.{export_object, five_digits, head_name, head_object, head_symbol, hint_name, name_symbol, numbered_name, relocations_of_stub, relocations_of_thunk, stem, stub, tail_name, tail_object, thunk}
 use Rattle.implib.specs.Image.{with_address}
-use Rattle.implib.specs.Made.{alias_plans, export_plan, head_plan, refusal, renamed_refusal, tail_plan}
-use Rattle.implib.specs.MsvcObjects.{weak_object}
+use Rattle.implib.specs.GnuMembers.{alias_specs, export_spec, head_spec, tail_spec}
+use Rattle.implib.specs.Members.{refusal, renamed_refusal}
+use Rattle.implib.specs.WeakExternal.{weak_object}
 use Rattle.implib.specs.Object.{Object, before_nul, bytes_at, data_at, each_at, entries_at, name_of, object_in, object_of_header, relocation_at, relocation_of, section_at, section_of, strings_at, symbol_of, u16_at, u32_at, up_to_nul}
-use Rattle.implib.specs.Picture.{auxiliary_bytes, auxiliary_count, contents, contents_place, contents_size, header_bytes, layout, layout_size, name_field, offsets_from, place_of, record_count, records, relocation_bytes, section_header, section_headers, string_bytes_of, string_offsets, string_size, string_table, strings_size, symbol_bytes, symbols_place}
+use Rattle.implib.specs.Layout.{auxiliary_bytes, auxiliary_count, contents, contents_offset, contents_size, header_bytes, encoded, encoded_size, name_field, offsets_from, pointer_or_zero, record_count, records, relocation_bytes, section_header, section_headers, string_bytes_of, string_offsets, string_size, string_table, strings_size, symbol_bytes, symbol_table_offset}
 use Rattle.implib.specs.Placement.{next_multiple}
-use Rattle.implib.specs.Writer.{long_names, name_place, picture_of, symbol_written, with_long_name, with_name}
+use Rattle.implib.specs.Writer.{long_names, name_location, layout_of, symbol_written, with_long_name, with_name}
 use Rattle.implib.proofs.Ranges.{apart_as_they_rise, ends_below}
 use Rattle.implib_link.specs.Program.{ClaimsNone, claimed_names, has_tables, linked_symbols}
 use Rattle.implib_link.specs.WorkedPrograms.{WorkedProgram, WorkedPrograms, WorkedStubs, another, both_parts, caller, expected_4, expected_8, program_image, touching_4, touching_8}
 
 -- what the computing has to open
 abbrev opened : Unit {0}
-unfolding digits u16_bytes u32_bytes export_object five_digits head_name head_object head_symbol hint_name name_symbol numbered_name relocations_of_stub relocations_of_thunk stem stub tail_name tail_object thunk next_multiple with_address export_plan head_plan tail_plan before_nul bytes_at data_at each_at entries_at name_of object_in object_of_header relocation_at relocation_of section_at section_of strings_at symbol_of u16_at u32_at up_to_nul auxiliary_bytes auxiliary_count contents contents_place contents_size header_bytes layout name_field offsets_from place_of record_count records relocation_bytes section_header section_headers string_bytes_of string_offsets string_size string_table strings_size symbol_bytes symbols_place long_names name_place picture_of symbol_written with_long_name with_name
+unfolding digits u16_bytes u32_bytes export_object five_digits head_name head_object head_symbol hint_name name_symbol numbered_name relocations_of_stub relocations_of_thunk stem stub tail_name tail_object thunk next_multiple with_address export_spec head_spec tail_spec before_nul bytes_at data_at each_at entries_at name_of object_in object_of_header relocation_at relocation_of section_at section_of strings_at symbol_of u16_at u32_at up_to_nul auxiliary_bytes auxiliary_count contents contents_offset contents_size header_bytes encoded name_field offsets_from pointer_or_zero record_count records relocation_bytes section_header section_headers string_bytes_of string_offsets string_size string_table strings_size symbol_bytes symbol_table_offset long_names name_location layout_of symbol_written with_long_name with_name
 opened = tt
 
 -- whether texts are distinct
@@ -48,7 +49,7 @@ claims_none_by (name ∷ names) o all =
     (not-true (list_any (bytes_eq name) (claimed_names o)) parts.0, claims_none_by names o parts.1)
 
 amd64 : WorkedProgram AMD64 touching_8 expected_8
-unfolding opened refusal renamed_refusal alias_plans layout_size weak_object has_tables
+unfolding opened refusal renamed_refusal alias_specs encoded_size weak_object has_tables
 amd64 = record {
   made = (record { accepted = refl; made = refl; ordinals = refl }, (record { accepted = refl; made = refl; ordinals = refl }, tt));
   program = record {
@@ -76,7 +77,7 @@ amd64 = record {
 }
 
 arm64 : WorkedProgram ARM64 touching_8 expected_8
-unfolding opened refusal renamed_refusal alias_plans layout_size weak_object has_tables
+unfolding opened refusal renamed_refusal alias_specs encoded_size weak_object has_tables
 arm64 = record {
   made = (record { accepted = refl; made = refl; ordinals = refl }, (record { accepted = refl; made = refl; ordinals = refl }, tt));
   program = record {
@@ -104,7 +105,7 @@ arm64 = record {
 }
 
 i386 : WorkedProgram I386 touching_4 expected_4
-unfolding opened refusal renamed_refusal alias_plans layout_size weak_object has_tables
+unfolding opened refusal renamed_refusal alias_specs encoded_size weak_object has_tables
 i386 = record {
   made = (record { accepted = refl; made = refl; ordinals = refl }, (record { accepted = refl; made = refl; ordinals = refl }, tt));
   program = record {
@@ -132,7 +133,7 @@ i386 = record {
 }
 
 armnt : WorkedProgram ARMNT touching_4 expected_4
-unfolding opened refusal renamed_refusal alias_plans layout_size weak_object has_tables
+unfolding opened refusal renamed_refusal alias_specs encoded_size weak_object has_tables
 armnt = record {
   made = (record { accepted = refl; made = refl; ordinals = refl }, (record { accepted = refl; made = refl; ordinals = refl }, tt));
   program = record {

@@ -9,10 +9,12 @@ use Rattle.implib.specs.Definition.{empty_export}
 use Rattle.implib.specs.WorkedStatements.{plain_export}
 use Rattle.implib.specs.Bytes.{u16_bytes, u32_bytes}
 use Rattle.implib.specs.Gnu.{export_object, five_digits, head_name, head_object, head_symbol, hint_name, name_symbol, numbered_name, relocations_of_stub, relocations_of_thunk, stem, stub, tail_name, tail_object, thunk}
-use Rattle.implib.specs.Made.{MemberView, member_of, alias_plans, export_plan, head_plan, refusal, renamed_refusal, tail_plan}
+use Rattle.implib.specs.MemberSpec.{MemberView, member_of}
+use Rattle.implib.specs.GnuMembers.{alias_specs, export_spec, head_spec, tail_spec}
+use Rattle.implib.specs.Members.{refusal, renamed_refusal}
 use Rattle.implib.specs.Object.{before_nul, bytes_at, data_at, each_at, entries_at, name_of, object_in, object_of_header, relocation_at, relocation_of, section_at, section_of, strings_at, symbol_of, u16_at, u32_at, up_to_nul}
-use Rattle.implib.specs.Picture.{auxiliary_bytes, auxiliary_count, contents, contents_place, contents_size, header_bytes, layout, layout_size, name_field, offsets_from, place_of, record_count, records, relocation_bytes, section_header, section_headers, string_bytes_of, string_offsets, string_size, string_table, strings_size, symbol_bytes, symbols_place}
-use Rattle.implib.specs.Writer.{long_names, name_place, picture_of, symbol_written, with_long_name, with_name}
+use Rattle.implib.specs.Layout.{auxiliary_bytes, auxiliary_count, contents, contents_offset, contents_size, header_bytes, encoded, encoded_size, name_field, offsets_from, pointer_or_zero, record_count, records, relocation_bytes, section_header, section_headers, string_bytes_of, string_offsets, string_size, string_table, strings_size, symbol_bytes, symbol_table_offset}
+use Rattle.implib.specs.Writer.{long_names, name_location, layout_of, symbol_written, with_long_name, with_name}
 use Rattle.implib.proofs.LinkedMembers.{among_contains, among_map}
 use Rattle.implib.proofs.Ranges.{Among}
 use Rattle.implib_link.specs.Search.{Asks, IsTakenInTurn, first_listed, left_by, names_claimed, names_left}
@@ -51,23 +53,23 @@ asks_now archive names taken name m named undefined listed new = record {
 
 -- what the computing has to open
 abbrev opened : Unit {0}
-unfolding digits u16_bytes u32_bytes export_object five_digits head_name head_object head_symbol hint_name name_symbol numbered_name relocations_of_stub relocations_of_thunk stem stub tail_name tail_object thunk export_plan head_plan tail_plan before_nul bytes_at data_at each_at entries_at name_of object_in object_of_header relocation_at relocation_of section_at section_of strings_at symbol_of u16_at u32_at up_to_nul auxiliary_bytes auxiliary_count contents contents_place contents_size header_bytes layout name_field offsets_from place_of record_count records relocation_bytes section_header section_headers string_bytes_of string_offsets string_size string_table strings_size symbol_bytes symbols_place long_names name_place picture_of symbol_written with_long_name with_name
+unfolding digits u16_bytes u32_bytes export_object five_digits head_name head_object head_symbol hint_name name_symbol numbered_name relocations_of_stub relocations_of_thunk stem stub tail_name tail_object thunk export_spec head_spec tail_spec before_nul bytes_at data_at each_at entries_at name_of object_in object_of_header relocation_at relocation_of section_at section_of strings_at symbol_of u16_at u32_at up_to_nul auxiliary_bytes auxiliary_count contents contents_offset contents_size header_bytes encoded name_field offsets_from pointer_or_zero record_count records relocation_bytes section_header section_headers string_bytes_of string_offsets string_size string_table strings_size symbol_bytes symbol_table_offset long_names name_location layout_of symbol_written with_long_name with_name
 opened = tt
 
 abbrev the_head : MemberView
-the_head = member_of (head_plan AMD64 (codes "foo.dll"))
+the_head = member_of (head_spec AMD64 (codes "foo.dll"))
 
 abbrev the_tail : MemberView
-the_tail = member_of (tail_plan AMD64 (codes "foo.dll"))
+the_tail = member_of (tail_spec AMD64 (codes "foo.dll"))
 
 abbrev bar : MemberView
-bar = member_of (export_plan AMD64 (codes "foo.dll") 0 (plain_export (codes "bar")))
+bar = member_of (export_spec AMD64 (codes "foo.dll") 0 (plain_export (codes "bar")))
 
 abbrev qux : MemberView
-qux = member_of (export_plan AMD64 (codes "foo.dll") 2 (record empty_export { name = codes "qux"; is_data = true }))
+qux = member_of (export_spec AMD64 (codes "foo.dll") 2 (record empty_export { name = codes "qux"; is_data = true }))
 
 takes_three : MayTake three wanted (codes "foo_dll_a_s00002.o" ∷ codes "foo_dll_a_t.o" ∷ codes "foo_dll_a_h.o" ∷ codes "foo_dll_a_s00000.o" ∷ [])
-unfolding opened alias_plans layout_size names_left names_claimed left_by IsTakenInTurn
+unfolding opened alias_specs encoded_size names_left names_claimed left_by IsTakenInTurn
 takes_three = (
   qux ∷ the_tail ∷ the_head ∷ bar ∷ [],
   record {
@@ -90,11 +92,11 @@ takes_three = (
 )
 
 takes_nothing : MayTake three (codes "printf" ∷ []) []
-unfolding opened alias_plans layout_size names_left names_claimed left_by IsTakenInTurn
+unfolding opened alias_specs encoded_size names_left names_claimed left_by IsTakenInTurn
 takes_nothing = ([], record { in_turn = tt; ended = settled_ends (members_of three) (codes "printf" ∷ []) [] refl }, refl)
 
 takes_linkage : MayTake three (codes "_head_foo_dll" ∷ []) (codes "foo_dll_a_t.o" ∷ codes "foo_dll_a_h.o" ∷ [])
-unfolding opened alias_plans layout_size names_left names_claimed left_by IsTakenInTurn
+unfolding opened alias_specs encoded_size names_left names_claimed left_by IsTakenInTurn
 takes_linkage = (
   the_tail ∷ the_head ∷ [],
   record {
@@ -111,7 +113,7 @@ takes_linkage = (
 )
 
 pub worked_search : WorkedSearch
-unfolding opened refusal renamed_refusal alias_plans layout_size IsDistinct
+unfolding opened refusal renamed_refusal alias_specs encoded_size IsDistinct
 worked_search = record {
   made = record { accepted = refl; made = refl; ordinals = refl };
   distinct = ((refl, (refl, (refl, (refl, (refl, (refl, tt)))))), ((refl, (refl, (refl, (refl, (refl, tt))))), ((refl, (refl, (refl, (refl, tt)))), ((refl, (refl, (refl, tt))), ((refl, (refl, tt)), ((refl, tt), (tt, tt)))))));

@@ -3,10 +3,10 @@
 use Rattle.std.specs.Prelude.{ℕ, ◌+◌, ◌<◌, ◌⊎◌, List, [], ◌∷◌, map}
 use Rattle.implib.specs.declared.machine.MachineType.{MachineType}
 use Rattle.implib.specs.Image.{Range}
-use Rattle.implib.specs.Import.{Ask, ask_meant}
-use Rattle.implib.specs.LinkedMembers.{Part, chosen_exports}
+use Rattle.implib.specs.Import.{Ask, expected_ask}
+use Rattle.implib.specs.LinkedMembers.{LinkInput, chosen_exports}
 use Rattle.implib.specs.Load.{BytesAt, Loads, LoadsStrictly, NumberAt}
-use Rattle.implib.specs.MsvcObjects.{zeros}
+use Rattle.implib.specs.ImportTables.{zeros}
 
 -- a DLL, and all that is asked of it
 pub record Imported : Type 0 where
@@ -14,10 +14,10 @@ pub record Imported : Type 0 where
   pub asks : List Ask
 
 -- what a program imports by the chosen exports of a definition
-abbrev pub imported : MachineType → Part → Imported
+abbrev pub imported : MachineType → LinkInput → Imported
 imported machine p = record {
   dll = p.definition.import_name;
-  asks = map (ask_meant machine) (chosen_exports p.definition p.chosen);
+  asks = map (expected_ask machine) (chosen_exports p.definition p.chosen);
 }
 
 -- At an address stands a directory of just these imports, in this order, each by a descriptor that a

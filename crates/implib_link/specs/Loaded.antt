@@ -5,10 +5,10 @@ use Rattle.std.specs.List.{AllByRecursion, list_any}
 use Rattle.implib.specs.declared.machine.MachineType.{MachineType}
 use Rattle.implib.specs.Definition.{ExportView}
 use Rattle.implib.specs.Image.{Range, byte_at, image_of, is_in, range_end}
-use Rattle.implib.specs.Import.{Ask, address_symbol, ask_meant}
-use Rattle.implib.specs.LinkedMembers.{Part, chosen_exports}
+use Rattle.implib.specs.Import.{Ask, address_symbol, expected_ask}
+use Rattle.implib.specs.LinkedMembers.{LinkInput, chosen_exports}
 use Rattle.implib.specs.Load.{BytesAt, NumberAt}
-use Rattle.implib.specs.MsvcObjects.{thunk_width}
+use Rattle.implib.specs.ImportTables.{thunk_width}
 use Rattle.implib.specs.Object.{Object}
 use Rattle.implib.specs.Placement.{Bases, Placed, placed_from}
 use Rattle.implib.specs.Resolution.{definitions_of}
@@ -40,15 +40,15 @@ pub record HoldsAt (image : List Range) (linked : List Placed) (name : List ℕ)
 -- `entries`: at each chosen export's `__imp_` symbol stands what its DLL gives for what it asks;
 -- `within`: what was written is in the address tables;
 -- `kept`: where nothing was written, each byte is as it was linked.
-pub record IsLoaded (machine : MachineType) (bases : Bases) (parts : List Part) (objects : List Object)
+pub record IsLoaded (machine : MachineType) (bases : Bases) (inputs : List LinkInput) (objects : List Object)
     (gives : List ℕ → Ask → List ℕ) (written : List Range) : Type 0 where
-  pub entries : (i j : ℕ) (p : Part) (e : ExportView) → slice_get parts i ≡ Some p →
+  pub entries : (i j : ℕ) (p : LinkInput) (e : ExportView) → slice_get inputs i ≡ Some p →
       slice_get (chosen_exports p.definition p.chosen) j ≡ Some e →
       HoldsAt (written ++ image_of machine bases (placed_from bases objects)) (placed_from bases objects)
-      (address_symbol e.name) (gives p.definition.import_name (ask_meant machine e))
+      (address_symbol e.name) (gives p.definition.import_name (expected_ask machine e))
   pub within : AllByRecursion
       (λ r. (bases.addresses ≤ r.start)
-      × (range_end r ≤ bases.addresses + thunk_width machine * thunks_before (length parts) parts))
+      × (range_end r ≤ bases.addresses + thunk_width machine * thunks_before (length inputs) inputs))
       written
   pub kept : (address : ℕ) → list_any (is_in address) written ≡ false →
       byte_at (written ++ image_of machine bases (placed_from bases objects)) address

@@ -3,14 +3,14 @@
 use Rattle.std.specs.Prelude.{◌≡◌, ℕ, zero, suc, ◌+◌, ◌*◌, Bool, ◌&&◌, ◌||◌, ◌==◌, not, true, false, List, [], ◌∷◌, ◌++◌, bytes_eq, codes, length, map, slice_get, take, Option, Some, None, if◌then◌else◌}
 use Rattle.std.specs.List.{AllByRecursion, Contains, IsDistinct, filter, filter_map, flat_map, list_any}
 use Rattle.implib.specs.declared.machine.MachineType.{MachineType}
-use Rattle.implib.specs.Constants.{external, undefined, weak_external}
+use Rattle.implib.specs.Constants.{class_external, section_undefined, class_weak_external}
 use Rattle.implib.specs.Definition.{ExportView}
 use Rattle.implib.specs.Gnu.{section, table_flags}
 use Rattle.implib.specs.Image.{IsAdmissible, Range, image_of}
 use Rattle.implib.specs.Import.{address_symbol}
 use Rattle.implib.specs.Linked.{AllFind, IsDefinedAt, IsDefinedOnce, IsLinked, LinksStrictlyAt, undefined_names}
-use Rattle.implib.specs.LinkedMembers.{Part, all_linked, chosen_exports, objects_in}
-use Rattle.implib.specs.MsvcObjects.{descriptor_size, thunk_width, zeros}
+use Rattle.implib.specs.LinkedMembers.{LinkInput, all_linked, chosen_exports, objects_in}
+use Rattle.implib.specs.ImportTables.{descriptor_size, thunk_width, zeros}
 use Rattle.implib.specs.Object.{ASymbol, Auxiliary, Entry, Object, ObjectSection, ObjectSymbol}
 use Rattle.implib.specs.Placement.{Bases, Placed, placed_from}
 use Rattle.implib.specs.Resolution.{is_undefined_external, symbol_address}
@@ -37,12 +37,12 @@ has_tables o = list_any is_table o.sections
 
 -- whether a symbol is one for all objects
 abbrev pub is_shared : ObjectSymbol → Bool
-is_shared s = (s.class == external) || (s.class == weak_external)
+is_shared s = (s.class == class_external) || (s.class == class_weak_external)
 
 -- whether a symbol is plainly left to other objects: external and undefined, and no common block, whose
 -- value is its size
 abbrev pub is_reference : ObjectSymbol → Bool
-is_reference s = (s.class == external) && (s.section == undefined) && (s.value == 0)
+is_reference s = (s.class == class_external) && (s.section == section_undefined) && (s.value == 0)
 
 -- the name that an entry claims: it defines it, in a section, as an absolute value, as a common block or
 -- as a weak external
@@ -59,17 +59,17 @@ abbrev pub ClaimsNone : List (List ℕ) → Object → Type 0
 ClaimsNone names o = AllByRecursion (λ name. list_any (bytes_eq name) (claimed_names o) ≡ false) names
 
 -- the symbols that the linked members of all DLLs are listed for
-abbrev pub linked_symbols : MachineType → List Part → List (List ℕ)
-linked_symbols machine parts = flat_map (λ m. m.symbols) (all_linked machine parts)
+abbrev pub linked_symbols : MachineType → List LinkInput → List (List ℕ)
+linked_symbols machine inputs = flat_map (λ m. m.symbols) (all_linked machine inputs)
 
 -- What may be linked with the members of these parts: the objects with import tables are the members and,
 -- behind them, the null descriptor; the others may stand anywhere before, between and behind, and claim
 -- none of the members' symbols; no two members are listed for one symbol; the bases are admissible.
-pub record IsProgram (machine : MachineType) (bases : Bases) (parts : List Part) (objects : List Object)
+pub record IsProgram (machine : MachineType) (bases : Bases) (inputs : List LinkInput) (objects : List Object)
     : Type 0 where
-  pub distinct : IsDistinct bytes_eq (linked_symbols machine parts)
-  pub tables : filter has_tables objects ≡ objects_in (all_linked machine parts) ++ null_descriptor ∷ []
-  pub others : AllByRecursion (ClaimsNone (linked_symbols machine parts))
+  pub distinct : IsDistinct bytes_eq (linked_symbols machine inputs)
+  pub tables : filter has_tables objects ≡ objects_in (all_linked machine inputs) ++ null_descriptor ∷ []
+  pub others : AllByRecursion (ClaimsNone (linked_symbols machine inputs))
       (filter (λ o. not (has_tables o)) objects)
   pub admissible : IsAdmissible machine bases objects
 
@@ -96,10 +96,10 @@ pub record ImportsBy (machine : MachineType) (image : List Range) (linked : List
   pub gets : EachGets linked (thunk_width machine) table exports
 
 -- the thunks in the tables of the first few DLLs, with the null thunks that end them
-abbrev pub thunks_before : ℕ → List Part → ℕ
-thunks_before zero parts = 0
+abbrev pub thunks_before : ℕ → List LinkInput → ℕ
+thunks_before zero inputs = 0
 thunks_before (suc i) [] = 0
-thunks_before (suc i) (p ∷ parts) = length (chosen_exports p.definition p.chosen) + 1 + thunks_before i parts
+thunks_before (suc i) (p ∷ inputs) = length (chosen_exports p.definition p.chosen) + 1 + thunks_before i inputs
 
 -- the objects of a link that hold import tables
 abbrev pub with_tables : List Placed → List Placed
@@ -113,16 +113,16 @@ with_tables linked = filter (λ p. has_tables p.object) linked
 -- `targets`: every relocation of a member finds its target;
 -- `defined`: every symbol that a member leaves to others is defined once, at an address;
 -- `listed`: every symbol that a member is listed for is defined once.
-pub record LinksAmong (machine : MachineType) (bases : Bases) (parts : List Part) (objects : List Object)
+pub record LinksAmong (machine : MachineType) (bases : Bases) (inputs : List LinkInput) (objects : List Object)
     : Type 0 where
-  pub linked : AllByRecursion (IsLinked machine) parts
-  pub imports : (i : ℕ) (p : Part) → slice_get parts i ≡ Some p →
+  pub linked : AllByRecursion (IsLinked machine) inputs
+  pub imports : (i : ℕ) (p : LinkInput) → slice_get inputs i ≡ Some p →
       ImportsBy machine (image_of machine bases (placed_from bases objects)) (placed_from bases objects)
-      (bases.descriptors + 20 * i) (bases.addresses + thunk_width machine * thunks_before i parts)
+      (bases.descriptors + 20 * i) (bases.addresses + thunk_width machine * thunks_before i inputs)
       p.definition.import_name (chosen_exports p.definition p.chosen)
   pub directory : DirectoryAt (image_of machine bases (placed_from bases objects))
-      (thunk_width machine) bases.descriptors (map (imported machine) parts)
+      (thunk_width machine) bases.descriptors (map (imported machine) inputs)
   pub targets : AllByRecursion (AllFind (placed_from bases objects)) (with_tables (placed_from bases objects))
   pub defined : AllByRecursion (IsDefinedAt (placed_from bases objects))
       (undefined_names (with_tables (placed_from bases objects)))
-  pub listed : AllByRecursion (IsDefinedOnce (placed_from bases objects)) (linked_symbols machine parts)
+  pub listed : AllByRecursion (IsDefinedOnce (placed_from bases objects)) (linked_symbols machine inputs)

@@ -2,14 +2,14 @@
 use Rattle.std.specs.Prelude.{◌≡◌, ℕ, List, [], ◌∷◌, ◌++◌, codes, Some}
 use Rattle.implib.specs.declared.machine.MachineType.TheVariants.{AMD64}
 use Rattle.implib.specs.Bytes.{u32_bytes}
-use Rattle.implib.specs.Constants.{amd64_rel32, external}
+use Rattle.implib.specs.Constants.{amd64_rel32, class_external}
 use Rattle.implib.specs.Definition.{ExportView}
 use Rattle.implib.specs.Gnu.{head_symbol, section, stub_bytes, table_flags}
 use Rattle.implib.specs.Image.{Range}
 use Rattle.implib.specs.Import.{Ask, Ordinal, address_symbol}
 use Rattle.implib.specs.Linked.{LinksStrictlyAt}
 use Rattle.implib.specs.Load.{Loads, LoadsStrictly}
-use Rattle.implib.specs.MsvcObjects.{zeros}
+use Rattle.implib.specs.ImportTables.{zeros}
 use Rattle.implib.specs.Object.{ASymbol, ObjectSymbol}
 use Rattle.implib.specs.Placement.{Addresses, At, Descriptors, Placed}
 use Rattle.implib.specs.WorkedLinks.{nameless}
@@ -75,7 +75,7 @@ exchanged = image_by_hand (descriptor_bytes 0x1040 0 0x1058 0x1028) table_8 tabl
 -- objects that define the descriptor's symbol and those of the entries, from an address on
 abbrev pub defined_at : List ℕ → ℕ → ℕ → ObjectSymbol
 defined_at name section_number value =
-    record { name = name; value = value; section = section_number; kind = 0; class = external }
+    record { name = name; value = value; section = section_number; kind = 0; class = class_external }
 
 abbrev pub placed_by_hand : ℕ → Placed
 placed_by_hand entries =

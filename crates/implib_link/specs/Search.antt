@@ -10,7 +10,8 @@ use Rattle.implib.specs.Import.{public_exports}
 use Rattle.implib.specs.Image.{IsAdmissible}
 use Rattle.implib.specs.Linked.{undefined_name}
 use Rattle.implib.specs.LinkedMembers.{linked_members, objects_in}
-use Rattle.implib.specs.Made.{MemberView, head_plan, member_of, tail_plan}
+use Rattle.implib.specs.MemberSpec.{MemberView, member_of}
+use Rattle.implib.specs.GnuMembers.{head_spec, tail_spec}
 use Rattle.implib.specs.Object.{Object}
 use Rattle.implib.specs.Placement.{Bases}
 use Rattle.implib.specs.Renaming.{renamed}
@@ -92,7 +93,7 @@ HaveSame {X} first second = (x : X) → (Contains first x → Contains second x)
 -- it that sort by member name
 pub record IsArranged (machine : MachineType) (dll : List ℕ) (taken arranged : List MemberView) : Type 0 where
   pub between : List MemberView
-  pub order : arranged ≡ member_of (head_plan machine dll) ∷ (between ++ member_of (tail_plan machine dll) ∷ [])
+  pub order : arranged ≡ member_of (head_spec machine dll) ∷ (between ++ member_of (tail_spec machine dll) ∷ [])
   pub same : HaveSame taken arranged
   pub once : IsDistinct bytes_eq (map (λ m. m.name) arranged)
 

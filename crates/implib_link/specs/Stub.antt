@@ -7,7 +7,7 @@ use Rattle.implib.specs.declared.coff.object.Relocation.{Relocation}
 use Rattle.implib.specs.declared.machine.MachineType.{MachineType}
 use Rattle.implib.specs.declared.machine.MachineType.TheVariants.{I386, ARMNT, AMD64, ARM64}
 use Rattle.implib.specs.Bytes.{u32_bytes}
-use Rattle.implib.specs.Constants.{amd64_rel32, arm64_pagebase_rel21, arm64_pageoffset_12l, external, i386_dir32}
+use Rattle.implib.specs.Constants.{amd64_rel32, arm64_pagebase_rel21, arm64_pageoffset_12l, class_external, i386_dir32}
 use Rattle.implib.specs.Image.{Range}
 use Rattle.implib.specs.Import.{address_symbol}
 use Rattle.implib.specs.Load.{BytesAt, number_in}
@@ -115,7 +115,7 @@ pub record JumpsThrough (machine : MachineType) (image_base : ℕ) (linked : Lis
   pub symbol : ObjectSymbol
   pub defined : Contains from.object.entries (ASymbol symbol)
   pub named : symbol.name ≡ name
-  pub shared : symbol.class ≡ external
+  pub shared : symbol.class ≡ class_external
   pub first : symbol.section ≡ 1
   pub begins : symbol.value ≡ 0
   pub code : ObjectSection

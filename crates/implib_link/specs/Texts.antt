@@ -8,11 +8,12 @@ use Rattle.implib.specs.Asked.{exports_of_text, external_word}
 use Rattle.implib.specs.Definition.{DefinitionView, ExportView}
 use Rattle.implib.specs.Grammar.{Export}
 use Rattle.implib.specs.Image.{Range, image_of}
-use Rattle.implib.specs.Import.{Ask, Name, Ordinal, ask_meant}
+use Rattle.implib.specs.Import.{Ask, Name, Ordinal, expected_ask}
 use Rattle.implib.specs.Library.{LibraryOf, LibraryView}
-use Rattle.implib.specs.LinkedMembers.{Part, chosen_exports}
-use Rattle.implib.specs.Made.{Made, MemberView}
-use Rattle.implib.specs.MsvcObjects.{thunk_width}
+use Rattle.implib.specs.LinkedMembers.{LinkInput, chosen_exports}
+use Rattle.implib.specs.Members.{AreMembersOf}
+use Rattle.implib.specs.MemberSpec.{MemberView}
+use Rattle.implib.specs.ImportTables.{thunk_width}
 use Rattle.implib.specs.Object.{Object}
 use Rattle.implib.specs.Parses.{Parses}
 use Rattle.implib.specs.Placement.{Bases, Placed, placed_from}
@@ -30,10 +31,10 @@ pub record Source : Type 0 where
 -- what `ImportLibrary::new` and then `members` promise when they succeed, for GNU's linker
 pub record IsSource (machine : MachineType) (s : Source) : Type 0 where
   pub of_text : LibraryOf s.text machine Gnu s.library
-  pub made : Made s.library.definition s.library.machine s.library.flavor s.members
+  pub made : AreMembersOf s.library.definition s.library.machine s.library.flavor s.members
 
 -- what is linked of a source
-abbrev pub part_of : Source → Part
+abbrev pub part_of : Source → LinkInput
 part_of s = record { definition = s.library.definition; members = s.members; chosen = s.chosen }
 
 -- an export, and what the text states of it
@@ -68,7 +69,7 @@ pub record TextLinks (machine : MachineType) (image : List Range) (linked : List
       (chosen_exports meant s.chosen)
   pub statements : map (λ t. t.export) (chosen_stated meant (exports_of_text parses.statements) s.chosen)
       ≡ chosen_exports meant s.chosen
-  pub asks : map (ask_meant machine) (chosen_exports meant s.chosen)
+  pub asks : map (expected_ask machine) (chosen_exports meant s.chosen)
       ≡ map ask_stated (chosen_stated meant (exports_of_text parses.statements) s.chosen)
 
 -- What linking texts' members among objects gives: the program's link, and that of each text.

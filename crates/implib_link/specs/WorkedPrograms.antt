@@ -6,14 +6,15 @@ use Rattle.std.specs.Option.{option_and_then, option_map}
 use Rattle.implib.specs.declared.library.Flavor.TheVariants.{Gnu}
 use Rattle.implib.specs.declared.machine.MachineType.{MachineType}
 use Rattle.implib.specs.declared.machine.MachineType.TheVariants.{I386, ARMNT, AMD64, ARM64}
-use Rattle.implib.specs.Constants.{align_16, code, execute_read, external, static}
+use Rattle.implib.specs.Constants.{align_16bytes, cnt_code, mem_execute_read, class_external, class_static}
 use Rattle.implib.specs.Definition.{DefinitionView, ExportView}
 use Rattle.implib.specs.Gnu.{section, text_name}
 use Rattle.implib.specs.Image.{Range, image_of}
 use Rattle.implib.specs.Import.{address_symbol, is_i386, underscore}
-use Rattle.implib.specs.LinkedMembers.{IsMade, Part, linked_members, objects_in}
-use Rattle.implib.specs.Made.{member_of, plans_of}
-use Rattle.implib.specs.MsvcObjects.{thunk_width, zeros}
+use Rattle.implib.specs.LinkedMembers.{IsMade, LinkInput, linked_members, objects_in}
+use Rattle.implib.specs.MemberSpec.{member_of}
+use Rattle.implib.specs.Members.{member_specs}
+use Rattle.implib.specs.ImportTables.{thunk_width, zeros}
 use Rattle.implib.specs.Object.{ASymbol, Object, ObjectSymbol}
 use Rattle.implib.specs.Placement.{Bases, Placed, placed_from}
 use Rattle.implib.specs.Renaming.{renamed}
@@ -46,20 +47,20 @@ abbrev pub zed_dll : MachineType → DefinitionView
 zed_dll machine = of_dll (codes "zed.dll") (plain_export (symbol_on machine (codes "queue")) ∷ [])
 
 -- a definition's members, with a choice of exports
-abbrev pub chosen_part : MachineType → DefinitionView → List ℕ → Part
+abbrev pub chosen_part : MachineType → DefinitionView → List ℕ → LinkInput
 chosen_part machine d chosen = record {
   definition = d;
-  members = map member_of (plans_of (renamed d) machine Gnu);
+  members = map member_of (member_specs (renamed d) machine Gnu);
   chosen = chosen;
 }
 
-abbrev pub foo_part : MachineType → Part
+abbrev pub foo_part : MachineType → LinkInput
 foo_part machine = chosen_part machine (foo_dll machine) (2 ∷ 0 ∷ 1 ∷ 3 ∷ [])
 
-abbrev pub zed_part : MachineType → Part
+abbrev pub zed_part : MachineType → LinkInput
 zed_part machine = chosen_part machine (zed_dll machine) (0 ∷ [])
 
-abbrev pub both_parts : MachineType → List Part
+abbrev pub both_parts : MachineType → List LinkInput
 both_parts machine = foo_part machine ∷ zed_part machine ∷ []
 
 -- a symbol of an object that was not made here
@@ -73,7 +74,7 @@ code_object symbols = record {
   time = 0;
   optional_header_size = 0;
   characteristics = 0;
-  sections = section text_name (code + align_16 + execute_read) (zeros 16) [] ∷ [];
+  sections = section text_name (cnt_code + align_16bytes + mem_execute_read) (zeros 16) [] ∷ [];
   entries = map ASymbol symbols;
 }
 
@@ -81,15 +82,15 @@ code_object symbols = record {
 -- as an export is
 abbrev pub caller : MachineType → Object
 caller machine = code_object (
-    symbol_of_class (codes "main") 1 external
-    ∷ symbol_of_class (address_symbol (symbol_on machine (codes "open"))) 0 external
+    symbol_of_class (codes "main") 1 class_external
+    ∷ symbol_of_class (address_symbol (symbol_on machine (codes "open"))) 0 class_external
     ∷ [])
 
 abbrev pub another : MachineType → Object
-another machine = code_object (symbol_of_class (symbol_on machine (codes "stat")) 1 static ∷ [])
+another machine = code_object (symbol_of_class (symbol_on machine (codes "stat")) 1 class_static ∷ [])
 
 -- what is linked: the caller, foo.dll's members, the other object, zed.dll's members, the null descriptor
-abbrev pub part_objects : MachineType → Part → List Object
+abbrev pub part_objects : MachineType → LinkInput → List Object
 part_objects machine p = objects_in (linked_members p.definition machine p.chosen)
 
 abbrev pub program_objects : MachineType → List Object
@@ -164,7 +165,7 @@ pub record WorkedProgram (machine : MachineType) (bases : Bases) (expected : Exp
       (codes "nine" ∷ codes "open" ∷ codes "stat" ∷ codes "move" ∷ codes "queue" ∷ []) ≡ expected.entries
   pub named : symbol_address (program_placed machine bases)
       (record { object = caller machine; places = [] })
-      (ASymbol (symbol_of_class (address_symbol (symbol_on machine (codes "open"))) 0 external))
+      (ASymbol (symbol_of_class (address_symbol (symbol_on machine (codes "open"))) 0 class_external))
       ≡ expected.named
 
 -- on all four machines

@@ -5,7 +5,8 @@ use Rattle.std.specs.Option.{option_map}
 use Rattle.implib.specs.declared.library.Flavor.TheVariants.{Gnu}
 use Rattle.implib.specs.declared.machine.MachineType.TheVariants.{AMD64}
 use Rattle.implib.specs.Definition.{DefinitionView, empty_export}
-use Rattle.implib.specs.Made.{Made, MemberView, member_of, plans_of}
+use Rattle.implib.specs.Members.{AreMembersOf, member_specs}
+use Rattle.implib.specs.MemberSpec.{MemberView, member_of}
 use Rattle.implib.specs.Renaming.{renamed}
 use Rattle.implib.specs.WorkedMembers.{of_dll}
 use Rattle.implib.specs.WorkedStatements.{plain_export}
@@ -13,7 +14,7 @@ use Rattle.implib_link.specs.Search.{NamesNoLinkage, Takes, exports_wanted, firs
 
 -- the members of a definition on AMD64
 abbrev pub members_of : DefinitionView → List MemberView
-members_of d = map member_of (plans_of (renamed d) AMD64 Gnu)
+members_of d = map member_of (member_specs (renamed d) AMD64 Gnu)
 
 -- foo.dll with two functions and a variable
 abbrev pub three : DefinitionView
@@ -43,7 +44,7 @@ MayTake d names taken_names =
 -- A name of another library takes nothing. The descriptor's symbol takes the head and the tail and no export, and
 -- a variable's bare name takes its alias, where it has one: the law leaves both out.
 pub record WorkedSearch : Type 0 where
-  pub made : Made three AMD64 Gnu (members_of three)
+  pub made : AreMembersOf three AMD64 Gnu (members_of three)
   pub distinct : IsDistinct bytes_eq (flat_map (λ m. m.symbols) (members_of three))
   pub plain : NamesNoLinkage AMD64 (codes "foo.dll") wanted
   pub numbers : exports_wanted three wanted ≡ 0 ∷ 2 ∷ []

@@ -4,10 +4,11 @@ use Rattle.implib.specs.declared.library.Flavor.{Flavor}
 use Rattle.implib.specs.declared.library.Flavor.TheVariants.{Msvc, Gnu}
 use Rattle.implib.specs.declared.machine.MachineType.{MachineType}
 use Rattle.implib.specs.Definition.{DefinitionView}
-use Rattle.implib.specs.Import.{aliases_for, import_meant, public_exports}
+use Rattle.implib.specs.Import.{aliases_for, expected_import, public_exports}
 use Rattle.implib.specs.Library.{LibraryOf, LibraryView}
-use Rattle.implib.specs.Made.{Made, MemberView}
-use Rattle.implib.specs.Reads.{Reads}
+use Rattle.implib.specs.Members.{AreMembersOf}
+use Rattle.implib.specs.MemberSpec.{MemberView}
+use Rattle.implib.specs.ReadBack.{ReadBack}
 use Rattle.implib.specs.Renaming.{renamed}
 use Rattle.implib.proofs.Renaming.{renamed_twice}
 use Rattle.implib.proofs.SymbolNames.{parsed_lacks}
@@ -16,29 +17,29 @@ use Rattle.implib_tool.specs.Run.{MembersOf, ReadAsMeant}
 
 -- in each flavour, where the definition has no symbol names and renaming it twice is renaming it once
 read_in : (meant : DefinitionView) (machine : MachineType) (flavor : Flavor) (members : List MemberView) → LacksSymbolNames meant → renamed (renamed meant) ≡ renamed meant
-    → Reads (renamed meant) machine flavor members → ReadAsMeant meant machine flavor members
+    → ReadBack (renamed meant) machine flavor members → ReadAsMeant meant machine flavor members
 read_in meant machine Msvc members lacks once reads =
     let means = reads.meant lacks.renamed in record {
       meanings = means.meanings;
       read = means.read;
-      imports = means.imports ∙ ap (λ (d : DefinitionView). map (import_meant machine d.import_name) (public_exports d)) once;
+      imports = means.imports ∙ ap (λ (d : DefinitionView). map (expected_import machine d.import_name) (public_exports d)) once;
       aliases = means.aliases ∙ ap (λ (d : DefinitionView). flat_map (λ e. aliases_for e.name e.alias_target) (public_exports d)) once;
     }
 read_in meant machine Gnu members lacks once reads = record {
   meanings = reads.meanings;
   read = (reads.tail, reads.head, record { tail_read = reads.tail_read; head_read = reads.head_read }, reads.meanings_read);
-  imports = reads.imports ∙ ap (λ (d : DefinitionView). map (import_meant machine d.import_name) (public_exports d)) once;
+  imports = reads.imports ∙ ap (λ (d : DefinitionView). map (expected_import machine d.import_name) (public_exports d)) once;
   aliases = reads.aliases ∙ ap (λ (d : DefinitionView). flat_map (λ e. aliases_for e.name e.alias_target) (public_exports d)) once;
 }
 
 -- what a library of a text gives are the members of that text
 pub members_of : (text : List ℕ) (machine : MachineType) (flavor : Flavor) (library : LibraryView) (members : List MemberView) → LibraryOf text machine flavor library
-    → Made library.definition library.machine library.flavor members → Reads library.definition library.machine library.flavor members → MembersOf text machine flavor members
+    → AreMembersOf library.definition library.machine library.flavor members → ReadBack library.definition library.machine library.flavor members → MembersOf text machine flavor members
 members_of text machine flavor library members of made reads =
-    let read : Reads (renamed of.meant) machine flavor members = subst (λ (l : LibraryView). Reads l.definition l.machine l.flavor members) of.held reads in record {
+    let read : ReadBack (renamed of.meant) machine flavor members = subst (λ (l : LibraryView). ReadBack l.definition l.machine l.flavor members) of.held reads in record {
       meant = of.meant;
       parses = of.parses;
-      made = subst (λ (l : LibraryView). Made l.definition l.machine l.flavor members) of.held made;
+      made = subst (λ (l : LibraryView). AreMembersOf l.definition l.machine l.flavor members) of.held made;
       reads = read;
       read_as_meant = read_in of.meant machine flavor members (parsed_lacks text machine of.meant of.parses) (renamed_twice of.meant) read;
     }

@@ -9,7 +9,7 @@ use Rattle.std.specs.Io.KnownBytes.{Appends}
 use Rattle.implib.specs.declared.library.Flavor.{Flavor}
 use Rattle.implib.specs.declared.machine.MachineType.{MachineType}
 use Rattle.implib.specs.Fault.{Cause, cause_of}
-use Rattle.implib.specs.Made.{MemberView}
+use Rattle.implib.specs.MemberSpec.{MemberView}
 use Rattle.implib_tool.specs.declared.run.RunError.{RunError}
 use Rattle.implib_tool.specs.declared.run.RunError.TheVariants.{Refused, NotUtf8, Read, Write, OutOfMemory}
 use Rattle.implib_tool.specs.Device.{AppendsBeginning}

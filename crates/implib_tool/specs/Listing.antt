@@ -1,7 +1,7 @@
 -- The listing: the text that shows members (this project's layout).
 use Rattle.std.specs.Prelude.{ℕ, Bool, ◌+◌, ◌/◌, ◌%◌, ◌==◌, ◌&&◌, ◌||◌, not, nat_lt, nat_le, if◌then◌else◌, List, [], ◌∷◌, ◌++◌, length, codes, decimal, flat_map}
 use Rattle.std.specs.List.{enumerate_from}
-use Rattle.implib.specs.Made.{MemberView}
+use Rattle.implib.specs.MemberSpec.{MemberView}
 
 -- a hexadecimal digit, in lower case
 abbrev pub hex_digit : ℕ → ℕ
@@ -11,7 +11,7 @@ hex_digit value = if nat_lt value 10 then 48 + value else 87 + value
 abbrev pub hex_byte : ℕ → List ℕ
 hex_byte byte = hex_digit (byte / 16) ∷ hex_digit (byte % 16) ∷ []
 
--- whether a byte of a name stands as it is: visible ASCII, and no backslash
+-- whether a byte of a name is shown as it is: visible ASCII, and no backslash
 abbrev pub is_plain : ℕ → Bool
 is_plain byte = nat_le 0x21 byte && nat_le byte 0x7E && not (byte == 0x5C)
 
@@ -23,11 +23,11 @@ escaped_byte byte = if is_plain byte then byte ∷ [] else codes "\\x" ++ hex_by
 abbrev pub escaped : List ℕ → List ℕ
 escaped name = flat_map escaped_byte name
 
--- what stands after the byte with an index: a line end after each sixteenth and after the last one, else a space
+-- what follows the byte of an index: a line end after each sixteenth and after the last one, else a space
 abbrev pub after_byte : ℕ → ℕ → ℕ
 after_byte count index = if index % 16 == 15 || index + 1 == count then 10 else 32
 
--- a byte with its index, and what stands after it
+-- a byte with its index, and what follows it
 abbrev pub byte_listing : ℕ → ℕ × ℕ → List ℕ
 byte_listing count place = hex_byte place.1 ++ after_byte count place.0 ∷ []
 

@@ -12,11 +12,12 @@ use Rattle.implib.specs.declared.machine.MachineType.{MachineType}
 use Rattle.implib.specs.Definition.{DefinitionView}
 use Rattle.implib.specs.Fault.{Cause, cause_of}
 use Rattle.implib.specs.File.{File, Meaning, file_in, meaning_in}
-use Rattle.implib.specs.GnuReading.{meaning_with}
+use Rattle.implib.specs.GnuReader.{meaning_with}
 use Rattle.implib.specs.Import.{aliases_of, imports_of}
-use Rattle.implib.specs.Made.{Made, MemberView, refusal}
+use Rattle.implib.specs.Members.{AreMembersOf, refusal}
+use Rattle.implib.specs.MemberSpec.{MemberView}
 use Rattle.implib.specs.Parses.{Parses, Refuses}
-use Rattle.implib.specs.Reads.{Reads, alias_among, file_at, import_among}
+use Rattle.implib.specs.ReadBack.{ReadBack, alias_among, file_at, import_among}
 use Rattle.implib.specs.Renaming.{renamed}
 use Rattle.implib_tool.specs.declared.run.RunError.{RunError}
 use Rattle.implib_tool.specs.declared.run.RunError.TheVariants.{Refused, NotUtf8, Read, Write, OutOfMemory}
@@ -47,8 +48,8 @@ pub record ReadAsMeant (meant : DefinitionView) (machine : MachineType) (flavor 
 pub record MembersOf (text : List ℕ) (machine : MachineType) (flavor : Flavor) (members : List MemberView) : Type 0 where
   pub meant : DefinitionView
   pub parses : Parses text machine meant
-  pub made : Made (renamed meant) machine flavor members
-  pub reads : Reads (renamed meant) machine flavor members
+  pub made : AreMembersOf (renamed meant) machine flavor members
+  pub reads : ReadBack (renamed meant) machine flavor members
   pub read_as_meant : ReadAsMeant meant machine flavor members
 
 -- the definition that the text means, renamed, has no members, for this cause
@@ -57,7 +58,7 @@ pub record HasNoMembers (text : List ℕ) (machine : MachineType) (flavor : Flav
   pub parses : Parses text machine meant
   pub refused : refusal (renamed meant) machine flavor ≡ Some cause
 
--- a text is refused as it stands, or for what it means
+-- a text is refused by the grammar, or for what it means
 abbrev pub IsRefused : List ℕ → MachineType → Flavor → Cause → Type 0
 IsRefused text machine flavor cause = Refuses text cause ⊎ HasNoMembers text machine flavor cause
 

@@ -94,7 +94,7 @@ pub fn usage<E: Sink>(faults: &mut E) -> u8
 /// Runs what the words ask for: none, or a machine and a flavour. Neither the reader nor the writer has
 /// failed before.
 ///
-/// What is wrong goes as a line to `faults`; that this fails is not told. The status is 0 where the
+/// What is wrong goes as a line to `faults`; a failure of `faults` is not reported. The status is 0 where the
 /// listing is written, 1 where the input is refused, 2 for other words, and 3 where a device or
 /// memory failed.
 pub fn command<R: Source, W: Sink, E: Sink>(

@@ -23,14 +23,14 @@ fn hex_digit_of(value: u8) -> u8
     }
 }
 
-/// Whether a byte of a name stands as it is.
+/// Whether a byte of a name is shown as it is.
 fn stands_plain(byte: u8) -> bool
     ensures { result ≡ is_plain byte }
 {
     byte >= 0x21 && byte <= 0x7E && byte != b'\\'
 }
 
-/// Whether each byte of a name stands as it is. It looks at all of them, many at a time.
+/// Whether each byte of a name is shown as it is. It looks at all of them, many at a time.
 fn stand_plain(name: &[u8]) -> bool
     ensures { result ≡ list_all is_plain name.now }
 {

@@ -48,7 +48,7 @@ pub mod flags {
 
 /// "Storage Class".
 pub mod class {
-    /// A name for other objects, defined in this one or owed by another.
+    /// A name visible to other objects, defined here or undefined.
     pub const EXTERNAL: u8 = 2;
     /// A name of this object alone.
     pub const STATIC: u8 = 3;

@@ -1,6 +1,6 @@
 //! The parts of an object: sections, relocations and symbols.
 
-/// A named piece of an object, with what is to be relocated in it.
+/// A named part of an object, with its relocations.
 #[derive(Debug, Drop)]
 pub struct Section {
     /// The name, filled with NUL.

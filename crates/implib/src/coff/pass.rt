@@ -27,7 +27,7 @@ impl Model for Pass {
 }
 
 impl Pass {
-    /// Makes room for `length` bytes: the only growth.
+    /// Makes room for `length` bytes: the only allocation.
     pub fn reserve(alloc: Global, length: u32) -> Result<Pass, Error>
         ensures ok { IfOk result (λ pass. pass ≡ record { put = []; left = length }) }
         ensures memory { IfErr result (λ e. e ≡ Error.OutOfMemory alloc_error) }

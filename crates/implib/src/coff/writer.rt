@@ -2,16 +2,16 @@
 
 ghost use Rattle.implib.specs.Fault.{Cause, IfInvalid};
 ghost use Rattle.implib.specs.Object.{object_in};
-ghost use Rattle.implib.specs.Picture.{Fits, HasNoNul, layout, layout_size};
-ghost use Rattle.implib.specs.PictureView.{name_view, symbol_view};
+ghost use Rattle.implib.specs.Layout.{Fits, HasNoNul, encoded, encoded_size};
+ghost use Rattle.implib.specs.LayoutView.{name_view, symbol_view};
 ghost use Rattle.implib.specs.Writer.{section_view};
-ghost use Rattle.implib.specs.Writer.{HasRoomFor, IsPlaceAmong, IsSymbolIndex, all_entries, entries_added, long_names, name_place, object_held, picture_of, section_number, section_numbered, symbol_written, with_long_name, with_relocation, with_section, with_symbol};
+ghost use Rattle.implib.specs.Writer.{HasRoomFor, IsPlaceAmong, IsSymbolIndex, all_entries, entries_added, long_names, name_location, written_object, layout_of, section_number, section_numbered, symbol_written, with_long_name, with_relocation, with_section, with_symbol};
 ghost use Rattle.implib.specs.Writer.{added_view};
-ghost use Rattle.implib.specs.WriterView.{holding_view};
+ghost use Rattle.implib.specs.WriterView.{writer_state};
 ghost use Rattle.std.specs.Prelude.{◌+◌, ◌<◌, ◌^◌, ◌≡◌, ◌≤◌, Some, [], IfErr, IfOk, IsSomeAnd, OnErr, OnOk, alloc_error, length, map, string_bytes};
 
+use crate::coff::layout::{LayoutSymbol, ObjectLayout, SymbolName, auxiliary_count, encode};
 use crate::coff::object::{Place, Relocation, Section, Symbol};
-use crate::coff::picture::{Picture, PictureSymbol, SymbolName, auxiliary_count, lay_out};
 use crate::error::Error;
 use crate::machine::MachineType;
 use indexmap::IndexSet;
@@ -27,25 +27,25 @@ pub struct ObjectWriter {
     records: u32,
 }
 
-// The most bytes of a name that stands in its record.
+// The greatest length in bytes of a name kept in its symbol record.
 const LONGEST_IN_RECORD: usize = 8;
 
 // The names of an object's string table, and the symbols that name them by their index.
 #[derive(Drop)]
 struct Names<'a> {
     strings: IndexSet<&'a str>,
-    symbols: Vec<PictureSymbol<'a>>,
+    symbols: Vec<LayoutSymbol<'a>>,
 }
 
 impl Model for ObjectWriter {
-    ghost use Rattle.implib.specs.Writer.{Holding};
-    ghost use Rattle.implib.specs.WriterView.{IsSound, holding_view};
+    ghost use Rattle.implib.specs.Writer.{WriterState};
+    ghost use Rattle.implib.specs.WriterView.{IsSound, writer_state};
 
-    ghost Value = { Holding };
+    ghost Value = { WriterState };
 
-    ghost view = { λ w. holding_view w.machine w.sections.items w.symbols.items };
+    ghost view = { λ w. writer_state w.machine w.sections.items w.symbols.items };
 
-    ghost invariant = { λ w. IsSound (holding_view w.machine w.sections.items w.symbols.items) w.records };
+    ghost invariant = { λ w. IsSound (writer_state w.machine w.sections.items w.symbols.items) w.records };
 }
 
 impl ObjectWriter {
@@ -130,12 +130,12 @@ impl ObjectWriter {
     ///
     /// Refuses with `MemberTooLong` where they are more than 2^32 - 1, before they grow.
     pub fn write(&self) -> Result<Vec<u8>, Error>
-        ensures bytes { IfOk result (λ bytes. bytes.items ≡ layout (picture_of self.now)) }
-        ensures read { IfOk result (λ bytes. object_in bytes.items ≡ Some (object_held self.now)) }
-        ensures length { IfOk result (λ bytes. length bytes.items ≡ layout_size (picture_of self.now)) }
-        ensures short { OnOk result (layout_size (picture_of self.now) < 2 ^ 32) }
+        ensures bytes { IfOk result (λ bytes. bytes.items ≡ encoded (layout_of self.now)) }
+        ensures read { IfOk result (λ bytes. object_in bytes.items ≡ Some (written_object self.now)) }
+        ensures length { IfOk result (λ bytes. length bytes.items ≡ encoded_size (layout_of self.now)) }
+        ensures short { OnOk result (encoded_size (layout_of self.now) < 2 ^ 32) }
         ensures refused { IfInvalid result (λ cause.
-            (cause ≡ Cause.MemberTooLong) × (2 ^ 32 ≤ layout_size (picture_of self.now))) }
+            (cause ≡ Cause.MemberTooLong) × (2 ^ 32 ≤ encoded_size (layout_of self.now))) }
     {
         let alloc = *self.symbols.allocator();
         write_parts(alloc, self.machine, &self.sections, &self.symbols)
@@ -149,21 +149,21 @@ fn write_parts(
     sections: &[Section],
     symbols: &[Symbol],
 ) -> Result<Vec<u8>, Error>
-    requires { Fits (picture_of (holding_view machine sections.now symbols.now)) }
-    ensures bytes { IfOk result (λ bytes. bytes.items ≡ layout (picture_of (holding_view machine sections.now symbols.now))) }
-    ensures short { OnOk result (layout_size (picture_of (holding_view machine sections.now symbols.now)) < 2 ^ 32) }
+    requires { Fits (layout_of (writer_state machine sections.now symbols.now)) }
+    ensures bytes { IfOk result (λ bytes. bytes.items ≡ encoded (layout_of (writer_state machine sections.now symbols.now))) }
+    ensures short { OnOk result (encoded_size (layout_of (writer_state machine sections.now symbols.now)) < 2 ^ 32) }
     ensures refused { IfInvalid result (λ cause. (cause ≡ Cause.MemberTooLong)
-        × (2 ^ 32 ≤ layout_size (picture_of (holding_view machine sections.now symbols.now)))) }
+        × (2 ^ 32 ≤ encoded_size (layout_of (writer_state machine sections.now symbols.now)))) }
 {
     let names = names_of(alloc, symbols)?;
-    let picture = Picture {
+    let layout = ObjectLayout {
         machine: machine.number(),
         characteristics: 0,
         sections,
         symbols: &names.symbols,
         strings: names.strings.as_slice(),
     };
-    lay_out(alloc, &picture)
+    encode(alloc, &layout)
 }
 
 // Names each symbol: in its record, or, where the name has more than 8 bytes, in the string table.
@@ -176,7 +176,7 @@ fn names_of(alloc: Global, symbols: &[Symbol]) -> Result<Names<'_>, AllocError>
     let mut strings = IndexSet::new(alloc);
     let mut named = Vec::with_capacity(alloc, symbols.len())?;
     for symbol in symbols {
-        named.push(PictureSymbol {
+        named.push(LayoutSymbol {
             name: name_of(&mut strings, symbol.name.as_str())?,
             value: symbol.value,
             section: number_of(symbol.place),
@@ -190,15 +190,15 @@ fn names_of(alloc: Global, symbols: &[Symbol]) -> Result<Names<'_>, AllocError>
     })
 }
 
-// Where a name stands; a long one is put among the strings, unless it is there.
+// The location of a name; a long one is added to the strings unless it is among them.
 fn name_of<'a>(strings: &mut IndexSet<&'a str>, text: &'a str) -> Result<SymbolName<'a>, AllocError>
     ensures strings { OnOk result (map (λ t. t.now) strings.new.keys
         ≡ with_long_name (map (λ t. t.now) strings.old.keys) text.now) }
-    ensures name { IfOk result (λ name. name_view name ≡ name_place (map (λ t. t.now) strings.new.keys) text.now) }
+    ensures name { IfOk result (λ name. name_view name ≡ name_location (map (λ t. t.now) strings.new.keys) text.now) }
 {
     if text.len() > LONGEST_IN_RECORD {
         let (index, _) = strings.insert_full(text)?;
-        Ok(SymbolName::Listed(index))
+        Ok(SymbolName::InStringTable(index))
     } else {
         Ok(SymbolName::InRecord(text))
     }

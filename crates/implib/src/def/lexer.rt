@@ -1,7 +1,7 @@
 //! The tokens of a module definition, as slices of its text.
 
-ghost use Rattle.implib.specs.Division.{BeginsNoGap, PassesGap, SkipsGap, StartsWord, TakesPiece, TakesToken, tokens_left};
-ghost use Rattle.implib.specs.Token.{begins, is_delimiter, is_equal_sign, is_quote, kind_of_word, seen, value_start, IsWordEnd, Lexed, Seen};
+ghost use Rattle.implib.specs.Scanner.{BeginsNoTrivia, PassesTrivia, SkipsTrivia, StartsWord, TakesLexeme, TakesToken, tokens_left};
+ghost use Rattle.implib.specs.Token.{begins, is_delimiter, is_equal_sign, is_quote, kind_of_word, token_view, value_start, IsWordEnd, Lexed, TokenView};
 ghost use Rattle.std.specs.Iterator.{item_count, YieldsFirstBy};
 ghost use Rattle.std.specs.Prelude.{◌≡◌, ◌==◌, ◌+◌, ◌<◌, ◌≤◌, ◌^◌, [], ◌∷◌, drop, length, take, true, List};
 ghost use Rattle.std.specs.Str.{trim, IsCharBoundary, IsUtf8};
@@ -75,7 +75,7 @@ pub struct Lexer<'a> {
 }
 
 impl<'a> Model for Lexer<'a> {
-    ghost Value = { List Seen };
+    ghost Value = { List TokenView };
 
     ghost view = { λ l. tokens_left l.text.now l.rest.now l.is_done };
 
@@ -98,7 +98,7 @@ impl<'a> Lexer<'a> {
 impl<'a> Iterator for Lexer<'a> {
     type Item = Token<'a>;
 
-    ghost next_gives = { YieldsFirstBy seen (λ s. s) };
+    ghost next_gives = { YieldsFirstBy token_view (λ s. s) };
 
     ghost remaining = { item_count (λ s. s) };
 
@@ -106,7 +106,7 @@ impl<'a> Iterator for Lexer<'a> {
         if self.is_done {
             return None;
         }
-        let start = skip_gap(self.rest);
+        let start = skip_trivia(self.rest);
         let at = self.text.len() - start.len();
         let (token, after) = first_token(start, at);
         self.rest = after;
@@ -116,7 +116,7 @@ impl<'a> Iterator for Lexer<'a> {
 }
 
 /// Where a word ends that goes on at the index `from`: the index of the next byte that ends a word,
-/// which may stand at `from` itself, or the length.
+/// which may be at `from` itself, or the length.
 ///
 /// `=`, `,`, `;`, `\r`, `\n`, space, `\t` and `\x0B` end a word. `from` is not above the length. Any
 /// bytes will do, also such as are not UTF-8.
@@ -141,9 +141,9 @@ fn is_delimiter(byte: u8) -> bool
     )
 }
 
-// What is left of the text once its white space and comments are passed.
-fn skip_gap(text: &str) -> &str
-    ensures skips { SkipsGap text.now result.now }
+// The text behind its leading trivia: white space and comments.
+fn skip_trivia(text: &str) -> &str
+    ensures skips { SkipsTrivia text.now result.now }
     ensures utf8 { IsUtf8 text.now }
 {
     let mut rest = text.trim_start();
@@ -163,7 +163,7 @@ fn begins_with(text: &str, byte: u8) -> bool
 
 // What follows the line of a comment.
 fn after_line(comment: &str) -> &str
-    ensures passes { PassesGap (59 ∷ comment.now) result.now }
+    ensures passes { PassesTrivia (59 ∷ comment.now) result.now }
     ensures shorter { length result.now ≤ length comment.now }
 {
     match comment.split_once('\n') {
@@ -174,9 +174,9 @@ fn after_line(comment: &str) -> &str
 
 // The token at the front of a text that begins at the byte `at`, and what follows it.
 fn first_token<'a>(text: &'a str, at: usize) -> (Token<'a>, &'a str)
-    requires no_gap { BeginsNoGap text.now }
+    requires no_gap { BeginsNoTrivia text.now }
     requires fits { at + length text.now < 2 ^ 64 }
-    ensures { TakesToken text.now at (seen result.0) result.1.now }
+    ensures { TakesToken text.now at (token_view result.0) result.1.now }
 {
     let bytes = text.as_bytes();
     if bytes.is_empty() || bytes[0] == 0 {
@@ -193,7 +193,7 @@ fn first_token<'a>(text: &'a str, at: usize) -> (Token<'a>, &'a str)
 // The token whose value is the first `len` bytes, and what follows them.
 fn cut_token<'a>(kind: TokenKind, text: &'a str, len: usize, at: usize) -> (Token<'a>, &'a str)
     requires { IsCharBoundary text.now len }
-    ensures token { seen result.0 ≡ record { kind = kind; value = take len text.now; at = at } }
+    ensures token { token_view result.0 ≡ record { kind = kind; value = take len text.now; at = at } }
     ensures after { result.1.now ≡ drop len text.now }
 {
     let (value, after) = text.split_at(len);
@@ -203,7 +203,7 @@ fn cut_token<'a>(kind: TokenKind, text: &'a str, len: usize, at: usize) -> (Toke
 // The token of the `=` or `==` at the front of the text.
 fn equal_sign<'a>(text: &'a str, at: usize) -> (Token<'a>, &'a str)
     requires { begins is_equal_sign text.now ≡ true }
-    ensures { TakesPiece text.now at (seen result.0) result.1.now }
+    ensures { TakesLexeme text.now at (token_view result.0) result.1.now }
 {
     if begins_with(&text[1..], b'=') {
         cut_token(TokenKind::EqualEqual, text, 2, at)
@@ -217,7 +217,7 @@ fn equal_sign<'a>(text: &'a str, at: usize) -> (Token<'a>, &'a str)
 fn quoted_name<'a>(text: &'a str, at: usize) -> (Token<'a>, &'a str)
     requires quote { begins is_quote text.now ≡ true }
     requires fits { at + length text.now < 2 ^ 64 }
-    ensures { TakesPiece text.now at (seen result.0) result.1.now }
+    ensures { TakesLexeme text.now at (token_view result.0) result.1.now }
 {
     let inside = &text[1..];
     match inside.split_once('"') {
@@ -226,10 +226,10 @@ fn quoted_name<'a>(text: &'a str, at: usize) -> (Token<'a>, &'a str)
     }
 }
 
-// The token of what stands between two quotes, from the byte `at` on.
+// The token of the text between two quotes, which begins at the byte `at`.
 fn name_token(name: &str, at: usize) -> Token<'_>
     requires { at + length name.now < 2 ^ 64 }
-    ensures { seen result ≡ record {
+    ensures { token_view result ≡ record {
       kind = TokenKind.Identifier;
       value = trim name.now;
       at = at + value_start name.now;
@@ -249,7 +249,7 @@ fn name_token(name: &str, at: usize) -> Token<'_>
 
 // An empty name at the front of the text.
 fn empty_name(text: &str, at: usize) -> Token<'_>
-    ensures { seen result ≡ record { kind = TokenKind.Identifier; value = []; at = at } }
+    ensures { token_view result ≡ record { kind = TokenKind.Identifier; value = []; at = at } }
 {
     Token {
         kind: TokenKind::Identifier,
@@ -261,7 +261,7 @@ fn empty_name(text: &str, at: usize) -> Token<'_>
 // The token of the word at the front of the text.
 fn word<'a>(text: &'a str, at: usize) -> (Token<'a>, &'a str)
     requires { StartsWord text.now }
-    ensures { TakesPiece text.now at (seen result.0) result.1.now }
+    ensures { TakesLexeme text.now at (token_view result.0) result.1.now }
 {
     let (run, after) = text.split_at(word_end(text.as_bytes(), 0));
     let value = run.trim_end();

@@ -4,7 +4,7 @@ ghost use Rattle.implib.specs.Definition.{definition_view};
 ghost use Rattle.implib.specs.Fault.{IfInvalid};
 ghost use Rattle.implib.specs.Parser.{ParsesFrom, RefusesFrom};
 ghost use Rattle.implib.specs.ParserViews.{all_put, Gives, one_put, settings_put};
-ghost use Rattle.implib.specs.Reading.{name_read, statement_read, statements_read, with_statement};
+ghost use Rattle.implib.specs.TokenReader.{name_read, statement_read, statements_read, with_statement};
 ghost use Rattle.implib.specs.Token.{Lexed};
 ghost use Rattle.std.specs.Prelude.{◌≡◌, ◌<◌, ◌≤◌, length, IfOk, IsTrue, OnOk};
 
@@ -90,7 +90,7 @@ impl<'a> Tokens<'a> {
     }
 
     /// Reads a statement into the definition, and answers false where the tokens end.
-    #[tactic(auto, unfolding(crate::specs::Reading::statement_read))]
+    #[tactic(auto, unfolding(crate::specs::TokenReader::statement_read))]
     fn statement(
         &mut self,
         alloc: Global,

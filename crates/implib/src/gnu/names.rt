@@ -1,4 +1,4 @@
-//! The names of members and linkage symbols for GNU's linker.
+//! The names of the members for GNU's linker, and of the head's and the tail's symbols.
 
 ghost use Rattle.implib.specs.Gnu.{five_digits, head_name, head_symbol, name_symbol, numbered_name, stem, tail_name};
 ghost use Rattle.std.specs.List.{position};

@@ -1,14 +1,14 @@
 //! The objects for GNU's linker: the head, the tail, and the exports.
 
 ghost use Rattle.implib.specs.Definition.{export_view};
-ghost use Rattle.implib.specs.Constants.{align_4, code, execute_read};
+ghost use Rattle.implib.specs.Constants.{align_4bytes, cnt_code, mem_execute_read};
 ghost use Rattle.implib.specs.Fault.{IfInvalid, MemberTooLong};
 ghost use Rattle.implib.specs.Gnu.{added, empty_sections, export_object, export_symbols, file_symbol, head_object, head_sections, head_symbol, head_symbols, hint_name, hint_name_symbol, name_symbol, relocations_of_stub, relocations_of_thunk, section, stub, tail_object, tail_sections, tail_symbols, thunk};
 ghost use Rattle.implib.specs.Import.{address_symbol, asked_name, holds, is_empty_text};
-ghost use Rattle.implib.specs.MsvcObjects.{thunk_width};
-ghost use Rattle.implib.specs.Picture.{layout, layout_size};
+ghost use Rattle.implib.specs.ImportTables.{thunk_width};
+ghost use Rattle.implib.specs.Layout.{encoded, encoded_size};
 ghost use Rattle.implib.specs.Table.{section_row, symbol_row};
-ghost use Rattle.implib.specs.Writer.{picture_of};
+ghost use Rattle.implib.specs.Writer.{layout_of};
 ghost use Rattle.std.specs.Prelude.{◌+◌, [], false, map, string_bytes, true, ◌∷◌, ◌++◌, ◌<◌, ◌^◌, ◌≡◌, ◌≤◌, IfOk, OnOk, if◌then◌else◌, take};
 
 use crate::coff::{Place, Relocation, class, flags, relocation};
@@ -127,10 +127,10 @@ pub(crate) fn head_object(
     requires dll_text { holds 0 dll.now ≡ false }
     requires head { head.now ≡ head_symbol machine dll.now }
     requires name { name.now ≡ name_symbol machine dll.now }
-    ensures bytes { IfOk result (λ bytes. bytes.items ≡ layout (picture_of (head_object machine dll.now))) }
-    ensures short { OnOk result (layout_size (picture_of (head_object machine dll.now)) < 2 ^ 32) }
+    ensures bytes { IfOk result (λ bytes. bytes.items ≡ encoded (layout_of (head_object machine dll.now))) }
+    ensures short { OnOk result (encoded_size (layout_of (head_object machine dll.now)) < 2 ^ 32) }
     ensures too_long { IfInvalid result (λ cause. (cause ≡ MemberTooLong)
-        × (2 ^ 32 ≤ layout_size (picture_of (head_object machine dll.now)))) }
+        × (2 ^ 32 ≤ encoded_size (layout_of (head_object machine dll.now)))) }
 {
     let relocations = [
         image_relocation(machine, 0, 3),
@@ -176,10 +176,10 @@ pub(crate) fn tail_object(
 ) -> Result<Vec<u8>, Error>
     requires dll_text { holds 0 dll.now ≡ false }
     requires name { name.now ≡ name_symbol machine dll.now }
-    ensures bytes { IfOk result (λ bytes. bytes.items ≡ layout (picture_of (tail_object machine dll.now))) }
-    ensures short { OnOk result (layout_size (picture_of (tail_object machine dll.now)) < 2 ^ 32) }
+    ensures bytes { IfOk result (λ bytes. bytes.items ≡ encoded (layout_of (tail_object machine dll.now))) }
+    ensures short { OnOk result (encoded_size (layout_of (tail_object machine dll.now)) < 2 ^ 32) }
     ensures too_long { IfInvalid result (λ cause. (cause ≡ MemberTooLong)
-        × (2 ^ 32 ≤ layout_size (picture_of (tail_object machine dll.now)))) }
+        × (2 ^ 32 ≤ encoded_size (layout_of (tail_object machine dll.now)))) }
 {
     let thunk = zeros(alloc, thunk_width(machine))?;
     let text = ended_by_nul(alloc, dll)?;
@@ -325,10 +325,10 @@ pub(crate) fn export_object<'a>(
     requires filled { is_empty_text (export_view export.now).name ≡ false }
     requires head { head.now ≡ head_symbol machine dll.now }
     requires address { address.now ≡ address_symbol (export_view export.now).name }
-    ensures bytes { IfOk result (λ bytes. bytes.items ≡ layout (picture_of (export_object machine dll.now (export_view export.now)))) }
-    ensures short { OnOk result (layout_size (picture_of (export_object machine dll.now (export_view export.now))) < 2 ^ 32) }
+    ensures bytes { IfOk result (λ bytes. bytes.items ≡ encoded (layout_of (export_object machine dll.now (export_view export.now)))) }
+    ensures short { OnOk result (encoded_size (layout_of (export_object machine dll.now (export_view export.now))) < 2 ^ 32) }
     ensures too_long { IfInvalid result (λ cause. (cause ≡ MemberTooLong)
-        × (2 ^ 32 ≤ layout_size (picture_of (export_object machine dll.now (export_view export.now))))) }
+        × (2 ^ 32 ≤ encoded_size (layout_of (export_object machine dll.now (export_view export.now))))) }
 {
     let to_head = [image_relocation(machine, 0, 0)];
     let to_name = [image_relocation(machine, 0, hint_name_symbol(export))];

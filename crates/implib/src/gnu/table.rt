@@ -1,9 +1,9 @@
 //! An object as a table: the rows of its sections and symbols, and the writer that takes them.
 
 ghost use Rattle.implib.specs.Fault.{IfInvalid, MemberTooLong};
-ghost use Rattle.implib.specs.Picture.{layout, layout_size};
+ghost use Rattle.implib.specs.Layout.{encoded, encoded_size};
 ghost use Rattle.implib.specs.Table.{CanBeAdded, CanBeHeld, HasRoomForAll, bare_row, section_row, symbol_row, table_view, with_relocations};
-ghost use Rattle.implib.specs.Writer.{all_entries, picture_of, section_numbered};
+ghost use Rattle.implib.specs.Writer.{all_entries, layout_of, section_numbered};
 ghost use Rattle.std.specs.List.{AllByRecursion};
 ghost use Rattle.std.specs.Prelude.{◌+◌, ◌++◌, ◌<◌, ◌^◌, ◌≡◌, ◌≤◌, [], IfErr, IfOk, IsSomeAnd, OnOk, alloc_error, length, map};
 
@@ -48,10 +48,10 @@ pub(crate) fn write_table(
     symbols: &[SymbolRow],
 ) -> Result<Vec<u8>, Error>
     requires { CanBeHeld (table_view machine sections.now symbols.now) }
-    ensures bytes { IfOk result (λ bytes. bytes.items ≡ layout (picture_of (table_view machine sections.now symbols.now))) }
-    ensures short { OnOk result (layout_size (picture_of (table_view machine sections.now symbols.now)) < 2 ^ 32) }
+    ensures bytes { IfOk result (λ bytes. bytes.items ≡ encoded (layout_of (table_view machine sections.now symbols.now))) }
+    ensures short { OnOk result (encoded_size (layout_of (table_view machine sections.now symbols.now)) < 2 ^ 32) }
     ensures too_long { IfInvalid result (λ cause. (cause ≡ MemberTooLong)
-        × (2 ^ 32 ≤ layout_size (picture_of (table_view machine sections.now symbols.now)))) }
+        × (2 ^ 32 ≤ encoded_size (layout_of (table_view machine sections.now symbols.now)))) }
 {
     let mut writer = ObjectWriter::new(alloc, machine);
     writer.reserve(sections.len(), symbols.len())?;

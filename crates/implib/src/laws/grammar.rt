@@ -3,9 +3,9 @@
 ghost use Rattle.implib.specs.Definition.{DefinitionView};
 ghost use Rattle.implib.specs.Fault.{Cause};
 ghost use Rattle.implib.specs.Grammar.{IsSentence, Sentence, Statement};
-ghost use Rattle.implib.specs.Parses.{InGrammar, IsBroken, Parses, Refuses};
-ghost use Rattle.implib.specs.Refusal.{Broken, IsBrokenOff};
-ghost use Rattle.implib.specs.Token.{EndsInEof, Seen};
+ghost use Rattle.implib.specs.Parses.{InGrammar, IsIllFormed, Parses, Refuses};
+ghost use Rattle.implib.specs.SyntaxError.{IsSyntaxError, HasSyntaxError};
+ghost use Rattle.implib.specs.Token.{EndsInEof, TokenView};
 ghost use Rattle.implib.specs.WorkedStatements.{WorkedExports, WorkedFronts, WorkedRefusals, WorkedSettings};
 ghost use Rattle.implib.specs.declared.machine.MachineType.{MachineType};
 ghost use Rattle.std.specs.Prelude.{◌≡◌, ◌⊎◌, List};
@@ -13,19 +13,19 @@ ghost use Rattle.std.specs.Prelude.{◌≡◌, ◌⊎◌, List};
 /// Tokens that end in `Eof` are statements or broken, never both; they are one list of statements,
 /// or broken for one cause.
 pub fn sentence_or_broken()
-    ensures either { (tokens : List Seen) → EndsInEof tokens → IsSentence tokens ⊎ IsBrokenOff tokens }
-    ensures never_both { (tokens : List Seen) (statements : List Statement) (cause : Cause) →
-        Sentence tokens statements → ¬ (Broken tokens cause) }
-    ensures one_list { (tokens : List Seen) (statements others : List Statement) →
+    ensures either { (tokens : List TokenView) → EndsInEof tokens → IsSentence tokens ⊎ HasSyntaxError tokens }
+    ensures never_both { (tokens : List TokenView) (statements : List Statement) (cause : Cause) →
+        Sentence tokens statements → ¬ (IsSyntaxError tokens cause) }
+    ensures one_list { (tokens : List TokenView) (statements others : List Statement) →
         Sentence tokens statements → Sentence tokens others → statements ≡ others }
-    ensures one_cause { (tokens : List Seen) (cause other : Cause) →
-        Broken tokens cause → Broken tokens other → cause ≡ other }
+    ensures one_cause { (tokens : List TokenView) (cause other : Cause) →
+        IsSyntaxError tokens cause → IsSyntaxError tokens other → cause ≡ other }
 {}
 
 /// Every text either is in the grammar, and then means one definition on each machine, or is broken,
 /// and then for one cause.
 pub fn grammar_or_broken(text: &str)
-    ensures either { InGrammar text.now ⊎ IsBroken text.now }
+    ensures either { InGrammar text.now ⊎ IsIllFormed text.now }
     ensures never_both { (machine : MachineType) (definition : DefinitionView) (cause : Cause) →
         Parses text.now machine definition → ¬ (Refuses text.now cause) }
     ensures one_definition { (machine : MachineType) (definition other : DefinitionView) →

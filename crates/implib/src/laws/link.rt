@@ -3,14 +3,14 @@
 ghost use Rattle.implib.specs.Definition.{definition_view};
 ghost use Rattle.implib.specs.Gnu.{export_name, head_name, tail_name};
 ghost use Rattle.implib.specs.Import.{Ask, public_exports};
-ghost use Rattle.implib.specs.Library.{member_view, parts_held};
+ghost use Rattle.implib.specs.Library.{member_view, inputs_held};
 ghost use Rattle.implib.specs.Image.{IsAdmissible, Range};
 ghost use Rattle.implib.specs.Load.{Loads};
-ghost use Rattle.implib.specs.Made.{Made};
+ghost use Rattle.implib.specs.Members.{AreMembersOf};
 ghost use Rattle.implib.specs.Object.{object_in};
 ghost use Rattle.implib.specs.Renaming.{renamed};
 ghost use Rattle.implib.specs.Linked.{AllLink, Links};
-ghost use Rattle.implib.specs.LinkedMembers.{AllRise, IsPart, NoneBegins, all_linked, bases_of, beginning, chosen_exports, linked_members, objects_in};
+ghost use Rattle.implib.specs.LinkedMembers.{AllRise, IsLinkInput, NoneIsPrefix, all_linked, bases_of, member_prefix, chosen_exports, linked_members, objects_in};
 ghost use Rattle.implib.specs.WorkedLinks.{WorkedLinks};
 ghost use Rattle.implib.specs.declared.library.Flavor.TheVariants.{Gnu};
 ghost use Rattle.std.specs.List.{AllByRecursion, Contains, IsDistinct, flat_map};
@@ -32,7 +32,7 @@ pub fn gnu_links(
     chosen: &[usize],
     bases: [u32; 5],
 )
-    requires made { Made (definition_view def.now) machine Gnu (map member_view members.now) }
+    requires made { AreMembersOf (definition_view def.now) machine Gnu (map member_view members.now) }
     requires numbers { AllByRecursion (λ n. n < length (public_exports (renamed (definition_view def.now)))) chosen.now }
     requires in_order { AllRise (map (export_name (definition_view def.now).import_name) chosen.now) }
     requires distinct { IsDistinct bytes_eq
@@ -74,16 +74,16 @@ pub fn gnu_links_many(
 )
     requires same_count { length members.now ≡ length defs.now }
     requires same_choices { length chosen.now ≡ length defs.now }
-    requires parts { AllByRecursion (IsPart machine) (parts_held defs.now members.now chosen.now) }
-    requires rising { AllRise (map (λ p. beginning p.definition) (parts_held defs.now members.now chosen.now)) }
-    requires apart { NoneBegins (map (λ p. beginning p.definition) (parts_held defs.now members.now chosen.now)) }
+    requires parts { AllByRecursion (IsLinkInput machine) (inputs_held defs.now members.now chosen.now) }
+    requires rising { AllRise (map (λ p. member_prefix p.definition) (inputs_held defs.now members.now chosen.now)) }
+    requires apart { NoneIsPrefix (map (λ p. member_prefix p.definition) (inputs_held defs.now members.now chosen.now)) }
     requires distinct { IsDistinct bytes_eq (flat_map (λ m. m.symbols)
-        (all_linked machine (parts_held defs.now members.now chosen.now))) }
+        (all_linked machine (inputs_held defs.now members.now chosen.now))) }
     requires admissible { IsAdmissible machine (bases_of bases)
-        (objects_in (all_linked machine (parts_held defs.now members.now chosen.now))) }
-    ensures links { AllLink machine (bases_of bases) (parts_held defs.now members.now chosen.now)
-        (objects_in (all_linked machine (parts_held defs.now members.now chosen.now))) }
-    ensures names_rise { AllRise (map (λ m. m.name) (all_linked machine (parts_held defs.now members.now chosen.now))) }
+        (objects_in (all_linked machine (inputs_held defs.now members.now chosen.now))) }
+    ensures links { AllLink machine (bases_of bases) (inputs_held defs.now members.now chosen.now)
+        (objects_in (all_linked machine (inputs_held defs.now members.now chosen.now))) }
+    ensures names_rise { AllRise (map (λ m. m.name) (all_linked machine (inputs_held defs.now members.now chosen.now))) }
 {
     let _definitions = defs;
     let _members = members;

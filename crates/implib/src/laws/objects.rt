@@ -1,7 +1,7 @@
 //! Laws of objects: their layout and their reading.
 
 ghost use Rattle.implib.specs.Object.{Object, object_in};
-ghost use Rattle.implib.specs.Picture.{Fits, Picture, layout, layout_size, object_of};
+ghost use Rattle.implib.specs.Layout.{Fits, ObjectLayout, encoded, encoded_size, object_of};
 ghost use Rattle.implib.specs.WorkedLayouts.{WorkedLayouts};
 ghost use Rattle.implib.specs.WorkedObjects.{WorkedObjects};
 ghost use Rattle.implib.specs.WorkedTables.{WorkedAskedNames, WorkedGnuNames, WorkedGnuTables, WorkedMsvcTables, WorkedNameTypes, WorkedNames, WorkedRecords};
@@ -9,15 +9,15 @@ ghost use Rattle.std.specs.Prelude.{◌<◌, ◌^◌, ◌≡◌, ℕ, List, Some
 
 use crate::machine::MachineType;
 
-/// A picture whose fields have their ranges and whose bytes are fewer than 2^32 reads back from its
+/// A layout whose fields have their ranges and whose encoding has fewer than 2^32 bytes reads back from its
 /// bytes as what it shows.
-pub fn picture_reads_back()
-    ensures { (p : Picture) → Fits p → layout_size p < 2 ^ 32 → object_in (layout p) ≡ Some (object_of p) }
+pub fn layout_reads_back()
+    ensures { (p : ObjectLayout) → Fits p → encoded_size p < 2 ^ 32 → object_in (encoded p) ≡ Some (object_of p) }
 {}
 
-/// Such a picture has as many bytes as its parts say.
-pub fn picture_has_its_size()
-    ensures { (p : Picture) → Fits p → layout_size p < 2 ^ 32 → length (layout p) ≡ layout_size p }
+/// The encoding of such a layout has the length that the layout's parts give.
+pub fn layout_has_its_size()
+    ensures { (p : ObjectLayout) → Fits p → encoded_size p < 2 ^ 32 → length (encoded p) ≡ encoded_size p }
 {}
 
 /// Bytes are read as one object at most.

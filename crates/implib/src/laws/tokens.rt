@@ -1,11 +1,11 @@
 //! Laws of the tokens of a text.
 
-ghost use Rattle.implib.specs.Token.{DividesOnce, EndsInEof, IsKnown, IsSliceOf, Lexed, LexedOnce, Seen};
+ghost use Rattle.implib.specs.Token.{DividesOnce, EndsInEof, IsKnown, IsSliceOf, Lexed, LexedOnce, TokenView};
 ghost use Rattle.implib.specs.WorkedTokens.{WorkedTokens};
 ghost use Rattle.std.specs.List.{AllByRecursion};
 ghost use Rattle.std.specs.Prelude.{List};
 
-/// A text divides into pieces in one way.
+/// A text divides into lexemes in one way.
 pub fn one_division(text: &str)
     ensures { DividesOnce text.now }
 {}
@@ -17,17 +17,17 @@ pub fn one_token_list(text: &str)
 
 /// `Eof` comes once, as the last token.
 pub fn eof_once(text: &str)
-    ensures { (tokens : List Seen) → Lexed text.now tokens → EndsInEof tokens }
+    ensures { (tokens : List TokenView) → Lexed text.now tokens → EndsInEof tokens }
 {}
 
 /// No token is of the kind `Unknown`.
 pub fn kinds_are_known(text: &str)
-    ensures { (tokens : List Seen) → Lexed text.now tokens → AllByRecursion IsKnown tokens }
+    ensures { (tokens : List TokenView) → Lexed text.now tokens → AllByRecursion IsKnown tokens }
 {}
 
 /// A token's value is cut from the text, from the token's place on.
 pub fn values_are_slices(text: &str)
-    ensures { (tokens : List Seen) → Lexed text.now tokens → AllByRecursion (IsSliceOf text.now) tokens }
+    ensures { (tokens : List TokenView) → Lexed text.now tokens → AllByRecursion (IsSliceOf text.now) tokens }
 {}
 
 /// Texts that were worked by hand have these tokens.

@@ -4,15 +4,19 @@ ghost use Rattle.implib.specs.Fault.{IfInvalid, MemberTooLong};
 ghost use Rattle.implib.specs.File.{AnAlias, meaning_in};
 ghost use Rattle.implib.specs.Import.{holds};
 ghost use Rattle.implib.specs.Library.{member_view};
-ghost use Rattle.implib.specs.Made.{descriptor_plan, is_too_long, member_of, null_descriptor_plan, null_thunk_plan, weak_plan};
-ghost use Rattle.implib.specs.MsvcObjects.{descriptor_symbols, null_descriptor_section, symbol, weak_section, weak_symbols, base_name, descriptor, descriptor_characteristics, descriptor_symbol, null_descriptor, null_descriptor_symbol, null_thunk, null_thunk_section, null_thunk_symbol, weak_auxiliary, weak_object};
-ghost use Rattle.implib.specs.Picture.{InRecord, Listed, layout, layout_size};
-ghost use Rattle.implib.specs.PictureView.{symbol_view};
+ghost use Rattle.implib.specs.MsvcMembers.{descriptor_spec, null_descriptor_spec, null_thunk_spec, weak_spec};
+ghost use Rattle.implib.specs.Members.{is_too_long};
+ghost use Rattle.implib.specs.MemberSpec.{member_of};
+ghost use Rattle.implib.specs.MsvcObjects.{descriptor_symbols, null_descriptor_section, base_name, descriptor, descriptor_characteristics, descriptor_symbol, null_descriptor, null_descriptor_symbol, null_thunk, null_thunk_section, null_thunk_symbol};
+ghost use Rattle.implib.specs.ImportTables.{symbol};
+ghost use Rattle.implib.specs.WeakExternal.{weak_section, weak_symbols, weak_auxiliary, weak_object};
+ghost use Rattle.implib.specs.Layout.{InRecord, InStringTable, encoded, encoded_size};
+ghost use Rattle.implib.specs.LayoutView.{symbol_view};
 ghost use Rattle.implib.specs.Writer.{section_view};
 ghost use Rattle.std.specs.List.{ends_with};
 ghost use Rattle.std.specs.Prelude.{Some, [], false, map, nat_eq, string_bytes, true, ◌∷◌, ◌<◌, ◌^◌, ◌≡◌, ◌≤◌, IfOk, OnOk};
 
-use crate::coff::picture::{Picture, PictureSymbol, SymbolName, lay_out};
+use crate::coff::layout::{LayoutSymbol, ObjectLayout, SymbolName, encode};
 use crate::coff::{Section, characteristics, class, flags, weak};
 use crate::error::Error;
 use crate::import_tables::{DESCRIPTOR_SIZE, image_relocation, thunk_width, zeros};
@@ -109,11 +113,11 @@ fn object_member(
     })
 }
 
-// A symbol without a value, whose name stands in its record.
-fn in_record<'a>(name: &'a str, section: u16, class: u8) -> PictureSymbol<'a>
+// A symbol without a value, whose name is in its record.
+fn in_record<'a>(name: &'a str, section: u16, class: u8) -> LayoutSymbol<'a>
     ensures { symbol_view result ≡ symbol (InRecord name.now) section class }
 {
-    PictureSymbol {
+    LayoutSymbol {
         name: SymbolName::InRecord(name),
         value: 0,
         section,
@@ -123,11 +127,11 @@ fn in_record<'a>(name: &'a str, section: u16, class: u8) -> PictureSymbol<'a>
 }
 
 // A symbol without a value, whose name is the string of this index.
-fn listed<'a>(index: usize, section: u16, class: u8) -> PictureSymbol<'a>
-    ensures { symbol_view result ≡ symbol (Listed index) section class }
+fn listed<'a>(index: usize, section: u16, class: u8) -> LayoutSymbol<'a>
+    ensures { symbol_view result ≡ symbol (InStringTable index) section class }
 {
-    PictureSymbol {
-        name: SymbolName::Listed(index),
+    LayoutSymbol {
+        name: SymbolName::InStringTable(index),
         value: 0,
         section,
         class,
@@ -175,7 +179,7 @@ fn descriptor_sections(
 
 // The symbols of the import descriptor; three names are listed.
 #[tactic(auto, unfolding(crate::specs::MsvcObjects::descriptor))]
-fn descriptor_symbols() -> [PictureSymbol<'static>; 7]
+fn descriptor_symbols() -> [LayoutSymbol<'static>; 7]
     ensures { map symbol_view result ≡ descriptor_symbols }
 {
     [
@@ -203,15 +207,15 @@ fn descriptor_object<'a>(
     requires symbol { symbol.now ≡ descriptor_symbol dll.now }
     requires null_descriptor { null_descriptor.now ≡ null_descriptor_symbol }
     requires null_thunk { null_thunk.now ≡ null_thunk_symbol dll.now }
-    ensures bytes { IfOk result (λ bytes. bytes.items ≡ layout (descriptor machine dll.now)) }
-    ensures short { OnOk result (layout_size (descriptor machine dll.now) < 2 ^ 32) }
-    ensures too_long { IfInvalid result (λ cause. (cause ≡ MemberTooLong) × (2 ^ 32 ≤ layout_size (descriptor machine dll.now))) }
+    ensures bytes { IfOk result (λ bytes. bytes.items ≡ encoded (descriptor machine dll.now)) }
+    ensures short { OnOk result (encoded_size (descriptor machine dll.now) < 2 ^ 32) }
+    ensures too_long { IfInvalid result (λ cause. (cause ≡ MemberTooLong) × (2 ^ 32 ≤ encoded_size (descriptor machine dll.now))) }
 {
     let sections = descriptor_sections(alloc, machine, dll)?;
     let symbols = descriptor_symbols();
-    lay_out(
+    encode(
         alloc,
-        &Picture {
+        &ObjectLayout {
             machine: machine.number(),
             characteristics: descriptor_characteristics(machine),
             sections: &sections,
@@ -222,16 +226,16 @@ fn descriptor_object<'a>(
 }
 
 /// The import descriptor.
-#[tactic(auto, unfolding(crate::specs::Made::descriptor_plan, crate::specs::MsvcObjects::null_descriptor_symbol))]
+#[tactic(auto, unfolding(crate::specs::MsvcMembers::descriptor_spec, crate::specs::MsvcObjects::null_descriptor_symbol))]
 pub(crate) fn descriptor_member(
     alloc: Global,
     machine: MachineType,
     dll: &str,
 ) -> Result<Member, Error>
     requires { holds 0 dll.now ≡ false }
-    ensures ok { IfOk result (λ m. member_view m ≡ member_of (descriptor_plan machine dll.now)) }
-    ensures fit { OnOk result (is_too_long (descriptor_plan machine dll.now) ≡ false) }
-    ensures too_long { IfInvalid result (λ cause. (cause ≡ MemberTooLong) × (is_too_long (descriptor_plan machine dll.now) ≡ true)) }
+    ensures ok { IfOk result (λ m. member_view m ≡ member_of (descriptor_spec machine dll.now)) }
+    ensures fit { OnOk result (is_too_long (descriptor_spec machine dll.now) ≡ false) }
+    ensures too_long { IfInvalid result (λ cause. (cause ≡ MemberTooLong) × (is_too_long (descriptor_spec machine dll.now) ≡ true)) }
 {
     let symbol = descriptor_symbol(alloc, dll)?;
     let thunk = null_thunk_symbol(alloc, dll)?;
@@ -263,14 +267,14 @@ fn null_descriptor_section(alloc: Global) -> Result<Section, AllocError>
 
 // The object of the null descriptor.
 fn null_descriptor_object(alloc: Global, machine: MachineType) -> Result<Vec<u8>, Error>
-    ensures bytes { IfOk result (λ bytes. bytes.items ≡ layout (null_descriptor machine)) }
-    ensures short { OnOk result (layout_size (null_descriptor machine) < 2 ^ 32) }
-    ensures too_long { IfInvalid result (λ cause. (cause ≡ MemberTooLong) × (2 ^ 32 ≤ layout_size (null_descriptor machine))) }
+    ensures bytes { IfOk result (λ bytes. bytes.items ≡ encoded (null_descriptor machine)) }
+    ensures short { OnOk result (encoded_size (null_descriptor machine) < 2 ^ 32) }
+    ensures too_long { IfInvalid result (λ cause. (cause ≡ MemberTooLong) × (2 ^ 32 ≤ encoded_size (null_descriptor machine))) }
 {
     let sections = [null_descriptor_section(alloc)?];
-    lay_out(
+    encode(
         alloc,
-        &Picture {
+        &ObjectLayout {
             machine: machine.number(),
             characteristics: descriptor_characteristics(machine),
             sections: &sections,
@@ -281,15 +285,15 @@ fn null_descriptor_object(alloc: Global, machine: MachineType) -> Result<Vec<u8>
 }
 
 /// The descriptor of zeros that ends the import directory.
-#[tactic(auto, unfolding(crate::specs::Made::null_descriptor_plan, crate::specs::MsvcObjects::null_descriptor_symbol))]
+#[tactic(auto, unfolding(crate::specs::MsvcMembers::null_descriptor_spec, crate::specs::MsvcObjects::null_descriptor_symbol))]
 pub(crate) fn null_descriptor_member(
     alloc: Global,
     machine: MachineType,
     dll: &str,
 ) -> Result<Member, Error>
-    ensures ok { IfOk result (λ m. member_view m ≡ member_of (null_descriptor_plan machine dll.now)) }
-    ensures fit { OnOk result (is_too_long (null_descriptor_plan machine dll.now) ≡ false) }
-    ensures too_long { IfInvalid result (λ cause. (cause ≡ MemberTooLong) × (is_too_long (null_descriptor_plan machine dll.now) ≡ true)) }
+    ensures ok { IfOk result (λ m. member_view m ≡ member_of (null_descriptor_spec machine dll.now)) }
+    ensures fit { OnOk result (is_too_long (null_descriptor_spec machine dll.now) ≡ false) }
+    ensures too_long { IfInvalid result (λ cause. (cause ≡ MemberTooLong) × (is_too_long (null_descriptor_spec machine dll.now) ≡ true)) }
 {
     let bytes = null_descriptor_object(alloc, machine)?;
     let symbol = String::from_str(alloc, NULL_DESCRIPTOR_SYMBOL)?;
@@ -326,15 +330,15 @@ fn null_thunk_object(
 ) -> Result<Vec<u8>, Error>
     requires dll_text { holds 0 dll.now ≡ false }
     requires symbol { symbol.now ≡ null_thunk_symbol dll.now }
-    ensures bytes { IfOk result (λ bytes. bytes.items ≡ layout (null_thunk machine dll.now)) }
-    ensures short { OnOk result (layout_size (null_thunk machine dll.now) < 2 ^ 32) }
-    ensures too_long { IfInvalid result (λ cause. (cause ≡ MemberTooLong) × (2 ^ 32 ≤ layout_size (null_thunk machine dll.now))) }
+    ensures bytes { IfOk result (λ bytes. bytes.items ≡ encoded (null_thunk machine dll.now)) }
+    ensures short { OnOk result (encoded_size (null_thunk machine dll.now) < 2 ^ 32) }
+    ensures too_long { IfInvalid result (λ cause. (cause ≡ MemberTooLong) × (2 ^ 32 ≤ encoded_size (null_thunk machine dll.now))) }
 {
     let address_table = null_thunk_section(alloc, machine, *b".idata$5")?;
     let lookup_table = null_thunk_section(alloc, machine, *b".idata$4")?;
-    lay_out(
+    encode(
         alloc,
-        &Picture {
+        &ObjectLayout {
             machine: machine.number(),
             characteristics: descriptor_characteristics(machine),
             sections: &[address_table, lookup_table],
@@ -345,16 +349,16 @@ fn null_thunk_object(
 }
 
 /// The thunks of zeros that end the DLL's address table and lookup table.
-#[tactic(auto, unfolding(crate::specs::Made::null_thunk_plan))]
+#[tactic(auto, unfolding(crate::specs::MsvcMembers::null_thunk_spec))]
 pub(crate) fn null_thunk_member(
     alloc: Global,
     machine: MachineType,
     dll: &str,
 ) -> Result<Member, Error>
     requires { holds 0 dll.now ≡ false }
-    ensures ok { IfOk result (λ m. member_view m ≡ member_of (null_thunk_plan machine dll.now)) }
-    ensures fit { OnOk result (is_too_long (null_thunk_plan machine dll.now) ≡ false) }
-    ensures too_long { IfInvalid result (λ cause. (cause ≡ MemberTooLong) × (is_too_long (null_thunk_plan machine dll.now) ≡ true)) }
+    ensures ok { IfOk result (λ m. member_view m ≡ member_of (null_thunk_spec machine dll.now)) }
+    ensures fit { OnOk result (is_too_long (null_thunk_spec machine dll.now) ≡ false) }
+    ensures too_long { IfInvalid result (λ cause. (cause ≡ MemberTooLong) × (is_too_long (null_thunk_spec machine dll.now) ≡ true)) }
 {
     let symbol = null_thunk_symbol(alloc, dll)?;
     let bytes = null_thunk_object(alloc, machine, dll, symbol.as_str())?;
@@ -375,15 +379,15 @@ fn weak_section(alloc: Global) -> Section
 
 // The symbols of a weak external: of the two names that are listed, the second is weak for the first.
 #[tactic(auto, unfolding(crate::specs::Bytes::u32_bytes))]
-fn weak_symbols() -> [PictureSymbol<'static>; 4]
+fn weak_symbols() -> [LayoutSymbol<'static>; 4]
     ensures { map symbol_view result ≡ weak_symbols }
 {
     [
         in_record("@comp.id", ABSOLUTE, class::STATIC),
         in_record("@feat.00", ABSOLUTE, class::STATIC),
         listed(0, UNDEFINED, class::EXTERNAL),
-        PictureSymbol {
-            name: SymbolName::Listed(1),
+        LayoutSymbol {
+            name: SymbolName::InStringTable(1),
             value: 0,
             section: UNDEFINED,
             class: class::WEAK_EXTERNAL,
@@ -401,17 +405,17 @@ pub(crate) fn weak_external(
 ) -> Result<Vec<u8>, Error>
     requires weak_text { holds 0 weak.now ≡ false }
     requires target_text { holds 0 target.now ≡ false }
-    ensures bytes { IfOk result (λ bytes. bytes.items ≡ layout (weak_object machine weak.now target.now)) }
+    ensures bytes { IfOk result (λ bytes. bytes.items ≡ encoded (weak_object machine weak.now target.now)) }
     ensures meaning { IfOk result (λ bytes. meaning_in bytes.items ≡ Some (AnAlias (record { weak = weak.now; target = target.now }))) }
-    ensures short { OnOk result (layout_size (weak_object machine weak.now target.now) < 2 ^ 32) }
+    ensures short { OnOk result (encoded_size (weak_object machine weak.now target.now) < 2 ^ 32) }
     ensures too_long { IfInvalid result (λ cause. (cause ≡ MemberTooLong)
-        × (2 ^ 32 ≤ layout_size (weak_object machine weak.now target.now))) }
+        × (2 ^ 32 ≤ encoded_size (weak_object machine weak.now target.now))) }
 {
     let sections = [weak_section(alloc)];
     let symbols = weak_symbols();
-    lay_out(
+    encode(
         alloc,
-        &Picture {
+        &ObjectLayout {
             machine: machine.number(),
             characteristics: 0,
             sections: &sections,
@@ -431,10 +435,10 @@ pub(crate) fn weak_member(
 ) -> Result<Member, Error>
     requires weak_text { holds 0 weak.now ≡ false }
     requires target_text { holds 0 target.now ≡ false }
-    ensures ok { IfOk result (λ m. member_view m ≡ member_of (weak_plan machine dll.now weak.now target.now)) }
-    ensures fit { OnOk result (is_too_long (weak_plan machine dll.now weak.now target.now) ≡ false) }
+    ensures ok { IfOk result (λ m. member_view m ≡ member_of (weak_spec machine dll.now weak.now target.now)) }
+    ensures fit { OnOk result (is_too_long (weak_spec machine dll.now weak.now target.now) ≡ false) }
     ensures too_long { IfInvalid result (λ cause. (cause ≡ MemberTooLong)
-        × (is_too_long (weak_plan machine dll.now weak.now target.now) ≡ true)) }
+        × (is_too_long (weak_spec machine dll.now weak.now target.now) ≡ true)) }
 {
     let bytes = weak_external(alloc, machine, weak, target)?;
     let symbol = String::from_str(alloc, weak)?;

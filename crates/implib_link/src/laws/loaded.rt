@@ -2,8 +2,8 @@
 
 ghost use Rattle.implib.specs.Image.{Range, image_of};
 ghost use Rattle.implib.specs.Import.{Ask};
-ghost use Rattle.implib.specs.LinkedMembers.{IsMade, Part};
-ghost use Rattle.implib.specs.MsvcObjects.{thunk_width};
+ghost use Rattle.implib.specs.LinkedMembers.{IsMade, LinkInput};
+ghost use Rattle.implib.specs.ImportTables.{thunk_width};
 ghost use Rattle.implib.specs.Object.{Object};
 ghost use Rattle.implib.specs.Placement.{Bases, placed_from};
 ghost use Rattle.implib.specs.declared.machine.MachineType.{MachineType};
@@ -18,18 +18,18 @@ ghost use Rattle.std.specs.Prelude.{◌≡◌, ℕ, List, length, map};
 ///
 /// What a DLL gives has as many bytes as an entry.
 pub fn program_loads()
-    ensures loads { (machine : MachineType) (bases : Bases) (parts : List Part) (objects : List Object)
+    ensures loads { (machine : MachineType) (bases : Bases) (inputs : List LinkInput) (objects : List Object)
         (gives : List ℕ → Ask → List ℕ) (written : List Range) →
-        AllByRecursion (IsMade machine) parts →
-        IsProgram machine bases parts objects →
+        AllByRecursion (IsMade machine) inputs →
+        IsProgram machine bases inputs objects →
         ((dll : List ℕ) (ask : Ask) → length (gives dll ask) ≡ thunk_width machine) →
         Writes (image_of machine bases (placed_from bases objects)) (thunk_width machine) gives bases.descriptors
-        (map (imported machine) parts) written →
-        IsLoaded machine bases parts objects gives written }
-    ensures writes { (machine : MachineType) (bases : Bases) (parts : List Part) (objects : List Object)
+        (map (imported machine) inputs) written →
+        IsLoaded machine bases inputs objects gives written }
+    ensures writes { (machine : MachineType) (bases : Bases) (inputs : List LinkInput) (objects : List Object)
         (gives : List ℕ → Ask → List ℕ) →
-        AllByRecursion (IsMade machine) parts →
-        IsProgram machine bases parts objects →
+        AllByRecursion (IsMade machine) inputs →
+        IsProgram machine bases inputs objects →
         (written : List Range) × Writes (image_of machine bases (placed_from bases objects)) (thunk_width machine) gives
-        bases.descriptors (map (imported machine) parts) written }
+        bases.descriptors (map (imported machine) inputs) written }
 {}

@@ -1,7 +1,7 @@
 //! The law of packed placement.
 
 ghost use Rattle.implib.specs.Image.{IsAdmissible};
-ghost use Rattle.implib.specs.LinkedMembers.{IsMade, Part, all_linked, objects_in};
+ghost use Rattle.implib.specs.LinkedMembers.{IsMade, LinkInput, all_linked, objects_in};
 ghost use Rattle.implib.specs.Object.{Object};
 ghost use Rattle.implib.specs.declared.machine.MachineType.{MachineType};
 ghost use Rattle.implib_link.specs.Packed.{packed, packed_end};
@@ -13,18 +13,18 @@ ghost use Rattle.std.specs.Prelude.{◌≡◌, ◌<◌, ◌%◌, ◌^◌, ◌++�
 /// beside or not, where it ends below 2^31: so there is a program of all members whose symbols are distinct.
 /// The address tables begin at a multiple of 8.
 pub fn packed_is_program()
-    ensures admissible { (machine : MachineType) (first : ℕ) (parts : List Part) (objects : List Object) →
-        AllByRecursion (IsMade machine) parts →
-        filter has_tables objects ≡ objects_in (all_linked machine parts) ++ null_descriptor ∷ [] →
+    ensures admissible { (machine : MachineType) (first : ℕ) (inputs : List LinkInput) (objects : List Object) →
+        AllByRecursion (IsMade machine) inputs →
+        filter has_tables objects ≡ objects_in (all_linked machine inputs) ++ null_descriptor ∷ [] →
         0 < first →
         packed_end first objects < 2 ^ 31 →
         IsAdmissible machine (packed first objects) objects }
-    ensures program { (machine : MachineType) (first : ℕ) (parts : List Part) →
-        AllByRecursion (IsMade machine) parts →
-        IsDistinct bytes_eq (linked_symbols machine parts) →
+    ensures program { (machine : MachineType) (first : ℕ) (inputs : List LinkInput) →
+        AllByRecursion (IsMade machine) inputs →
+        IsDistinct bytes_eq (linked_symbols machine inputs) →
         0 < first →
-        packed_end first (objects_in (all_linked machine parts) ++ null_descriptor ∷ []) < 2 ^ 31 →
-        IsProgram machine (packed first (objects_in (all_linked machine parts) ++ null_descriptor ∷ [])) parts
-        (objects_in (all_linked machine parts) ++ null_descriptor ∷ []) }
+        packed_end first (objects_in (all_linked machine inputs) ++ null_descriptor ∷ []) < 2 ^ 31 →
+        IsProgram machine (packed first (objects_in (all_linked machine inputs) ++ null_descriptor ∷ [])) inputs
+        (objects_in (all_linked machine inputs) ++ null_descriptor ∷ []) }
     ensures eights { (first : ℕ) (objects : List Object) → (packed first objects).addresses % 8 ≡ 0 }
 {}

@@ -2,7 +2,7 @@
 
 ghost use Rattle.implib.specs.Image.{IsAdmissible, Range};
 ghost use Rattle.implib.specs.Linked.{AllLink};
-ghost use Rattle.implib.specs.LinkedMembers.{IsMade, Part, all_linked, objects_in};
+ghost use Rattle.implib.specs.LinkedMembers.{IsMade, LinkInput, all_linked, objects_in};
 ghost use Rattle.implib.specs.Object.{Object};
 ghost use Rattle.implib.specs.Placement.{Bases};
 ghost use Rattle.implib.specs.declared.machine.MachineType.{MachineType};
@@ -14,30 +14,30 @@ ghost use Rattle.std.specs.Prelude.{◌≡◌, ◌++◌, ◌∷◌, ℕ, List, [
 /// The head, the chosen exports' members and the tail of each DLL, DLLs and exports in any order, link at
 /// any admissible bases, for each DLL to an import of just the chosen exports from it.
 pub fn links_in_any_order()
-    ensures links { (machine : MachineType) (bases : Bases) (parts : List Part) →
-        AllByRecursion (IsMade machine) parts →
-        IsDistinct bytes_eq (linked_symbols machine parts) →
-        IsAdmissible machine bases (objects_in (all_linked machine parts)) →
-        AllLink machine bases parts (objects_in (all_linked machine parts)) }
+    ensures links { (machine : MachineType) (bases : Bases) (inputs : List LinkInput) →
+        AllByRecursion (IsMade machine) inputs →
+        IsDistinct bytes_eq (linked_symbols machine inputs) →
+        IsAdmissible machine bases (objects_in (all_linked machine inputs)) →
+        AllLink machine bases inputs (objects_in (all_linked machine inputs)) }
 {}
 
 /// Members and the null descriptor link among any other objects that hold no import tables and claim no
 /// symbol of theirs: the import directory lists just these DLLs with just the chosen exports, and each
 /// `__imp_` symbol is its export's own entry, from whichever object it is named.
 pub fn links_among_others()
-    ensures links { (machine : MachineType) (bases : Bases) (parts : List Part) (objects : List Object) →
-        AllByRecursion (IsMade machine) parts →
-        IsProgram machine bases parts objects →
-        LinksAmong machine bases parts objects }
+    ensures links { (machine : MachineType) (bases : Bases) (inputs : List LinkInput) (objects : List Object) →
+        AllByRecursion (IsMade machine) inputs →
+        IsProgram machine bases inputs objects →
+        LinksAmong machine bases inputs objects }
 {}
 
 /// The members and the null descriptor alone are such a program.
 pub fn members_are_program()
-    ensures program { (machine : MachineType) (bases : Bases) (parts : List Part) →
-        AllByRecursion (IsMade machine) parts →
-        IsDistinct bytes_eq (linked_symbols machine parts) →
-        IsAdmissible machine bases (objects_in (all_linked machine parts) ++ null_descriptor ∷ []) →
-        IsProgram machine bases parts (objects_in (all_linked machine parts) ++ null_descriptor ∷ []) }
+    ensures program { (machine : MachineType) (bases : Bases) (inputs : List LinkInput) →
+        AllByRecursion (IsMade machine) inputs →
+        IsDistinct bytes_eq (linked_symbols machine inputs) →
+        IsAdmissible machine bases (objects_in (all_linked machine inputs) ++ null_descriptor ∷ []) →
+        IsProgram machine bases inputs (objects_in (all_linked machine inputs) ++ null_descriptor ∷ []) }
 {}
 
 /// A loader that walks a directory, however lenient, finds what the directory lists, and nothing else.

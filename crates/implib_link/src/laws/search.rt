@@ -2,7 +2,8 @@
 
 ghost use Rattle.implib.specs.Definition.{DefinitionView};
 ghost use Rattle.implib.specs.LinkedMembers.{AllRise};
-ghost use Rattle.implib.specs.Made.{Made, MemberView};
+ghost use Rattle.implib.specs.Members.{AreMembersOf};
+ghost use Rattle.implib.specs.MemberSpec.{MemberView};
 ghost use Rattle.implib.specs.Object.{Object};
 ghost use Rattle.implib.specs.Placement.{Bases};
 ghost use Rattle.implib.specs.declared.library.Flavor.TheVariants.{Gnu};
@@ -18,11 +19,11 @@ ghost use Rattle.std.specs.Prelude.{ℕ, List, bytes_eq, map};
 /// Names that no member is listed for may be wanted, too. All listed symbols differ, so no export has an alias.
 pub fn search_takes_wanted()
     ensures takes { (machine : MachineType) (d : DefinitionView) (members taken : List MemberView) (wanted : List (List ℕ)) →
-        Made d machine Gnu members → IsDistinct bytes_eq (flat_map (λ m. m.symbols) members) →
+        AreMembersOf d machine Gnu members → IsDistinct bytes_eq (flat_map (λ m. m.symbols) members) →
         NamesNoLinkage machine d.import_name wanted → Takes members wanted taken →
         HaveSame taken (linked_if_any d machine (exports_wanted d wanted)) }
     ensures ends { (machine : MachineType) (d : DefinitionView) (members : List MemberView) (wanted : List (List ℕ)) →
-        Made d machine Gnu members →
+        AreMembersOf d machine Gnu members →
         IsDistinct bytes_eq (flat_map (λ m. m.symbols) members) →
         NamesNoLinkage machine d.import_name wanted →
         (taken : List MemberView) × Takes members wanted taken }
@@ -34,7 +35,7 @@ pub fn search_takes_wanted()
 pub fn searched_program_links()
     ensures chosen { (machine : MachineType) (d : DefinitionView) (members taken arranged : List MemberView)
         (wanted : List (List ℕ)) →
-        Made d machine Gnu members →
+        AreMembersOf d machine Gnu members →
         IsDistinct bytes_eq (flat_map (λ m. m.symbols) members) →
         NamesNoLinkage machine d.import_name wanted →
         Takes members wanted taken →
@@ -42,7 +43,7 @@ pub fn searched_program_links()
         IsLinkedOfWanted machine d wanted arranged }
     ensures sorted { (machine : MachineType) (d : DefinitionView) (members taken arranged : List MemberView)
         (wanted : List (List ℕ)) (number : ℕ) →
-        Made d machine Gnu members →
+        AreMembersOf d machine Gnu members →
         IsDistinct bytes_eq (flat_map (λ m. m.symbols) members) →
         NamesNoLinkage machine d.import_name wanted →
         Takes members wanted taken →
@@ -52,7 +53,7 @@ pub fn searched_program_links()
         IsArranged machine d.import_name taken arranged }
     ensures imports { (machine : MachineType) (d : DefinitionView) (members taken : List MemberView) (wanted : List (List ℕ))
         (bases : Bases) (objects : List Object) →
-        Made d machine Gnu members →
+        AreMembersOf d machine Gnu members →
         IsDistinct bytes_eq (flat_map (λ m. m.symbols) members) →
         NamesNoLinkage machine d.import_name wanted →
         Takes members wanted taken →

@@ -2,9 +2,9 @@
 
 ghost use Rattle.implib.specs.Definition.{ExportView};
 ghost use Rattle.implib.specs.Image.{Range, image_of};
-ghost use Rattle.implib.specs.Import.{Ask, ask_meant};
-ghost use Rattle.implib.specs.LinkedMembers.{IsMade, Part, chosen_exports};
-ghost use Rattle.implib.specs.MsvcObjects.{thunk_width};
+ghost use Rattle.implib.specs.Import.{Ask, expected_ask};
+ghost use Rattle.implib.specs.LinkedMembers.{IsMade, LinkInput, chosen_exports};
+ghost use Rattle.implib.specs.ImportTables.{thunk_width};
 ghost use Rattle.implib.specs.Object.{Object};
 ghost use Rattle.implib.specs.Placement.{Bases, placed_from};
 ghost use Rattle.implib.specs.declared.machine.MachineType.{MachineType};
@@ -17,31 +17,31 @@ ghost use Rattle.std.specs.Prelude.{◌≡◌, ◌+◌, ◌*◌, ◌++◌, ℕ, 
 
 /// The stub of each chosen export of code jumps through the export's own entry, wherever its code is placed.
 pub fn stubs_jump()
-    ensures jumps { (machine : MachineType) (image_base : ℕ) (bases : Bases) (parts : List Part) (objects : List Object)
-        (i j : ℕ) (p : Part) (e : ExportView) →
-        AllByRecursion (IsMade machine) parts →
-        IsProgram machine bases parts objects →
+    ensures jumps { (machine : MachineType) (image_base : ℕ) (bases : Bases) (inputs : List LinkInput) (objects : List Object)
+        (i j : ℕ) (p : LinkInput) (e : ExportView) →
+        AllByRecursion (IsMade machine) inputs →
+        IsProgram machine bases inputs objects →
         CanJump machine image_base bases →
-        slice_get parts i ≡ Some p →
+        slice_get inputs i ≡ Some p →
         slice_get (chosen_exports p.definition p.chosen) j ≡ Some e →
         e.is_data ≡ false →
         JumpsThrough machine image_base (placed_from bases objects) e.name
-        (bases.addresses + thunk_width machine * thunks_before i parts + thunk_width machine * j) }
+        (bases.addresses + thunk_width machine * thunks_before i inputs + thunk_width machine * j) }
 {}
 
 /// In a loaded program, a call of an export goes where its DLL says that it is.
 pub fn calls_reach_their_imports()
-    ensures reaches { (machine : MachineType) (image_base : ℕ) (bases : Bases) (parts : List Part) (objects : List Object)
-        (gives : List ℕ → Ask → List ℕ) (written : List Range) (i j : ℕ) (p : Part) (e : ExportView) →
-        AllByRecursion (IsMade machine) parts →
-        IsProgram machine bases parts objects →
+    ensures reaches { (machine : MachineType) (image_base : ℕ) (bases : Bases) (inputs : List LinkInput) (objects : List Object)
+        (gives : List ℕ → Ask → List ℕ) (written : List Range) (i j : ℕ) (p : LinkInput) (e : ExportView) →
+        AllByRecursion (IsMade machine) inputs →
+        IsProgram machine bases inputs objects →
         CanJump machine image_base bases →
         ((dll : List ℕ) (ask : Ask) → length (gives dll ask) ≡ thunk_width machine) →
         Writes (image_of machine bases (placed_from bases objects)) (thunk_width machine) gives bases.descriptors
-        (map (imported machine) parts) written →
-        slice_get parts i ≡ Some p →
+        (map (imported machine) inputs) written →
+        slice_get inputs i ≡ Some p →
         slice_get (chosen_exports p.definition p.chosen) j ≡ Some e →
         e.is_data ≡ false →
         CallReaches machine image_base (written ++ image_of machine bases (placed_from bases objects))
-        (placed_from bases objects) e.name (gives p.definition.import_name (ask_meant machine e)) }
+        (placed_from bases objects) e.name (gives p.definition.import_name (expected_ask machine e)) }
 {}

@@ -4,7 +4,9 @@ use Rattle.std.specs.String.{string_bytes}
 use Rattle.implib.specs.Definition.{ExportView, definition_view, export_view}
 use Rattle.implib.specs.Import.{public_exports}
 use Rattle.implib.specs.Library.{member_view}
-use Rattle.implib.specs.Made.{has_u16_ordinal, is_too_long, member_of, numbered_plans, numbered_plans_of}
+use Rattle.implib.specs.Members.{has_u16_ordinal, is_too_long}
+use Rattle.implib.specs.MemberSpec.{member_of}
+use Rattle.implib.specs.GnuMembers.{numbered_specs, numbered_specs_of}
 use Rattle.implib.proofs.GnuLoop.{Left, left_private, left_public}
 use Rattle.implib.proofs.MembersLoop.{exports_from}
 use Rattle.implib.proofs.gnu.build.Goals as goal
@@ -14,9 +16,9 @@ pub loop-export-preserved : goal.loop-export-preserved
 loop-export-preserved c =
     let machine = c.args.machine in
     let dll = string_bytes c.args.def.now.import_name in
-    let plans = numbered_plans machine dll 0 (public_exports (definition_view c.args.def.now)) in
-    let all = map member_of plans in
-    let long = list_any is_too_long plans in
+    let specs = numbered_specs machine dll 0 (public_exports (definition_view c.args.def.now)) in
+    let all = map member_of specs in
+    let long = list_any is_too_long specs in
     let sound = list_all has_u16_ordinal (public_exports (definition_view c.args.def.now)) in
     let index = c.loop-export.export-index in
     let number = c.loop-export.number in
@@ -30,9 +32,9 @@ loop-export-preserved c =
     (record { named = c.loop-export.invariant.named; made = c.loop-export.invariant.made; fit = c.loop-export.invariant.fit; ordinals = c.loop-export.invariant.ordinals }) in
     elim c.if-not-export.branch [
       | then-not-export+in_ok-push_export w ↦
-          let grown : map member_view w.push_export.new.members.items ≡ members ++ map member_of (numbered_plans_of machine dll number e) =
+          let grown : map member_view w.push_export.new.members.items ≡ members ++ map member_of (numbered_specs_of machine dll number e) =
           rw c.as_str-dll.ensures.value at (w.in_ok-push_export.ensures {u = tt}).ok in
-          let short : list_any is_too_long (numbered_plans_of machine dll number e) ≡ false =
+          let short : list_any is_too_long (numbered_specs_of machine dll number e) ≡ false =
           rw c.as_str-dll.ensures.value at (w.in_ok-push_export.ensures {u = tt}).fit in
           let after : Left machine dll all long sound (index + 1) c.if-not-export.number (map member_view c.if-not-export.members.items) others =
           subst (λ (n : ℕ). Left machine dll all long sound (index + 1) n (map member_view c.if-not-export.members.items) others) (sym w.number-is)

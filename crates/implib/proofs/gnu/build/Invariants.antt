@@ -4,7 +4,10 @@ use Rattle.std.specs.List.{filter, list_all, list_any}
 use Rattle.implib.specs.Definition.{definition_view, export_view}
 use Rattle.implib.specs.Import.{public_exports}
 use Rattle.implib.specs.Library.{member_view}
-use Rattle.implib.specs.Made.{has_u16_ordinal, is_too_long, member_of, names_refusal, numbered_plans}
+use Rattle.implib.specs.Members.{has_u16_ordinal, is_too_long}
+use Rattle.implib.specs.MemberSpec.{member_of}
+use Rattle.implib.specs.NameRules.{names_refusal}
+use Rattle.implib.specs.GnuMembers.{numbered_specs}
 use Rattle.implib.specs.declared.library.Flavor.TheVariants.{Gnu}
 use Rattle.implib.proofs.gnu.build.Given as goal
 
@@ -14,12 +17,12 @@ invariant-loop-export l =
     let exports = map export_view (drop l.export-index l.def.exports.items) in
     let public = filter (λ e. not e.private) exports in
     let dll = (definition_view l.def).import_name in
-    let plans = numbered_plans l.machine dll l.number public in
-    let all = numbered_plans l.machine dll 0 (public_exports (definition_view l.def)) in
+    let specs = numbered_specs l.machine dll l.number public in
+    let all = numbered_specs l.machine dll 0 (public_exports (definition_view l.def)) in
     record {
       counted : l.number ≤ l.export-index;
       named : names_refusal Gnu l.machine l.export-index exports ≡ None;
-      made : map member_view l.members.items ++ map member_of plans ≡ map member_of all;
-      fit : list_any is_too_long plans ≡ list_any is_too_long all;
+      made : map member_view l.members.items ++ map member_of specs ≡ map member_of all;
+      fit : list_any is_too_long specs ≡ list_any is_too_long all;
       ordinals : list_all has_u16_ordinal public ≡ list_all has_u16_ordinal (public_exports (definition_view l.def));
     }

@@ -3,7 +3,9 @@ use Rattle.std.specs.List.{list_any}
 use Rattle.implib.specs.Definition.{definition_view}
 use Rattle.implib.specs.Import.{public_exports}
 use Rattle.implib.specs.Library.{member_view}
-use Rattle.implib.specs.Made.{head_plan, is_too_long, member_of, numbered_plans, tail_plan}
+use Rattle.implib.specs.GnuMembers.{head_spec, numbered_specs, tail_spec}
+use Rattle.implib.specs.Members.{is_too_long}
+use Rattle.implib.specs.MemberSpec.{member_of}
 use Rattle.implib.proofs.GnuLoop.{long_turned, made_turned, map-reverse}
 use Rattle.implib.proofs.gnu.members.Goals as goal
 
@@ -11,19 +13,19 @@ pub returns-clause-ok : goal.returns-clause-ok
 returns-clause-ok c =
     let machine = c.args.machine in
     let dll = string_bytes c.args.def.now.import_name in
-    let built = numbered_plans machine dll 0 (public_exports (definition_view c.args.def.now)) in
-    let pushed : map member_view c.push_linkage.new.members.items ≡ map member_of built ++ map member_of (head_plan machine dll ∷ tail_plan machine dll ∷ []) =
+    let built = numbered_specs machine dll 0 (public_exports (definition_view c.args.def.now)) in
+    let pushed : map member_view c.push_linkage.new.members.items ≡ map member_of built ++ map member_of (head_spec machine dll ∷ tail_spec machine dll ∷ []) =
     rw (c.in_ok-members.ensures.ok, c.as_str-dll.ensures.value) at c.in_ok-push_linkage.ensures.ok in
     ap (map member_view) c.reverse.ensures.items
     ∙ (map-reverse member_view c.push_linkage.new.members.items
-    ∙ made_turned (map member_view c.push_linkage.new.members.items) built (head_plan machine dll) (tail_plan machine dll) pushed)
+    ∙ made_turned (map member_view c.push_linkage.new.members.items) built (head_spec machine dll) (tail_spec machine dll) pushed)
 
 pub returns-clause-fit : goal.returns-clause-fit
 returns-clause-fit c =
     let machine = c.args.machine in
     let dll = string_bytes c.args.def.now.import_name in
-    let built = numbered_plans machine dll 0 (public_exports (definition_view c.args.def.now)) in
-    let linkage : list_any is_too_long (head_plan machine dll ∷ tail_plan machine dll ∷ []) ≡ false =
+    let built = numbered_specs machine dll 0 (public_exports (definition_view c.args.def.now)) in
+    let linkage : list_any is_too_long (head_spec machine dll ∷ tail_spec machine dll ∷ []) ≡ false =
     rw c.as_str-dll.ensures.value at c.in_ok-push_linkage.ensures.fit in
-    long_turned built (head_plan machine dll) (tail_plan machine dll)
-    ∙ (ap (λ b. b || list_any is_too_long (head_plan machine dll ∷ tail_plan machine dll ∷ [])) c.in_ok-members.ensures.fit ∙ linkage)
+    long_turned built (head_spec machine dll) (tail_spec machine dll)
+    ∙ (ap (λ b. b || list_any is_too_long (head_spec machine dll ∷ tail_spec machine dll ∷ [])) c.in_ok-members.ensures.fit ∙ linkage)

@@ -5,7 +5,9 @@ use Rattle.implib.specs.declared.library.Flavor.TheVariants.{Msvc}
 use Rattle.implib.specs.Definition.{ExportView, definition_view, export_view}
 use Rattle.implib.specs.Import.{public_exports}
 use Rattle.implib.specs.Library.{member_view}
-use Rattle.implib.specs.Made.{export_plans, has_u16_ordinal, is_too_long, member_of, plans_of}
+use Rattle.implib.specs.MsvcMembers.{export_specs}
+use Rattle.implib.specs.Members.{has_u16_ordinal, is_too_long, member_specs}
+use Rattle.implib.specs.MemberSpec.{member_of}
 use Rattle.implib.proofs.MembersLoop.{Left, exports_from, left_private, left_public}
 use Rattle.implib.proofs.msvc.members.Goals as goal
 use Rattle.implib.proofs.msvc.members.Goals.{then-not-export+in_ok-push_export, else-not-export}
@@ -14,9 +16,9 @@ pub loop-export-preserved : goal.loop-export-preserved
 loop-export-preserved c =
     let machine = c.args.machine in
     let dll = string_bytes c.args.def.now.import_name in
-    let plans = plans_of (definition_view c.args.def.now) machine Msvc in
-    let all = map member_of plans in
-    let long = list_any is_too_long plans in
+    let specs = member_specs (definition_view c.args.def.now) machine Msvc in
+    let all = map member_of specs in
+    let long = list_any is_too_long specs in
     let sound = list_all has_u16_ordinal (public_exports (definition_view c.args.def.now)) in
     let index = c.loop-export.export-index in
     let items = c.args.def.now.exports.items in
@@ -29,9 +31,9 @@ loop-export-preserved c =
     (record { named = c.loop-export.invariant.named; made = c.loop-export.invariant.made; fit = c.loop-export.invariant.fit; ordinals = c.loop-export.invariant.ordinals }) in
     elim c.if-not-export.branch [
       | then-not-export+in_ok-push_export w ↦
-          let grown : map member_view w.push_export.new.members.items ≡ members ++ map member_of (export_plans machine dll e) =
+          let grown : map member_view w.push_export.new.members.items ≡ members ++ map member_of (export_specs machine dll e) =
           rw c.as_str-dll.ensures.value at (w.in_ok-push_export.ensures {u = tt}).ok in
-          let short : list_any is_too_long (export_plans machine dll e) ≡ false =
+          let short : list_any is_too_long (export_specs machine dll e) ≡ false =
           rw c.as_str-dll.ensures.value at (w.in_ok-push_export.ensures {u = tt}).fit in
           let after : Left machine dll all long sound (index + 1) (map member_view c.if-not-export.members.items) others =
           subst (λ x. Left machine dll all long sound (index + 1) (map member_view x.items) others) (sym w.members-is)

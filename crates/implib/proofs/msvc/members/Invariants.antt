@@ -4,7 +4,10 @@ use Rattle.std.specs.List.{filter, flat_map, list_all, list_any}
 use Rattle.implib.specs.Definition.{definition_view, export_view}
 use Rattle.implib.specs.Import.{public_exports}
 use Rattle.implib.specs.Library.{member_view}
-use Rattle.implib.specs.Made.{export_plans, has_u16_ordinal, is_too_long, member_of, names_refusal, plans_of}
+use Rattle.implib.specs.MsvcMembers.{export_specs}
+use Rattle.implib.specs.Members.{has_u16_ordinal, is_too_long, member_specs}
+use Rattle.implib.specs.MemberSpec.{member_of}
+use Rattle.implib.specs.NameRules.{names_refusal}
 use Rattle.implib.specs.declared.library.Flavor.TheVariants.{Msvc}
 use Rattle.implib.proofs.msvc.members.Given as goal
 
@@ -13,11 +16,11 @@ abbrev pub invariant-loop-export : goal.invariant-loop-export
 invariant-loop-export l =
     let exports = map export_view (drop l.export-index l.def.exports.items) in
     let public = filter (λ e. not e.private) exports in
-    let plans = flat_map (export_plans l.machine (definition_view l.def).import_name) public in
+    let specs = flat_map (export_specs l.machine (definition_view l.def).import_name) public in
     record {
       named : names_refusal Msvc l.machine l.export-index exports ≡ None;
-      made : map member_view l.members.items ++ map member_of plans
-          ≡ map member_of (plans_of (definition_view l.def) l.machine Msvc);
-      fit : list_any is_too_long plans ≡ list_any is_too_long (plans_of (definition_view l.def) l.machine Msvc);
+      made : map member_view l.members.items ++ map member_of specs
+          ≡ map member_of (member_specs (definition_view l.def) l.machine Msvc);
+      fit : list_any is_too_long specs ≡ list_any is_too_long (member_specs (definition_view l.def) l.machine Msvc);
       ordinals : list_all has_u16_ordinal public ≡ list_all has_u16_ordinal (public_exports (definition_view l.def));
     }

@@ -3,7 +3,7 @@
 ghost use Rattle.implib.specs.Definition.{export_view};
 ghost use Rattle.implib.specs.Grammar.{Joined};
 ghost use Rattle.implib.specs.ParserViews.{all_put, Gives, one_put};
-ghost use Rattle.implib.specs.Reading.{
+ghost use Rattle.implib.specs.TokenReader.{
   attribute_read,
   attributes_read,
   no_name_read,
@@ -20,7 +20,7 @@ use crate::error::{Error, Fault};
 use std::alloc::Global;
 
 impl<'a> Tokens<'a> {
-    /// Reads all attributes that stand here into the export.
+    /// Reads all attributes at the front of the tokens into the export.
     pub fn attributes(&mut self, alloc: Global, export: &mut ShortExport) -> Result<(), Error>
         ensures read { Gives (λ _. (export_view export.new, self.new)) result
             (all_put with_attribute (export_view export.old) (attributes_read self.old)) }
@@ -30,8 +30,8 @@ impl<'a> Tokens<'a> {
         Ok(())
     }
 
-    /// Reads an attribute into the export, and answers false where none stands.
-    #[tactic(auto, unfolding(crate::specs::Reading::attribute_read))]
+    /// Reads an attribute into the export; false where there is none.
+    #[tactic(auto, unfolding(crate::specs::TokenReader::attribute_read))]
     fn attribute(&mut self, alloc: Global, export: &mut ShortExport) -> Result<bool, Error>
         ensures read { Gives (λ more. (more, export_view export.new, self.new)) result
             (one_put with_attribute (export_view export.old) (attribute_read self.old)) }
@@ -77,7 +77,7 @@ impl<'a> Tokens<'a> {
     }
 
     /// The ordinal in the token after a lone `@`.
-    #[tactic(auto, unfolding(crate::specs::Reading::ordinal_read))]
+    #[tactic(auto, unfolding(crate::specs::TokenReader::ordinal_read))]
     fn ordinal(&mut self, alloc: Global) -> Result<u16, Error>
         ensures read { Gives (λ n. (n, self.new)) result (ordinal_read self.old) }
         ensures no_longer { OnOk result (length self.new ≤ length self.old) }
@@ -111,7 +111,7 @@ impl<'a> Tokens<'a> {
     }
 
     /// Takes `NONAME`, and says whether it was there.
-    #[tactic(auto, unfolding(crate::specs::Reading::no_name_read))]
+    #[tactic(auto, unfolding(crate::specs::TokenReader::no_name_read))]
     fn no_name(&mut self) -> bool
         ensures read { (result, self.new) ≡ no_name_read self.old }
         ensures no_longer { length self.new ≤ length self.old }

@@ -3,7 +3,7 @@
 ghost use Rattle.implib.specs.Definition.{export_view};
 ghost use Rattle.implib.specs.Meaning.{decorated, is_decorated};
 ghost use Rattle.implib.specs.ParserViews.{all_put, Gives, one_put, value_of, with_export};
-ghost use Rattle.implib.specs.Reading.{export_read, exports_read, named_export, target_read};
+ghost use Rattle.implib.specs.TokenReader.{export_read, exports_read, named_export, target_read};
 ghost use Rattle.std.specs.Prelude.{◌≡◌, ◌<◌, ◌≤◌, length, map, IfOk, IsTrue, OnOk};
 ghost use Rattle.std.specs.String.{string_bytes};
 
@@ -16,7 +16,7 @@ use crate::machine::MachineType;
 use std::alloc::{AllocError, Global};
 
 impl<'a> Tokens<'a> {
-    /// Reads all exports that stand here onto the list.
+    /// Reads all exports at the front of the tokens onto the list.
     pub fn exports(
         &mut self,
         alloc: Global,
@@ -32,8 +32,8 @@ impl<'a> Tokens<'a> {
         Ok(())
     }
 
-    /// Reads an export onto the list, and answers false where none stands.
-    #[tactic(auto, unfolding(crate::specs::Reading::export_read))]
+    /// Reads an export onto the list; false where there is none.
+    #[tactic(auto, unfolding(crate::specs::TokenReader::export_read))]
     fn export(
         &mut self,
         alloc: Global,
@@ -63,7 +63,7 @@ impl<'a> Tokens<'a> {
     }
 
     /// The word after the `=` of an export, if they are there.
-    #[tactic(auto, unfolding(crate::specs::Reading::target_read))]
+    #[tactic(auto, unfolding(crate::specs::TokenReader::target_read))]
     fn target(&mut self) -> Result<Option<&'a str>, Error>
         ensures read { Gives (λ target. (value_of target, self.new)) result
             (target_read self.old) }

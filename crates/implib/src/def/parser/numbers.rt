@@ -2,7 +2,7 @@
 
 ghost use Rattle.implib.specs.Number.{u16_limit, u32_limit, u64_limit};
 ghost use Rattle.implib.specs.ParserViews.{at_word_view};
-ghost use Rattle.implib.specs.Reading.{at_word, number_of, version_of};
+ghost use Rattle.implib.specs.TokenReader.{at_word, number_of, version_of};
 ghost use Rattle.std.specs.Prelude.{◌≡◌};
 
 /// What a word is among the attributes of an export.

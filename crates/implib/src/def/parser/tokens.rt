@@ -1,7 +1,7 @@
 //! The tokens that a parser has ahead of it.
 
 ghost use Rattle.implib.specs.ParserViews.{Gives, ShowsFirst, TakesFirst};
-ghost use Rattle.implib.specs.Reading.{number_read, sign_read, word_read};
+ghost use Rattle.implib.specs.TokenReader.{number_read, sign_read, word_read};
 ghost use Rattle.implib.specs.Token.{Lexed};
 ghost use Rattle.std.specs.Prelude.{◌≡◌, ◌<◌, length, OnOk};
 
@@ -19,9 +19,9 @@ pub struct Tokens<'a> {
 
 impl<'a> Model for Tokens<'a> {
     ghost use Rattle.std.specs.Prelude.{List};
-    ghost use Rattle.implib.specs.Token.{Seen};
+    ghost use Rattle.implib.specs.Token.{TokenView};
 
-    ghost Value = { List Seen };
+    ghost Value = { List TokenView };
 
     ghost use Rattle.implib.specs.ParserViews.{ahead};
 
@@ -63,8 +63,8 @@ impl<'a> Tokens<'a> {
         self.pushed
     }
 
-    /// The value of the identifier that is owed.
-    #[tactic(auto, unfolding(crate::specs::Reading::word_read))]
+    /// The value of the expected identifier.
+    #[tactic(auto, unfolding(crate::specs::TokenReader::word_read))]
     pub fn identifier(&mut self) -> Result<&'a str, Error>
         ensures read { Gives (λ value. (value.now, self.new)) result (word_read self.old) }
         ensures shorter { OnOk result (length self.new < length self.old) }
@@ -78,8 +78,8 @@ impl<'a> Tokens<'a> {
         }
     }
 
-    /// The `=` that is owed.
-    #[tactic(auto, unfolding(crate::specs::Reading::sign_read))]
+    /// The expected `=`.
+    #[tactic(auto, unfolding(crate::specs::TokenReader::sign_read))]
     pub fn equal(&mut self) -> Result<(), Error>
         ensures read { Gives (λ _. self.new) result (sign_read self.old) }
         ensures shorter { OnOk result (length self.new < length self.old) }
@@ -93,8 +93,8 @@ impl<'a> Tokens<'a> {
         }
     }
 
-    /// The number of the identifier that is owed.
-    #[tactic(auto, unfolding(crate::specs::Reading::number_read))]
+    /// The number that the expected identifier is.
+    #[tactic(auto, unfolding(crate::specs::TokenReader::number_read))]
     pub fn number(&mut self) -> Result<u64, Error>
         ensures read { Gives (λ n. (n, self.new)) result (number_read self.old) }
         ensures shorter { OnOk result (length self.new < length self.old) }

@@ -1,7 +1,7 @@
 use Rattle.std.proofs.Common.{◌≡◌, ◌∙◌, ap, false, length, map, nat_lt, refl, sym, true}
 use Rattle.std.proofs.lemmas.Bool.{le-ltb, lt-ltb}
-use Rattle.implib.specs.Picture.{Listed}
-use Rattle.implib.proofs.LongNames.{insert_key_text, name_place-long, name_place-short, position_key, with_long_name-long, with_long_name-short}
+use Rattle.implib.specs.Layout.{InStringTable}
+use Rattle.implib.proofs.LongNames.{insert_key_text, name_location-long, name_location-short, position_key, with_long_name-long, with_long_name-short}
 use Rattle.implib.proofs.coff.writer.name_of.Goals as goal
 
 pub returns-in_ok-index-clause-strings : goal.returns-in_ok-index-clause-strings
@@ -18,9 +18,9 @@ returns-in_ok-index-clause-name c =
       ap (map (λ t. t.now)) c.in_ok-index.ensures.keys,
       insert_key_text c.args.text _ (λ x. refl) c.args.strings.now.keys,
       ← with_long_name-long (map (λ t. t.now) c.args.strings.now.keys) c.args.text.now long,
-      name_place-long (map (λ t. t.now) c.args.strings.now.keys) c.args.text.now long,
+      name_location-long (map (λ t. t.now) c.args.strings.now.keys) c.args.text.now long,
     )
-    (ap Listed (c.in_ok-index.ensures.index ∙ position_key c.args.text _ (λ x. refl) c.args.strings.now.keys))
+    (ap InStringTable (c.in_ok-index.ensures.index ∙ position_key c.args.text _ (λ x. refl) c.args.strings.now.keys))
 
 pub returns-else-text-gt-LONGEST_IN_RECORD-clause-strings : goal.returns-else-text-gt-LONGEST_IN_RECORD-clause-strings
 returns-else-text-gt-LONGEST_IN_RECORD-clause-strings c =
@@ -30,4 +30,4 @@ returns-else-text-gt-LONGEST_IN_RECORD-clause-strings c =
 pub returns-else-text-gt-LONGEST_IN_RECORD-clause-name : goal.returns-else-text-gt-LONGEST_IN_RECORD-clause-name
 returns-else-text-gt-LONGEST_IN_RECORD-clause-name c =
     let short : nat_lt 8 (length c.args.text.now) ≡ false = le-ltb 8 (length c.args.text.now) c.if-text-gt-LONGEST_IN_RECORD.false in
-    sym (name_place-short (map (λ t. t.now) c.args.strings.now.keys) c.args.text.now short)
+    sym (name_location-short (map (λ t. t.now) c.args.strings.now.keys) c.args.text.now short)

@@ -1,5 +1,5 @@
 use Rattle.std.proofs.Common.{◌≡◌, map, take}
-use Rattle.implib.specs.PictureView.{symbol_view}
+use Rattle.implib.specs.LayoutView.{symbol_view}
 use Rattle.implib.specs.Writer.{long_names, symbol_written}
 use Rattle.implib.specs.Writer.{added_view}
 use Rattle.implib.proofs.coff.writer.names_of.Given as goal

@@ -1,31 +1,31 @@
 use Rattle.std.proofs.Common.{◌≡◌, ◌∙◌, ap, map, refl}
-use Rattle.implib.specs.PictureView.{picture_view, symbol_view}
-use Rattle.implib.specs.Writer.{added_view, picture_of}
-use Rattle.implib.specs.WriterView.{holding_view}
+use Rattle.implib.specs.LayoutView.{layout_view, symbol_view}
+use Rattle.implib.specs.Writer.{added_view, layout_of}
+use Rattle.implib.specs.WriterView.{writer_state}
 use Rattle.implib.proofs.Written.{picture_same}
 use Rattle.implib.proofs.coff.writer.write_parts.Goals as goal
 use Rattle.implib.proofs.coff.writer.write_parts.Goals.{After-drop-names-5}
 
-pub lay_out-requires : goal.lay_out-requires
-lay_out-requires c =
-    rw (picture_same (holding_view c.args.machine c.args.sections.now c.args.symbols.now) c.number.result c.args.sections c.deref.result c.as_slice.result (map added_view c.args.symbols.now)
+pub encode-requires : goal.encode-requires
+encode-requires c =
+    rw (picture_same (writer_state c.args.machine c.args.sections.now c.args.symbols.now) c.number.result c.args.sections c.deref.result c.as_slice.result (map added_view c.args.symbols.now)
     c.number.ensures refl refl
     (ap (map symbol_view) c.deref.ensures.value ∙ c.in_ok-names.ensures.symbols)
     (ap (map (λ t. t.now)) c.as_slice.ensures.keys ∙ c.in_ok-names.ensures.strings))
     c.requires
 
 -- the picture that is laid out is that of the parts
-same : (c : After-drop-names-5) → picture_view (record { machine = c.number.result; characteristics = 0; sections = c.args.sections; symbols = c.deref.result; strings = c.as_slice.result }) ≡ picture_of (holding_view c.args.machine c.args.sections.now c.args.symbols.now)
-same c = picture_same (holding_view c.args.machine c.args.sections.now c.args.symbols.now) c.number.result c.args.sections c.deref.result c.as_slice.result (map added_view c.args.symbols.now)
+same : (c : After-drop-names-5) → layout_view (record { machine = c.number.result; characteristics = 0; sections = c.args.sections; symbols = c.deref.result; strings = c.as_slice.result }) ≡ layout_of (writer_state c.args.machine c.args.sections.now c.args.symbols.now)
+same c = picture_same (writer_state c.args.machine c.args.sections.now c.args.symbols.now) c.number.result c.args.sections c.deref.result c.as_slice.result (map added_view c.args.symbols.now)
     c.number.ensures refl refl
     (ap (map symbol_view) c.deref.ensures.value ∙ c.in_ok-names.ensures.symbols)
     (ap (map (λ t. t.now)) c.as_slice.ensures.keys ∙ c.in_ok-names.ensures.strings)
 
 pub returns-clause-bytes : goal.returns-clause-bytes
-returns-clause-bytes c = rw (← same c) c.lay_out.ensures.bytes
+returns-clause-bytes c = rw (← same c) c.encode.ensures.bytes
 
 pub returns-clause-short : goal.returns-clause-short
-returns-clause-short c = rw (← same c) c.lay_out.ensures.short
+returns-clause-short c = rw (← same c) c.encode.ensures.short
 
 pub returns-clause-refused : goal.returns-clause-refused
-returns-clause-refused c = rw (← same c) c.lay_out.ensures.refused
+returns-clause-refused c = rw (← same c) c.encode.ensures.refused

@@ -1,6 +1,6 @@
 use Rattle.std.proofs.Common.{sym, ◌∙◌, ap, arith}
 use Rattle.implib.specs.Token.{begins, is_equal_sign}
-use Rattle.implib.proofs.Taken.{begins_with, boundary_after_first, boundary_after_second, TakesPiece-equal, TakesPiece-equals}
+use Rattle.implib.proofs.Lexemes.{begins_with, boundary_after_first, boundary_after_second, TakesLexeme-equal, TakesLexeme-equals}
 use Rattle.implib.proofs.def.lexer.equal_sign.Goals as goal
 
 pub range_from-requires : goal.range_from-requires
@@ -17,9 +17,9 @@ cut_token-requires-else-begins_with c = boundary_after_first 61 c.args.text.now 
 pub returns-then-begins_with : goal.returns-then-begins_with
 returns-then-begins_with c =
     let again = ap (begins is_equal_sign) (sym c.range_from.ensures.value) ∙ sym c.begins_with.ensures ∙ c.if-begins_with.true in
-    TakesPiece-equals _ _ _ _ (begins_with 61 c.args.text.now c.requires) again c.cut_token.ensures.token c.cut_token.ensures.after
+    TakesLexeme-equals _ _ _ _ (begins_with 61 c.args.text.now c.requires) again c.cut_token.ensures.token c.cut_token.ensures.after
 
 pub returns-else-begins_with : goal.returns-else-begins_with
 returns-else-begins_with c =
     let alone = ap (begins is_equal_sign) (sym c.range_from.ensures.value) ∙ sym c.begins_with.ensures ∙ c.if-begins_with.false in
-    TakesPiece-equal _ _ _ _ (begins_with 61 c.args.text.now c.requires) alone c.cut_token-else-begins_with.ensures.token c.cut_token-else-begins_with.ensures.after
+    TakesLexeme-equal _ _ _ _ (begins_with 61 c.args.text.now c.requires) alone c.cut_token-else-begins_with.ensures.token c.cut_token-else-begins_with.ensures.after

@@ -2,31 +2,31 @@ use Rattle.std.proofs.Common.{◌≡◌, ◌<◌, ◌≤◌, ◌^◌, sym, subst
 use Rattle.std.specs.Prelude.{IfOk, OnOk}
 use Rattle.implib.specs.Fault.{IfInvalid, MemberTooLong}
 use Rattle.implib.specs.MsvcObjects.{descriptor}
-use Rattle.implib.specs.Picture.{Fits, Picture, layout, layout_size}
+use Rattle.implib.specs.Layout.{Fits, ObjectLayout, encoded, encoded_size}
 use Rattle.implib.proofs.MsvcObjects.{Fits-descriptor, same_picture}
 use Rattle.implib.proofs.msvc.objects.descriptor_object.Goals as goal
 
 listed_strings : {x y z u v w : List ℕ} → x ≡ u → y ≡ v → z ≡ w → x ∷ y ∷ z ∷ [] ≡ u ∷ v ∷ w ∷ []
 listed_strings first second third = cc
 
-pub lay_out-requires : goal.lay_out-requires
+pub encode-requires : goal.encode-requires
 unfolding descriptor
-lay_out-requires c = subst Fits (same_picture (descriptor c.args.machine c.args.dll.now) _ _ _ _ _ c.number.ensures c.descriptor_characteristics.ensures c.in_ok-sections.ensures c.descriptor_symbols-symbols.ensures (listed_strings c.requires.symbol c.requires.null_descriptor c.requires.null_thunk)) (Fits-descriptor c.args.machine c.args.dll.now c.requires.dll_text)
+encode-requires c = subst Fits (same_picture (descriptor c.args.machine c.args.dll.now) _ _ _ _ _ c.number.ensures c.descriptor_characteristics.ensures c.in_ok-sections.ensures c.descriptor_symbols-symbols.ensures (listed_strings c.requires.symbol c.requires.null_descriptor c.requires.null_thunk)) (Fits-descriptor c.args.machine c.args.dll.now c.requires.dll_text)
 
 pub returns-clause-bytes : goal.returns-clause-bytes
 unfolding descriptor
 returns-clause-bytes c =
-    let P : Picture → Type 0 = λ p. IfOk c.lay_out.result (λ bytes. bytes.items ≡ layout p) in
-    subst P (sym (same_picture (descriptor c.args.machine c.args.dll.now) _ _ _ _ _ c.number.ensures c.descriptor_characteristics.ensures c.in_ok-sections.ensures c.descriptor_symbols-symbols.ensures (listed_strings c.requires.symbol c.requires.null_descriptor c.requires.null_thunk))) c.lay_out.ensures.bytes
+    let P : ObjectLayout → Type 0 = λ p. IfOk c.encode.result (λ bytes. bytes.items ≡ encoded p) in
+    subst P (sym (same_picture (descriptor c.args.machine c.args.dll.now) _ _ _ _ _ c.number.ensures c.descriptor_characteristics.ensures c.in_ok-sections.ensures c.descriptor_symbols-symbols.ensures (listed_strings c.requires.symbol c.requires.null_descriptor c.requires.null_thunk))) c.encode.ensures.bytes
 
 pub returns-clause-short : goal.returns-clause-short
 unfolding descriptor
 returns-clause-short c =
-    let P : Picture → Type 0 = λ p. OnOk c.lay_out.result (layout_size p < 2 ^ 32) in
-    subst P (sym (same_picture (descriptor c.args.machine c.args.dll.now) _ _ _ _ _ c.number.ensures c.descriptor_characteristics.ensures c.in_ok-sections.ensures c.descriptor_symbols-symbols.ensures (listed_strings c.requires.symbol c.requires.null_descriptor c.requires.null_thunk))) c.lay_out.ensures.short
+    let P : ObjectLayout → Type 0 = λ p. OnOk c.encode.result (encoded_size p < 2 ^ 32) in
+    subst P (sym (same_picture (descriptor c.args.machine c.args.dll.now) _ _ _ _ _ c.number.ensures c.descriptor_characteristics.ensures c.in_ok-sections.ensures c.descriptor_symbols-symbols.ensures (listed_strings c.requires.symbol c.requires.null_descriptor c.requires.null_thunk))) c.encode.ensures.short
 
 pub returns-clause-too_long : goal.returns-clause-too_long
 unfolding descriptor
 returns-clause-too_long c =
-    let P : Picture → Type 0 = λ p. IfInvalid c.lay_out.result (λ cause. (cause ≡ MemberTooLong) × (2 ^ 32 ≤ layout_size p)) in
-    subst P (sym (same_picture (descriptor c.args.machine c.args.dll.now) _ _ _ _ _ c.number.ensures c.descriptor_characteristics.ensures c.in_ok-sections.ensures c.descriptor_symbols-symbols.ensures (listed_strings c.requires.symbol c.requires.null_descriptor c.requires.null_thunk))) c.lay_out.ensures.refused
+    let P : ObjectLayout → Type 0 = λ p. IfInvalid c.encode.result (λ cause. (cause ≡ MemberTooLong) × (2 ^ 32 ≤ encoded_size p)) in
+    subst P (sym (same_picture (descriptor c.args.machine c.args.dll.now) _ _ _ _ _ c.number.ensures c.descriptor_characteristics.ensures c.in_ok-sections.ensures c.descriptor_symbols-symbols.ensures (listed_strings c.requires.symbol c.requires.null_descriptor c.requires.null_thunk))) c.encode.ensures.refused

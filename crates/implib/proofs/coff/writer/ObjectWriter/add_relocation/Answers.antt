@@ -1,8 +1,8 @@
 use Rattle.std.proofs.Common.{◌-◌, arith, refl}
 use Rattle.std.proofs.lemmas.Result.{err_from_is_err_and}
 use Rattle.implib.specs.Writer.{HasRoomFor}
-use Rattle.implib.specs.WriterView.{holding_view}
-use Rattle.implib.proofs.WriterSound.{relocated-numbered, sections-same, shown_with, sound_relocation}
+use Rattle.implib.specs.WriterView.{writer_state}
+use Rattle.implib.proofs.WriterSound.{sections_with_relocation-numbered, sections-same, shown_with, sound_relocation}
 use Rattle.implib.proofs.coff.writer.ObjectWriter.add_relocation.Goals as goal
 
 pub invariant_of-self : goal.invariant_of-self
@@ -23,13 +23,13 @@ invariant_of-self-2 c =
     let there = rw (← c.self.view_is) at c.requires.section in
     let index = rw (← c.self.view_is) at c.requires.symbol in
     let e = shown_with c.index_mut-section.result.now c.push.new.self _ c.in_ok-push.ensures.items in
-    rw (relocated-numbered c.self.inside.sections.items c.args.section c.args.relocation c.index_mut-section.result.now (record c.index_mut-section.result.now { relocations = c.push.new.self }) (HasRoomFor c.args.relocation) there c.index_mut-section.ensures.value e)
-    (sound_relocation (holding_view c.self.inside.machine c.self.inside.sections.items c.self.inside.symbols.items) c.self.inside.records c.args.section c.args.relocation
+    rw (sections_with_relocation-numbered c.self.inside.sections.items c.args.section c.args.relocation c.index_mut-section.result.now (record c.index_mut-section.result.now { relocations = c.push.new.self }) (HasRoomFor c.args.relocation) there c.index_mut-section.ensures.value e)
+    (sound_relocation (writer_state c.self.inside.machine c.self.inside.sections.items c.self.inside.symbols.items) c.self.inside.records c.args.section c.args.relocation
     c.self.invariant there index (record { offset = omega arith; symbol = omega arith; kind = omega arith }))
 
 pub returns-clause-ok : goal.returns-clause-ok
 returns-clause-ok c =
     let there = rw (← c.self.view_is) at c.requires.section in
     let e = shown_with c.index_mut-section.result.now c.push.new.self _ c.in_ok-push.ensures.items in
-    rw (← c.self.view_is, relocated-numbered c.self.inside.sections.items c.args.section c.args.relocation c.index_mut-section.result.now (record c.index_mut-section.result.now { relocations = c.push.new.self }) (HasRoomFor c.args.relocation) there c.index_mut-section.ensures.value e)
+    rw (← c.self.view_is, sections_with_relocation-numbered c.self.inside.sections.items c.args.section c.args.relocation c.index_mut-section.result.now (record c.index_mut-section.result.now { relocations = c.push.new.self }) (HasRoomFor c.args.relocation) there c.index_mut-section.ensures.value e)
     refl

@@ -1,14 +1,14 @@
 use Rattle.std.proofs.Common.{[], ◌∷◌, arith}
 use Rattle.std.proofs.lemmas.List.{map-append}
 use Rattle.implib.specs.Writer.{section_view}
-use Rattle.implib.specs.WriterView.{holding_view}
+use Rattle.implib.specs.WriterView.{writer_state}
 use Rattle.implib.proofs.WriterSound.{sound_section}
 use Rattle.implib.proofs.coff.writer.ObjectWriter.add_section.Goals as goal
 
 pub invariant_of-self-2 : goal.invariant_of-self-2
 invariant_of-self-2 c =
     rw (c.in_ok-push.ensures.items, map-append section_view c.self.inside.sections.items (c.args.section ∷ []))
-    (sound_section (holding_view c.self.inside.machine c.self.inside.sections.items c.self.inside.symbols.items) c.self.inside.records (section_view c.args.section)
+    (sound_section (writer_state c.self.inside.machine c.self.inside.sections.items c.self.inside.symbols.items) c.self.inside.records (section_view c.args.section)
     c.self.invariant
     (rw (← c.self.view_is) at c.requires.room)
     (record {

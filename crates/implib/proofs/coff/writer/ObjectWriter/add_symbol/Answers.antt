@@ -1,6 +1,6 @@
 use Rattle.std.proofs.Common.{[], ◌∷◌, arith}
 use Rattle.std.proofs.lemmas.List.{map-append}
-use Rattle.implib.specs.WriterView.{holding_view}
+use Rattle.implib.specs.WriterView.{writer_state}
 use Rattle.implib.specs.Writer.{added_view}
 use Rattle.implib.proofs.WriterSound.{auxiliary_count-le, length-entries_added, sound_symbol}
 use Rattle.implib.proofs.coff.writer.ObjectWriter.add_symbol.Goals as goal
@@ -16,7 +16,7 @@ overflow_add-self c =
 pub invariant_of-self-2 : goal.invariant_of-self-2
 invariant_of-self-2 c =
     rw (c.in_ok-push.ensures.items, map-append added_view c.self.inside.symbols.items (c.args.symbol ∷ []))
-    (sound_symbol (holding_view c.self.inside.machine c.self.inside.sections.items c.self.inside.symbols.items) c.self.inside.records _ (added_view c.args.symbol)
+    (sound_symbol (writer_state c.self.inside.machine c.self.inside.sections.items c.self.inside.symbols.items) c.self.inside.records _ (added_view c.args.symbol)
     c.self.invariant
     (record {
       named = c.requires.named;

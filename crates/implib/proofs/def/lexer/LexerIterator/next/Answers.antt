@@ -3,8 +3,8 @@ use Rattle.std.specs.Bool.{Decides}
 use denote.Enum.Bare.{sameb, same_true}
 use Rattle.implib.specs.contracts.def.lexer.TokenKind.{the_type}
 use Rattle.implib.specs.declared.def.lexer.TokenKind.TheVariants.{Eof}
-use Rattle.implib.specs.Division.{tokens_left}
-use Rattle.implib.proofs.Left.{tokens_left_next, tokens_left_done, PassesGap-shorter, TakesToken-shorter}
+use Rattle.implib.specs.Scanner.{tokens_left}
+use Rattle.implib.proofs.TokensLeft.{tokens_left_next, tokens_left_done, PassesTrivia-shorter, TakesToken-shorter}
 use Rattle.implib.proofs.def.lexer.LexerIterator.next.Goals as goal
 
 pub returns-then-self-clause-steps : goal.returns-then-self-clause-steps
@@ -13,11 +13,11 @@ returns-then-self-clause-steps c =
     (none, none)
 
 pub overflow_sub-at : goal.overflow_sub-at
-overflow_sub-at c = omega (arith, PassesGap-shorter c.self.inside.rest.now c.skip_gap-start.result.now c.skip_gap-start.ensures.skips.passes, c.self.invariant)
+overflow_sub-at c = omega (arith, PassesTrivia-shorter c.self.inside.rest.now c.skip_trivia-start.result.now c.skip_trivia-start.ensures.skips.passes, c.self.invariant)
 
 pub invariant_of-self : goal.invariant_of-self
 invariant_of-self c =
-    let gap = PassesGap-shorter _ _ c.skip_gap-start.ensures.skips.passes in
+    let gap = PassesTrivia-shorter _ _ c.skip_trivia-start.ensures.skips.passes in
     let token = TakesToken-shorter _ _ _ _ c.first_token.ensures in
     omega (arith, gap, token, c.self.invariant)
 
@@ -29,5 +29,5 @@ returns c =
     let given =
     sym c.self.view_is
     ∙ ap (tokens_left c.self.inside.text.now c.self.inside.rest.now) c.if-self.false
-    ∙ tokens_left_next c.self.inside.text.now c.self.inside.rest.now c.skip_gap-start.result.now c.first_token.result.1.now _ c.eq-self-inside.result c.self.invariant c.skip_gap-start.ensures.utf8 c.skip_gap-start.utf8 c.skip_gap-start.ensures.skips.passes c.first_token.ensures is_done in
+    ∙ tokens_left_next c.self.inside.text.now c.self.inside.rest.now c.skip_trivia-start.result.now c.first_token.result.1.now _ c.eq-self-inside.result c.self.invariant c.skip_trivia-start.ensures.utf8 c.skip_trivia-start.utf8 c.skip_trivia-start.ensures.skips.passes c.first_token.ensures is_done in
     record { steps = given; goes = record { on = λ _. (tt, tt, omega (arith, ap length given)); keeps = tt; rests = λ _. tt } }

@@ -1,7 +1,7 @@
 use Rattle.std.proofs.Common.{arith, refl}
 use Rattle.std.proofs.lemmas.Result.{err_from_is_err_and}
 use Rattle.implib.specs.Definition.{export_view}
-use Rattle.implib.specs.Reading.{attribute_read, attributes_read, with_attribute}
+use Rattle.implib.specs.TokenReader.{attribute_read, attributes_read, with_attribute}
 use Rattle.implib.proofs.ParserLoops.{remains_all, remains_err, remains_more, remains_none}
 use Rattle.implib.proofs.def.parser.tokens.Tokens.attributes.Goals as goal
 

@@ -1,7 +1,7 @@
 use Rattle.std.proofs.Common.{◌≤◌, length}
 use Rattle.implib.specs.Definition.{export_view}
 use Rattle.implib.specs.ParserViews.{all_put}
-use Rattle.implib.specs.Reading.{attribute_read, attributes_read, with_attribute}
+use Rattle.implib.specs.TokenReader.{attribute_read, attributes_read, with_attribute}
 use Rattle.implib.proofs.ParserLoops.{Remains}
 use Rattle.implib.proofs.def.parser.tokens.Tokens.attributes.Given as goal
 

@@ -3,7 +3,7 @@ use Rattle.std.proofs.lemmas.Result.{err_from_is_err_and}
 use Rattle.std.proofs.Common.{map}
 use Rattle.implib.specs.Definition.{export_view}
 use Rattle.implib.specs.ParserViews.{with_export}
-use Rattle.implib.specs.Reading.{export_read, exports_read}
+use Rattle.implib.specs.TokenReader.{export_read, exports_read}
 use Rattle.implib.proofs.ParserLoops.{remains_all, remains_err, remains_more, remains_none}
 use Rattle.implib.proofs.def.parser.tokens.Tokens.exports.Goals as goal
 

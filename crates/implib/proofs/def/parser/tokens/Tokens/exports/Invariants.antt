@@ -1,7 +1,7 @@
 use Rattle.std.proofs.Common.{◌≤◌, length, map}
 use Rattle.implib.specs.Definition.{export_view}
 use Rattle.implib.specs.ParserViews.{all_put, with_export}
-use Rattle.implib.specs.Reading.{export_read, exports_read}
+use Rattle.implib.specs.TokenReader.{export_read, exports_read}
 use Rattle.implib.proofs.ParserLoops.{Remains}
 use Rattle.implib.proofs.def.parser.tokens.Tokens.exports.Given as goal
 

@@ -1,7 +1,7 @@
 use Rattle.std.proofs.Common.{map}
 use Rattle.implib.specs.Definition.{definition_view, export_view}
 use Rattle.implib.specs.Grammar.{Heap, Stack}
-use Rattle.implib.specs.Token.{seen}
+use Rattle.implib.specs.Token.{token_view}
 use Rattle.implib.proofs.ParserSteps.{exports_reads, name_reads, sizes_reads, taken, version_reads}
 use Rattle.implib.proofs.def.parser.tokens.Tokens.statement.Goals as goal
 use Rattle.implib.proofs.def.parser.tokens.Tokens.statement.Goals.{in-KwExports+in_ok-exports-in-KwExports, in-KwHeapsize+in_ok-reserve-in-KwHeapsize, in-KwStacksize+in_ok-reserve-in-KwStacksize, in-KwName+in_ok-set_name-in-KwName, in-KwVersion+in_ok-major-in-KwVersion}
@@ -9,7 +9,7 @@ use Rattle.implib.proofs.def.parser.tokens.Tokens.statement.Goals.{in-KwExports+
 pub returns-clause-read : goal.returns-clause-read
 returns-clause-read c =
     let d = definition_view c.args.def.now in
-    let token = seen c.in-Some.token in
+    let token = token_view c.in-Some.token in
     let starts = taken c.args.self.now c.in-Some.token c.advance.result c.advance.new.self c.in-Some.ensures.first (rw c.in-Some.ensures.unchanged at c.advance.ensures) in
     elim c.match-token.branch [
       | in-KwExports+in_ok-exports-in-KwExports w ↦ rw (w.def-is, w.self-is)

@@ -1,7 +1,7 @@
 use Rattle.std.proofs.Common.{length}
 use Rattle.implib.specs.Definition.{definition_view}
 use Rattle.implib.specs.ParserViews.{all_put}
-use Rattle.implib.specs.Reading.{statement_read, statements_read, with_statement}
+use Rattle.implib.specs.TokenReader.{statement_read, statements_read, with_statement}
 use Rattle.implib.proofs.ParserLoops.{Remains}
 use Rattle.implib.proofs.def.parser.tokens.Tokens.statements.Given as goal
 

@@ -1,0 +1,7 @@
+use Rattle.std.proofs.Common.{flat_map, take}
+use Rattle.implib.specs.Pass.{Puts}
+use Rattle.implib.specs.Layout.{relocation_bytes}
+use Rattle.implib.proofs.coff.layout.put_relocations.Given as goal
+
+abbrev pub invariant-loop-relocation : goal.invariant-loop-relocation
+invariant-loop-relocation l = Puts l.initial.pass l.pass (flat_map relocation_bytes (take l.relocation-index l.relocations))

@@ -1,0 +1,10 @@
+use Rattle.std.proofs.Common.{arith}
+use Rattle.implib.specs.Layout.{string_size}
+use Rattle.implib.proofs.Defaults.{no_text}
+use Rattle.implib.proofs.Sums.{sum_more}
+use Rattle.implib.proofs.coff.layout.strings_length.Goals as goal
+
+pub loop-text-preserved : goal.loop-text-preserved
+unfolding string_size
+loop-text-preserved c =
+    omega (arith, sum_more string_size (λ text. text.now) c.args.strings.now c.loop-text.text-index no_text c.loop-text-test.true)

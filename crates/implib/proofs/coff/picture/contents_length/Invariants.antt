@@ -1,7 +1,0 @@
-use Rattle.std.proofs.Common.{◌≡◌, ◌-◌, ◌^◌, map, min, sum_by, take}
-use Rattle.implib.specs.Picture.{contents_size}
-use Rattle.implib.specs.Writer.{section_view}
-use Rattle.implib.proofs.coff.picture.contents_length.Given as goal
-
-abbrev pub invariant-loop-section : goal.invariant-loop-section
-invariant-loop-section l = l.total ≡ min (sum_by contents_size (map section_view (take l.section-index l.sections))) (2 ^ 64 - 1)

@@ -1,8 +1,0 @@
-use Rattle.std.proofs.Common.{flat_map, take}
-use Rattle.implib.specs.Pass.{Puts}
-use Rattle.implib.specs.Picture.{contents}
-use Rattle.implib.specs.Writer.{section_view}
-use Rattle.implib.proofs.coff.picture.put_contents.Given as goal
-
-abbrev pub invariant-loop-section : goal.invariant-loop-section
-invariant-loop-section l = Puts l.initial.pass l.pass (flat_map (λ s. contents (section_view s)) (take l.section-index l.sections))

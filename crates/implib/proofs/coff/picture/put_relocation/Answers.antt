@@ -1,7 +1,0 @@
-use Rattle.implib.specs.Picture.{relocation_bytes}
-use Rattle.implib.proofs.Pass.{puts_both}
-use Rattle.implib.proofs.coff.picture.put_relocation.Goals as goal
-
-pub returns : goal.returns
-unfolding relocation_bytes
-returns c = puts_both c.put_u32.ensures.puts (puts_both c.put_u32-2.ensures.puts c.put_u16.ensures.puts)

@@ -1,7 +1,0 @@
-use Rattle.std.proofs.Common.{flat_map, take}
-use Rattle.implib.specs.Pass.{Puts}
-use Rattle.implib.specs.Picture.{relocation_bytes}
-use Rattle.implib.proofs.coff.picture.put_relocations.Given as goal
-
-abbrev pub invariant-loop-relocation : goal.invariant-loop-relocation
-invariant-loop-relocation l = Puts l.initial.pass l.pass (flat_map relocation_bytes (take l.relocation-index l.relocations))

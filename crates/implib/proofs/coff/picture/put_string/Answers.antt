@@ -1,7 +1,0 @@
-use Rattle.implib.specs.Picture.{string_bytes_of}
-use Rattle.implib.proofs.Pass.{puts_both}
-use Rattle.implib.proofs.coff.picture.put_string.Goals as goal
-
-pub returns : goal.returns
-unfolding string_bytes_of
-returns c = rw (← c.as_bytes.ensures.value) (puts_both c.put_bytes.ensures.puts c.put_bytes-2.ensures.puts)

@@ -1,0 +1,246 @@
+//! The short import record of an export.
+
+ghost use Rattle.implib.specs.declared.library.Flavor.TheVariants.{Msvc};
+ghost use Rattle.implib.specs.Definition.{definition_view, export_view};
+ghost use Rattle.implib.specs.Fault.{IfInvalid, MemberTooLong};
+ghost use Rattle.implib.specs.Import.{address_symbol, at_sign, begins_with, holds, public_exports};
+ghost use Rattle.implib.specs.Library.{member_view};
+ghost use Rattle.implib.specs.Members.{has_u16_ordinal, is_too_long, member_specs};
+ghost use Rattle.implib.specs.MemberSpec.{member_of};
+ghost use Rattle.implib.specs.MsvcMembers.{short_import_spec};
+ghost use Rattle.implib.specs.Pass.{Puts};
+ghost use Rattle.implib.specs.Msvc.{asked_by_short_import, kind_of, name_type_of, short_import_bytes, short_import_data_size, short_import_header, short_import_listed, short_import_of, short_import_size, short_import_symbol};
+ghost use Rattle.implib.specs.ShortImport.{asked_by_name_type, before_at_sign, without_prefix};
+ghost use Rattle.std.specs.List.{list_all, list_any, position};
+ghost use Rattle.std.specs.Prelude.{false, map, nat_lt, string_bytes, true, ◌+◌, ◌<◌, ◌==◌, ◌≡◌, ◌≤◌, IfNone, IfOk, IfSome, OnOk, length};
+
+use crate::coff::Pass;
+use crate::def::{ModuleDef, ShortExport};
+use crate::error::{Error, Fault};
+use crate::library::Member;
+use crate::machine::MachineType;
+use std::alloc::{AllocError, Global};
+
+// PE/COFF specification, "Import Type".
+const IMPORT_CODE: u16 = 0;
+
+const IMPORT_DATA: u16 = 1;
+
+const IMPORT_CONST: u16 = 2;
+
+// PE/COFF specification, "Import Name Type".
+const IMPORT_ORDINAL: u16 = 0;
+
+const IMPORT_NAME: u16 = 1;
+
+const IMPORT_NAME_NOPREFIX: u16 = 2;
+
+const IMPORT_NAME_UNDECORATE: u16 = 3;
+
+// The header of a short record, and the NULs of its two texts.
+const RECORD_HEADER_SIZE: usize = 20;
+
+const RECORD_NULS: usize = 2;
+
+// What begins the symbol of an import's address.
+const ADDRESS_PREFIX: &str = "__imp_";
+
+/// The symbol of the export's record.
+pub(crate) fn short_import_symbol(export: &ShortExport) -> &str
+    ensures { result.now ≡ short_import_symbol (export_view export.now) }
+{
+    if export.symbol_name.is_empty() {
+        export.name.as_str()
+    } else {
+        export.symbol_name.as_str()
+    }
+}
+
+fn begins_with(byte: u8, text: &str) -> bool
+    ensures { result ≡ begins_with byte text.now }
+{
+    text.as_bytes().first() == Some(&byte)
+}
+
+/// How the DLL is asked, by the first rule that holds.
+fn name_type(export: &ShortExport, machine: MachineType) -> u16
+    ensures number { result ≡ name_type_of machine (export_view export.now) }
+    ensures at_most { result ≤ IMPORT_NAME_UNDECORATE }
+{
+    let name = export.name.as_str();
+    let symbol = short_import_symbol(export);
+    if export.no_name {
+        IMPORT_ORDINAL
+    } else if begins_with(b'_', name) && name.as_bytes().contains(&b'@') {
+        IMPORT_NAME
+    } else if symbol != name {
+        IMPORT_NAME_UNDECORATE
+    } else if machine == MachineType::I386 && begins_with(b'_', symbol) {
+        IMPORT_NAME_NOPREFIX
+    } else {
+        IMPORT_NAME
+    }
+}
+
+/// What is imported.
+fn kind(export: &ShortExport) -> u16
+    ensures number { result ≡ kind_of (export_view export.now) }
+    ensures at_most { result ≤ IMPORT_CONST }
+{
+    if export.is_data {
+        IMPORT_DATA
+    } else if export.constant {
+        IMPORT_CONST
+    } else {
+        IMPORT_CODE
+    }
+}
+
+fn without_prefix(symbol: &[u8]) -> &[u8]
+    ensures { result.now ≡ without_prefix symbol.now }
+{
+    match symbol {
+        [b'?' | b'@' | b'_', rest @ ..] => rest,
+        _ => symbol,
+    }
+}
+
+#[tactic(auto, using(crate::proofs::AskedName::take_to_position))]
+fn before_at_sign(symbol: &[u8]) -> &[u8]
+    ensures { result.now ≡ before_at_sign symbol.now }
+{
+    match place_of_at_sign(symbol) {
+        Some(end) => &symbol[..end],
+        None => symbol,
+    }
+}
+
+fn place_of_at_sign(symbol: &[u8]) -> Option<usize>
+    ensures { result ≡ position (λ byte. byte == at_sign) symbol.now }
+{
+    symbol.iter().position(|byte| *byte == b'@')
+}
+
+/// The name that the export's record asks the DLL for.
+pub(crate) fn asked(export: &ShortExport, machine: MachineType) -> &[u8]
+    ensures { result.now ≡ asked_by_short_import machine (export_view export.now) }
+{
+    let symbol = short_import_symbol(export).as_bytes();
+    match name_type(export, machine) {
+        IMPORT_NAME => symbol,
+        IMPORT_NAME_NOPREFIX => without_prefix(symbol),
+        _ => before_at_sign(without_prefix(symbol)),
+    }
+}
+
+/// The length of a record, where it fits a `u32`.
+fn short_import_size(symbol: &str, dll: &str) -> Option<u32>
+    ensures fits { IfSome result (λ size. size ≡ RECORD_HEADER_SIZE + (length symbol.now + length dll.now + RECORD_NULS)) }
+    ensures too_long { IfNone result (u32.MAX < RECORD_HEADER_SIZE + (length symbol.now + length dll.now + RECORD_NULS)) }
+{
+    let texts = symbol.len().checked_add(dll.len())?;
+    let size = texts.checked_add(RECORD_HEADER_SIZE + RECORD_NULS)?;
+    u32::try_from(size).ok()
+}
+
+/// The bytes of the export's record.
+fn short_import_bytes(
+    alloc: Global,
+    export: &ShortExport,
+    machine: MachineType,
+    dll: &str,
+) -> Result<Vec<u8>, Error>
+    ensures ok { IfOk result (λ bytes. bytes.items ≡ short_import_bytes (short_import_of machine dll.now (export_view export.now))) }
+    ensures fits { OnOk result (short_import_size (short_import_of machine dll.now (export_view export.now)) ≤ u32.MAX) }
+    ensures too_long { IfInvalid result (λ cause. (cause ≡ MemberTooLong)
+        × (u32.MAX < short_import_size (short_import_of machine dll.now (export_view export.now)))) }
+{
+    let symbol = short_import_symbol(export);
+    let Some(size) = short_import_size(symbol, dll) else {
+        return Err(Error::Invalid(Fault::MemberTooLong));
+    };
+    let mut pass = Pass::reserve(alloc, size)?;
+    put_header(
+        &mut pass,
+        export,
+        machine,
+        dll,
+        size - RECORD_HEADER_SIZE as u32,
+    );
+    pass.put_bytes(symbol.as_bytes());
+    pass.put_bytes(b"\0");
+    pass.put_bytes(dll.as_bytes());
+    pass.put_bytes(b"\0");
+    Ok(pass.finish())
+}
+
+/// Puts the header of the export's record, whose texts have this size with their NULs.
+fn put_header(
+    pass: &mut Pass,
+    export: &ShortExport,
+    machine: MachineType,
+    dll: &str,
+    data_size: u32,
+)
+    requires room { RECORD_HEADER_SIZE ≤ pass.old.left }
+    requires size { data_size ≡ short_import_data_size (short_import_of machine dll.now (export_view export.now)) }
+    ensures puts { Puts pass.old pass.new (short_import_header (short_import_of machine dll.now (export_view export.now))) }
+    ensures left { pass.new.left + RECORD_HEADER_SIZE ≡ pass.old.left }
+{
+    pass.put_u16(0);
+    pass.put_u16(0xFFFF);
+    pass.put_u16(0);
+    pass.put_u16(machine.number());
+    pass.put_u32(0);
+    pass.put_u32(data_size);
+    pass.put_u16(export.ordinal);
+    pass.put_u16(kind(export) + 4 * name_type(export, machine));
+}
+
+/// The symbol of the address of a symbol.
+pub(crate) fn address_symbol(alloc: Global, symbol: &str) -> Result<String, AllocError>
+    ensures { IfOk result (λ address. string_bytes address ≡ address_symbol symbol.now) }
+{
+    let length = symbol.len().saturating_add(ADDRESS_PREFIX.len());
+    let mut address = String::with_capacity(alloc, length)?;
+    address.push_str(ADDRESS_PREFIX)?;
+    address.push_str(symbol)?;
+    Ok(address)
+}
+
+/// The symbols that the export's record is listed for.
+fn short_import_listed(alloc: Global, export: &ShortExport) -> Result<Vec<String>, AllocError>
+    ensures { IfOk result (λ symbols. map string_bytes symbols.items ≡ short_import_listed (export_view export.now)) }
+{
+    let symbol = short_import_symbol(export);
+    let address = address_symbol(alloc, symbol)?;
+    if export.is_data {
+        return Ok(vec![in alloc; address]?);
+    }
+    let name = String::from_str(alloc, symbol)?;
+    Ok(vec![in alloc; address, name]?)
+}
+
+/// The member of the export's record.
+pub(crate) fn record_member(
+    alloc: Global,
+    export: &ShortExport,
+    machine: MachineType,
+    dll: &str,
+) -> Result<Member, Error>
+    ensures ok { IfOk result (λ m. member_view m ≡ member_of (short_import_spec machine dll.now (export_view export.now))) }
+    ensures fits { OnOk result (is_too_long (short_import_spec machine dll.now (export_view export.now)) ≡ false) }
+    ensures ordinal { OnOk result (has_u16_ordinal (export_view export.now) ≡ true) }
+    ensures too_long { IfInvalid result (λ cause. (cause ≡ MemberTooLong)
+        × (is_too_long (short_import_spec machine dll.now (export_view export.now)) ≡ true)) }
+{
+    let _ordinal = export.ordinal;
+    let bytes = short_import_bytes(alloc, export, machine, dll)?;
+    let symbols = short_import_listed(alloc, export)?;
+    let name = String::from_str(alloc, dll)?;
+    Ok(Member {
+        name,
+        bytes,
+        symbols,
+    })
+}
