@@ -2,8 +2,8 @@
 use Rattle.std.proofs.Common.{◌≡◌, ℕ, Bool, true, false, ◌||◌, ◌&&◌, if◌then◌else◌, ◌⊎◌, inl, inr, List, [], ◌∷◌, map, Option, Some, None, refl, ap, subst, ◌∙◌}
 use Rattle.std.specs.Prelude.{◌==◌, not, slice_index, option_map, unwrap_or}
 use Rattle.std.proofs.lemmas.Bool.{eqb-true}
-use Rattle.implib.specs.declared.library.Flavor.{Flavor}
-use Rattle.implib.specs.declared.library.Flavor.TheVariants.{Msvc, Gnu}
+use Rattle.implib.specs.declared.members.Flavor.{Flavor}
+use Rattle.implib.specs.declared.members.Flavor.TheVariants.{Msvc, Gnu}
 use Rattle.implib.specs.declared.machine.MachineType.{MachineType}
 use Rattle.implib.specs.declared.machine.MachineType.TheVariants.{I386, ARMNT, AMD64, ARM64}
 use Rattle.implib.specs.Asked.{AsksFor, AsksForWords, EachAsksForItsWord, external_word, exports_of_text}

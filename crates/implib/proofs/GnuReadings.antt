@@ -9,7 +9,7 @@ use Rattle.std.proofs.lemmas.List.Elements.{filter_map-append}
 use Rattle.std.proofs.lemmas.List.Folds.{list_any-append}
 use Rattle.std.proofs.lemmas.Nat.{from_le_bytes-to_le_bytes_2}
 use Rattle.std.proofs.lemmas.Slice.Eq.{bytes_eq-Decides}
-use Rattle.implib.specs.declared.library.Flavor.TheVariants.{Gnu}
+use Rattle.implib.specs.declared.members.Flavor.TheVariants.{Gnu}
 use Rattle.implib.specs.declared.machine.MachineType.{MachineType}
 use Rattle.implib.specs.declared.machine.MachineType.TheVariants.{I386, ARMNT, AMD64, ARM64}
 use Rattle.implib.specs.Bytes.{u16_bytes, u32_bytes}
@@ -20,7 +20,8 @@ use Rattle.implib.specs.GnuReader.{CodeRelocation, alias_or_import, ask_of_expor
 use Rattle.implib.specs.Import.{Ordinal, Name, address_symbol, aliases_for, expected_ask, asked_name, has_underscore, holds, expected_import, import_symbols, is_alias, public_exports, without_first}
 use Rattle.implib.specs.MemberSpec.{AnObject, MemberSpec, MemberView, file_bytes, file_size, member_of}
 use Rattle.implib.specs.Members.{AreMembersOf, is_too_long, member_specs}
-use Rattle.implib.specs.GnuMembers.{alias_spec, alias_specs, export_spec, head_spec, numbered_specs, numbered_specs_of, tail_spec}
+use Rattle.implib.specs.GnuMembers.{alias_specs, export_spec, head_spec, numbered_specs, numbered_specs_of, tail_spec}
+use Rattle.implib.specs.WeakExternal.{weak_spec}
 use Rattle.implib.specs.WeakExternal.{weak_object}
 use Rattle.implib.specs.Object.{u16_at, u32_at}
 use Rattle.implib.specs.Layout.{Fits, entries_of, encoded_size, name_text, object_of}
@@ -44,12 +45,12 @@ held_reads h fits short = object_reads (layout_of h) fits (machine_number_nonzer
 
 module _ (machine : MachineType) (dll : List ℕ) (dll_free : holds 0 dll ≡ false) where
   chosen_read : (number : ℕ) (e : ExportView) → Sound e → (test : Bool) (first second : List ℕ) →
-      list_any is_too_long (if test then alias_spec machine first e.name e.alias_target ∷ alias_spec machine second (address_symbol e.name) (address_symbol e.alias_target) ∷ [] else []) ≡ false →
-      AllByRecursion (λ p. ReadsBack p.contents) (if test then alias_spec machine first e.name e.alias_target ∷ alias_spec machine second (address_symbol e.name) (address_symbol e.alias_target) ∷ [] else [])
+      list_any is_too_long (if test then weak_spec machine first e.name e.alias_target ∷ weak_spec machine second (address_symbol e.name) (address_symbol e.alias_target) ∷ [] else []) ≡ false →
+      AllByRecursion (λ p. ReadsBack p.contents) (if test then weak_spec machine first e.name e.alias_target ∷ weak_spec machine second (address_symbol e.name) (address_symbol e.alias_target) ∷ [] else [])
   chosen_read number e sound false first second short = tt
   chosen_read number e sound true first second short =
-      let of_name = alias_spec machine first e.name e.alias_target in
-      let of_address = alias_spec machine second (address_symbol e.name) (address_symbol e.alias_target) in
+      let of_name = weak_spec machine first e.name e.alias_target in
+      let of_address = weak_spec machine second (address_symbol e.name) (address_symbol e.alias_target) in
       let one = or_parts (is_too_long of_name) _ short in
       let two = or_parts (is_too_long of_address) false one.1 in (
         weak_reads machine e.name e.alias_target sound.name sound.alias_target (short_enough of_name one.0),
@@ -100,7 +101,7 @@ unfolding export_spec
 export_declares machine dll number e = held_declares (export_object machine dll e) (export_listed e) (export_declares_by machine dll e e.is_data)
 
 chosen_declare : (machine : MachineType) (e : ExportView) (test : Bool) (first second : List ℕ) →
-    AllByRecursion DeclaresListed (if test then alias_spec machine first e.name e.alias_target ∷ alias_spec machine second (address_symbol e.name) (address_symbol e.alias_target) ∷ [] else [])
+    AllByRecursion DeclaresListed (if test then weak_spec machine first e.name e.alias_target ∷ weak_spec machine second (address_symbol e.name) (address_symbol e.alias_target) ∷ [] else [])
 chosen_declare machine e false first second = tt
 chosen_declare machine e true first second =
     (weak_declares machine first e.name e.alias_target, (weak_declares machine second (address_symbol e.name) (address_symbol e.alias_target), tt))
@@ -215,7 +216,7 @@ module _ (machine : MachineType) (dll : List ℕ) (dll_free : holds 0 dll ≡ fa
   weak_planned weak target = refl
 
   chosen_planned : (e : ExportView) (test : Bool) (first second : List ℕ) →
-      map planned (if test then alias_spec machine first e.name e.alias_target ∷ alias_spec machine second (address_symbol e.name) (address_symbol e.alias_target) ∷ [] else [])
+      map planned (if test then weak_spec machine first e.name e.alias_target ∷ weak_spec machine second (address_symbol e.name) (address_symbol e.alias_target) ∷ [] else [])
       ≡ map (λ a. Some (AnAlias a)) (if test then record { weak = e.name; target = e.alias_target } ∷ record { weak = address_symbol e.name; target = address_symbol e.alias_target } ∷ [] else [])
   chosen_planned e false first second = refl
   chosen_planned e true first second =
@@ -251,7 +252,7 @@ module _ (machine : MachineType) (dll : List ℕ) (dll_free : holds 0 dll ≡ fa
   weak_code weak target = refl
 
   chosen_code : (e : ExportView) (test : Bool) (first second : List ℕ) →
-      filter_map planned_code (if test then alias_spec machine first e.name e.alias_target ∷ alias_spec machine second (address_symbol e.name) (address_symbol e.alias_target) ∷ [] else []) ≡ []
+      filter_map planned_code (if test then weak_spec machine first e.name e.alias_target ∷ weak_spec machine second (address_symbol e.name) (address_symbol e.alias_target) ∷ [] else []) ≡ []
   chosen_code e false first second = refl
   chosen_code e true first second = rw (weak_code e.name e.alias_target, weak_code (address_symbol e.name) (address_symbol e.alias_target)) refl
 

@@ -2,7 +2,7 @@ pub mod Bytes
 pub mod Pass
 pub mod AskedName
 pub mod Renaming
-pub mod Members
+pub mod MembersOfDefinition
 pub mod ShortImport
 pub mod Import
 pub mod Stands

@@ -8,7 +8,7 @@ use Rattle.std.specs.Ordering.{nat_cmp}
 use Rattle.std.specs.declared.cmp.Ordering.TheVariants.{Equal}
 use Rattle.std.proofs.lemmas.Bool.{eq-eqb, le-ltb, ltb-true, or_parts}
 use Rattle.std.proofs.lemmas.List.{append_assoc, reverse-append}
-use Rattle.implib.specs.declared.library.Flavor.TheVariants.{Gnu}
+use Rattle.implib.specs.declared.members.Flavor.TheVariants.{Gnu}
 use Rattle.implib.specs.declared.machine.MachineType.{MachineType}
 use Rattle.implib.specs.Definition.{DefinitionView, ExportView}
 use Rattle.implib.specs.Gnu.{head_symbol, name_symbol, export_listed, export_name, export_object, head_name, head_object, numbered_name, stem, tail_name, tail_object}

@@ -7,7 +7,7 @@ use Rattle.std.specs.Option.{option_and_then, option_map}
 use Rattle.std.proofs.lemmas.Bool.{and_parts}
 use Rattle.std.proofs.lemmas.List.{append-nil, map-append}
 use Rattle.std.proofs.lemmas.List.Elements.{filter_map-append}
-use Rattle.implib.specs.declared.library.Flavor.TheVariants.{Msvc}
+use Rattle.implib.specs.declared.members.Flavor.TheVariants.{Msvc}
 use Rattle.implib.specs.declared.machine.MachineType.{MachineType}
 use Rattle.implib.specs.Bytes.{u32_bytes}
 use Rattle.implib.specs.Definition.{DefinitionView, ExportView}
@@ -15,7 +15,8 @@ use Rattle.implib.specs.File.{ObjectFile, AnImport, AnAlias, declared_by, dll_in
 use Rattle.implib.specs.Import.{Alias, address_symbol, aliases_for, holds, expected_import, import_symbols, is_alias, is_empty_text, public_exports}
 use Rattle.implib.specs.MemberSpec.{AShortImport, AnObject, MemberSpec, MemberView, member_of, file_bytes}
 use Rattle.implib.specs.Members.{AreMembersOf, member_specs}
-use Rattle.implib.specs.MsvcMembers.{descriptor_spec, null_descriptor_spec, null_thunk_spec, header_specs, weak_spec, weak_specs, export_specs, short_import_spec}
+use Rattle.implib.specs.MsvcMembers.{descriptor_spec, null_descriptor_spec, null_thunk_spec, header_specs, weak_specs, export_specs, short_import_spec}
+use Rattle.implib.specs.WeakExternal.{weak_spec}
 use Rattle.implib.specs.Msvc.{short_import_of, short_import_symbol, symbol_or_name}
 use Rattle.implib.specs.MsvcObjects.{descriptor, null_descriptor, null_thunk}
 use Rattle.implib.specs.WeakExternal.{weak_object}

@@ -6,7 +6,7 @@ use Rattle.std.specs.Option.{option_map}
 use Rattle.std.proofs.lemmas.Bool.{ltb-false, or_parts}
 use Rattle.std.proofs.lemmas.List.Folds.{list_any-append}
 use Rattle.std.proofs.lemmas.Nat.{from_le_bytes-to_le_bytes_2}
-use Rattle.implib.specs.declared.library.Flavor.TheVariants.{Msvc}
+use Rattle.implib.specs.declared.members.Flavor.TheVariants.{Msvc}
 use Rattle.implib.specs.declared.machine.MachineType.{MachineType}
 use Rattle.implib.specs.declared.machine.MachineType.TheVariants.{I386, ARMNT, AMD64, ARM64}
 use Rattle.implib.specs.Bytes.{u16_bytes}
@@ -16,7 +16,8 @@ use Rattle.implib.specs.Import.{address_symbol, holds, is_alias, public_exports}
 use Rattle.implib.specs.Machine.{machine_number}
 use Rattle.implib.specs.MemberSpec.{Contents, AShortImport, AnObject, MemberSpec, MemberView, member_of, file_bytes, file_size}
 use Rattle.implib.specs.Members.{AreMembersOf, member_specs, is_too_long}
-use Rattle.implib.specs.MsvcMembers.{descriptor_spec, null_descriptor_spec, null_thunk_spec, header_specs, weak_spec, weak_specs, export_specs, short_import_spec}
+use Rattle.implib.specs.MsvcMembers.{descriptor_spec, null_descriptor_spec, null_thunk_spec, header_specs, weak_specs, export_specs, short_import_spec}
+use Rattle.implib.specs.WeakExternal.{weak_spec}
 use Rattle.implib.specs.Msvc.{short_import_bytes, short_import_of, short_import_size, short_import_symbol}
 use Rattle.implib.specs.MsvcObjects.{descriptor, null_descriptor, null_thunk}
 use Rattle.implib.specs.WeakExternal.{weak_object}

@@ -9,11 +9,11 @@ use Rattle.implib.specs.Import.{holds}
 use Rattle.implib.specs.Machine.{machine_number}
 use Rattle.implib.specs.Bytes.{u32_bytes}
 use Rattle.implib.specs.Constants.{image_relative}
-use Rattle.implib.specs.ImportTables.{symbol, relocation}
+use Rattle.implib.specs.ImportTables.{relocation}
 use Rattle.implib.specs.MsvcObjects.{descriptor_characteristics, base_name, descriptor, descriptor_symbol, null_descriptor, null_descriptor_symbol, null_thunk, null_thunk_section, null_thunk_symbol}
 use Rattle.implib.specs.WeakExternal.{weak_auxiliary, weak_object}
 use Rattle.implib.specs.Object.{ObjectSection}
-use Rattle.implib.specs.Layout.{ObjectLayout, LayoutSymbol, Fits, FitsRelocation, FitsSection, FitsSymbol, HasNoNul, InRecord, InStringTable}
+use Rattle.implib.specs.Layout.{symbol, ObjectLayout, LayoutSymbol, Fits, FitsRelocation, FitsSection, FitsSymbol, HasNoNul, InRecord, InStringTable}
 
 -- a text without NUL
 pub HasNoNul-from_holds : (text : List ℕ) → holds 0 text ≡ false → HasNoNul text

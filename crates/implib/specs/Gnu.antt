@@ -9,8 +9,9 @@ use Rattle.implib.specs.declared.machine.MachineType.TheVariants.{I386, ARMNT, A
 use Rattle.implib.specs.Bytes.{u16_bytes}
 use Rattle.implib.specs.Constants.{cnt_code, cnt_initialized_data, cnt_uninitialized_data, align_2bytes, align_4bytes, align_16bytes, mem_execute_read, mem_read_write, class_external, class_static, class_file, i386_dir32, amd64_rel32, arm_rel32, arm64_pagebase_rel21, arm64_pageoffset_12l}
 use Rattle.implib.specs.Definition.{ExportView}
-use Rattle.implib.specs.Import.{address_symbol, asked_name, is_i386, underscore}
-use Rattle.implib.specs.ImportTables.{descriptor_size, relocation, thunk_width, zeros}
+use Rattle.implib.specs.Machine.{has_leading_underscore}
+use Rattle.implib.specs.Import.{address_symbol, asked_name, underscore}
+use Rattle.implib.specs.ImportTables.{address_table_offset, descriptor_size, lookup_table_offset, name_offset, relocation, table_flags, thunk_width, zeros}
 use Rattle.implib.specs.Object.{ObjectSection}
 use Rattle.implib.specs.Writer.{AddedSymbol, WriterState}
 
@@ -25,9 +26,13 @@ without_full_stop byte = if byte == full_stop then underscore else byte
 unfoldable pub stem : List ℕ → List ℕ
 stem dll = map without_full_stop dll
 
--- a symbol of the head or the tail; on I386 with one more `_` in front
+-- the leading underscore of the machine's C symbols, or nothing
+abbrev pub leading_underscore : MachineType → List ℕ
+leading_underscore machine = if has_leading_underscore machine then underscore ∷ [] else []
+
+-- a symbol of the head or the tail: on I386 with one more `_` in front
 abbrev pub linkage_symbol : MachineType → List ℕ → List ℕ
-linkage_symbol machine name = if is_i386 machine then underscore ∷ name else name
+linkage_symbol machine name = leading_underscore machine ++ name
 
 -- the symbol of the import descriptor
 unfoldable pub head_symbol : MachineType → List ℕ → List ℕ
@@ -90,17 +95,16 @@ empty_sections =
     ∷ section bss_name (cnt_uninitialized_data + align_16bytes + mem_read_write) [] []
     ∷ []
 
--- the flags of what the head and the tail put into the import tables
-abbrev pub table_flags : ℕ
-table_flags = cnt_initialized_data + align_4bytes + mem_read_write
-
 -- the head: the import descriptor, with the lookup table's address at 0, the address table's at 16,
 -- the name's at 12
 abbrev pub head_sections : MachineType → List ObjectSection
 head_sections machine =
     empty_sections
     ++ section (codes ".idata$2") table_flags (zeros descriptor_size)
-    (relocation machine 0 3 ∷ relocation machine 16 2 ∷ relocation machine 12 5 ∷ [])
+    (relocation machine lookup_table_offset 3
+    ∷ relocation machine address_table_offset 2
+    ∷ relocation machine name_offset 5
+    ∷ [])
     ∷ section (codes ".idata$5") table_flags [] []
     ∷ section (codes ".idata$4") table_flags [] []
     ∷ []

@@ -4,7 +4,7 @@ use Rattle.implib.specs.declared.machine.MachineType.{MachineType}
 use Rattle.implib.specs.Definition.{ExportView}
 use Rattle.implib.specs.Gnu.{export_listed, export_name, export_object, head_name, head_object, head_symbol, name_symbol, tail_name, tail_object, weak_address_name, weak_name}
 use Rattle.implib.specs.Import.{address_symbol, is_alias}
-use Rattle.implib.specs.WeakExternal.{weak_object}
+use Rattle.implib.specs.WeakExternal.{weak_spec}
 use Rattle.implib.specs.Writer.{layout_of}
 use Rattle.implib.specs.MemberSpec.{AnObject, MemberSpec}
 
@@ -32,16 +32,12 @@ export_spec machine dll number e = record {
   listed = export_listed e;
 }
 
--- the specification of a weak external, under this name
-abbrev pub alias_spec : MachineType → List ℕ → List ℕ → List ℕ → MemberSpec
-alias_spec machine name weak target = record { name = name; contents = AnObject (weak_object machine weak target); listed = weak ∷ [] }
-
 -- the specifications of the weak externals of an export: of its symbol, and of its address
 unfoldable pub alias_specs : MachineType → List ℕ → ℕ → ExportView → List MemberSpec
 alias_specs machine dll number e =
     if is_alias e.alias_target e.name then
-    alias_spec machine (weak_name dll number) e.name e.alias_target
-    ∷ alias_spec machine (weak_address_name dll number) (address_symbol e.name) (address_symbol e.alias_target)
+    weak_spec machine (weak_name dll number) e.name e.alias_target
+    ∷ weak_spec machine (weak_address_name dll number) (address_symbol e.name) (address_symbol e.alias_target)
     ∷ []
     else []
 

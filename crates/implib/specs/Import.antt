@@ -3,10 +3,11 @@
 use Rattle.std.specs.Prelude.{ℕ, Bool, true, false, ◌&&◌, ◌==◌, not, List, [], ◌∷◌, ◌++◌, map, if◌then◌else◌, codes, bytes_eq}
 use Rattle.std.specs.List.{filter, flat_map, list_any}
 use Rattle.implib.specs.declared.machine.MachineType.{MachineType}
-use Rattle.implib.specs.declared.machine.MachineType.TheVariants.{I386, ARMNT, AMD64, ARM64}
 pub use Rattle.implib.specs.Ascii.{at_sign, underscore}
 use Rattle.implib.specs.Definition.{DefinitionView, ExportView}
+use Rattle.implib.specs.Machine.{has_leading_underscore}
 use Rattle.implib.specs.Renaming.{renamed}
+use Rattle.implib.specs.Token.{begins}
 
 -- what is asked of the DLL: an ordinal, or a name with a hint where to look for it
 -- (PE/COFF specification, "Import Lookup Table" and "Hint/Name Table")
@@ -20,17 +21,9 @@ pub record Import : Type 0 where
   pub declared : List (List ℕ)
   pub ask : Ask
 
--- a machine whose names carry a leading underscore
-abbrev pub is_i386 : MachineType → Bool
-is_i386 I386 = true
-is_i386 ARMNT = false
-is_i386 AMD64 = false
-is_i386 ARM64 = false
-
 -- whether a name begins with this byte
 abbrev pub begins_with : ℕ → List ℕ → Bool
-begins_with byte [] = false
-begins_with byte (first ∷ rest) = first == byte
+begins_with byte name = begins (λ b. b == byte) name
 
 -- whether a name holds this byte
 abbrev pub holds : ℕ → List ℕ → Bool
@@ -43,7 +36,7 @@ without_first (first ∷ rest) = rest
 
 -- whether a name has the underscore that I386 puts before an undecorated name
 abbrev pub has_underscore : MachineType → List ℕ → Bool
-has_underscore machine name = is_i386 machine && begins_with underscore name && not (holds at_sign name)
+has_underscore machine name = has_leading_underscore machine && begins_with underscore name && not (holds at_sign name)
 
 -- the name that an export asks for: its name without that underscore
 abbrev pub asked_name : MachineType → List ℕ → List ℕ

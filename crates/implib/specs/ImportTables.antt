@@ -1,10 +1,9 @@
 -- What the import tables of both flavours are made of.
-use Rattle.std.specs.Prelude.{ℕ, List, replicate, None, if◌then◌else◌}
+use Rattle.std.specs.Prelude.{ℕ, ◌+◌, List, replicate, if◌then◌else◌}
 use Rattle.implib.specs.declared.coff.object.Relocation.{Relocation}
 use Rattle.implib.specs.declared.machine.MachineType.{MachineType}
-use Rattle.implib.specs.Constants.{image_relative}
+use Rattle.implib.specs.Constants.{align_4bytes, cnt_initialized_data, image_relative, mem_read_write}
 use Rattle.implib.specs.Machine.{is_32bit}
-use Rattle.implib.specs.Layout.{LayoutSymbol, SymbolName}
 
 -- the size in bytes of an entry of the address table and the lookup table
 abbrev pub thunk_width : MachineType → ℕ
@@ -14,14 +13,24 @@ thunk_width machine = if is_32bit machine then 4 else 8
 abbrev pub zeros : ℕ → List ℕ
 zeros count = replicate count 0
 
--- a symbol without a value
-abbrev pub symbol : SymbolName → ℕ → ℕ → LayoutSymbol
-symbol name section class = record { name = name; value = 0; section = section; class = class; aux = None }
-
 -- an image-relative relocation
 abbrev pub relocation : MachineType → ℕ → ℕ → Relocation
 relocation machine offset index = record { offset = offset; symbol = index; kind = image_relative machine }
 
--- the size in bytes of an import descriptor ("Import Directory Table")
+-- an import descriptor ("Import Directory Table"): its size in bytes, and the offsets of the addresses
+-- of the lookup table, of the DLL's name, and of the address table
 abbrev pub descriptor_size : ℕ
 descriptor_size = 20
+
+abbrev pub lookup_table_offset : ℕ
+lookup_table_offset = 0
+
+abbrev pub name_offset : ℕ
+name_offset = 12
+
+abbrev pub address_table_offset : ℕ
+address_table_offset = 16
+
+-- the flags of `.idata$2`, `.idata$3` and, in GNU's head and tail, of all import tables: 0xC0300040
+abbrev pub table_flags : ℕ
+table_flags = cnt_initialized_data + align_4bytes + mem_read_write

@@ -21,6 +21,10 @@ pub record LayoutSymbol : Type 0 where
   pub class : ℕ
   pub aux : Option (List ℕ)
 
+-- a symbol of value 0 without an auxiliary record
+abbrev pub symbol : SymbolName → ℕ → ℕ → LayoutSymbol
+symbol name section class = record { name = name; value = 0; section = section; class = class; aux = None }
+
 -- an object to be written; the strings are what the string table lists, in order
 pub record ObjectLayout : Type 0 where
   pub machine : ℕ

@@ -16,3 +16,10 @@ is_32bit I386 = true
 is_32bit ARMNT = true
 is_32bit AMD64 = false
 is_32bit ARM64 = false
+
+-- whether a C symbol begins with an underscore that its name in C lacks
+abbrev pub has_leading_underscore : MachineType → Bool
+has_leading_underscore I386 = true
+has_leading_underscore ARMNT = false
+has_leading_underscore AMD64 = false
+has_leading_underscore ARM64 = false

@@ -2,9 +2,9 @@
 use Rattle.std.specs.Prelude.{ℕ, ◌+◌, ◌*◌, ◌&&◌, not, List, [], ◌∷◌, ◌++◌, length, bytes_eq, if◌then◌else◌}
 use Rattle.implib.specs.declared.machine.MachineType.{MachineType}
 use Rattle.implib.specs.Bytes.{u16_bytes, u32_bytes}
-use Rattle.implib.specs.Machine.{machine_number}
+use Rattle.implib.specs.Machine.{has_leading_underscore, machine_number}
 use Rattle.implib.specs.Definition.{ExportView}
-use Rattle.implib.specs.Import.{is_i386, begins_with, holds, underscore, at_sign, import_symbols}
+use Rattle.implib.specs.Import.{begins_with, holds, underscore, at_sign, import_symbols}
 use Rattle.implib.specs.ShortImport.{ShortImport, short_import_header_size, import_code, import_data, import_const, import_ordinal, import_name, import_name_noprefix, import_name_undecorate, asked_by_name_type}
 
 -- the symbol of an export's record: its symbol name or, where that is empty, its name
@@ -21,7 +21,7 @@ name_type_of machine e =
     if e.no_name then import_ordinal
     else if begins_with underscore e.name && holds at_sign e.name then import_name
     else if not (bytes_eq (short_import_symbol e) e.name) then import_name_undecorate
-    else if is_i386 machine && begins_with underscore (short_import_symbol e) then import_name_noprefix
+    else if has_leading_underscore machine && begins_with underscore (short_import_symbol e) then import_name_noprefix
     else import_name
 
 -- what is imported

@@ -5,7 +5,7 @@ use Rattle.implib.specs.Definition.{ExportView}
 use Rattle.implib.specs.Import.{address_symbol, is_alias}
 use Rattle.implib.specs.Msvc.{short_import_of, short_import_listed, short_import_symbol}
 use Rattle.implib.specs.MsvcObjects.{descriptor, descriptor_symbol, null_descriptor, null_descriptor_symbol, null_thunk, null_thunk_symbol}
-use Rattle.implib.specs.WeakExternal.{weak_object}
+use Rattle.implib.specs.WeakExternal.{weak_spec}
 use Rattle.implib.specs.MemberSpec.{AShortImport, AnObject, MemberSpec}
 
 -- the specification of the import descriptor
@@ -23,10 +23,6 @@ null_thunk_spec machine dll = record { name = dll; contents = AnObject (null_thu
 -- the header members: import descriptor, null descriptor, null thunk
 unfoldable pub header_specs : MachineType → List ℕ → List MemberSpec
 header_specs machine dll = descriptor_spec machine dll ∷ null_descriptor_spec machine dll ∷ null_thunk_spec machine dll ∷ []
-
--- the specification of a weak external
-abbrev pub weak_spec : MachineType → List ℕ → List ℕ → List ℕ → MemberSpec
-weak_spec machine dll weak target = record { name = dll; contents = AnObject (weak_object machine weak target); listed = weak ∷ [] }
 
 -- the specifications of the weak externals of an export: of its symbol, and of its address
 unfoldable pub weak_specs : MachineType → List ℕ → ExportView → List MemberSpec

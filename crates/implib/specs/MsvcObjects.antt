@@ -5,8 +5,8 @@ use Rattle.implib.specs.declared.machine.MachineType.{MachineType}
 use Rattle.implib.specs.Constants.{cnt_initialized_data, align_2bytes, align_4bytes, align_8bytes, mem_read_write, machine_32bit, class_external, class_static, class_section, section_undefined}
 use Rattle.implib.specs.Machine.{machine_number, is_32bit}
 use Rattle.implib.specs.Object.{ObjectSection}
-use Rattle.implib.specs.Layout.{ObjectLayout, LayoutSymbol, InRecord, InStringTable}
-use Rattle.implib.specs.ImportTables.{descriptor_size, relocation, symbol, thunk_width, zeros}
+use Rattle.implib.specs.Layout.{symbol, ObjectLayout, LayoutSymbol, InRecord, InStringTable}
+use Rattle.implib.specs.ImportTables.{address_table_offset, descriptor_size, lookup_table_offset, name_offset, relocation, table_flags, thunk_width, zeros}
 
 -- the DLL's name without a last `.dll` or `.exe`
 unfoldable pub base_name : List ℕ → List ℕ
@@ -49,9 +49,13 @@ descriptor machine dll = record {
   sections =
       record {
         name = codes ".idata$2";
-        flags = cnt_initialized_data + align_4bytes + mem_read_write;
+        flags = table_flags;
         bytes = zeros descriptor_size;
-        relocations = relocation machine 12 2 ∷ relocation machine 0 3 ∷ relocation machine 16 4 ∷ [];
+        relocations =
+            relocation machine name_offset 2
+            ∷ relocation machine lookup_table_offset 3
+            ∷ relocation machine address_table_offset 4
+            ∷ [];
       }
       ∷ record {
         name = codes ".idata$6";
@@ -68,7 +72,7 @@ descriptor machine dll = record {
 abbrev pub null_descriptor_section : ObjectSection
 null_descriptor_section = record {
   name = codes ".idata$3";
-  flags = cnt_initialized_data + align_4bytes + mem_read_write;
+  flags = table_flags;
   bytes = zeros descriptor_size;
   relocations = [];
 }

@@ -2,8 +2,8 @@
 use Rattle.std.specs.Prelude.{◌≡◌, ℕ, ◌<◌, ◌^◌, Bool, true, false, List, [], ◌∷◌, ◌++◌, map, reverse, drop, length, slice_get, Option, Some, None, if◌then◌else◌}
 use Rattle.std.specs.List.{filter_map, flat_map, list_all}
 use Rattle.std.specs.Option.{option_and_then, option_map}
-use Rattle.implib.specs.declared.library.Flavor.{Flavor}
-use Rattle.implib.specs.declared.library.Flavor.TheVariants.{Msvc, Gnu}
+use Rattle.implib.specs.declared.members.Flavor.{Flavor}
+use Rattle.implib.specs.declared.members.Flavor.TheVariants.{Msvc, Gnu}
 use Rattle.implib.specs.declared.machine.MachineType.{MachineType}
 use Rattle.implib.specs.Definition.{DefinitionView, ExportView}
 use Rattle.implib.specs.File.{File, ShortImportFile, ObjectFile, Meaning, AnImport, AnAlias, declared_by, dll_in, file_in, meaning_in}

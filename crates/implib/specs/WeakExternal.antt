@@ -5,8 +5,9 @@ use Rattle.implib.specs.Bytes.{u32_bytes}
 use Rattle.implib.specs.Constants.{lnk_info, lnk_remove, class_external, class_static, class_weak_external, section_undefined, section_absolute, weak_search_alias}
 use Rattle.implib.specs.Machine.{machine_number}
 use Rattle.implib.specs.Object.{ObjectSection}
-use Rattle.implib.specs.Layout.{ObjectLayout, LayoutSymbol, InRecord, InStringTable}
-use Rattle.implib.specs.ImportTables.{symbol, zeros}
+use Rattle.implib.specs.Layout.{symbol, ObjectLayout, LayoutSymbol, InRecord, InStringTable}
+use Rattle.implib.specs.ImportTables.{zeros}
+use Rattle.implib.specs.MemberSpec.{AnObject, MemberSpec}
 
 -- what says that a symbol is weak for the symbol of an index
 abbrev pub weak_auxiliary : ℕ → List ℕ
@@ -38,4 +39,12 @@ weak_object machine weak target = record {
   sections = weak_section ∷ [];
   symbols = weak_symbols;
   strings = target ∷ weak ∷ [];
+}
+
+-- the specification of its member, under this name; its archive symbol is the weak one
+abbrev pub weak_spec : MachineType → List ℕ → List ℕ → List ℕ → MemberSpec
+weak_spec machine name weak target = record {
+  name = name;
+  contents = AnObject (weak_object machine weak target);
+  listed = weak ∷ [];
 }

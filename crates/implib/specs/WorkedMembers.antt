@@ -1,7 +1,7 @@
 -- Definitions with what their members are or why they have none, worked by hand.
 use Rattle.std.specs.Prelude.{◌≡◌, ℕ, true, List, [], ◌∷◌, ◌++◌, map, take, drop, slice_get, Option, Some, None, codes}
 use Rattle.std.specs.Option.{option_map}
-use Rattle.implib.specs.declared.library.Flavor.TheVariants.{Msvc}
+use Rattle.implib.specs.declared.members.Flavor.TheVariants.{Msvc}
 use Rattle.implib.specs.declared.machine.MachineType.{MachineType}
 use Rattle.implib.specs.declared.machine.MachineType.TheVariants.{I386, ARMNT, AMD64, ARM64}
 use Rattle.implib.specs.Definition.{DefinitionView, ExportView, empty_definition, empty_export}

@@ -1,6 +1,6 @@
 -- All members of one definition, worked by hand: foo.dll with the function bar, which is another name for baz.
 use Rattle.std.specs.Prelude.{◌≡◌, ℕ, List, [], ◌∷◌, codes}
-use Rattle.implib.specs.declared.library.Flavor.TheVariants.{Msvc, Gnu}
+use Rattle.implib.specs.declared.members.Flavor.TheVariants.{Msvc, Gnu}
 use Rattle.implib.specs.declared.machine.MachineType.{MachineType}
 use Rattle.implib.specs.Definition.{DefinitionView, empty_definition}
 use Rattle.implib.specs.MemberSpec.{AnObject, AShortImport, Contents, MemberSpec}

@@ -6,7 +6,7 @@ pub mod object;
 pub mod pass;
 pub mod writer;
 
-pub use constants::{characteristics, class, flags, machine, relocation, weak};
+pub use constants::{characteristics, class, flags, machine, relocation, section_number, weak};
 pub use object::{Place, Relocation, Section, Symbol};
 pub use pass::Pass;
 pub use writer::ObjectWriter;

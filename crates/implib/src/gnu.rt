@@ -1,55 +1,43 @@
-//! The members for GNU's linker.
+//! The import library for GNU's linker.
 
-ghost use Rattle.implib.specs.Definition.{definition_view, export_view};
-ghost use Rattle.implib.specs.Fault.{IfInvalid, MemberTooLong};
-ghost use Rattle.implib.specs.Gnu.{export_listed, head_symbol};
-ghost use Rattle.implib.specs.Import.{address_symbol, holds, is_alias, is_empty_text, public_exports};
+ghost use Rattle.implib.specs.Definition.{definition_view};
+ghost use Rattle.implib.specs.Fault.{IfInvalid};
 ghost use Rattle.implib.specs.Library.{member_view};
-ghost use Rattle.implib.specs.Members.{AreMembersOf, has_u16_ordinal, is_too_long, member_specs, refusal};
-ghost use Rattle.implib.specs.NameRules.{RefusesAlways, definition_names_refusal, holds_nul};
-ghost use Rattle.implib.specs.GnuMembers.{alias_spec, alias_specs, export_spec, gnu_member_count, head_spec, numbered_specs, numbered_specs_of, tail_spec};
-ghost use Rattle.implib.specs.MemberSpec.{member_of};
+ghost use Rattle.implib.specs.Members.{AreMembersOf, refusal};
+ghost use Rattle.implib.specs.NameRules.{RefusesAlways};
 ghost use Rattle.implib.specs.ReadBack.{ReadBack};
 ghost use Rattle.implib.specs.Renaming.{renamed};
-ghost use Rattle.implib.specs.declared.library.Flavor.TheVariants.{Gnu};
-ghost use Rattle.std.specs.List.{list_all, list_any, sum_by};
-ghost use Rattle.std.specs.Prelude.{None, Some, [], false, map, min, string_bytes, true, ◌+◌, ◌++◌, ◌∷◌, ◌≡◌, IfOk, OnOk};
+ghost use Rattle.implib.specs.declared.members.Flavor.TheVariants.{Gnu};
+ghost use Rattle.std.specs.Prelude.{Some, map, ◌≡◌, IfOk};
 
-use crate::def::{self, ModuleDef, ShortExport};
+use crate::def::ModuleDef;
 use crate::error::Error;
-use crate::library::{Flavor, Member, members_of};
+use crate::library::ImportLibrary;
 use crate::machine::MachineType;
-use crate::msvc::{address_symbol, weak_external};
-use std::alloc::{AllocError, Global};
+use crate::members::{Flavor, Member};
 use std::marker::Model;
 
+pub(crate) mod members;
 mod names;
 mod objects;
 mod table;
 
-use names::{head_name, head_symbol, name_symbol, numbered_name, tail_name};
-pub(crate) use objects::asked;
-use objects::{export_object, head_object, tail_object};
-
 /// The import library of a module definition for GNU's linker.
 #[derive(Drop)]
 pub struct GnuImportLibrary {
-    def: ModuleDef,
-    machine: MachineType,
+    library: ImportLibrary,
 }
 
 impl Model for GnuImportLibrary {
-    ghost use Rattle.implib.specs.Definition.{export_view};
-    ghost use Rattle.implib.specs.Library.{LibraryView, library_view};
-    ghost use Rattle.implib.specs.Renaming.{is_renamed};
-    ghost use Rattle.implib.specs.declared.library.Flavor.TheVariants.{Gnu};
-    ghost use Rattle.std.specs.Prelude.{map, true, ◌≡◌};
+    ghost use Rattle.implib.specs.Library.{LibraryView};
+    ghost use Rattle.implib.specs.declared.members.Flavor.TheVariants.{Gnu};
+    ghost use Rattle.std.specs.Prelude.{◌≡◌};
 
     ghost Value = { LibraryView };
 
-    ghost view = { λ l. library_view l.def l.machine Gnu };
+    ghost view = { λ l. l.library };
 
-    ghost invariant = { λ l. is_renamed (map export_view l.def.exports.items) ≡ true };
+    ghost invariant = { λ l. l.library.flavor ≡ Gnu };
 }
 
 impl GnuImportLibrary {
@@ -58,12 +46,15 @@ impl GnuImportLibrary {
         ensures held { result ≡ record { definition = renamed (definition_view def); machine = machine; flavor = Gnu } }
     {
         GnuImportLibrary {
-            def: def::rename(def),
-            machine,
+            library: ImportLibrary::from_def(def, machine, Flavor::Gnu),
         }
     }
 
-    /// The members, in order; refuses as [`ImportLibrary::members`](crate::ImportLibrary::members).
+    /// The members, in order.
+    ///
+    /// # Errors
+    ///
+    /// Those of [`ImportLibrary::members`].
     pub fn members(&self) -> Result<Vec<Member>, Error>
         ensures ok { IfOk result (λ members.
             AreMembersOf self.now.definition self.now.machine Gnu (map member_view members.items)) }
@@ -72,257 +63,6 @@ impl GnuImportLibrary {
         ensures refused { IfInvalid result (λ cause. refusal self.now.definition self.now.machine Gnu ≡ Some cause) }
         ensures names_refused_always { RefusesAlways self.now.definition self.now.machine Gnu result }
     {
-        members_of(&self.def, self.machine, Flavor::Gnu)
+        self.library.members()
     }
-}
-
-/// The members of a definition that breaks no rule on names, in order.
-#[tactic(auto, using(crate::proofs::GnuLoop::long_built))]
-pub(crate) fn members(def: &ModuleDef, machine: MachineType) -> Result<Vec<Member>, Error>
-    requires { definition_names_refusal (definition_view def.now) machine Gnu ≡ None }
-    ensures ok { IfOk result (λ members. map member_view members.items ≡ map member_of (member_specs (definition_view def.now) machine Gnu)) }
-    ensures fit { OnOk result (list_any is_too_long (member_specs (definition_view def.now) machine Gnu) ≡ false) }
-    ensures ordinals { OnOk result (list_all has_u16_ordinal (public_exports (definition_view def.now)) ≡ true) }
-    ensures too_long { IfInvalid result (λ cause. (cause ≡ MemberTooLong)
-        × (list_any is_too_long (member_specs (definition_view def.now) machine Gnu) ≡ true)) }
-{
-    let dll = def.import_name.as_str();
-    let head = head_symbol(*def.exports.allocator(), machine, dll)?;
-    let mut members = build(def, machine, head.as_str())?;
-    push_linkage(&mut members, machine, dll)?;
-    members.reverse();
-    Ok(members)
-}
-
-// The members of the exports, by the head's symbol, in the order of building, with room for the head and
-// the tail.
-fn build(def: &ModuleDef, machine: MachineType, head: &str) -> Result<Vec<Member>, Error>
-    requires names { definition_names_refusal (definition_view def.now) machine Gnu ≡ None }
-    requires head { head.now ≡ head_symbol machine (definition_view def.now).import_name }
-    ensures ok { IfOk result (λ members. map member_view members.items
-        ≡ map member_of (numbered_specs machine (definition_view def.now).import_name 0 (public_exports (definition_view def.now)))) }
-    ensures fit { OnOk result (list_any is_too_long
-        (numbered_specs machine (definition_view def.now).import_name 0 (public_exports (definition_view def.now))) ≡ false) }
-    ensures ordinals { OnOk result (list_all has_u16_ordinal (public_exports (definition_view def.now)) ≡ true) }
-    ensures too_long { IfInvalid result (λ cause. (cause ≡ MemberTooLong) × (list_any is_too_long
-        (numbered_specs machine (definition_view def.now).import_name 0 (public_exports (definition_view def.now))) ≡ true)) }
-{
-    let dll = def.import_name.as_str();
-    let mut members = Vec::with_capacity(*def.exports.allocator(), member_count(def))?;
-    let mut number = 0usize;
-    for export in def.exports.iter() {
-        if !export.private {
-            push_export(&mut members, export, number, machine, dll, head)?;
-            number += 1;
-        }
-    }
-    Ok(members)
-}
-
-// How many members there are, as far as 64 bits can count.
-fn member_count(def: &ModuleDef) -> usize
-    ensures { result ≡ min u64.MAX (2 + sum_by gnu_member_count (public_exports (definition_view def.now))) }
-{
-    let mut count = 2usize;
-    for export in def.exports.iter() {
-        if !export.private {
-            count = count.saturating_add(if has_aliases(export) { 3 } else { 1 });
-        }
-    }
-    count
-}
-
-// Whether the export's name is weak for another.
-fn has_aliases(export: &ShortExport) -> bool
-    ensures { result ≡ is_alias (export_view export.now).alias_target (export_view export.now).name }
-{
-    let target = export.alias_target.as_str();
-    !target.is_empty() && target != export.name.as_str()
-}
-
-// Pushes the head and the tail.
-fn push_linkage(members: &mut Vec<Member>, machine: MachineType, dll: &str) -> Result<(), Error>
-    requires { holds 0 dll.now ≡ false }
-    ensures ok { OnOk result (map member_view members.new.items
-        ≡ map member_view members.old.items ++ map member_of (head_spec machine dll.now ∷ tail_spec machine dll.now ∷ [])) }
-    ensures fit { OnOk result (list_any is_too_long (head_spec machine dll.now ∷ tail_spec machine dll.now ∷ []) ≡ false) }
-    ensures too_long { IfInvalid result (λ cause. (cause ≡ MemberTooLong)
-        × (list_any is_too_long (head_spec machine dll.now ∷ tail_spec machine dll.now ∷ []) ≡ true)) }
-{
-    members.push(head_member(*members.allocator(), machine, dll)?)?;
-    members.push(tail_member(*members.allocator(), machine, dll)?)?;
-    Ok(())
-}
-
-// A member of one listed symbol.
-fn linkage_member(
-    alloc: Global,
-    name: String,
-    bytes: Vec<u8>,
-    symbol: String,
-) -> Result<Member, AllocError>
-    ensures { IfOk result (λ m. member_view m ≡ record {
-      name = string_bytes name;
-      bytes = bytes.items;
-      symbols = string_bytes symbol ∷ [];
-    }) }
-{
-    let symbols = vec![in alloc; symbol]?;
-    Ok(Member {
-        name,
-        bytes,
-        symbols,
-    })
-}
-
-// The head.
-#[tactic(auto, unfolding(crate::specs::GnuMembers::head_spec))]
-fn head_member(alloc: Global, machine: MachineType, dll: &str) -> Result<Member, Error>
-    requires { holds 0 dll.now ≡ false }
-    ensures ok { IfOk result (λ m. member_view m ≡ member_of (head_spec machine dll.now)) }
-    ensures fit { OnOk result (is_too_long (head_spec machine dll.now) ≡ false) }
-    ensures too_long { IfInvalid result (λ cause. (cause ≡ MemberTooLong) × (is_too_long (head_spec machine dll.now) ≡ true)) }
-{
-    let symbol = head_symbol(alloc, machine, dll)?;
-    let name = name_symbol(alloc, machine, dll)?;
-    let bytes = head_object(alloc, machine, dll, symbol.as_str(), name.as_str())?;
-    Ok(linkage_member(alloc, head_name(alloc, dll)?, bytes, symbol)?)
-}
-
-// The tail.
-#[tactic(auto, unfolding(crate::specs::GnuMembers::tail_spec))]
-fn tail_member(alloc: Global, machine: MachineType, dll: &str) -> Result<Member, Error>
-    requires { holds 0 dll.now ≡ false }
-    ensures ok { IfOk result (λ m. member_view m ≡ member_of (tail_spec machine dll.now)) }
-    ensures fit { OnOk result (is_too_long (tail_spec machine dll.now) ≡ false) }
-    ensures too_long { IfInvalid result (λ cause. (cause ≡ MemberTooLong) × (is_too_long (tail_spec machine dll.now) ≡ true)) }
-{
-    let symbol = name_symbol(alloc, machine, dll)?;
-    let bytes = tail_object(alloc, machine, dll, symbol.as_str())?;
-    Ok(linkage_member(alloc, tail_name(alloc, dll)?, bytes, symbol)?)
-}
-
-// Pushes the weak externals of an export, if any, and then the export; the number is the export's.
-#[tactic(auto, unfolding(crate::specs::GnuMembers::alias_specs))]
-fn push_export(
-    members: &mut Vec<Member>,
-    export: &ShortExport,
-    number: usize,
-    machine: MachineType,
-    dll: &str,
-    head: &str,
-) -> Result<(), Error>
-    requires dll_text { holds 0 dll.now ≡ false }
-    requires head { head.now ≡ head_symbol machine dll.now }
-    requires nul { holds_nul (export_view export.now) ≡ false }
-    requires filled { is_empty_text (export_view export.now).name ≡ false }
-    ensures ok { OnOk result (map member_view members.new.items
-        ≡ map member_view members.old.items ++ map member_of (numbered_specs_of machine dll.now number (export_view export.now))) }
-    ensures fit { OnOk result (list_any is_too_long (numbered_specs_of machine dll.now number (export_view export.now)) ≡ false) }
-    ensures ordinal { OnOk result (has_u16_ordinal (export_view export.now) ≡ true) }
-    ensures too_long { IfInvalid result (λ cause. (cause ≡ MemberTooLong)
-        × (list_any is_too_long (numbered_specs_of machine dll.now number (export_view export.now)) ≡ true)) }
-{
-    if has_aliases(export) {
-        push_weak_externals(members, export, number, machine, dll)?;
-    }
-    members.push(export_member(*members.allocator(), export, number, machine, dll, head)?)?;
-    Ok(())
-}
-
-// Pushes the weak externals of an export: of its name, and of its address.
-#[tactic(auto, unfolding(crate::specs::GnuMembers::alias_specs))]
-fn push_weak_externals(
-    members: &mut Vec<Member>,
-    export: &ShortExport,
-    number: usize,
-    machine: MachineType,
-    dll: &str,
-) -> Result<(), Error>
-    requires nul { holds_nul (export_view export.now) ≡ false }
-    requires aliases { is_alias (export_view export.now).alias_target (export_view export.now).name ≡ true }
-    ensures ok { OnOk result (map member_view members.new.items
-        ≡ map member_view members.old.items ++ map member_of (alias_specs machine dll.now number (export_view export.now))) }
-    ensures fit { OnOk result (list_any is_too_long (alias_specs machine dll.now number (export_view export.now)) ≡ false) }
-    ensures too_long { IfInvalid result (λ cause. (cause ≡ MemberTooLong)
-        × (list_any is_too_long (alias_specs machine dll.now number (export_view export.now)) ≡ true)) }
-{
-    let alloc = *members.allocator();
-    let weak = export.name.as_str();
-    let target = export.alias_target.as_str();
-    let name = numbered_name(alloc, dll, "w", number)?;
-    members.push(alias_member(alloc, machine, name, weak, target)?)?;
-    let weak = address_symbol(alloc, weak)?;
-    let target = address_symbol(alloc, target)?;
-    let name = numbered_name(alloc, dll, "x", number)?;
-    members.push(alias_member(alloc, machine, name, weak.as_str(), target.as_str())?)?;
-    Ok(())
-}
-
-// The member of a weak external, under this name; it is listed for the weak symbol.
-fn alias_member(
-    alloc: Global,
-    machine: MachineType,
-    name: String,
-    weak: &str,
-    target: &str,
-) -> Result<Member, Error>
-    requires weak_text { holds 0 weak.now ≡ false }
-    requires target_text { holds 0 target.now ≡ false }
-    ensures ok { IfOk result (λ m. member_view m ≡ member_of (alias_spec machine (string_bytes name) weak.now target.now)) }
-    ensures fit { OnOk result (is_too_long (alias_spec machine (string_bytes name) weak.now target.now) ≡ false) }
-    ensures too_long { IfInvalid result (λ cause. (cause ≡ MemberTooLong)
-        × (is_too_long (alias_spec machine (string_bytes name) weak.now target.now) ≡ true)) }
-{
-    let bytes = weak_external(alloc, machine, weak, target)?;
-    let symbol = String::from_str(alloc, weak)?;
-    Ok(linkage_member(alloc, name, bytes, symbol)?)
-}
-
-// The symbols that an export is listed for, its address given.
-fn export_listed(
-    alloc: Global,
-    export: &ShortExport,
-    address: String,
-) -> Result<Vec<String>, AllocError>
-    requires { string_bytes address ≡ address_symbol (export_view export.now).name }
-    ensures { IfOk result (λ symbols. map string_bytes symbols.items ≡ export_listed (export_view export.now)) }
-{
-    if export.is_data {
-        return Ok(vec![in alloc; address]?);
-    }
-    let name = String::from_str(alloc, export.name.as_str())?;
-    Ok(vec![in alloc; name, address]?)
-}
-
-// The member of the export of this number.
-#[tactic(auto, unfolding(crate::specs::GnuMembers::export_spec))]
-fn export_member(
-    alloc: Global,
-    export: &ShortExport,
-    number: usize,
-    machine: MachineType,
-    dll: &str,
-    head: &str,
-) -> Result<Member, Error>
-    requires dll_text { holds 0 dll.now ≡ false }
-    requires head { head.now ≡ head_symbol machine dll.now }
-    requires name_text { holds 0 (export_view export.now).name ≡ false }
-    requires filled { is_empty_text (export_view export.now).name ≡ false }
-    ensures ok { IfOk result (λ m. member_view m ≡ member_of (export_spec machine dll.now number (export_view export.now))) }
-    ensures fit { OnOk result (is_too_long (export_spec machine dll.now number (export_view export.now)) ≡ false) }
-    ensures ordinal { OnOk result (has_u16_ordinal (export_view export.now) ≡ true) }
-    ensures too_long { IfInvalid result (λ cause. (cause ≡ MemberTooLong)
-        × (is_too_long (export_spec machine dll.now number (export_view export.now)) ≡ true)) }
-{
-    let _ordinal = export.ordinal;
-    let address = address_symbol(alloc, export.name.as_str())?;
-    let bytes = export_object(alloc, export, machine, dll, head, address.as_str())?;
-    let symbols = export_listed(alloc, export, address)?;
-    let name = numbered_name(alloc, dll, "s", number)?;
-    Ok(Member {
-        name,
-        bytes,
-        symbols,
-    })
 }

@@ -1,15 +1,32 @@
 //! What the import tables of an object are made of, for either linker.
 
 ghost use Rattle.implib.specs.Constants.{image_relative};
+ghost use Rattle.implib.specs.Import.{address_symbol};
 ghost use Rattle.implib.specs.ImportTables.{relocation, thunk_width, zeros};
-ghost use Rattle.std.specs.Prelude.{◌≡◌, IfOk};
+ghost use Rattle.std.specs.Prelude.{[], string_bytes, ◌++◌, ◌∷◌, ◌≡◌, IfOk};
 
-use crate::coff::{Relocation, relocation};
+use crate::coff::{Relocation, flags, relocation};
 use crate::machine::MachineType;
 use std::alloc::{AllocError, Global};
 
-/// The size in bytes of an import descriptor.
-pub(crate) const DESCRIPTOR_SIZE: usize = 20;
+/// An import descriptor (PE format, "Import Directory Table").
+pub(crate) mod descriptor {
+    /// The size in bytes.
+    pub(crate) const SIZE: usize = 20;
+    /// The offset in bytes of the lookup table's address.
+    pub(crate) const LOOKUP_TABLE: u32 = 0;
+    /// The offset in bytes of the name's address.
+    pub(crate) const NAME: u32 = 12;
+    /// The offset in bytes of the address table's address.
+    pub(crate) const ADDRESS_TABLE: u32 = 16;
+}
+
+/// The flags of `.data` and of the import tables, without the alignment: initialised data that is
+/// read and written.
+pub(crate) const DATA: u32 = flags::CNT_INITIALIZED_DATA | flags::MEM_READ | flags::MEM_WRITE;
+
+// What begins the symbol of an import's address.
+const ADDRESS_PREFIX: &str = "__imp_";
 
 // The type of an image-relative relocation.
 fn image_relative(machine: MachineType) -> u16
@@ -46,4 +63,25 @@ pub(crate) fn image_relocation(machine: MachineType, offset: u32, symbol: u32) -
         symbol,
         kind: image_relative(machine),
     }
+}
+
+/// The `__imp_` symbol of a symbol: the address that a loader fills in.
+pub(crate) fn address_symbol(alloc: Global, symbol: &str) -> Result<String, AllocError>
+    ensures { IfOk result (λ address. string_bytes address ≡ address_symbol symbol.now) }
+{
+    let length = symbol.len().saturating_add(ADDRESS_PREFIX.len());
+    let mut address = String::with_capacity(alloc, length)?;
+    address.push_str(ADDRESS_PREFIX)?;
+    address.push_str(symbol)?;
+    Ok(address)
+}
+
+/// A text and a NUL.
+pub(crate) fn ended_by_nul(alloc: Global, text: &str) -> Result<Vec<u8>, AllocError>
+    ensures { IfOk result (λ bytes. bytes.items ≡ text.now ++ 0 ∷ []) }
+{
+    let mut bytes = Vec::with_capacity(alloc, text.len().saturating_add(1))?;
+    bytes.extend_from_slice(text.as_bytes())?;
+    bytes.push(0)?;
+    Ok(bytes)
 }

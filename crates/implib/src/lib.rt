@@ -5,13 +5,17 @@ pub mod coff;
 pub mod def;
 mod error;
 pub mod gnu;
+mod import_name;
 mod import_tables;
 pub mod laws;
 mod library;
 mod machine;
+mod members;
 pub mod msvc;
 mod refusal;
+mod weak_external;
 
 pub use error::{Error, Fault};
-pub use library::{Flavor, ImportLibrary, Member};
+pub use library::ImportLibrary;
 pub use machine::MachineType;
+pub use members::{Flavor, Member};

@@ -13,30 +13,10 @@ ghost use Rattle.std.specs.Prelude.{◌≡◌, IfErr, IfOk, None, Some, map, tru
 use crate::def::{self, ModuleDef};
 use crate::error::Error;
 use crate::machine::MachineType;
-use crate::refusal::names_fault;
+use crate::members::{Flavor, Member};
 use crate::{gnu, msvc};
 use std::alloc::Global;
 use std::marker::Model;
-
-/// The linker that the members are for.
-#[derive(Clone, Copy, Debug)]
-pub enum Flavor {
-    /// Microsoft's.
-    Msvc,
-    /// GNU's.
-    Gnu,
-}
-
-/// One object or short record of an import library.
-#[derive(Debug, Drop)]
-pub struct Member {
-    /// The name that an archive would give it.
-    pub name: String,
-    /// The file, at most 2^32 - 1 bytes.
-    pub bytes: Vec<u8>,
-    /// The symbols that an archive's index would list for it.
-    pub symbols: Vec<String>,
-}
 
 /// The import library of a module definition.
 #[derive(Debug, Drop)]
@@ -113,7 +93,10 @@ impl ImportLibrary {
             refusal self.now.definition self.now.machine self.now.flavor ≡ Some cause) }
         ensures names_refused_always { RefusesAlways self.now.definition self.now.machine self.now.flavor result }
     {
-        members_of(&self.def, self.machine, self.flavor)
+        match self.flavor {
+            Flavor::Msvc => msvc::members::members(&self.def, self.machine),
+            Flavor::Gnu => gnu::members::members(&self.def, self.machine),
+        }
     }
 
     /// An equal library. Refuses for memory alone.
@@ -126,26 +109,5 @@ impl ImportLibrary {
             machine: self.machine,
             flavor: self.flavor,
         })
-    }
-}
-
-/// The members of a definition whose exports are under their names to link by.
-pub(crate) fn members_of(
-    def: &ModuleDef,
-    machine: MachineType,
-    flavor: Flavor,
-) -> Result<Vec<Member>, Error>
-    requires { is_renamed (map export_view def.now.exports.items) ≡ true }
-    ensures ok { IfOk result (λ members. AreMembersOf (definition_view def.now) machine flavor (map member_view members.items)) }
-    ensures reads { IfOk result (λ members. ReadBack (definition_view def.now) machine flavor (map member_view members.items)) }
-    ensures refused { IfInvalid result (λ cause. refusal (definition_view def.now) machine flavor ≡ Some cause) }
-    ensures names_refused_always { RefusesAlways (definition_view def.now) machine flavor result }
-{
-    if let Some(fault) = names_fault(def, machine, flavor) {
-        return Err(Error::Invalid(fault));
-    }
-    match flavor {
-        Flavor::Msvc => msvc::members(def, machine),
-        Flavor::Gnu => gnu::members(def, machine),
     }
 }

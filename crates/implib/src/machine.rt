@@ -1,6 +1,6 @@
 //! The machines that import objects are made for.
 
-ghost use Rattle.implib.specs.Machine.{is_32bit, machine_number};
+ghost use Rattle.implib.specs.Machine.{has_leading_underscore, is_32bit, machine_number};
 ghost use Rattle.std.specs.Prelude.{◌≡◌};
 
 use crate::coff::machine;
@@ -39,5 +39,12 @@ impl MachineType {
             MachineType::I386 | MachineType::ARMNT => true,
             MachineType::AMD64 | MachineType::ARM64 => false,
         }
+    }
+
+    /// Whether a C symbol begins with an underscore that its name in C lacks.
+    pub(crate) fn has_leading_underscore(self) -> bool
+        ensures { result ≡ has_leading_underscore self }
+    {
+        self == MachineType::I386
     }
 }

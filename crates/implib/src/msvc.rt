@@ -1,53 +1,42 @@
-//! The members for Microsoft's linker.
+//! The import library for Microsoft's linker.
 
-ghost use Rattle.implib.specs.Definition.{definition_view, export_view};
-ghost use Rattle.implib.specs.Fault.{IfInvalid, MemberTooLong};
-ghost use Rattle.implib.specs.Import.{holds, is_alias, public_exports};
+ghost use Rattle.implib.specs.Definition.{definition_view};
+ghost use Rattle.implib.specs.Fault.{IfInvalid};
 ghost use Rattle.implib.specs.Library.{member_view};
-ghost use Rattle.implib.specs.Members.{AreMembersOf, has_u16_ordinal, is_too_long, member_specs, refusal};
-ghost use Rattle.implib.specs.NameRules.{RefusesAlways, definition_names_refusal, holds_nul};
-ghost use Rattle.implib.specs.MsvcMembers.{export_specs, header_specs, member_count, weak_specs};
-ghost use Rattle.implib.specs.MemberSpec.{member_of};
+ghost use Rattle.implib.specs.Members.{AreMembersOf, refusal};
+ghost use Rattle.implib.specs.NameRules.{RefusesAlways};
 ghost use Rattle.implib.specs.ReadBack.{ReadBack};
 ghost use Rattle.implib.specs.Renaming.{renamed};
-ghost use Rattle.implib.specs.Msvc.{short_import_symbol};
-ghost use Rattle.implib.specs.declared.library.Flavor.TheVariants.{Msvc};
-ghost use Rattle.std.specs.List.{list_all, list_any, sum_by};
-ghost use Rattle.std.specs.Prelude.{None, Some, false, map, true, ◌+◌, ◌++◌, ◌≡◌, IfOk, OnOk, min};
+ghost use Rattle.implib.specs.declared.members.Flavor.TheVariants.{Msvc};
+ghost use Rattle.std.specs.Prelude.{Some, map, ◌≡◌, IfOk};
 
-use crate::def::{self, ModuleDef, ShortExport};
+use crate::def::ModuleDef;
 use crate::error::Error;
-use crate::library::{Flavor, Member, members_of};
+use crate::library::ImportLibrary;
 use crate::machine::MachineType;
+use crate::members::{Flavor, Member};
 use std::marker::Model;
 
+pub(crate) mod members;
 mod objects;
 mod short_import;
-
-pub(crate) use objects::weak_external;
-use objects::{descriptor_member, null_descriptor_member, null_thunk_member, weak_member};
-pub(crate) use short_import::{address_symbol, asked};
-use short_import::{record_member, short_import_symbol};
 
 /// The import library of a module definition for Microsoft's linker.
 #[derive(Drop)]
 pub struct MsvcImportLibrary {
-    def: ModuleDef,
-    machine: MachineType,
+    library: ImportLibrary,
 }
 
 impl Model for MsvcImportLibrary {
-    ghost use Rattle.implib.specs.Definition.{export_view};
-    ghost use Rattle.implib.specs.Library.{LibraryView, library_view};
-    ghost use Rattle.implib.specs.Renaming.{is_renamed};
-    ghost use Rattle.implib.specs.declared.library.Flavor.TheVariants.{Msvc};
-    ghost use Rattle.std.specs.Prelude.{map, true, ◌≡◌};
+    ghost use Rattle.implib.specs.Library.{LibraryView};
+    ghost use Rattle.implib.specs.declared.members.Flavor.TheVariants.{Msvc};
+    ghost use Rattle.std.specs.Prelude.{◌≡◌};
 
     ghost Value = { LibraryView };
 
-    ghost view = { λ l. library_view l.def l.machine Msvc };
+    ghost view = { λ l. l.library };
 
-    ghost invariant = { λ l. is_renamed (map export_view l.def.exports.items) ≡ true };
+    ghost invariant = { λ l. l.library.flavor ≡ Msvc };
 }
 
 impl MsvcImportLibrary {
@@ -56,12 +45,15 @@ impl MsvcImportLibrary {
         ensures held { result ≡ record { definition = renamed (definition_view def); machine = machine; flavor = Msvc } }
     {
         MsvcImportLibrary {
-            def: def::rename(def),
-            machine,
+            library: ImportLibrary::from_def(def, machine, Flavor::Msvc),
         }
     }
 
-    /// The members, in order; refuses as [`ImportLibrary::members`](crate::ImportLibrary::members).
+    /// The members, in order.
+    ///
+    /// # Errors
+    ///
+    /// Those of [`ImportLibrary::members`].
     pub fn members(&self) -> Result<Vec<Member>, Error>
         ensures ok { IfOk result (λ members.
             AreMembersOf self.now.definition self.now.machine Msvc (map member_view members.items)) }
@@ -70,116 +62,6 @@ impl MsvcImportLibrary {
         ensures refused { IfInvalid result (λ cause. refusal self.now.definition self.now.machine Msvc ≡ Some cause) }
         ensures names_refused_always { RefusesAlways self.now.definition self.now.machine Msvc result }
     {
-        members_of(&self.def, self.machine, Flavor::Msvc)
+        self.library.members()
     }
-}
-
-/// The members of a definition that breaks no rule on names, in order.
-pub(crate) fn members(def: &ModuleDef, machine: MachineType) -> Result<Vec<Member>, Error>
-    requires { definition_names_refusal (definition_view def.now) machine Msvc ≡ None }
-    ensures ok { IfOk result (λ members. map member_view members.items ≡ map member_of (member_specs (definition_view def.now) machine Msvc)) }
-    ensures fit { OnOk result (list_any is_too_long (member_specs (definition_view def.now) machine Msvc) ≡ false) }
-    ensures ordinals { OnOk result (list_all has_u16_ordinal (public_exports (definition_view def.now)) ≡ true) }
-    ensures too_long { IfInvalid result (λ cause. (cause ≡ MemberTooLong)
-        × (list_any is_too_long (member_specs (definition_view def.now) machine Msvc) ≡ true)) }
-{
-    let alloc = *def.exports.allocator();
-    let dll = def.import_name.as_str();
-    let mut members = Vec::with_capacity(alloc, member_count(def))?;
-    push_header_members(&mut members, machine, dll)?;
-    for export in def.exports.iter() {
-        if !export.private {
-            push_export(&mut members, export, machine, dll)?;
-        }
-    }
-    Ok(members)
-}
-
-// How many members there are, as far as 64 bits can count.
-fn member_count(def: &ModuleDef) -> usize
-    ensures { result ≡ min u64.MAX (3 + sum_by member_count (public_exports (definition_view def.now))) }
-{
-    let mut count = 3usize;
-    for export in def.exports.iter() {
-        if !export.private {
-            count = count.saturating_add(if has_aliases(export) { 3 } else { 1 });
-        }
-    }
-    count
-}
-
-// Whether the export's symbol is weak for another.
-fn has_aliases(export: &ShortExport) -> bool
-    ensures { result ≡ is_alias (export_view export.now).alias_target (short_import_symbol (export_view export.now)) }
-{
-    let target = export.alias_target.as_str();
-    !target.is_empty() && target != short_import_symbol(export)
-}
-
-// Pushes the header members: import descriptor, null descriptor and null thunk.
-#[tactic(auto, unfolding(crate::specs::MsvcMembers::header_specs))]
-fn push_header_members(
-    members: &mut Vec<Member>,
-    machine: MachineType,
-    dll: &str,
-) -> Result<(), Error>
-    requires { holds 0 dll.now ≡ false }
-    ensures ok { OnOk result (map member_view members.new.items
-        ≡ map member_view members.old.items ++ map member_of (header_specs machine dll.now)) }
-    ensures fit { OnOk result (list_any is_too_long (header_specs machine dll.now) ≡ false) }
-    ensures too_long { IfInvalid result (λ cause. (cause ≡ MemberTooLong) × (list_any is_too_long (header_specs machine dll.now) ≡ true)) }
-{
-    members.push(descriptor_member(*members.allocator(), machine, dll)?)?;
-    members.push(null_descriptor_member(*members.allocator(), machine, dll)?)?;
-    members.push(null_thunk_member(*members.allocator(), machine, dll)?)?;
-    Ok(())
-}
-
-// Pushes the weak externals of an export, if any, and then its record.
-#[tactic(auto, unfolding(crate::specs::MsvcMembers::weak_specs))]
-fn push_export(
-    members: &mut Vec<Member>,
-    export: &ShortExport,
-    machine: MachineType,
-    dll: &str,
-) -> Result<(), Error>
-    requires { holds_nul (export_view export.now) ≡ false }
-    ensures ok { OnOk result (map member_view members.new.items
-        ≡ map member_view members.old.items ++ map member_of (export_specs machine dll.now (export_view export.now))) }
-    ensures fit { OnOk result (list_any is_too_long (export_specs machine dll.now (export_view export.now)) ≡ false) }
-    ensures ordinal { OnOk result (has_u16_ordinal (export_view export.now) ≡ true) }
-    ensures too_long { IfInvalid result (λ cause. (cause ≡ MemberTooLong)
-        × (list_any is_too_long (export_specs machine dll.now (export_view export.now)) ≡ true)) }
-{
-    if has_aliases(export) {
-        push_weak_externals(members, export, machine, dll)?;
-    }
-    members.push(record_member(*members.allocator(), export, machine, dll)?)?;
-    Ok(())
-}
-
-// Pushes the weak externals of an export: of its symbol, and of its address.
-#[tactic(auto, unfolding(crate::specs::MsvcMembers::weak_specs))]
-fn push_weak_externals(
-    members: &mut Vec<Member>,
-    export: &ShortExport,
-    machine: MachineType,
-    dll: &str,
-) -> Result<(), Error>
-    requires nul { holds_nul (export_view export.now) ≡ false }
-    requires aliases { is_alias (export_view export.now).alias_target (short_import_symbol (export_view export.now)) ≡ true }
-    ensures ok { OnOk result (map member_view members.new.items
-        ≡ map member_view members.old.items ++ map member_of (weak_specs machine dll.now (export_view export.now))) }
-    ensures fit { OnOk result (list_any is_too_long (weak_specs machine dll.now (export_view export.now)) ≡ false) }
-    ensures too_long { IfInvalid result (λ cause. (cause ≡ MemberTooLong)
-        × (list_any is_too_long (weak_specs machine dll.now (export_view export.now)) ≡ true)) }
-{
-    let alloc = *members.allocator();
-    let symbol = short_import_symbol(export);
-    let target = export.alias_target.as_str();
-    members.push(weak_member(alloc, machine, dll, symbol, target)?)?;
-    let symbol = address_symbol(alloc, symbol)?;
-    let target = address_symbol(alloc, target)?;
-    members.push(weak_member(alloc, machine, dll, symbol.as_str(), target.as_str())?)?;
-    Ok(())
 }

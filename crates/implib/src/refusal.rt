@@ -3,15 +3,15 @@
 ghost use Rattle.implib.specs.Definition.{definition_view, export_view};
 ghost use Rattle.implib.specs.Fault.{cause_of};
 ghost use Rattle.implib.specs.Import.{holds};
-ghost use Rattle.implib.specs.NameRules.{asked_in, definition_names_refusal, import_name_refusal, name_refusal, names_refusal};
+ghost use Rattle.implib.specs.NameRules.{definition_names_refusal, import_name_refusal, name_refusal, names_refusal};
 ghost use Rattle.std.specs.Option.{option_map};
 ghost use Rattle.std.specs.Prelude.{map, string_bytes, ◌≡◌};
 
 use crate::def::{ModuleDef, ShortExport};
 use crate::error::Fault;
-use crate::library::Flavor;
+use crate::import_name::asked;
 use crate::machine::MachineType;
-use crate::{gnu, msvc};
+use crate::members::Flavor;
 
 /// The first rule on names that the definition breaks: of the import name, then of each export that
 /// is not private, in order.
@@ -68,15 +68,5 @@ fn export_fault(
         Some(Fault::EmptyAskedName(index))
     } else {
         None
-    }
-}
-
-/// The name that the export asks the DLL for.
-fn asked(export: &ShortExport, machine: MachineType, flavor: Flavor) -> &[u8]
-    ensures { result.now ≡ asked_in flavor machine (export_view export.now) }
-{
-    match flavor {
-        Flavor::Msvc => msvc::asked(export, machine),
-        Flavor::Gnu => gnu::asked(export, machine),
     }
 }

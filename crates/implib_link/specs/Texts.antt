@@ -2,7 +2,7 @@
 -- statements.
 use Rattle.std.specs.Prelude.{◌≡◌, ℕ, ◌+◌, ◌*◌, not, List, [], ◌∷◌, map, slice_get, Some, if◌then◌else◌}
 use Rattle.std.specs.List.{filter, filter_map}
-use Rattle.implib.specs.declared.library.Flavor.TheVariants.{Gnu}
+use Rattle.implib.specs.declared.members.Flavor.TheVariants.{Gnu}
 use Rattle.implib.specs.declared.machine.MachineType.{MachineType}
 use Rattle.implib.specs.Asked.{exports_of_text, external_word}
 use Rattle.implib.specs.Definition.{DefinitionView, ExportView}

@@ -3,14 +3,15 @@
 use Rattle.std.specs.Prelude.{◌≡◌, ℕ, ◌+◌, List, [], ◌∷◌, ◌++◌, codes, map, slice_get, true, Option, Some, if◌then◌else◌}
 use Rattle.std.specs.List.{AllByRecursion}
 use Rattle.std.specs.Option.{option_and_then, option_map}
-use Rattle.implib.specs.declared.library.Flavor.TheVariants.{Gnu}
+use Rattle.implib.specs.declared.members.Flavor.TheVariants.{Gnu}
 use Rattle.implib.specs.declared.machine.MachineType.{MachineType}
 use Rattle.implib.specs.declared.machine.MachineType.TheVariants.{I386, ARMNT, AMD64, ARM64}
 use Rattle.implib.specs.Constants.{align_16bytes, cnt_code, mem_execute_read, class_external, class_static}
 use Rattle.implib.specs.Definition.{DefinitionView, ExportView}
 use Rattle.implib.specs.Gnu.{section, text_name}
 use Rattle.implib.specs.Image.{Range, image_of}
-use Rattle.implib.specs.Import.{address_symbol, is_i386, underscore}
+use Rattle.implib.specs.Machine.{has_leading_underscore}
+use Rattle.implib.specs.Import.{address_symbol, underscore}
 use Rattle.implib.specs.LinkedMembers.{IsMade, LinkInput, linked_members, objects_in}
 use Rattle.implib.specs.MemberSpec.{member_of}
 use Rattle.implib.specs.Members.{member_specs}
@@ -27,7 +28,7 @@ use Rattle.implib_link.specs.Stub.{code_relocated, jump_reads}
 
 -- a name as its symbol has it: on I386 with an underscore in front
 abbrev pub symbol_on : MachineType → List ℕ → List ℕ
-symbol_on machine name = if is_i386 machine then underscore ∷ name else name
+symbol_on machine name = if has_leading_underscore machine then underscore ∷ name else name
 
 -- four exports: a function with the hint 258, data, one by its ordinal, and another name for the first
 abbrev pub foo_exports : MachineType → List ExportView

@@ -1,7 +1,7 @@
 -- The members of a text are read as the imports and the aliases that it means.
 use Rattle.std.proofs.Common.{◌≡◌, ℕ, List, flat_map, map, ap, subst, ◌∙◌}
-use Rattle.implib.specs.declared.library.Flavor.{Flavor}
-use Rattle.implib.specs.declared.library.Flavor.TheVariants.{Msvc, Gnu}
+use Rattle.implib.specs.declared.members.Flavor.{Flavor}
+use Rattle.implib.specs.declared.members.Flavor.TheVariants.{Msvc, Gnu}
 use Rattle.implib.specs.declared.machine.MachineType.{MachineType}
 use Rattle.implib.specs.Definition.{DefinitionView}
 use Rattle.implib.specs.Import.{aliases_for, expected_import, public_exports}

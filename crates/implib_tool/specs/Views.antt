@@ -2,7 +2,7 @@
 use Rattle.std.specs.Prelude.{◌≡◌, ◌≢◌, ◌⊎◌, ℕ, ◌+◌, ◌<◌, ◌≤◌, Bool, true, List, [], ◌++◌, Option, None, Some, length, slice_index}
 use Rattle.std.specs.Borrow.{Bor}
 use Rattle.std.specs.Io.KnownBytes.{Appends}
-use Rattle.implib.specs.declared.library.Flavor.{Flavor}
+use Rattle.implib.specs.declared.members.Flavor.{Flavor}
 use Rattle.implib.specs.declared.machine.MachineType.{MachineType}
 use Rattle.implib.specs.Fault.{Cause, cause_of}
 use Rattle.implib.specs.MemberSpec.{MemberView}

@@ -46,6 +46,16 @@ pub mod flags {
     pub const MEM_WRITE: u32 = 0x8000_0000;
 }
 
+/// "Section Number Values".
+pub mod section_number {
+    /// The symbol is defined in another object.
+    pub const UNDEFINED: u16 = 0;
+    /// The value of the symbol is no address.
+    pub const ABSOLUTE: u16 = 0xFFFF;
+    /// The symbol is for a debugger.
+    pub const DEBUG: u16 = 0xFFFE;
+}
+
 /// "Storage Class".
 pub mod class {
     /// A name visible to other objects, defined here or undefined.

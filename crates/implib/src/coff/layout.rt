@@ -3,7 +3,7 @@
 ghost use Rattle.implib.specs.Bytes.{u16_bytes, u32_bytes};
 ghost use Rattle.implib.specs.Fault.{Cause, IfInvalid};
 ghost use Rattle.implib.specs.Pass.{Puts};
-ghost use Rattle.implib.specs.Layout.{Fits, FitsAuxiliary, auxiliary_bytes, auxiliary_count, contents, contents_offset, contents_size, header_bytes, encoded, encoded_size, name_field, pointer_or_zero, record_count, records, relocation_bytes, section_header, section_headers, string_bytes_of, string_size, string_table, string_offsets, strings_size, symbol_bytes, symbol_table_offset};
+ghost use Rattle.implib.specs.Layout.{InRecord, InStringTable, Fits, FitsAuxiliary, auxiliary_bytes, auxiliary_count, contents, contents_offset, contents_size, header_bytes, encoded, encoded_size, name_field, pointer_or_zero, record_count, records, relocation_bytes, section_header, section_headers, string_bytes_of, string_size, string_table, string_offsets, strings_size, symbol, symbol_bytes, symbol_table_offset};
 ghost use Rattle.implib.specs.LayoutView.{FitsField, Measured, name_view, layout_view, symbol_view};
 ghost use Rattle.implib.specs.Writer.{section_view};
 ghost use Rattle.std.specs.Prelude.{All, ◌*◌, ◌+◌, ◌-◌, ◌<◌, ◌^◌, ◌≡◌, ◌≤◌, ℕ, IfErr, IfOk, OnOk, alloc_error, flat_map, length, map, min, slice_index, sum_by};
@@ -12,6 +12,18 @@ use crate::coff::object::{Relocation, Section};
 use crate::coff::pass::Pass;
 use crate::error::{Error, Fault};
 use std::alloc::{AllocError, Global};
+
+// Sizes in bytes: of the file header, of a section header, of a relocation, of a symbol record, and of
+// the size that begins the string table.
+const FILE_HEADER_SIZE: u32 = 20;
+
+const SECTION_HEADER_SIZE: u32 = 40;
+
+const RELOCATION_SIZE: u32 = 10;
+
+const SYMBOL_SIZE: u32 = 18;
+
+const STRING_TABLE_SIZE_FIELD: u32 = 4;
 
 /// The location of a symbol's name.
 #[derive(Clone, Copy, Debug)]
@@ -35,6 +47,34 @@ pub(crate) struct LayoutSymbol<'a> {
     pub(crate) class: u8,
     /// The auxiliary record, if any.
     pub(crate) aux: Option<[u8; 18]>,
+}
+
+impl<'a> LayoutSymbol<'a> {
+    /// A symbol of value 0 whose name, of 1 to 8 bytes, is in its record.
+    pub(crate) fn in_record(name: &'a str, section: u16, class: u8) -> Self
+        ensures { symbol_view result ≡ symbol (InRecord name.now) section class }
+    {
+        LayoutSymbol {
+            name: SymbolName::InRecord(name),
+            value: 0,
+            section,
+            class,
+            aux: None,
+        }
+    }
+
+    /// A symbol of value 0 whose name is the string of this index in the string table.
+    pub(crate) fn in_string_table(index: usize, section: u16, class: u8) -> Self
+        ensures { symbol_view result ≡ symbol (InStringTable index) section class }
+    {
+        LayoutSymbol {
+            name: SymbolName::InStringTable(index),
+            value: 0,
+            section,
+            class,
+            aux: None,
+        }
+    }
 }
 
 /// An object to be written.
@@ -100,12 +140,15 @@ fn measure_of(layout: &ObjectLayout) -> Result<Measure, Error>
     ensures refused { IfErr result (λ e. (e ≡ Error.Invalid Fault.MemberTooLong)
         × (2 ^ 32 ≤ encoded_size (layout_view layout.now))) }
 {
-    let headers = 20 + 40 * layout.sections.len() as u64;
+    let headers = FILE_HEADER_SIZE as u64
+        + SECTION_HEADER_SIZE as u64 * layout.sections.len() as u64;
     let symbol_table_offset = contents_length(layout.sections).saturating_add(headers);
     let records = records_of(layout.symbols);
-    let strings_size = strings_length(layout.strings).saturating_add(4);
+    let strings_size = strings_length(layout.strings).saturating_add(
+        STRING_TABLE_SIZE_FIELD as u64,
+    );
     let length = symbol_table_offset
-        .saturating_add(records.saturating_mul(18))
+        .saturating_add(records.saturating_mul(SYMBOL_SIZE as u64))
         .saturating_add(strings_size);
     if length > u32::MAX as u64 {
         return Err(Error::Invalid(Fault::MemberTooLong));
@@ -124,7 +167,7 @@ fn contents_length(sections: &[Section]) -> u64
 {
     let mut total = 0u64;
     for section in sections {
-        let relocations = (section.relocations.len() as u64).saturating_mul(10);
+        let relocations = (section.relocations.len() as u64).saturating_mul(RELOCATION_SIZE as u64);
         total = total
             .saturating_add(section.bytes.len() as u64)
             .saturating_add(relocations);
@@ -172,7 +215,7 @@ fn offsets_of(alloc: Global, strings: &[&str]) -> Result<Vec<u32>, AllocError>
     ensures { IfOk result (λ offsets. offsets.items ≡ string_offsets (map (λ text. text.now) strings.now)) }
 {
     let mut offsets = Vec::with_capacity(alloc, strings.len())?;
-    let mut offset = 4u32;
+    let mut offset = STRING_TABLE_SIZE_FIELD;
     for text in strings {
         offsets.push(offset)?;
         offset += text.len() as u32 + 1;
@@ -203,10 +246,10 @@ fn put_section_headers(pass: &mut Pass, sections: &[Section])
     requires count { All (λ s. length s.relocations.items < 2 ^ 16) sections.now }
     ensures { Puts pass.old pass.new (section_headers (20 + 40 * length sections.now) (map section_view sections.now)) }
 {
-    let mut place = 20 + 40 * sections.len() as u32;
+    let mut offset = FILE_HEADER_SIZE + SECTION_HEADER_SIZE * sections.len() as u32;
     for section in sections {
-        put_section_header(pass, section, place);
-        place += section.bytes.len() as u32 + 10 * section.relocations.len() as u32;
+        put_section_header(pass, section, offset);
+        offset += section.bytes.len() as u32 + RELOCATION_SIZE * section.relocations.len() as u32;
     }
 }
 

@@ -10,6 +10,7 @@ ghost use Rattle.implib.specs.Writer.{added_view};
 ghost use Rattle.implib.specs.WriterView.{writer_state};
 ghost use Rattle.std.specs.Prelude.{◌+◌, ◌<◌, ◌^◌, ◌≡◌, ◌≤◌, Some, [], IfErr, IfOk, IsSomeAnd, OnErr, OnOk, alloc_error, length, map, string_bytes};
 
+use crate::coff::constants::section_number;
 use crate::coff::layout::{LayoutSymbol, ObjectLayout, SymbolName, auxiliary_count, encode};
 use crate::coff::object::{Place, Relocation, Section, Symbol};
 use crate::error::Error;
@@ -209,9 +210,9 @@ fn number_of(place: Place) -> u16
     ensures { result ≡ section_number place }
 {
     match place {
-        Place::Undefined => 0,
+        Place::Undefined => section_number::UNDEFINED,
         Place::Section(number) => number,
-        Place::Absolute => 0xFFFF,
-        Place::Debug => 0xFFFE,
+        Place::Absolute => section_number::ABSOLUTE,
+        Place::Debug => section_number::DEBUG,
     }
 }

@@ -153,8 +153,8 @@ fn skip_trivia(text: &str) -> &str
     rest
 }
 
-// Whether this is the first byte of the text.
-fn begins_with(text: &str, byte: u8) -> bool
+/// Whether this is the first byte of the text.
+pub(crate) fn begins_with(text: &str, byte: u8) -> bool
     ensures { result ≡ begins (λ b. b == byte) text.now }
 {
     let bytes = text.as_bytes();

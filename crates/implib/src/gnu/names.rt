@@ -1,6 +1,6 @@
 //! The names of the members for GNU's linker, and of the head's and the tail's symbols.
 
-ghost use Rattle.implib.specs.Gnu.{five_digits, head_name, head_symbol, name_symbol, numbered_name, stem, tail_name};
+ghost use Rattle.implib.specs.Gnu.{five_digits, head_name, head_symbol, leading_underscore, name_symbol, numbered_name, stem, tail_name};
 ghost use Rattle.std.specs.List.{position};
 ghost use Rattle.std.specs.Prelude.{string_bytes, ◌++◌, ◌==◌, ◌≡◌, IfOk, OnOk};
 
@@ -8,8 +8,8 @@ use crate::machine::MachineType;
 use std::alloc::{AllocError, Global};
 use std::fmt::Write;
 
-// Where the first full stop of a text is.
-fn place_of_full_stop(text: &[u8]) -> Option<usize>
+// The position of the first full stop of a text.
+fn position_of_full_stop(text: &[u8]) -> Option<usize>
     ensures { result ≡ position (λ byte. byte == 0x2E) text.now }
 {
     text.iter().position(|byte| *byte == b'.')
@@ -20,10 +20,10 @@ fn push_stem(out: &mut String, dll: &str) -> Result<(), AllocError>
     ensures { OnOk result (string_bytes out.new ≡ string_bytes out.old ++ stem dll.now) }
 {
     let mut rest = dll;
-    while let Some(place) = place_of_full_stop(rest.as_bytes()) {
-        out.push_str(&rest[..place])?;
+    while let Some(position) = position_of_full_stop(rest.as_bytes()) {
+        out.push_str(&rest[..position])?;
         out.push_str("_")?;
-        rest = &rest[place + 1..];
+        rest = &rest[position + 1..];
     }
     out.push_str(rest)?;
     Ok(())
@@ -82,6 +82,17 @@ pub(crate) fn numbered_name(
     Ok(name)
 }
 
+// The leading underscore of the machine's C symbols, or nothing.
+fn leading_underscore(machine: MachineType) -> &'static str
+    ensures { result.now ≡ leading_underscore machine }
+{
+    if machine.has_leading_underscore() {
+        "_"
+    } else {
+        ""
+    }
+}
+
 /// The symbol of the import descriptor.
 #[tactic(auto, unfolding(crate::specs::Gnu::head_symbol))]
 pub(crate) fn head_symbol(
@@ -91,10 +102,7 @@ pub(crate) fn head_symbol(
 ) -> Result<String, AllocError>
     ensures { IfOk result (λ symbol. string_bytes symbol ≡ head_symbol machine dll.now) }
 {
-    let mut symbol = String::new(alloc);
-    if machine == MachineType::I386 {
-        symbol.push_str("_")?;
-    }
+    let mut symbol = String::from_str(alloc, leading_underscore(machine))?;
     symbol.push_str("_head_")?;
     push_stem(&mut symbol, dll)?;
     Ok(symbol)
@@ -109,10 +117,7 @@ pub(crate) fn name_symbol(
 ) -> Result<String, AllocError>
     ensures { IfOk result (λ symbol. string_bytes symbol ≡ name_symbol machine dll.now) }
 {
-    let mut symbol = String::new(alloc);
-    if machine == MachineType::I386 {
-        symbol.push_str("_")?;
-    }
+    let mut symbol = String::from_str(alloc, leading_underscore(machine))?;
     push_stem(&mut symbol, dll)?;
     symbol.push_str("_iname")?;
     Ok(symbol)

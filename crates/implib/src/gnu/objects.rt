@@ -15,15 +15,25 @@ use crate::coff::{Place, Relocation, class, flags, relocation};
 use crate::def::ShortExport;
 use crate::error::Error;
 use crate::gnu::table::{SectionRow, SymbolRow, write_table};
-use crate::import_tables::{DESCRIPTOR_SIZE, image_relocation, thunk_width, zeros};
+use crate::import_name::asked_by_hint_name;
+use crate::import_tables::{DATA, descriptor, ended_by_nul, image_relocation, thunk_width, zeros};
 use crate::machine::MachineType;
 use std::alloc::{AllocError, Global};
 
+// The flags of `.text` and of `.bss`, without the alignment.
+const TEXT: u32 = flags::CNT_CODE | flags::MEM_EXECUTE | flags::MEM_READ;
+
+const BSS: u32 = flags::CNT_UNINITIALIZED_DATA | flags::MEM_READ | flags::MEM_WRITE;
+
 // What the head and the tail put into the import tables.
-const TABLE_FLAGS: u32 = flags::CNT_INITIALIZED_DATA
-    | flags::ALIGN_4BYTES
-    | flags::MEM_READ
-    | flags::MEM_WRITE;
+const TABLE_FLAGS: u32 = DATA | flags::ALIGN_4BYTES;
+
+// The names of the sections that every object has, filled with NUL.
+const TEXT_NAME: [u8; 8] = *b".text\0\0\0";
+
+const DATA_NAME: [u8; 8] = *b".data\0\0\0";
+
+const BSS_NAME: [u8; 8] = *b".bss\0\0\0\0";
 
 // What an export puts into the import tables.
 const ENTRY_FLAGS: u32 = flags::ALIGN_4BYTES | flags::MEM_READ | flags::MEM_WRITE;
@@ -71,21 +81,9 @@ fn linkage_sections<'a>(
         ++ section_row first.entry ∷ section_row second.entry ∷ section_row third.entry ∷ [] }
 {
     [
-        empty_section(
-            *b".text\0\0\0",
-            flags::CNT_CODE | flags::ALIGN_16BYTES | flags::MEM_EXECUTE | flags::MEM_READ,
-        ),
-        empty_section(
-            *b".data\0\0\0",
-            flags::CNT_INITIALIZED_DATA | flags::ALIGN_16BYTES | flags::MEM_READ | flags::MEM_WRITE,
-        ),
-        empty_section(
-            *b".bss\0\0\0\0",
-            flags::CNT_UNINITIALIZED_DATA
-                | flags::ALIGN_16BYTES
-                | flags::MEM_READ
-                | flags::MEM_WRITE,
-        ),
+        empty_section(TEXT_NAME, TEXT | flags::ALIGN_16BYTES),
+        empty_section(DATA_NAME, DATA | flags::ALIGN_16BYTES),
+        empty_section(BSS_NAME, BSS | flags::ALIGN_16BYTES),
         first,
         second,
         third,
@@ -133,15 +131,15 @@ pub(crate) fn head_object(
         × (2 ^ 32 ≤ encoded_size (layout_of (head_object machine dll.now)))) }
 {
     let relocations = [
-        image_relocation(machine, 0, 3),
-        image_relocation(machine, 16, 2),
-        image_relocation(machine, 12, 5),
+        image_relocation(machine, descriptor::LOOKUP_TABLE, 3),
+        image_relocation(machine, descriptor::ADDRESS_TABLE, 2),
+        image_relocation(machine, descriptor::NAME, 5),
     ];
     let sections = linkage_sections(
         section(
             *b".idata$2",
             TABLE_FLAGS,
-            &[0; DESCRIPTOR_SIZE],
+            &[0; descriptor::SIZE],
             &relocations,
         ),
         empty_section(*b".idata$5", TABLE_FLAGS),
@@ -155,16 +153,6 @@ pub(crate) fn head_object(
         symbol(name, Place::Undefined, class::EXTERNAL),
     ];
     write_table(alloc, machine, &sections, &symbols)
-}
-
-// A text and a NUL.
-fn ended_by_nul(alloc: Global, text: &str) -> Result<Vec<u8>, AllocError>
-    ensures { IfOk result (λ bytes. bytes.items ≡ text.now ++ 0 ∷ []) }
-{
-    let mut bytes = Vec::with_capacity(alloc, text.len().saturating_add(1))?;
-    bytes.extend_from_slice(text.as_bytes())?;
-    bytes.push(0)?;
-    Ok(bytes)
 }
 
 /// The object of the tail, by its symbol.
@@ -280,17 +268,6 @@ fn entry_relocations<'a>(export: &ShortExport, by_name: &'a [Relocation]) -> &'a
     if export.no_name { &[] } else { by_name }
 }
 
-/// The name that the export asks the DLL for.
-pub(crate) fn asked(export: &ShortExport, machine: MachineType) -> &[u8]
-    ensures { result.now ≡ asked_name machine (export_view export.now).name }
-{
-    let name = export.name.as_bytes();
-    match name {
-        [b'_', rest @ ..] if machine == MachineType::I386 && !name.contains(&b'@') => rest,
-        _ => name,
-    }
-}
-
 // The hint and the name that the export asks the DLL for.
 #[tactic(auto, unfolding(crate::specs::Gnu::hint_name, crate::specs::Bytes::u16_bytes))]
 fn hint_name(
@@ -303,7 +280,7 @@ fn hint_name(
     if export.no_name {
         return Ok(Vec::new(alloc));
     }
-    let name = asked(export, machine);
+    let name = asked_by_hint_name(export, machine);
     let mut bytes = Vec::with_capacity(alloc, name.len().saturating_add(3))?;
     bytes.extend_from_slice(&export.ordinal.to_le_bytes())?;
     bytes.extend_from_slice(name)?;
@@ -338,22 +315,13 @@ pub(crate) fn export_object<'a>(
     let hint_name = hint_name(alloc, export, machine)?;
     let sections = [
         section(
-            *b".text\0\0\0",
-            flags::CNT_CODE | flags::ALIGN_4BYTES | flags::MEM_EXECUTE | flags::MEM_READ,
+            TEXT_NAME,
+            TEXT | flags::ALIGN_4BYTES,
             stub(export, machine),
             stub_relocations(export, machine),
         ),
-        empty_section(
-            *b".data\0\0\0",
-            flags::CNT_INITIALIZED_DATA | flags::ALIGN_4BYTES | flags::MEM_READ | flags::MEM_WRITE,
-        ),
-        empty_section(
-            *b".bss\0\0\0\0",
-            flags::CNT_UNINITIALIZED_DATA
-                | flags::ALIGN_4BYTES
-                | flags::MEM_READ
-                | flags::MEM_WRITE,
-        ),
+        empty_section(DATA_NAME, DATA | flags::ALIGN_4BYTES),
+        empty_section(BSS_NAME, BSS | flags::ALIGN_4BYTES),
         section(*b".idata$7", ENTRY_FLAGS, &[0; 4], &to_head),
         section(*b".idata$5", ENTRY_FLAGS, entry, entry_relocations),
         section(*b".idata$4", ENTRY_FLAGS, entry, entry_relocations),

@@ -12,13 +12,13 @@ ghost use Rattle.implib.specs.Renaming.{renamed};
 ghost use Rattle.implib.specs.Linked.{AllLink, Links};
 ghost use Rattle.implib.specs.LinkedMembers.{AllRise, IsLinkInput, NoneIsPrefix, all_linked, bases_of, member_prefix, chosen_exports, linked_members, objects_in};
 ghost use Rattle.implib.specs.WorkedLinks.{WorkedLinks};
-ghost use Rattle.implib.specs.declared.library.Flavor.TheVariants.{Gnu};
+ghost use Rattle.implib.specs.declared.members.Flavor.TheVariants.{Gnu};
 ghost use Rattle.std.specs.List.{AllByRecursion, Contains, IsDistinct, flat_map};
 ghost use Rattle.std.specs.Prelude.{◌≡◌, ◌<◌, ◌++◌, ◌∷◌, ℕ, List, [], Some, bytes_eq, length, map};
 
 use crate::def::ModuleDef;
-use crate::library::Member;
 use crate::machine::MachineType;
+use crate::members::Member;
 
 /// The head, the tail and the members of any chosen exports, where their listed symbols are distinct,
 /// link, at any admissible bases, to an import of just these exports from the DLL.

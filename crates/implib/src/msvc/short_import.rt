@@ -1,6 +1,6 @@
 //! The short import record of an export.
 
-ghost use Rattle.implib.specs.declared.library.Flavor.TheVariants.{Msvc};
+ghost use Rattle.implib.specs.declared.members.Flavor.TheVariants.{Msvc};
 ghost use Rattle.implib.specs.Definition.{definition_view, export_view};
 ghost use Rattle.implib.specs.Fault.{IfInvalid, MemberTooLong};
 ghost use Rattle.implib.specs.Import.{address_symbol, at_sign, begins_with, holds, public_exports};
@@ -17,8 +17,10 @@ ghost use Rattle.std.specs.Prelude.{false, map, nat_lt, string_bytes, true, ◌+
 use crate::coff::Pass;
 use crate::def::{ModuleDef, ShortExport};
 use crate::error::{Error, Fault};
-use crate::library::Member;
+use crate::import_name::{name_type, short_import_symbol};
+use crate::import_tables::address_symbol;
 use crate::machine::MachineType;
+use crate::members::Member;
 use std::alloc::{AllocError, Global};
 
 // PE/COFF specification, "Import Type".
@@ -28,59 +30,10 @@ const IMPORT_DATA: u16 = 1;
 
 const IMPORT_CONST: u16 = 2;
 
-// PE/COFF specification, "Import Name Type".
-const IMPORT_ORDINAL: u16 = 0;
-
-const IMPORT_NAME: u16 = 1;
-
-const IMPORT_NAME_NOPREFIX: u16 = 2;
-
-const IMPORT_NAME_UNDECORATE: u16 = 3;
-
 // The header of a short record, and the NULs of its two texts.
 const RECORD_HEADER_SIZE: usize = 20;
 
 const RECORD_NULS: usize = 2;
-
-// What begins the symbol of an import's address.
-const ADDRESS_PREFIX: &str = "__imp_";
-
-/// The symbol of the export's record.
-pub(crate) fn short_import_symbol(export: &ShortExport) -> &str
-    ensures { result.now ≡ short_import_symbol (export_view export.now) }
-{
-    if export.symbol_name.is_empty() {
-        export.name.as_str()
-    } else {
-        export.symbol_name.as_str()
-    }
-}
-
-fn begins_with(byte: u8, text: &str) -> bool
-    ensures { result ≡ begins_with byte text.now }
-{
-    text.as_bytes().first() == Some(&byte)
-}
-
-/// How the DLL is asked, by the first rule that holds.
-fn name_type(export: &ShortExport, machine: MachineType) -> u16
-    ensures number { result ≡ name_type_of machine (export_view export.now) }
-    ensures at_most { result ≤ IMPORT_NAME_UNDECORATE }
-{
-    let name = export.name.as_str();
-    let symbol = short_import_symbol(export);
-    if export.no_name {
-        IMPORT_ORDINAL
-    } else if begins_with(b'_', name) && name.as_bytes().contains(&b'@') {
-        IMPORT_NAME
-    } else if symbol != name {
-        IMPORT_NAME_UNDECORATE
-    } else if machine == MachineType::I386 && begins_with(b'_', symbol) {
-        IMPORT_NAME_NOPREFIX
-    } else {
-        IMPORT_NAME
-    }
-}
 
 /// What is imported.
 fn kind(export: &ShortExport) -> u16
@@ -93,43 +46,6 @@ fn kind(export: &ShortExport) -> u16
         IMPORT_CONST
     } else {
         IMPORT_CODE
-    }
-}
-
-fn without_prefix(symbol: &[u8]) -> &[u8]
-    ensures { result.now ≡ without_prefix symbol.now }
-{
-    match symbol {
-        [b'?' | b'@' | b'_', rest @ ..] => rest,
-        _ => symbol,
-    }
-}
-
-#[tactic(auto, using(crate::proofs::AskedName::take_to_position))]
-fn before_at_sign(symbol: &[u8]) -> &[u8]
-    ensures { result.now ≡ before_at_sign symbol.now }
-{
-    match place_of_at_sign(symbol) {
-        Some(end) => &symbol[..end],
-        None => symbol,
-    }
-}
-
-fn place_of_at_sign(symbol: &[u8]) -> Option<usize>
-    ensures { result ≡ position (λ byte. byte == at_sign) symbol.now }
-{
-    symbol.iter().position(|byte| *byte == b'@')
-}
-
-/// The name that the export's record asks the DLL for.
-pub(crate) fn asked(export: &ShortExport, machine: MachineType) -> &[u8]
-    ensures { result.now ≡ asked_by_short_import machine (export_view export.now) }
-{
-    let symbol = short_import_symbol(export).as_bytes();
-    match name_type(export, machine) {
-        IMPORT_NAME => symbol,
-        IMPORT_NAME_NOPREFIX => without_prefix(symbol),
-        _ => before_at_sign(without_prefix(symbol)),
     }
 }
 
@@ -195,17 +111,6 @@ fn put_header(
     pass.put_u32(data_size);
     pass.put_u16(export.ordinal);
     pass.put_u16(kind(export) + 4 * name_type(export, machine));
-}
-
-/// The symbol of the address of a symbol.
-pub(crate) fn address_symbol(alloc: Global, symbol: &str) -> Result<String, AllocError>
-    ensures { IfOk result (λ address. string_bytes address ≡ address_symbol symbol.now) }
-{
-    let length = symbol.len().saturating_add(ADDRESS_PREFIX.len());
-    let mut address = String::with_capacity(alloc, length)?;
-    address.push_str(ADDRESS_PREFIX)?;
-    address.push_str(symbol)?;
-    Ok(address)
 }
 
 /// The symbols that the export's record is listed for.

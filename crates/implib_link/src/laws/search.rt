@@ -6,7 +6,7 @@ ghost use Rattle.implib.specs.Members.{AreMembersOf};
 ghost use Rattle.implib.specs.MemberSpec.{MemberView};
 ghost use Rattle.implib.specs.Object.{Object};
 ghost use Rattle.implib.specs.Placement.{Bases};
-ghost use Rattle.implib.specs.declared.library.Flavor.TheVariants.{Gnu};
+ghost use Rattle.implib.specs.declared.members.Flavor.TheVariants.{Gnu};
 ghost use Rattle.implib.specs.declared.machine.MachineType.{MachineType};
 ghost use Rattle.implib_link.specs.WorkedSearch.{WorkedSearch};
 ghost use Rattle.implib_link.specs.Search.{HaveSame, ImportsWanted, IsArranged, IsLinkedOfWanted, IsLinkedWith, NamesNoLinkage, Takes, exports_wanted, linked_if_any};

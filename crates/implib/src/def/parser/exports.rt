@@ -112,9 +112,8 @@ fn decorated(alloc: Global, machine: MachineType, name: &str) -> Result<String, 
     ensures { IfOk result (λ made. string_bytes made ≡ decorated machine name.now) }
 {
     let mut made = String::new(alloc);
-    match machine {
-        MachineType::I386 if !is_decorated(name) => made.push('_')?,
-        _ => {}
+    if machine.has_leading_underscore() && !is_decorated(name) {
+        made.push('_')?;
     }
     made.push_str(name)?;
     Ok(made)

@@ -8,28 +8,28 @@ use Rattle.implib.proofs.coff.layout.put_section_headers.Goals as goal
 
 pub loop-section-init : goal.loop-section-init
 unfolding section_headers
-loop-section-init c = record { place = sym (add-zero _); put = puts_nothing _; left = add-zero _ }
+loop-section-init c = record { offset = sym (add-zero _); put = puts_nothing _; left = add-zero _ }
 
 pub put_section_header-requires-clause-short : goal.put_section_header-requires-clause-short
 put_section_header-requires-clause-short c =
     let room = rw (← c.section-item.is) at (sum_room contents_size section_view c.args.sections.now c.loop-section.section-index c.section-item.result c.loop-section-test.true) in
     omega (arith, room)
 
-pub overflow_cast-place-in-loop-section : goal.overflow_cast-place-in-loop-section
+pub overflow_cast-offset-in-loop-section : goal.overflow_cast-offset-in-loop-section
 unfolding contents_size
-overflow_cast-place-in-loop-section c =
+overflow_cast-offset-in-loop-section c =
     let room = rw (← c.section-item.is) at (sum_room contents_size section_view c.args.sections.now c.loop-section.section-index c.section-item.result c.loop-section-test.true) in
     omega (arith, room, c.section-item.result.bytes.ok.0)
 
-pub overflow_add-place-in-loop-section : goal.overflow_add-place-in-loop-section
+pub overflow_add-offset-in-loop-section : goal.overflow_add-offset-in-loop-section
 unfolding contents_size
-overflow_add-place-in-loop-section c =
+overflow_add-offset-in-loop-section c =
     let room = rw (← c.section-item.is) at (sum_room contents_size section_view c.args.sections.now c.loop-section.section-index c.section-item.result c.loop-section-test.true) in
     omega (arith, room, c.section-item.result.bytes.ok.0, c.section-item.result.relocations.ok.0)
 
-pub overflow_add-place-in-loop-section-2 : goal.overflow_add-place-in-loop-section-2
+pub overflow_add-offset-in-loop-section-2 : goal.overflow_add-offset-in-loop-section-2
 unfolding contents_size
-overflow_add-place-in-loop-section-2 c =
+overflow_add-offset-in-loop-section-2 c =
     let room = rw (← c.section-item.is) at (sum_room contents_size section_view c.args.sections.now c.loop-section.section-index c.section-item.result c.loop-section-test.true) in
     omega (arith, room, c.section-item.result.bytes.ok.0, c.section-item.result.relocations.ok.0)
 
@@ -37,9 +37,9 @@ pub loop-section-preserved : goal.loop-section-preserved
 unfolding contents_size
 loop-section-preserved c =
     let more = rw (← c.section-item.is) at (sum_more contents_size section_view c.args.sections.now c.loop-section.section-index c.section-item.result c.loop-section-test.true) in
-    let piece = rw (c.loop-section.invariant.place, c.section-item.is) at c.put_section_header.ensures.puts in
+    let piece = rw (c.loop-section.invariant.offset, c.section-item.is) at c.put_section_header.ensures.puts in
     record {
-      place = omega (arith, more, c.section-item.result.bytes.ok.0, c.section-item.result.relocations.ok.0);
+      offset = omega (arith, more, c.section-item.result.bytes.ok.0, c.section-item.result.relocations.ok.0);
       put = headers_more _ c.args.sections.now c.loop-section.section-index c.section-item.result c.loop-section-test.true c.loop-section.invariant.put piece;
       left = omega arith;
     }

@@ -6,7 +6,7 @@ use Rattle.implib.proofs.coff.layout.put_section_headers.Given as goal
 
 abbrev pub invariant-loop-section : goal.invariant-loop-section
 invariant-loop-section l = record {
-  place : l.place ≡ 20 + 40 * length l.sections + sum_by contents_size (map section_view (take l.section-index l.sections));
+  offset : l.offset ≡ 20 + 40 * length l.sections + sum_by contents_size (map section_view (take l.section-index l.sections));
   put : Puts l.initial.pass l.pass (section_headers (20 + 40 * length l.sections) (map section_view (take l.section-index l.sections)));
   left : l.pass.left + 40 * l.section-index ≡ l.initial.pass.left;
 }

@@ -5,11 +5,11 @@ use Rattle.implib.specs.Gnu.{stem}
 use Rattle.implib.proofs.gnu.names.push_stem.Given as goal
 
 -- what was appended and the stem of the rest are the whole stem
-abbrev pub invariant-loop-place : goal.invariant-loop-place
-invariant-loop-place l = record {
+abbrev pub invariant-loop-position : goal.invariant-loop-position
+invariant-loop-position l = record {
   text : shadow (Utf8 l.rest);
   made : string_bytes l.out ++ stem l.rest ≡ string_bytes l.initial.out ++ stem l.dll;
 }
 
-abbrev pub decreases-loop-place : goal.decreases-loop-place
-decreases-loop-place l = length l.rest
+abbrev pub decreases-loop-position : goal.decreases-loop-position
+decreases-loop-position l = length l.rest

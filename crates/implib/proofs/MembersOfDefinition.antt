@@ -4,7 +4,7 @@ use Rattle.std.specs.Prelude.{IfOk, OnOk}
 use Rattle.std.specs.List.{list_all, list_any}
 use Rattle.implib.specs.declared.error.Error.{Error}
 use Rattle.implib.specs.declared.error.Error.TheVariants.{Invalid, OutOfMemory}
-use Rattle.implib.specs.declared.library.Flavor.{Flavor}
+use Rattle.implib.specs.declared.members.Flavor.{Flavor}
 use Rattle.implib.specs.declared.machine.MachineType.{MachineType}
 use Rattle.implib.specs.Definition.{DefinitionView}
 use Rattle.implib.specs.Fault.{Cause, MemberTooLong, IfInvalid}
@@ -16,7 +16,7 @@ use Rattle.implib.specs.ReadBack.{ReadBack}
 use Rattle.implib.specs.Renaming.{renamed}
 use Rattle.implib.proofs.GnuReadings.{reads_for_gnu}
 use Rattle.implib.proofs.MemberMeanings.{reads_as_msvc}
-use Rattle.implib.specs.declared.library.Flavor.TheVariants.{Msvc, Gnu}
+use Rattle.implib.specs.declared.members.Flavor.TheVariants.{Msvc, Gnu}
 
 -- the refusal by names comes first
 pub refused_by_names : (d : DefinitionView) (machine : MachineType) (flavor : Flavor) (cause : Cause) → renamed d ≡ d →

@@ -7,7 +7,7 @@ use Rattle.implib.specs.declared.def.ShortExport.{ShortExport}
 use Rattle.implib.specs.Definition.{definition_view, export_view}
 use Rattle.implib.specs.Import.{public_exports}
 use Rattle.implib.specs.MsvcMembers.{member_count}
-use Rattle.implib.proofs.msvc.member_count.Goals as goal
+use Rattle.implib.proofs.msvc.members.member_count.Goals as goal
 
 pub returns : goal.returns
 returns c =

@@ -4,7 +4,7 @@ use Rattle.std.specs.Prelude.{not, min}
 use Rattle.implib.specs.Definition.{definition_view, export_view}
 use Rattle.implib.specs.Import.{public_exports}
 use Rattle.implib.specs.GnuMembers.{gnu_member_count}
-use Rattle.implib.proofs.gnu.member_count.Given as goal
+use Rattle.implib.proofs.gnu.members.member_count.Given as goal
 
 -- what is counted and what is left are together all, as far as 64 bits can count
 abbrev pub invariant-loop-export : goal.invariant-loop-export

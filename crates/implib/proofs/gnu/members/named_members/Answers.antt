@@ -7,7 +7,7 @@ use Rattle.implib.specs.GnuMembers.{head_spec, numbered_specs, tail_spec}
 use Rattle.implib.specs.Members.{is_too_long}
 use Rattle.implib.specs.MemberSpec.{member_of}
 use Rattle.implib.proofs.GnuLoop.{long_turned, made_turned, map-reverse}
-use Rattle.implib.proofs.gnu.members.Goals as goal
+use Rattle.implib.proofs.gnu.members.named_members.Goals as goal
 
 pub returns-clause-ok : goal.returns-clause-ok
 returns-clause-ok c =

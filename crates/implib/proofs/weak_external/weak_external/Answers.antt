@@ -5,7 +5,7 @@ use Rattle.implib.specs.WeakExternal.{weak_object}
 use Rattle.implib.specs.Layout.{Fits, ObjectLayout, encoded, encoded_size}
 use Rattle.implib.proofs.MemberMeanings.{weak_bytes_mean}
 use Rattle.implib.proofs.MsvcObjects.{Fits-weak_object, same_picture}
-use Rattle.implib.proofs.msvc.objects.weak_external.Goals as goal
+use Rattle.implib.proofs.weak_external.weak_external.Goals as goal
 
 pub encode-requires : goal.encode-requires
 unfolding weak_object

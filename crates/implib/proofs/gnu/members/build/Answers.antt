@@ -9,8 +9,8 @@ use Rattle.implib.specs.MemberSpec.{member_of}
 use Rattle.implib.specs.GnuMembers.{numbered_specs, numbered_specs_of}
 use Rattle.implib.proofs.GnuLoop.{Left, left_private, left_public}
 use Rattle.implib.proofs.MembersLoop.{exports_from}
-use Rattle.implib.proofs.gnu.build.Goals as goal
-use Rattle.implib.proofs.gnu.build.Goals.{then-not-export+in_ok-push_export, else-not-export}
+use Rattle.implib.proofs.gnu.members.build.Goals as goal
+use Rattle.implib.proofs.gnu.members.build.Goals.{then-not-export+in_ok-push_export, else-not-export}
 
 pub loop-export-preserved : goal.loop-export-preserved
 loop-export-preserved c =

@@ -8,8 +8,8 @@ use Rattle.implib.specs.MsvcMembers.{export_specs}
 use Rattle.implib.specs.Members.{has_u16_ordinal, is_too_long, member_specs}
 use Rattle.implib.specs.MemberSpec.{member_of}
 use Rattle.implib.specs.NameRules.{names_refusal}
-use Rattle.implib.specs.declared.library.Flavor.TheVariants.{Msvc}
-use Rattle.implib.proofs.msvc.members.Given as goal
+use Rattle.implib.specs.declared.members.Flavor.TheVariants.{Msvc}
+use Rattle.implib.proofs.msvc.members.named_members.Given as goal
 
 -- the members so far and those of the exports that are left are all; none so far is too long
 abbrev pub invariant-loop-export : goal.invariant-loop-export

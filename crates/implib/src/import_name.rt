@@ -1,0 +1,112 @@
+//! The name that an export asks its DLL for, in each flavour.
+
+ghost use Rattle.implib.specs.Definition.{export_view};
+ghost use Rattle.implib.specs.Import.{asked_name, at_sign, begins_with};
+ghost use Rattle.implib.specs.Msvc.{asked_by_short_import, name_type_of, short_import_symbol};
+ghost use Rattle.implib.specs.NameRules.{asked_in};
+ghost use Rattle.implib.specs.ShortImport.{before_at_sign, without_prefix};
+ghost use Rattle.std.specs.List.{position};
+ghost use Rattle.std.specs.Prelude.{◌==◌, ◌≡◌, ◌≤◌};
+
+use crate::def::ShortExport;
+use crate::def::lexer::begins_with;
+use crate::machine::MachineType;
+use crate::members::Flavor;
+
+// PE/COFF specification, "Import Name Type".
+const IMPORT_ORDINAL: u16 = 0;
+
+const IMPORT_NAME: u16 = 1;
+
+const IMPORT_NAME_NOPREFIX: u16 = 2;
+
+const IMPORT_NAME_UNDECORATE: u16 = 3;
+
+/// The name that the export asks the DLL for.
+pub(crate) fn asked(export: &ShortExport, machine: MachineType, flavor: Flavor) -> &[u8]
+    ensures { result.now ≡ asked_in flavor machine (export_view export.now) }
+{
+    match flavor {
+        Flavor::Msvc => asked_by_short_import(export, machine),
+        Flavor::Gnu => asked_by_hint_name(export, machine),
+    }
+}
+
+/// The symbol of the export's record.
+pub(crate) fn short_import_symbol(export: &ShortExport) -> &str
+    ensures { result.now ≡ short_import_symbol (export_view export.now) }
+{
+    if export.symbol_name.is_empty() {
+        export.name.as_str()
+    } else {
+        export.symbol_name.as_str()
+    }
+}
+
+/// How the DLL is asked, by the first rule that holds.
+pub(crate) fn name_type(export: &ShortExport, machine: MachineType) -> u16
+    ensures number { result ≡ name_type_of machine (export_view export.now) }
+    ensures at_most { result ≤ IMPORT_NAME_UNDECORATE }
+{
+    let name = export.name.as_str();
+    let symbol = short_import_symbol(export);
+    if export.no_name {
+        IMPORT_ORDINAL
+    } else if begins_with(name, b'_') && name.as_bytes().contains(&b'@') {
+        IMPORT_NAME
+    } else if symbol != name {
+        IMPORT_NAME_UNDECORATE
+    } else if machine.has_leading_underscore() && begins_with(symbol, b'_') {
+        IMPORT_NAME_NOPREFIX
+    } else {
+        IMPORT_NAME
+    }
+}
+
+fn without_prefix(symbol: &[u8]) -> &[u8]
+    ensures { result.now ≡ without_prefix symbol.now }
+{
+    match symbol {
+        [b'?' | b'@' | b'_', rest @ ..] => rest,
+        _ => symbol,
+    }
+}
+
+#[tactic(auto, using(crate::proofs::AskedName::take_to_position))]
+fn before_at_sign(symbol: &[u8]) -> &[u8]
+    ensures { result.now ≡ before_at_sign symbol.now }
+{
+    match position_of_at_sign(symbol) {
+        Some(end) => &symbol[..end],
+        None => symbol,
+    }
+}
+
+fn position_of_at_sign(symbol: &[u8]) -> Option<usize>
+    ensures { result ≡ position (λ byte. byte == at_sign) symbol.now }
+{
+    symbol.iter().position(|byte| *byte == b'@')
+}
+
+// The name that the export's short import asks the DLL for.
+fn asked_by_short_import(export: &ShortExport, machine: MachineType) -> &[u8]
+    ensures { result.now ≡ asked_by_short_import machine (export_view export.now) }
+{
+    let symbol = short_import_symbol(export).as_bytes();
+    match name_type(export, machine) {
+        IMPORT_NAME => symbol,
+        IMPORT_NAME_NOPREFIX => without_prefix(symbol),
+        _ => before_at_sign(without_prefix(symbol)),
+    }
+}
+
+/// The name in the export's hint/name table entry: on I386 without the leading underscore.
+pub(crate) fn asked_by_hint_name(export: &ShortExport, machine: MachineType) -> &[u8]
+    ensures { result.now ≡ asked_name machine (export_view export.now).name }
+{
+    let name = export.name.as_bytes();
+    match name {
+        [b'_', rest @ ..] if machine.has_leading_underscore() && !name.contains(&b'@') => rest,
+        _ => name,
+    }
+}

@@ -1,0 +1,49 @@
+//! What an import library is made for, and what it is made of.
+
+ghost use Rattle.implib.specs.Library.{member_view};
+ghost use Rattle.std.specs.Prelude.{[], string_bytes, ◌∷◌, ◌≡◌, IfOk};
+
+use std::alloc::{AllocError, Global};
+
+/// The linker that the members are for.
+#[derive(Clone, Copy, Debug)]
+pub enum Flavor {
+    /// Microsoft's.
+    Msvc,
+    /// GNU's.
+    Gnu,
+}
+
+/// One object or short record of an import library.
+#[derive(Debug, Drop)]
+pub struct Member {
+    /// The name that an archive would give it.
+    pub name: String,
+    /// The file, at most 2^32 - 1 bytes.
+    pub bytes: Vec<u8>,
+    /// The symbols that an archive's index would list for it.
+    pub symbols: Vec<String>,
+}
+
+impl Member {
+    // A member of one archive symbol.
+    pub(crate) fn of_symbol(
+        alloc: Global,
+        name: String,
+        bytes: Vec<u8>,
+        symbol: String,
+    ) -> Result<Member, AllocError>
+        ensures { IfOk result (λ m. member_view m ≡ record {
+          name = string_bytes name;
+          bytes = bytes.items;
+          symbols = string_bytes symbol ∷ [];
+        }) }
+    {
+        let symbols = vec![in alloc; symbol]?;
+        Ok(Member {
+            name,
+            bytes,
+            symbols,
+        })
+    }
+}

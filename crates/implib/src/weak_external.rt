@@ -1,0 +1,117 @@
+//! Weak externals: a symbol that another one replaces where nothing defines it, in both flavours.
+
+ghost use Rattle.implib.specs.Fault.{IfInvalid, MemberTooLong};
+ghost use Rattle.implib.specs.File.{AnAlias, meaning_in};
+ghost use Rattle.implib.specs.Import.{holds, is_alias};
+ghost use Rattle.implib.specs.Layout.{encoded, encoded_size};
+ghost use Rattle.implib.specs.LayoutView.{symbol_view};
+ghost use Rattle.implib.specs.Library.{member_view};
+ghost use Rattle.implib.specs.MemberSpec.{member_of};
+ghost use Rattle.implib.specs.Members.{is_too_long};
+ghost use Rattle.implib.specs.WeakExternal.{weak_object, weak_section, weak_spec, weak_symbols};
+ghost use Rattle.implib.specs.Writer.{section_view};
+ghost use Rattle.std.specs.Prelude.{Some, false, map, string_bytes, true, ◌<◌, ◌^◌, ◌≡◌, ◌≤◌, IfOk, OnOk};
+
+use crate::coff::layout::{LayoutSymbol, ObjectLayout, SymbolName, encode};
+use crate::coff::{Section, class, flags, section_number, weak};
+use crate::error::Error;
+use crate::machine::MachineType;
+use crate::members::Member;
+use std::alloc::Global;
+
+/// How many members make an alias: one for the symbol, one for its `__imp_` symbol.
+pub(crate) const MEMBERS_OF_ALIAS: usize = 2;
+
+// How the symbol that a weak external stands for is searched for.
+const ALIAS: u8 = weak::SEARCH_ALIAS as u8;
+
+// The auxiliary record of a weak external: the index of the symbol that it stands for, 2, and that it
+// is an alias.
+const WEAK_AUXILIARY: [u8; 18] = [2, 0, 0, 0, ALIAS, 0, 0, 0, 0, 0, 0, 0, 0, 0, 0, 0, 0, 0];
+
+/// Whether the symbol is weak for an alias target: there is one, and it is another symbol.
+pub(crate) fn is_alias(target: &str, symbol: &str) -> bool
+    ensures { result ≡ is_alias target.now symbol.now }
+{
+    !target.is_empty() && target != symbol
+}
+
+// The section of a weak external, without data.
+fn weak_section(alloc: Global) -> Section
+    ensures { section_view result ≡ weak_section }
+{
+    Section {
+        name: *b".drectve",
+        flags: flags::LNK_INFO | flags::LNK_REMOVE,
+        bytes: Vec::new(alloc),
+        relocations: Vec::new(alloc),
+    }
+}
+
+// The symbols of a weak external: of the two names in the string table, the second is weak for the first.
+#[tactic(auto, unfolding(crate::specs::Bytes::u32_bytes))]
+fn weak_symbols() -> [LayoutSymbol<'static>; 4]
+    ensures { map symbol_view result ≡ weak_symbols }
+{
+    [
+        LayoutSymbol::in_record("@comp.id", section_number::ABSOLUTE, class::STATIC),
+        LayoutSymbol::in_record("@feat.00", section_number::ABSOLUTE, class::STATIC),
+        LayoutSymbol::in_string_table(0, section_number::UNDEFINED, class::EXTERNAL),
+        LayoutSymbol {
+            name: SymbolName::InStringTable(1),
+            value: 0,
+            section: section_number::UNDEFINED,
+            class: class::WEAK_EXTERNAL,
+            aux: Some(WEAK_AUXILIARY),
+        },
+    ]
+}
+
+// The object that makes one symbol weak for another; its reading is that pair.
+fn weak_external(
+    alloc: Global,
+    machine: MachineType,
+    weak: &str,
+    target: &str,
+) -> Result<Vec<u8>, Error>
+    requires weak_text { holds 0 weak.now ≡ false }
+    requires target_text { holds 0 target.now ≡ false }
+    ensures bytes { IfOk result (λ bytes. bytes.items ≡ encoded (weak_object machine weak.now target.now)) }
+    ensures meaning { IfOk result (λ bytes. meaning_in bytes.items ≡ Some (AnAlias (record { weak = weak.now; target = target.now }))) }
+    ensures short { OnOk result (encoded_size (weak_object machine weak.now target.now) < 2 ^ 32) }
+    ensures too_long { IfInvalid result (λ cause. (cause ≡ MemberTooLong)
+        × (2 ^ 32 ≤ encoded_size (weak_object machine weak.now target.now))) }
+{
+    let sections = [weak_section(alloc)];
+    let symbols = weak_symbols();
+    encode(
+        alloc,
+        &ObjectLayout {
+            machine: machine.number(),
+            characteristics: 0,
+            sections: &sections,
+            symbols: &symbols,
+            strings: &[target, weak],
+        },
+    )
+}
+
+/// The member of a weak external, under this name; its archive symbol is the weak one.
+pub(crate) fn weak_member(
+    alloc: Global,
+    machine: MachineType,
+    name: String,
+    weak: &str,
+    target: &str,
+) -> Result<Member, Error>
+    requires weak_text { holds 0 weak.now ≡ false }
+    requires target_text { holds 0 target.now ≡ false }
+    ensures ok { IfOk result (λ m. member_view m ≡ member_of (weak_spec machine (string_bytes name) weak.now target.now)) }
+    ensures fit { OnOk result (is_too_long (weak_spec machine (string_bytes name) weak.now target.now) ≡ false) }
+    ensures too_long { IfInvalid result (λ cause. (cause ≡ MemberTooLong)
+        × (is_too_long (weak_spec machine (string_bytes name) weak.now target.now) ≡ true)) }
+{
+    let bytes = weak_external(alloc, machine, weak, target)?;
+    let symbol = String::from_str(alloc, weak)?;
+    Ok(Member::of_symbol(alloc, name, bytes, symbol)?)
+}
