@@ -1,4 +1,4 @@
-"""The program once more, in Python, for `bench/random` to compare with. It has the rules
+"""The program once more, in Python, for `checks/random` to compare with. It has the rules
 that docs/GRAMMAR.md and docs/FORMATS.md tell. It was written by somebody who had seen neither the
 code nor its specifications, and was then put into this shorter form by an author of the code, with
 the same answers to 6,000 texts. Definitions that are made by hand and members that are too long are

@@ -5,7 +5,7 @@ use Rattle.std.specs.List.{filter, flat_map, list_all, list_any}
 use Rattle.std.proofs.lemmas.List.{map-append}
 use Rattle.std.proofs.lemmas.List.Folds.{list_any-append}
 use Rattle.std.proofs.Math.Seq.{drop-cons}
-use Rattle.implib.specs.declared.def.ShortExport.{ShortExport}
+use Rattle.implib.specs.declared.def.definition.ShortExport.{ShortExport}
 use Rattle.implib.specs.declared.members.Flavor.TheVariants.{Msvc}
 use Rattle.implib.specs.declared.machine.MachineType.{MachineType}
 use Rattle.implib.specs.Definition.{ExportView, export_view}

@@ -2,7 +2,7 @@
 use Rattle.std.proofs.Common.{◌≡◌, ℕ, true, List, [], ◌∷◌, map, Option, Some, None, refl, ap, ◌∙◌}
 use Rattle.std.specs.Prelude.{is_none}
 use Rattle.std.proofs.lemmas.Bool.{and_parts}
-use Rattle.implib.specs.declared.def.ModuleDef.{ModuleDef}
+use Rattle.implib.specs.declared.def.definition.ModuleDef.{ModuleDef}
 use Rattle.implib.specs.Definition.{DefinitionView, ExportView, definition_view, export_view}
 use Rattle.implib.specs.Renaming.{name_to_link, renamed_export, renamed, is_renamed}
 

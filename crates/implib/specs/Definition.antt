@@ -3,8 +3,8 @@
 use Rattle.std.specs.Prelude.{ℕ, Bool, false, List, [], map, Option, None}
 use Rattle.std.specs.String.{string_bytes}
 use Rattle.std.specs.Option.{option_map}
-use Rattle.implib.specs.declared.def.ModuleDef.{ModuleDef}
-use Rattle.implib.specs.declared.def.ShortExport.{ShortExport}
+use Rattle.implib.specs.declared.def.definition.ModuleDef.{ModuleDef}
+use Rattle.implib.specs.declared.def.definition.ShortExport.{ShortExport}
 
 -- what an export holds
 pub record ExportView : Type 0 where

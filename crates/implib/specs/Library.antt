@@ -2,7 +2,7 @@
 use Rattle.std.specs.Prelude.{◌≡◌, ℕ, List, map}
 use Rattle.std.specs.String.{string_bytes}
 use Rattle.std.specs.declared.vec.Vec.{Vec}
-use Rattle.implib.specs.declared.def.ModuleDef.{ModuleDef}
+use Rattle.implib.specs.declared.def.definition.ModuleDef.{ModuleDef}
 use Rattle.implib.specs.declared.members.Flavor.{Flavor}
 use Rattle.implib.specs.declared.members.Member.{Member}
 use Rattle.implib.specs.declared.machine.MachineType.{MachineType}

@@ -1,6 +1,6 @@
 //! COFF objects.
 
-mod constants;
+pub(crate) mod constants;
 pub(crate) mod layout;
 pub mod object;
 pub mod pass;

@@ -8,7 +8,7 @@ ghost use Rattle.implib.specs.ShortImport.{before_at_sign, without_prefix};
 ghost use Rattle.std.specs.List.{position};
 ghost use Rattle.std.specs.Prelude.{◌==◌, ◌≡◌, ◌≤◌};
 
-use crate::def::ShortExport;
+use crate::def::definition::ShortExport;
 use crate::def::lexer::begins_with;
 use crate::machine::MachineType;
 use crate::members::Flavor;

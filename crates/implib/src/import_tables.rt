@@ -5,7 +5,8 @@ ghost use Rattle.implib.specs.Import.{address_symbol};
 ghost use Rattle.implib.specs.ImportTables.{relocation, thunk_width, zeros};
 ghost use Rattle.std.specs.Prelude.{[], string_bytes, ◌++◌, ◌∷◌, ◌≡◌, IfOk};
 
-use crate::coff::{Relocation, flags, relocation};
+use crate::coff::constants::{flags, relocation};
+use crate::coff::object::Relocation;
 use crate::machine::MachineType;
 use std::alloc::{AllocError, Global};
 

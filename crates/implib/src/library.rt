@@ -10,11 +10,12 @@ ghost use Rattle.implib.specs.ReadBack.{ReadBack};
 ghost use Rattle.implib.specs.Renaming.{is_renamed, renamed};
 ghost use Rattle.std.specs.Prelude.{◌≡◌, IfErr, IfOk, None, Some, map, true};
 
-use crate::def::{self, ModuleDef};
+use crate::def::definition::{ModuleDef, rename};
 use crate::error::Error;
+use crate::gnu::members::members as gnu_members;
 use crate::machine::MachineType;
 use crate::members::{Flavor, Member};
-use crate::{gnu, msvc};
+use crate::msvc::members::members as msvc_members;
 use std::alloc::Global;
 use std::marker::Model;
 
@@ -62,7 +63,7 @@ impl ImportLibrary {
         ensures held { result ≡ record { definition = renamed (definition_view def); machine = machine; flavor = flavor } }
     {
         ImportLibrary {
-            def: def::rename(def),
+            def: rename(def),
             machine,
             flavor,
         }
@@ -94,8 +95,8 @@ impl ImportLibrary {
         ensures names_refused_always { RefusesAlways self.now.definition self.now.machine self.now.flavor result }
     {
         match self.flavor {
-            Flavor::Msvc => msvc::members::members(&self.def, self.machine),
-            Flavor::Gnu => gnu::members::members(&self.def, self.machine),
+            Flavor::Msvc => msvc_members(&self.def, self.machine),
+            Flavor::Gnu => gnu_members(&self.def, self.machine),
         }
     }
 

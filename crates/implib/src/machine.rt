@@ -3,7 +3,7 @@
 ghost use Rattle.implib.specs.Machine.{has_leading_underscore, is_32bit, machine_number};
 ghost use Rattle.std.specs.Prelude.{◌≡◌};
 
-use crate::coff::machine;
+use crate::coff::constants::machine;
 
 /// A machine by its name in the PE/COFF specification, "Machine Types".
 #[derive(Clone, Copy, Debug, PartialEq, Eq)]

@@ -10,7 +10,7 @@ ghost use Rattle.implib.specs.Renaming.{renamed};
 ghost use Rattle.implib.specs.declared.members.Flavor.TheVariants.{Msvc};
 ghost use Rattle.std.specs.Prelude.{Some, map, ◌≡◌, IfOk};
 
-use crate::def::ModuleDef;
+use crate::def::definition::ModuleDef;
 use crate::error::Error;
 use crate::library::ImportLibrary;
 use crate::machine::MachineType;

@@ -7,7 +7,7 @@ ghost use Rattle.implib.specs.NameRules.{definition_names_refusal, import_name_r
 ghost use Rattle.std.specs.Option.{option_map};
 ghost use Rattle.std.specs.Prelude.{map, string_bytes, ◌≡◌};
 
-use crate::def::{ModuleDef, ShortExport};
+use crate::def::definition::{ModuleDef, ShortExport};
 use crate::error::Fault;
 use crate::import_name::asked;
 use crate::machine::MachineType;

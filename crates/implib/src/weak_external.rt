@@ -12,8 +12,9 @@ ghost use Rattle.implib.specs.WeakExternal.{weak_object, weak_section, weak_spec
 ghost use Rattle.implib.specs.Writer.{section_view};
 ghost use Rattle.std.specs.Prelude.{Some, false, map, string_bytes, true, ◌<◌, ◌^◌, ◌≡◌, ◌≤◌, IfOk, OnOk};
 
+use crate::coff::constants::{class, flags, section_number, weak};
 use crate::coff::layout::{LayoutSymbol, ObjectLayout, SymbolName, encode};
-use crate::coff::{Section, class, flags, section_number, weak};
+use crate::coff::object::Section;
 use crate::error::Error;
 use crate::machine::MachineType;
 use crate::members::Member;

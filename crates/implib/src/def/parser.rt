@@ -3,6 +3,7 @@
 ghost use Rattle.implib.specs.Definition.{definition_view};
 ghost use Rattle.implib.specs.Fault.{IfInvalid};
 ghost use Rattle.implib.specs.Parser.{ParsesFrom, RefusesFrom};
+ghost use Rattle.implib.specs.Parses.{Parses, Refuses};
 ghost use Rattle.implib.specs.ParserViews.{all_put, Gives, one_put, settings_put};
 ghost use Rattle.implib.specs.TokenReader.{name_read, statement_read, statements_read, with_statement};
 ghost use Rattle.implib.specs.Token.{Lexed};
@@ -14,13 +15,27 @@ mod numbers;
 mod settings;
 mod tokens;
 
-use crate::def::ModuleDef;
+use crate::def::definition::ModuleDef;
 use crate::def::lexer::TokenKind;
 use crate::def::parser::tokens::Tokens;
 use crate::error::{Error, Fault};
 use crate::machine::MachineType;
 use std::alloc::Global;
 use std::marker::Model;
+
+impl ModuleDef {
+    /// What a text means on a machine, in time linear in its length.
+    ///
+    /// # Errors
+    ///
+    /// As [`Parser::parse`].
+    pub fn parse(alloc: Global, def: &str, machine: MachineType) -> Result<ModuleDef, Error>
+        ensures parses { IfOk result (λ d. Parses def.now machine (definition_view d)) }
+        ensures refused { IfInvalid result (Refuses def.now) }
+    {
+        Parser::new(def, machine).parse(alloc)
+    }
+}
 
 /// A parser of one module definition, for one machine.
 ///

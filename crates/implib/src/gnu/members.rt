@@ -16,7 +16,7 @@ ghost use Rattle.implib.specs.declared.members.Flavor.TheVariants.{Gnu};
 ghost use Rattle.std.specs.List.{list_all, list_any, sum_by};
 ghost use Rattle.std.specs.Prelude.{None, Some, [], false, map, min, string_bytes, true, ◌+◌, ◌++◌, ◌∷◌, ◌≡◌, IfOk, OnOk};
 
-use crate::def::{ModuleDef, ShortExport};
+use crate::def::definition::{ModuleDef, ShortExport};
 use crate::error::Error;
 use crate::gnu::names::{head_name, head_symbol, name_symbol, numbered_name, tail_name};
 use crate::gnu::objects::{export_object, head_object, tail_object};

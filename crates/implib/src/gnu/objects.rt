@@ -11,8 +11,9 @@ ghost use Rattle.implib.specs.Table.{section_row, symbol_row};
 ghost use Rattle.implib.specs.Writer.{layout_of};
 ghost use Rattle.std.specs.Prelude.{◌+◌, [], false, map, string_bytes, true, ◌∷◌, ◌++◌, ◌<◌, ◌^◌, ◌≡◌, ◌≤◌, IfOk, OnOk, if◌then◌else◌, take};
 
-use crate::coff::{Place, Relocation, class, flags, relocation};
-use crate::def::ShortExport;
+use crate::coff::constants::{class, flags, relocation};
+use crate::coff::object::{Place, Relocation};
+use crate::def::definition::ShortExport;
 use crate::error::Error;
 use crate::gnu::table::{SectionRow, SymbolRow, write_table};
 use crate::import_name::asked_by_hint_name;

@@ -7,7 +7,8 @@ ghost use Rattle.implib.specs.Writer.{all_entries, layout_of, section_numbered};
 ghost use Rattle.std.specs.List.{AllByRecursion};
 ghost use Rattle.std.specs.Prelude.{◌+◌, ◌++◌, ◌<◌, ◌^◌, ◌≡◌, ◌≤◌, [], IfErr, IfOk, IsSomeAnd, OnOk, alloc_error, length, map};
 
-use crate::coff::{ObjectWriter, Place, Relocation, Section, Symbol};
+use crate::coff::object::{Place, Relocation, Section, Symbol};
+use crate::coff::writer::ObjectWriter;
 use crate::error::Error;
 use crate::machine::MachineType;
 use std::alloc::Global;

@@ -16,7 +16,7 @@ ghost use Rattle.implib.specs.declared.members.Flavor.TheVariants.{Gnu};
 ghost use Rattle.std.specs.List.{AllByRecursion, Contains, IsDistinct, flat_map};
 ghost use Rattle.std.specs.Prelude.{◌≡◌, ◌<◌, ◌++◌, ◌∷◌, ℕ, List, [], Some, bytes_eq, length, map};
 
-use crate::def::ModuleDef;
+use crate::def::definition::ModuleDef;
 use crate::machine::MachineType;
 use crate::members::Member;
 

@@ -4,7 +4,7 @@ ghost use Rattle.implib.specs.Definition.{definition_view};
 ghost use Rattle.implib.specs.Renaming.{renamed};
 ghost use Rattle.std.specs.Prelude.{◌≡◌};
 
-use crate::def::ModuleDef;
+use crate::def::definition::ModuleDef;
 
 /// A definition whose exports are under the names to link by stays as it is when it is renamed again.
 pub fn rename_twice(def: &ModuleDef)

@@ -15,7 +15,7 @@ ghost use Rattle.implib.specs.declared.members.Flavor.TheVariants.{Msvc};
 ghost use Rattle.std.specs.List.{list_all, list_any, sum_by};
 ghost use Rattle.std.specs.Prelude.{None, Some, false, map, true, ◌+◌, ◌++◌, ◌≡◌, IfOk, OnOk, min};
 
-use crate::def::{ModuleDef, ShortExport};
+use crate::def::definition::{ModuleDef, ShortExport};
 use crate::error::Error;
 use crate::import_name::short_import_symbol;
 use crate::import_tables::address_symbol;

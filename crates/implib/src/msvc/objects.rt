@@ -13,8 +13,9 @@ ghost use Rattle.implib.specs.Writer.{section_view};
 ghost use Rattle.std.specs.List.{ends_with};
 ghost use Rattle.std.specs.Prelude.{Some, [], false, map, nat_eq, string_bytes, true, ◌∷◌, ◌<◌, ◌^◌, ◌≡◌, ◌≤◌, IfOk, OnOk};
 
+use crate::coff::constants::{characteristics, class, flags, section_number};
 use crate::coff::layout::{LayoutSymbol, ObjectLayout, encode};
-use crate::coff::{Section, characteristics, class, flags, section_number};
+use crate::coff::object::Section;
 use crate::error::Error;
 use crate::import_tables::{DATA, descriptor, ended_by_nul, image_relocation, thunk_width, zeros};
 use crate::machine::MachineType;

@@ -14,8 +14,8 @@ ghost use Rattle.implib.specs.ShortImport.{asked_by_name_type, before_at_sign, w
 ghost use Rattle.std.specs.List.{list_all, list_any, position};
 ghost use Rattle.std.specs.Prelude.{false, map, nat_lt, string_bytes, true, ◌+◌, ◌<◌, ◌==◌, ◌≡◌, ◌≤◌, IfNone, IfOk, IfSome, OnOk, length};
 
-use crate::coff::Pass;
-use crate::def::{ModuleDef, ShortExport};
+use crate::coff::pass::Pass;
+use crate::def::definition::{ModuleDef, ShortExport};
 use crate::error::{Error, Fault};
 use crate::import_name::{name_type, short_import_symbol};
 use crate::import_tables::address_symbol;

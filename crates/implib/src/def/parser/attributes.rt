@@ -12,7 +12,7 @@ ghost use Rattle.implib.specs.TokenReader.{
 };
 ghost use Rattle.std.specs.Prelude.{◌≡◌, ◌<◌, ◌≤◌, length, IfOk, IsTrue, OnOk};
 
-use crate::def::ShortExport;
+use crate::def::definition::ShortExport;
 use crate::def::lexer::TokenKind;
 use crate::def::parser::numbers::{AtWord, at_word, u16_of};
 use crate::def::parser::tokens::Tokens;

@@ -7,7 +7,7 @@ ghost use Rattle.implib.specs.TokenReader.{export_read, exports_read, named_expo
 ghost use Rattle.std.specs.Prelude.{◌≡◌, ◌<◌, ◌≤◌, length, map, IfOk, IsTrue, OnOk};
 ghost use Rattle.std.specs.String.{string_bytes};
 
-use crate::def::ShortExport;
+use crate::def::definition::ShortExport;
 use crate::def::lexer::TokenKind;
 use crate::def::parser::numbers::{AtWord, at_word};
 use crate::def::parser::tokens::Tokens;

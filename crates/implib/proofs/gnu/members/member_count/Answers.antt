@@ -3,7 +3,7 @@ use Rattle.std.specs.List.{filter, sum_by}
 use Rattle.std.specs.Prelude.{not}
 use Rattle.std.proofs.Math.Nat.{min-eq_right}
 use Rattle.std.proofs.Math.ListN.{drop_of_length-le}
-use Rattle.implib.specs.declared.def.ShortExport.{ShortExport}
+use Rattle.implib.specs.declared.def.definition.ShortExport.{ShortExport}
 use Rattle.implib.specs.Definition.{definition_view, export_view}
 use Rattle.implib.specs.Import.{public_exports}
 use Rattle.implib.specs.GnuMembers.{gnu_member_count}

@@ -1,0 +1,170 @@
+//! What a module definition says: its settings and its exports.
+
+ghost use Rattle.implib.specs.Definition.{definition_view, empty_definition, empty_export, export_view};
+ghost use Rattle.implib.specs.Fault.{error_cause};
+ghost use Rattle.implib.specs.Renaming.{renamed, renamed_export};
+ghost use Rattle.std.specs.Prelude.{◌≡◌, IfErr, IfOk, None, map};
+
+use crate::error::Error;
+use std::alloc::Global;
+
+/// One export of a module definition.
+#[derive(Debug, Drop)]
+pub struct ShortExport {
+    /// The name to link by; the name inside the DLL where `ext_name` is given.
+    pub name: String,
+    /// The name outside the DLL, where it differs.
+    pub ext_name: Option<String>,
+    /// The symbol of a short record, where it differs from `name`; parsing leaves it empty.
+    pub symbol_name: String,
+    /// What the name is a weak alias for; empty for none.
+    pub alias_target: String,
+    /// The ordinal, or the hint of an export that is asked for by name.
+    pub ordinal: u16,
+    /// Whether the export is asked for by its ordinal.
+    pub no_name: bool,
+    /// Whether it is data.
+    pub is_data: bool,
+    /// Whether it is left out of the import library.
+    pub private: bool,
+    /// Whether it is a constant.
+    pub constant: bool,
+}
+
+/// A module definition.
+#[derive(Debug, Drop)]
+pub struct ModuleDef {
+    /// The exports, in the order of the text.
+    pub exports: Vec<ShortExport>,
+    /// The name of the DLL or program.
+    pub import_name: String,
+    /// `BASE`: the address of the image.
+    pub image_base: u64,
+    /// `STACKSIZE`, the bytes to reserve.
+    pub stack_reserve: u64,
+    /// `STACKSIZE`, the bytes to commit.
+    pub stack_commit: u64,
+    /// `HEAPSIZE`, the bytes to reserve.
+    pub heap_reserve: u64,
+    /// `HEAPSIZE`, the bytes to commit.
+    pub heap_commit: u64,
+    /// `VERSION`, before the point.
+    pub major_image_version: u32,
+    /// `VERSION`, after the point.
+    pub minor_image_version: u32,
+    /// No statement sets it.
+    pub major_os_version: u32,
+    /// No statement sets it.
+    pub minor_os_version: u32,
+}
+
+impl ShortExport {
+    /// An export with empty texts, the number 0 and no flag.
+    pub fn empty(alloc: Global) -> Self
+        ensures { export_view result ≡ empty_export }
+    {
+        ShortExport {
+            name: String::new(alloc),
+            ext_name: None,
+            symbol_name: String::new(alloc),
+            alias_target: String::new(alloc),
+            ordinal: 0,
+            no_name: false,
+            is_data: false,
+            private: false,
+            constant: false,
+        }
+    }
+
+    /// An equal export. Refuses for memory alone.
+    pub fn clone(&self) -> Result<Self, Error>
+        ensures ok { IfOk result (λ copy. export_view copy ≡ export_view self.now) }
+        ensures memory { IfErr result (λ error. error_cause error ≡ None) }
+    {
+        let ext_name = match &self.ext_name {
+            Some(name) => Some(name.clone()?),
+            None => None,
+        };
+        Ok(ShortExport {
+            name: self.name.clone()?,
+            ext_name,
+            symbol_name: self.symbol_name.clone()?,
+            alias_target: self.alias_target.clone()?,
+            ordinal: self.ordinal,
+            no_name: self.no_name,
+            is_data: self.is_data,
+            private: self.private,
+            constant: self.constant,
+        })
+    }
+}
+
+impl ModuleDef {
+    /// A definition with no exports, an empty name and all numbers 0.
+    pub fn empty(alloc: Global) -> Self
+        ensures { definition_view result ≡ empty_definition }
+    {
+        ModuleDef {
+            exports: Vec::new(alloc),
+            import_name: String::new(alloc),
+            image_base: 0,
+            stack_reserve: 0,
+            stack_commit: 0,
+            heap_reserve: 0,
+            heap_commit: 0,
+            major_image_version: 0,
+            minor_image_version: 0,
+            major_os_version: 0,
+            minor_os_version: 0,
+        }
+    }
+
+    /// An equal definition. Refuses for memory alone.
+    pub fn clone(&self) -> Result<Self, Error>
+        ensures ok { IfOk result (λ copy. definition_view copy ≡ definition_view self.now) }
+        ensures memory { IfErr result (λ error. error_cause error ≡ None) }
+    {
+        Ok(ModuleDef {
+            exports: clone_exports(&self.exports)?,
+            import_name: self.import_name.clone()?,
+            image_base: self.image_base,
+            stack_reserve: self.stack_reserve,
+            stack_commit: self.stack_commit,
+            heap_reserve: self.heap_reserve,
+            heap_commit: self.heap_commit,
+            major_image_version: self.major_image_version,
+            minor_image_version: self.minor_image_version,
+            major_os_version: self.major_os_version,
+            minor_os_version: self.minor_os_version,
+        })
+    }
+}
+
+fn clone_exports(exports: &Vec<ShortExport>) -> Result<Vec<ShortExport>, Error>
+    ensures ok { IfOk result (λ copies. map export_view copies.items ≡ map export_view exports.now.items) }
+    ensures memory { IfErr result (λ error. error_cause error ≡ None) }
+{
+    let mut copies = Vec::with_capacity(*exports.allocator(), exports.len())?;
+    for export in exports.iter() {
+        copies.push(export.clone()?)?;
+    }
+    Ok(copies)
+}
+
+/// Moves each external name that is given into the name.
+pub(crate) fn rename(mut def: ModuleDef) -> ModuleDef
+    ensures { definition_view result ≡ renamed (definition_view def) }
+{
+    for export in def.exports.iter_mut() {
+        rename_export(export);
+    }
+    def
+}
+
+fn rename_export(export: &mut ShortExport)
+    ensures { export_view export.new ≡ renamed_export (export_view export.old) }
+{
+    if let Some(name) = export.ext_name.take() {
+        export.name = name;
+    }
+}
