@@ -13,7 +13,8 @@ use Rattle.implib.specs.LinkedMembers.{linked_members, objects_in, numbered_spec
 use Rattle.std.specs.Option.{option_map}
 use Rattle.implib.specs.Members.{AreMembersOf}
 use Rattle.implib.specs.MemberSpec.{MemberView, MemberSpec, member_of}
-use Rattle.implib.specs.GnuMembers.{alias_spec, alias_specs, export_spec, gnu_specs, head_spec, numbered_specs, numbered_specs_of, tail_spec}
+use Rattle.implib.specs.GnuMembers.{alias_specs, export_spec, gnu_specs, head_spec, numbered_specs, numbered_specs_of, tail_spec}
+use Rattle.implib.specs.WeakExternal.{weak_spec}
 use Rattle.implib.specs.Object.{Object, object_in}
 use Rattle.implib.specs.Renaming.{renamed}
 use Rattle.implib.proofs.LinkedMembers.{among_contains, among_map, among_reverse, dll_free, export_reads, head_reads, not_long, sound, tail_reads}
@@ -292,7 +293,7 @@ module _ (d : DefinitionView) (machine : MachineType) (members : List MemberView
       (among_back (export_spec machine d.import_name n e) (alias_specs machine d.import_name n e) (export_spec machine d.import_name n e ∷ []) (among_first _ _))
 
   abbrev alias_of : ℕ → ExportView → MemberSpec
-  alias_of n e = alias_spec machine (weak_address_name d.import_name n) (address_symbol e.name) (address_symbol e.alias_target)
+  alias_of n e = weak_spec machine (weak_address_name d.import_name n) (address_symbol e.name) (address_symbol e.alias_target)
 
   alias_there : (n : ℕ) (e : ExportView) → is_alias e.alias_target e.name ≡ true → Among (alias_of n e) (alias_specs machine d.import_name n e)
   unfolding alias_specs

@@ -5,12 +5,12 @@ use Rattle.std.specs.List.{AllByRecursion, Contains, IsDistinct, filter, filter_
 use Rattle.implib.specs.declared.machine.MachineType.{MachineType}
 use Rattle.implib.specs.Constants.{class_external, section_undefined, class_weak_external}
 use Rattle.implib.specs.Definition.{ExportView}
-use Rattle.implib.specs.Gnu.{section, table_flags}
+use Rattle.implib.specs.Gnu.{section}
+use Rattle.implib.specs.ImportTables.{table_flags, descriptor_size, thunk_width, zeros}
 use Rattle.implib.specs.Image.{IsAdmissible, Range, image_of}
 use Rattle.implib.specs.Import.{address_symbol}
 use Rattle.implib.specs.Linked.{AllFind, IsDefinedAt, IsDefinedOnce, IsLinked, LinksStrictlyAt, undefined_names}
 use Rattle.implib.specs.LinkedMembers.{LinkInput, all_linked, chosen_exports, objects_in}
-use Rattle.implib.specs.ImportTables.{descriptor_size, thunk_width, zeros}
 use Rattle.implib.specs.Object.{ASymbol, Auxiliary, Entry, Object, ObjectSection, ObjectSymbol}
 use Rattle.implib.specs.Placement.{Bases, Placed, placed_from}
 use Rattle.implib.specs.Resolution.{is_undefined_external, symbol_address}

@@ -4,12 +4,12 @@ use Rattle.implib.specs.declared.machine.MachineType.TheVariants.{AMD64}
 use Rattle.implib.specs.Bytes.{u32_bytes}
 use Rattle.implib.specs.Constants.{amd64_rel32, class_external}
 use Rattle.implib.specs.Definition.{ExportView}
-use Rattle.implib.specs.Gnu.{head_symbol, section, stub_bytes, table_flags}
+use Rattle.implib.specs.Gnu.{head_symbol, section, stub_bytes}
+use Rattle.implib.specs.ImportTables.{table_flags, zeros}
 use Rattle.implib.specs.Image.{Range}
 use Rattle.implib.specs.Import.{Ask, Ordinal, address_symbol}
 use Rattle.implib.specs.Linked.{LinksStrictlyAt}
 use Rattle.implib.specs.Load.{Loads, LoadsStrictly}
-use Rattle.implib.specs.ImportTables.{zeros}
 use Rattle.implib.specs.Object.{ASymbol, ObjectSymbol}
 use Rattle.implib.specs.Placement.{Addresses, At, Descriptors, Placed}
 use Rattle.implib.specs.WorkedLinks.{nameless}
