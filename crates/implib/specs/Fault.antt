@@ -37,6 +37,13 @@ cause_of (fault.NulInExport index) = NulInExport index
 cause_of (fault.EmptyAskedName index) = EmptyAskedName index
 cause_of fault.MemberTooLong = MemberTooLong
 
+-- the index of the export that a cause tells, if it tells one
+abbrev pub export_index : Cause → Option ℕ
+export_index (EmptyName index) = Some index
+export_index (NulInExport index) = Some index
+export_index (EmptyAskedName index) = Some index
+export_index _ = None
+
 -- where the error is a fault of the input, this holds of its cause
 abbrev pub OfCause : (Cause → Type 0) → Error → Type 0
 OfCause P (Invalid fault) = P (cause_of fault)

@@ -1,4 +1,5 @@
 pub mod Machine
+pub mod Conversions
 pub mod Definition
 pub mod Fault
 pub mod Token

@@ -1,6 +1,7 @@
 //! What a call answers in place of its result.
 
 ghost use Rattle.implib.specs.declared.error.Error.TheVariants.{OutOfMemory};
+ghost use Rattle.implib.specs.Fault.{cause_of, export_index};
 ghost use Rattle.std.specs.Prelude.{◌≡◌};
 
 use crate::def::lexer::TokenKind;
@@ -49,12 +50,26 @@ pub enum Fault {
     MemberTooLong,
 }
 
+impl Fault {
+    /// The index of the export that is at fault, among all exports of the definition, from 0.
+    pub fn export_index(&self) -> Option<usize>
+        ensures { result ≡ export_index (cause_of self.now) }
+    {
+        match self {
+            Fault::EmptyName(index) | Fault::NulInExport(index) | Fault::EmptyAskedName(index) => {
+                Some(*index)
+            }
+            _ => None,
+        }
+    }
+}
+
 /// A fault of the input, or a failed allocation.
 #[derive(Debug, Drop, thiserror::Error)]
 pub enum Error {
     /// The text or the definition is refused.
     #[error("{0}")]
-    Invalid(Fault),
+    Invalid(#[from] Fault),
     /// Memory was asked for and not given.
     #[error("out of memory")]
     OutOfMemory(AllocError),

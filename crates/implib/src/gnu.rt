@@ -50,6 +50,13 @@ impl GnuImportLibrary {
         }
     }
 
+    /// The library, of which the other calls are.
+    pub fn library(&self) -> &ImportLibrary
+        ensures { result.now ≡ self.now }
+    {
+        &self.library
+    }
+
     /// The members, in order.
     ///
     /// # Errors

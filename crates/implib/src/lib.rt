@@ -2,6 +2,7 @@
 #![tactic(auto)]
 
 pub mod coff;
+mod conversions;
 pub mod def;
 mod error;
 pub mod gnu;
@@ -15,6 +16,7 @@ pub mod msvc;
 mod refusal;
 mod weak_external;
 
+pub use conversions::{UnknownFlavor, UnknownMachine};
 pub use error::{Error, Fault};
 pub use library::ImportLibrary;
 pub use machine::MachineType;

@@ -69,6 +69,34 @@ impl ImportLibrary {
         }
     }
 
+    /// The definition, each export under the name to link by.
+    pub fn definition(&self) -> &ModuleDef
+        ensures { definition_view result.now ≡ self.now.definition }
+    {
+        &self.def
+    }
+
+    /// The machine that the members are for.
+    pub fn machine(&self) -> MachineType
+        ensures { result ≡ self.now.machine }
+    {
+        self.machine
+    }
+
+    /// The linker that the members are for.
+    pub fn flavor(&self) -> Flavor
+        ensures { result ≡ self.now.flavor }
+    {
+        self.flavor
+    }
+
+    /// The definition, each export under the name to link by.
+    pub fn into_def(self) -> ModuleDef
+        ensures { definition_view result ≡ self.definition }
+    {
+        self.def
+    }
+
     /// The name of the DLL.
     pub fn import_name(&self) -> &str
         ensures { result.now ≡ self.now.definition.import_name }

@@ -49,6 +49,13 @@ impl MsvcImportLibrary {
         }
     }
 
+    /// The library, of which the other calls are.
+    pub fn library(&self) -> &ImportLibrary
+        ensures { result.now ≡ self.now }
+    {
+        &self.library
+    }
+
     /// The members, in order.
     ///
     /// # Errors

@@ -1,14 +1,14 @@
 -- The words of the command line, and the status that answers them (this project's layout).
-use Rattle.std.specs.Prelude.{◌≡◌, ◌⊎◌, ℕ, List, [], ◌∷◌, map, drop, Option, None, Some, MatchOption, Result, Ok, Err, codes, if◌then◌else◌}
-use Rattle.std.specs.Str.{bytes_eq}
+use Rattle.std.specs.Prelude.{◌≡◌, ◌⊎◌, ℕ, List, [], ◌∷◌, map, drop, Option, None, Some, MatchOption, Result, Ok, Err}
 use Rattle.std.specs.String.{string_bytes}
 use Rattle.std.specs.declared.io.ErrorKind.{ErrorKind}
 use Rattle.std.specs.declared.io.ErrorKind.TheVariants as io
 use Rattle.std.specs.declared.string.String.{String}
+use Rattle.implib.specs.Conversions.{flavor_named, machine_named}
 use Rattle.implib.specs.declared.members.Flavor.{Flavor}
-use Rattle.implib.specs.declared.members.Flavor.TheVariants.{Msvc, Gnu}
+use Rattle.implib.specs.declared.members.Flavor.TheVariants.{Msvc}
 use Rattle.implib.specs.declared.machine.MachineType.{MachineType}
-use Rattle.implib.specs.declared.machine.MachineType.TheVariants.{I386, ARMNT, AMD64, ARM64}
+use Rattle.implib.specs.declared.machine.MachineType.TheVariants.{AMD64}
 use Rattle.implib_tool.specs.declared.run.RunError.{RunError}
 use Rattle.implib_tool.specs.declared.run.RunError.TheVariants.{Refused, NotUtf8, Read, Write, OutOfMemory}
 use Rattle.implib_tool.specs.Run.{Devices, Runs}
@@ -16,20 +16,6 @@ use Rattle.implib_tool.specs.Run.{Devices, Runs}
 -- the words of a command line: its arguments but for the first, which is the program's name
 abbrev pub words_of : {A : Type 0} → List (String A) → List (List ℕ)
 words_of arguments = map string_bytes (drop 1 arguments)
-
--- the machine with a name
-abbrev pub machine_named : List ℕ → Option MachineType
-machine_named word =
-    if bytes_eq word (codes "I386") then Some I386 else
-    (if bytes_eq word (codes "ARMNT") then Some ARMNT else
-    (if bytes_eq word (codes "AMD64") then Some AMD64 else
-    (if bytes_eq word (codes "ARM64") then Some ARM64 else None)))
-
--- the flavour with a name
-abbrev pub flavor_named : List ℕ → Option Flavor
-flavor_named word =
-    if bytes_eq word (codes "msvc") then Some Msvc else
-    (if bytes_eq word (codes "gnu") then Some Gnu else None)
 
 -- a machine and a flavour, where there are both
 abbrev pub both : Option MachineType → Option Flavor → Option (MachineType × Flavor)

@@ -1,6 +1,6 @@
 //! The program, but for the devices of the system.
 
-ghost use Rattle.implib_tool.specs.Words.{Answers, asked, flavor_named, machine_named, status_of};
+ghost use Rattle.implib_tool.specs.Words.{Answers, asked, status_of};
 ghost use Rattle.std.specs.Prelude.{◌≡◌, ◌↔◌, IfSome, IsNone, OnOk, false, map};
 ghost use Rattle.std.specs.String.{string_bytes};
 
@@ -23,30 +23,6 @@ impl<'a, E: Sink> fmt::Write for Lines<'a, E> {
     }
 }
 
-/// The machine with a name.
-fn machine_of(word: &str) -> Option<MachineType>
-    ensures { result ≡ machine_named word.now }
-{
-    match word {
-        "I386" => Some(MachineType::I386),
-        "ARMNT" => Some(MachineType::ARMNT),
-        "AMD64" => Some(MachineType::AMD64),
-        "ARM64" => Some(MachineType::ARM64),
-        _ => None,
-    }
-}
-
-/// The flavour with a name.
-fn flavor_of(word: &str) -> Option<Flavor>
-    ensures { result ≡ flavor_named word.now }
-{
-    match word {
-        "msvc" => Some(Flavor::Msvc),
-        "gnu" => Some(Flavor::Gnu),
-        _ => None,
-    }
-}
-
 /// The machine and the flavour that the words ask for.
 fn asked_by(words: &[String]) -> Option<(MachineType, Flavor)>
     ensures { result ≡ asked (map string_bytes words.now) }
@@ -54,8 +30,8 @@ fn asked_by(words: &[String]) -> Option<(MachineType, Flavor)>
     match words {
         [] => Some((MachineType::AMD64, Flavor::Msvc)),
         [machine, flavor] => {
-            let machine = machine_of(machine.as_str())?;
-            let flavor = flavor_of(flavor.as_str())?;
+            let machine = machine.as_str().parse().ok()?;
+            let flavor = flavor.as_str().parse().ok()?;
             Some((machine, flavor))
         }
         _ => None,

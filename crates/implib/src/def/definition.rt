@@ -76,6 +76,20 @@ impl ShortExport {
         }
     }
 
+    /// An export of this name, with the number 0 and no flag.
+    ///
+    /// # Errors
+    ///
+    /// `OutOfMemory` alone.
+    pub fn named(alloc: Global, name: &str) -> Result<Self, Error>
+        ensures ok { IfOk result (λ export. export_view export ≡ record empty_export { name = name.now }) }
+        ensures memory { IfErr result (λ error. error_cause error ≡ None) }
+    {
+        let mut export = ShortExport::empty(alloc);
+        export.name = String::from_str(alloc, name)?;
+        Ok(export)
+    }
+
     /// An equal export. Refuses for memory alone.
     pub fn clone(&self) -> Result<Self, Error>
         ensures ok { IfOk result (λ copy. export_view copy ≡ export_view self.now) }

@@ -1,5 +1,6 @@
 //! What `==` and `default` tell of machines and of kinds of tokens.
 
+ghost use Rattle.implib.specs.Conversions.{ConversionsReturn};
 ghost use Rattle.std.specs.Prelude.{◌↔◌, ◌≡◌, IsTrue};
 
 use crate::def::lexer::TokenKind;
@@ -25,3 +26,8 @@ pub fn default_kind() -> TokenKind
 {
     TokenKind::default()
 }
+
+/// Each name and each number of a machine leads back to it, and so does each name of a flavour.
+pub fn conversions_return()
+    ensures { ConversionsReturn }
+{}
