@@ -1,0 +1,33 @@
+-- What the law of texts gives, as a loader sees it.
+use Rattle.std.proofs.Common.{◌≡◌, ◌+◌, ℕ, List, map, refl, subst, add-zero}
+use Rattle.implib.specs.declared.machine.MachineType.{MachineType}
+use Rattle.implib.specs.Asked.{exports_of_text}
+use Rattle.implib.specs.Image.{image_of}
+use Rattle.implib.specs.Import.{Ask}
+use Rattle.implib.specs.ImportTables.{thunk_width}
+use Rattle.implib.specs.Load.{Loads}
+use Rattle.implib.specs.MemberSpec.{MemberView}
+use Rattle.implib.specs.Placement.{placed_from}
+use Rattle.implib_link.specs.Texts.{LinkAsStated, ask_stated, chosen_stated, source_of}
+use Rattle.implib_uses.specs.Uses.{ImportsJustThese}
+
+pub imports_just_these : (text : List ℕ) (machine : MachineType) (members : List MemberView) →
+    LinkAsStated text machine members → ImportsJustThese text machine members
+imports_just_these text machine members given = record {
+  library = given.0;
+  loads = λ chosen bases objects program.
+      let image = image_of machine bases (placed_from bases objects) in
+      let links = given.1.1 chosen bases objects program in
+      let here = links.imports 0 (source_of text given.0 members chosen) refl in
+      let asks = map ask_stated (chosen_stated here.meant (exports_of_text here.parses.statements) chosen) in
+      record {
+        meant = here.meant;
+        parses = here.parses;
+        loads =
+            subst (λ (descriptor : ℕ). Loads image (thunk_width machine) descriptor here.meant.import_name asks)
+            (add-zero bases.descriptors)
+            (subst
+            (λ (asks : List Ask). Loads image (thunk_width machine) (bases.descriptors + 0) here.meant.import_name asks)
+            here.asks here.imports.strictly.loads.plain);
+      };
+}

@@ -1,0 +1,70 @@
+-- What the callers conclude.
+use Rattle.std.specs.Prelude.{◌≡◌, ℕ, List, [], ◌∷◌, ◌++◌, map, None, codes}
+use Rattle.std.specs.List.{Contains}
+use Rattle.implib.specs.declared.coff.object.Place.TheVariants.{Section}
+use Rattle.implib.specs.declared.def.lexer.TokenKind.TheVariants.{KwExports}
+use Rattle.implib.specs.declared.members.Flavor.{Flavor}
+use Rattle.implib.specs.declared.machine.MachineType.{MachineType}
+use Rattle.implib.specs.Definition.{DefinitionView, empty_definition, empty_export}
+use Rattle.implib.specs.Library.{LibraryOf, LibraryView}
+use Rattle.implib.specs.MemberSpec.{MemberView}
+use Rattle.implib.specs.Asked.{exports_of_text}
+use Rattle.implib.specs.Image.{image_of}
+use Rattle.implib.specs.ImportTables.{thunk_width}
+use Rattle.implib.specs.Load.{Loads}
+use Rattle.implib.specs.Object.{Object}
+use Rattle.implib.specs.Parses.{Parses}
+use Rattle.implib.specs.Placement.{Bases, placed_from}
+use Rattle.implib.specs.ReadBack.{ReadBack}
+use Rattle.implib.specs.Token.{Lexed, TokenView}
+use Rattle.implib.specs.Writer.{WriterState}
+use Rattle.implib_link.specs.Program.{IsProgram}
+use Rattle.implib_link.specs.Texts.{ask_stated, chosen_stated, part_of, source_of}
+
+-- the members are read back as those of the definition that the text means
+pub record AreReadAsText (text : List ℕ) (machine : MachineType) (flavor : Flavor) (members : List MemberView)
+    : Type 0 where
+  pub library : LibraryView
+  pub of_text : LibraryOf text machine flavor library
+  pub reads : ReadBack library.definition machine flavor members
+
+-- the definition of a DLL with one function
+abbrev pub one_export : List ℕ → List ℕ → DefinitionView
+one_export dll name = record empty_definition {
+  import_name = dll;
+  exports = record empty_export { name = name } ∷ [];
+}
+
+-- an object with bytes in `.data` (flags 0xC0300040) and an external symbol at the first of them
+abbrev pub data_object : MachineType → List ℕ → List ℕ → WriterState
+data_object machine name bytes = record {
+  machine = machine;
+  sections = record { name = codes ".data" ++ 0 ∷ 0 ∷ 0 ∷ []; flags = 0xC030_0040; bytes = bytes; relocations = [] } ∷ [];
+  symbols = record { name = name; value = 0; place = Section 1; class = 2; aux = None } ∷ [];
+}
+
+-- one of the text's tokens is `EXPORTS`, at this offset
+pub record HasExportsAt (text : List ℕ) (at : ℕ) : Type 0 where
+  pub tokens : List TokenView
+  pub lexed : Lexed text tokens
+  pub token : TokenView
+  pub among : Contains tokens token
+  pub kind : token.kind ≡ KwExports
+  pub here : token.at ≡ at
+
+-- The loader that reads the first import descriptor of an image finds the DLL of the text, and is asked for
+-- just the words by which the text names the chosen exports (or for their ordinals).
+pub record LoadsAsStated (text : List ℕ) (machine : MachineType) (chosen : List ℕ) (bases : Bases)
+    (objects : List Object) : Type 0 where
+  pub meant : DefinitionView
+  pub parses : Parses text machine meant
+  pub loads : Loads (image_of machine bases (placed_from bases objects)) (thunk_width machine) bases.descriptors
+      meant.import_name (map ask_stated (chosen_stated meant (exports_of_text parses.statements) chosen))
+
+-- Members of a text load so, whichever exports are chosen, at whichever bases, among whichever objects of a
+-- program.
+pub record ImportsJustThese (text : List ℕ) (machine : MachineType) (members : List MemberView) : Type 0 where
+  pub library : LibraryView
+  pub loads : (chosen : List ℕ) (bases : Bases) (objects : List Object) →
+      IsProgram machine bases (part_of (source_of text library members chosen) ∷ []) objects →
+      LoadsAsStated text machine chosen bases objects

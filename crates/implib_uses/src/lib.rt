@@ -1,0 +1,14 @@
+//! Five callers of `implib`, each with what its own caller can conclude from its contract.
+//!
+//! `docs/CALLING.md` quotes the first, and the contracts that they stand on.
+#![tactic(auto)]
+
+mod link;
+mod members;
+mod objects;
+mod tokens;
+
+pub use link::members_to_link;
+pub use members::{members_of_export, members_of_text};
+pub use objects::data_object;
+pub use tokens::first_exports;
