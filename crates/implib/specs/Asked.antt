@@ -34,6 +34,7 @@ EachAsksForItsWord machine (view ∷ views) (e ∷ exports) =
     AsksFor machine view (external_word e) × EachAsksForItsWord machine views exports
 
 -- each export of a text that means this definition, under its name to link by, asks for its word in the text
-abbrev pub AsksForWords : (text : List ℕ) (machine : MachineType) (definition : DefinitionView) → Parses text machine definition → Type 0
+abbrev pub AsksForWords : (text : List ℕ) (machine : MachineType) (definition : DefinitionView) →
+    Parses text machine definition → Type 0
 AsksForWords text machine definition parsed =
     EachAsksForItsWord machine (renamed definition).exports (exports_of_text parsed.statements)

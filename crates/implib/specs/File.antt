@@ -1,11 +1,13 @@
 -- Reading a member's file, as a record or as an object. The reader takes what it finds in the bytes,
 -- and knows nothing of who wrote them.
-use Rattle.std.specs.Prelude.{ℕ, Bool, ◌&&◌, ◌==◌, nat_le, List, [], ◌∷◌, slice_get, bytes_eq, codes, Option, Some, None, if◌then◌else◌}
+use Rattle.std.specs.Prelude.{ℕ, Bool, ◌&&◌, ◌==◌, nat_le, List, [], ◌∷◌, slice_get, bytes_eq, codes, Option}
+use Rattle.std.specs.Prelude.{Some, None, if◌then◌else◌}
 use Rattle.std.specs.List.{filter_map, find}
 use Rattle.std.specs.Option.{option_and_then, option_map}
 use Rattle.implib.specs.Constants.{class_external, class_weak_external}
 use Rattle.implib.specs.Import.{Alias, Import, import_symbols}
-use Rattle.implib.specs.Object.{Entry, ASymbol, Auxiliary, Object, ObjectSection, ObjectSymbol, object_in, u32_at, before_nul}
+use Rattle.implib.specs.Object.{Entry, ASymbol, Auxiliary, Object, ObjectSection, ObjectSymbol, object_in}
+use Rattle.implib.specs.Object.{u32_at, before_nul}
 use Rattle.implib.specs.ShortImport.{ShortImport, import_data, import_of_short_import, short_import_in}
 
 -- a file that has been read
@@ -51,7 +53,8 @@ abbrev pub weak_symbols : List Entry → List (List ℕ × Option ℕ)
 weak_symbols [] = []
 weak_symbols (Auxiliary bytes ∷ entries) = weak_symbols entries
 weak_symbols (ASymbol s ∷ entries) =
-    if s.class == class_weak_external then (s.name, tag_index entries) ∷ weak_symbols entries else weak_symbols entries
+    if s.class == class_weak_external then (s.name, tag_index entries) ∷ weak_symbols entries
+    else weak_symbols entries
 
 -- the name of an entry that is a symbol
 abbrev pub symbol_name : Entry → Option (List ℕ)
@@ -67,7 +70,8 @@ abbrev pub only_alias : List Entry → List (List ℕ × Option ℕ) → Option 
 only_alias entries [] = None
 only_alias entries ((weak, None) ∷ others) = None
 only_alias entries ((weak, Some index) ∷ other ∷ others) = None
-only_alias entries ((weak, Some index) ∷ []) = option_map (λ target. record { weak = weak; target = target }) (name_at entries index)
+only_alias entries ((weak, Some index) ∷ []) =
+    option_map (λ target. record { weak = weak; target = target }) (name_at entries index)
 
 -- the alias that an object makes, where just one of its symbols is a weak external
 abbrev pub alias_of_object : Object → Option Alias

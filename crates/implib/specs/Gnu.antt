@@ -1,22 +1,25 @@
 -- The objects for GNU's linker, as tables (docs/FORMATS.md, "Members for GNU's linker"): what is
 -- added to a writer of objects, in order.
-use Rattle.std.specs.Prelude.{ℕ, ◌+◌, ◌-◌, ◌==◌, List, [], ◌∷◌, ◌++◌, length, map, replicate, Some, None, codes, decimal, if◌then◌else◌}
+use Rattle.std.specs.Prelude.{ℕ, ◌+◌, ◌-◌, ◌==◌, List, [], ◌∷◌, ◌++◌, length, map, replicate, Some, None}
+use Rattle.std.specs.Prelude.{codes, decimal, if◌then◌else◌}
 use Rattle.implib.specs.declared.coff.object.Place.{Place}
 use Rattle.implib.specs.declared.coff.object.Place.TheVariants.{Undefined, Section, Debug}
 use Rattle.implib.specs.declared.coff.object.Relocation.{Relocation}
 use Rattle.implib.specs.declared.machine.MachineType.{MachineType}
 use Rattle.implib.specs.declared.machine.MachineType.TheVariants.{I386, ARMNT, AMD64, ARM64}
+pub use Rattle.implib.specs.Ascii.{full_stop}
 use Rattle.implib.specs.Bytes.{u16_bytes}
-use Rattle.implib.specs.Constants.{cnt_code, cnt_initialized_data, cnt_uninitialized_data, align_2bytes, align_4bytes, align_16bytes, mem_execute_read, mem_read_write, class_external, class_static, class_file, i386_dir32, amd64_rel32, arm_rel32, arm64_pagebase_rel21, arm64_pageoffset_12l}
+use Rattle.implib.specs.Constants.{cnt_code, cnt_initialized_data, cnt_uninitialized_data, align_2bytes}
+use Rattle.implib.specs.Constants.{align_4bytes, align_16bytes, mem_execute_read, mem_read_write}
+use Rattle.implib.specs.Constants.{class_external, class_static, class_file, i386_dir32, amd64_rel32}
+use Rattle.implib.specs.Constants.{arm_rel32, arm64_pagebase_rel21, arm64_pageoffset_12l}
 use Rattle.implib.specs.Definition.{ExportView}
 use Rattle.implib.specs.Machine.{has_leading_underscore}
 use Rattle.implib.specs.Import.{address_symbol, asked_name, underscore}
-use Rattle.implib.specs.ImportTables.{address_table_offset, descriptor_size, lookup_table_offset, name_offset, relocation, table_flags, thunk_width, zeros}
+use Rattle.implib.specs.ImportTables.{address_table_offset, descriptor_size, lookup_table_offset, name_offset}
+use Rattle.implib.specs.ImportTables.{relocation, table_flags, thunk_width, zeros}
 use Rattle.implib.specs.Object.{ObjectSection}
 use Rattle.implib.specs.Writer.{AddedSymbol, WriterState}
-
-abbrev pub full_stop : ℕ
-full_stop = 0x2E
 
 -- an underscore for a full stop
 abbrev pub without_full_stop : ℕ → ℕ
@@ -68,7 +71,12 @@ weak_address_name dll n = numbered_name dll (codes "x") n
 
 -- a section whose name has 8 bytes
 abbrev pub section : List ℕ → ℕ → List ℕ → List Relocation → ObjectSection
-section name flags contents relocations = record { name = name; flags = flags; bytes = contents; relocations = relocations }
+section name flags contents relocations = record {
+  name = name;
+  flags = flags;
+  bytes = contents;
+  relocations = relocations;
+}
 
 abbrev pub text_name : List ℕ
 text_name = codes ".text" ++ zeros 3
@@ -85,7 +93,13 @@ added name place class = record { name = name; value = 0; place = place; class =
 
 -- the symbol of the file's name: its auxiliary record says `fake`
 abbrev pub file_symbol : AddedSymbol
-file_symbol = record { name = codes ".file"; value = 0; place = Debug; class = class_file; aux = Some (codes "fake" ++ zeros 14) }
+file_symbol = record {
+  name = codes ".file";
+  value = 0;
+  place = Debug;
+  class = class_file;
+  aux = Some (codes "fake" ++ zeros 14);
+}
 
 -- the sections of the head and of the tail that hold nothing
 abbrev pub empty_sections : List ObjectSection
@@ -199,7 +213,8 @@ entry_flags = align_4bytes + mem_read_write
 -- the sections of an export
 abbrev pub export_sections : MachineType → ExportView → List ObjectSection
 export_sections machine e =
-    section text_name (cnt_code + align_4bytes + mem_execute_read) (stub machine e) (relocations_of_stub machine e)
+    section text_name (cnt_code + align_4bytes + mem_execute_read) (stub machine e)
+    (relocations_of_stub machine e)
     ∷ section data_name (cnt_initialized_data + align_4bytes + mem_read_write) [] []
     ∷ section bss_name (cnt_uninitialized_data + align_4bytes + mem_read_write) [] []
     ∷ section (codes ".idata$7") entry_flags (zeros 4) (relocation machine 0 0 ∷ [])

@@ -2,7 +2,10 @@
 use Rattle.std.specs.Prelude.{◌≡◌, ◌≢◌, ℕ, ◌⊎◌, Bool, true, false, List, [], ◌∷◌, ◌++◌, Option, Some, None}
 use Rattle.std.specs.List.{flat_map}
 use Rattle.implib.specs.declared.def.lexer.TokenKind.{TokenKind}
-use Rattle.implib.specs.declared.def.lexer.TokenKind.TheVariants.{Eof, Identifier, Comma, Equal, EqualEqual, KwBase, KwConstant, KwData, KwExports, KwHeapsize, KwLibrary, KwName, KwNoname, KwPrivate, KwStacksize, KwVersion}
+use Rattle.implib.specs.declared.def.lexer.TokenKind.TheVariants.{Eof, Identifier, Comma, Equal, EqualEqual}
+use Rattle.implib.specs.declared.def.lexer.TokenKind.TheVariants.{KwBase, KwConstant, KwData, KwExports}
+use Rattle.implib.specs.declared.def.lexer.TokenKind.TheVariants.{KwHeapsize, KwLibrary, KwName, KwNoname}
+use Rattle.implib.specs.declared.def.lexer.TokenKind.TheVariants.{KwPrivate, KwStacksize, KwVersion}
 pub use Rattle.implib.specs.Ascii.{at_sign, full_stop}
 use Rattle.implib.specs.Number.{IsNumber, u16_limit, u32_limit, u64_limit}
 use Rattle.implib.specs.Token.{TokenView}
@@ -144,7 +147,8 @@ target_terminals (Some value) = Of Equal ∷ Target value ∷ []
 
 -- export = name [ `=` word ] { attribute }: the name is a word or a later name
 abbrev pub export_terminals : (List ℕ → Terminal) → Export → List Terminal
-export_terminals name e = name e.word ∷ (target_terminals e.target ++ flat_map attribute_terminals e.attributes)
+export_terminals name e =
+    name e.word ∷ (target_terminals e.target ++ flat_map attribute_terminals e.attributes)
 
 -- { export }: only those that follow another have a later name
 abbrev pub exports_terminals : (List ℕ → Terminal) → List Export → List Terminal
@@ -170,7 +174,8 @@ base_terminals (Some n) = Of KwBase ∷ Of Equal ∷ Number n ∷ []
 --     | (`NAME` | `LIBRARY`) [ word [ `BASE` `=` number ] ] | `VERSION` version
 abbrev pub statement_terminals : Statement → List Terminal
 statement_terminals (Exports exports) = Of KwExports ∷ exports_terminals Word exports
-statement_terminals (Sizes region reserve commit) = Of (region_kind region) ∷ Number reserve ∷ commit_terminals commit
+statement_terminals (Sizes region reserve commit) =
+    Of (region_kind region) ∷ Number reserve ∷ commit_terminals commit
 statement_terminals Nameless = NameOrLibrary ∷ []
 statement_terminals (Named name base) = NameOrLibrary ∷ Word name ∷ base_terminals base
 statement_terminals (Version major minor) = Of KwVersion ∷ Numbers major minor ∷ []

@@ -1,6 +1,8 @@
 -- The image: the bytes of the placed sections, relocated, as ranges (the relocations are those of the
 -- PE/COFF specification, "COFF Relocations"), and which bases a linker may choose.
-use Rattle.std.specs.Prelude.{◌≡◌, ℕ, ◌+◌, ◌-◌, ◌%◌, ◌^◌, ◌<◌, Bool, ◌&&◌, ◌==◌, nat_le, nat_lt, true, List, [], ◌∷◌, ◌++◌, length, take, drop, slice_index, Option, Some, None, if◌then◌else◌}
+use Rattle.std.specs.Prelude.{◌≡◌, ℕ, ◌+◌, ◌-◌, ◌%◌, ◌^◌, ◌<◌, Bool, ◌&&◌, ◌==◌, nat_le, nat_lt, true, List}
+use Rattle.std.specs.Prelude.{[], ◌∷◌, ◌++◌, length, take, drop, slice_index, Option, Some, None}
+use Rattle.std.specs.Prelude.{if◌then◌else◌}
 use Rattle.std.specs.List.{AllByRecursion, flat_map}
 use Rattle.implib.specs.declared.coff.object.Relocation.{Relocation}
 use Rattle.implib.specs.declared.machine.MachineType.{MachineType}
@@ -8,7 +10,8 @@ use Rattle.implib.specs.Bytes.{u32_bytes}
 use Rattle.implib.specs.Constants.{image_relative}
 use Rattle.implib.specs.ImportTables.{zeros}
 use Rattle.implib.specs.Object.{Object, ObjectSection, u32_at}
-use Rattle.implib.specs.Placement.{At, Bases, Group, Unplaced, SectionAddress, Placed, base_of, groups, placed_from, same_group}
+use Rattle.implib.specs.Placement.{At, Bases, Group, Unplaced, SectionAddress, Placed, base_of, groups}
+use Rattle.implib.specs.Placement.{placed_from, same_group}
 use Rattle.implib.specs.Resolution.{target_address}
 
 -- bytes with an address added to the 4-byte field at an offset
@@ -36,7 +39,8 @@ contribution_at group (At other address) bytes =
     if same_group group other then record { address = address; bytes = bytes } ∷ [] else []
 
 -- the contributions of a group: sections at their places, relocated
-abbrev pub contributions_in : MachineType → List Placed → Placed → Group → List SectionAddress → List ObjectSection →
+abbrev pub contributions_in : MachineType → List Placed → Placed → Group → List SectionAddress →
+    List ObjectSection →
     List Contribution
 contributions_in machine linked p group [] sections = []
 contributions_in machine linked p group (place ∷ places) [] = []

@@ -1,9 +1,11 @@
 -- The layout of an object (this project's layout, docs/FORMATS.md, "The layout of an object"; the
 -- fields are those of the PE/COFF specification): header, section headers, the contents of each
 -- section, symbol records, string table, with nothing between them.
-use Rattle.std.specs.Prelude.{◌≡◌, ℕ, ◌+◌, ◌-◌, ◌*◌, ◌<◌, ◌≤◌, ◌^◌, IsTrue, not, List, [], ◌∷◌, ◌++◌, Option, None, Some, length, replicate, slice_index, slice_index_or, nat_eq, if◌then◌else◌}
-use Rattle.std.specs.List.{AllByRecursion, list_all, flat_map, sum_by}
+use Rattle.std.specs.Prelude.{◌≡◌, ℕ, ◌+◌, ◌-◌, ◌*◌, ◌<◌, ◌≤◌, ◌^◌, false, List, [], ◌∷◌, ◌++◌, Option, None}
+use Rattle.std.specs.Prelude.{Some, length, replicate, slice_index, slice_index_or, nat_eq, if◌then◌else◌}
+use Rattle.std.specs.List.{AllByRecursion, flat_map, sum_by}
 use Rattle.implib.specs.declared.coff.object.Relocation.{Relocation}
+use Rattle.implib.specs.Ascii.{holds}
 use Rattle.implib.specs.Bytes.{u16_bytes, u32_bytes}
 use Rattle.implib.specs.Object.{Entry, ASymbol, Auxiliary, Object, ObjectSection}
 
@@ -186,7 +188,7 @@ object_of p = record {
 
 -- no byte is NUL
 abbrev pub HasNoNul : List ℕ → Type 0
-HasNoNul text = IsTrue (list_all (λ byte. not (nat_eq byte 0)) text)
+HasNoNul text = holds 0 text ≡ false
 
 -- each field of a relocation has its range
 pub record FitsRelocation (r : Relocation) : Type 0 where

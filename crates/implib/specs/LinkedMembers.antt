@@ -1,6 +1,7 @@
 -- What is linked: the head, the members of chosen exports and the tail of one definition or of several,
 -- and the order of their names.
-use Rattle.std.specs.Prelude.{◌≡◌, ℕ, List, [], ◌∷◌, ◌++◌, map, slice_get, slice_index, Option, ◌<◌, codes, length}
+use Rattle.std.specs.Prelude.{◌≡◌, ℕ, List, [], ◌∷◌, ◌++◌, map, slice_get, slice_index, Option, ◌<◌, codes}
+use Rattle.std.specs.Prelude.{length}
 use Rattle.std.specs.Cmp.Lexicographic.{slice_cmp}
 use Rattle.std.specs.List.{AllByRecursion, filter_map, flat_map}
 use Rattle.std.specs.Option.{option_map}
@@ -98,7 +99,8 @@ IsPrefixOf first second = (rest : List ℕ) × (second ≡ first ++ rest)
 abbrev pub NoneIsPrefix : List (List ℕ) → Type 0
 NoneIsPrefix [] = Unit {0}
 NoneIsPrefix (text ∷ others) =
-    AllByRecursion (λ other. (IsPrefixOf text other → ⊥) × (IsPrefixOf other text → ⊥)) others × NoneIsPrefix others
+    AllByRecursion (λ other. (IsPrefixOf text other → ⊥) × (IsPrefixOf other text → ⊥)) others
+    × NoneIsPrefix others
 
 -- what is linked of all parts, one after another
 abbrev pub all_linked : MachineType → List LinkInput → List MemberView

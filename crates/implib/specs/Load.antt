@@ -1,5 +1,6 @@
 -- Loading: what a loader finds in an image (PE/COFF specification, "The .idata Section").
-use Rattle.std.specs.Prelude.{◌≡◌, ◌≢◌, ℕ, ◌+◌, ◌*◌, ◌-◌, ◌%◌, ◌^◌, ◌<◌, ◌≤◌, List, [], ◌∷◌, ◌++◌, length, Some}
+use Rattle.std.specs.Prelude.{◌≡◌, ◌≢◌, ℕ, ◌+◌, ◌*◌, ◌-◌, ◌%◌, ◌^◌, ◌<◌, ◌≤◌, List, [], ◌∷◌, ◌++◌, length}
+use Rattle.std.specs.Prelude.{Some}
 use Rattle.implib.specs.Import.{Ask, Ordinal, Name}
 use Rattle.implib.specs.Image.{Range, byte_at}
 use Rattle.implib.specs.Layout.{HasNoNul}

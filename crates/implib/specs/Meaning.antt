@@ -1,11 +1,13 @@
 -- What statements mean: the definition that they make.
-use Rattle.std.specs.Prelude.{ℕ, Bool, true, false, ◌||◌, ◌==◌, List, [], ◌∷◌, map, Option, Some, None, unwrap_or, option_map, if◌then◌else◌, slice_index}
+use Rattle.std.specs.Prelude.{ℕ, Bool, true, false, ◌||◌, ◌==◌, List, [], ◌∷◌, map, Option, Some, None}
+use Rattle.std.specs.Prelude.{unwrap_or, option_map, if◌then◌else◌, slice_index}
 use Rattle.std.specs.List.{flat_map, list_any}
 use Rattle.implib.specs.declared.machine.MachineType.{MachineType}
 use Rattle.implib.specs.declared.machine.MachineType.TheVariants.{I386, ARMNT, AMD64, ARM64}
 pub use Rattle.implib.specs.Ascii.{question_mark, underscore}
 use Rattle.implib.specs.Definition.{DefinitionView, ExportView}
-use Rattle.implib.specs.Grammar.{Attribute, Joined, Apart, Data, Constant, Private, Alias, Export, Heap, Stack, Statement, Exports, Sizes, Nameless, Named, Version, at_sign}
+use Rattle.implib.specs.Grammar.{Attribute, Joined, Apart, Data, Constant, Private, Alias, Export, Heap}
+use Rattle.implib.specs.Grammar.{Stack, Statement, Exports, Sizes, Nameless, Named, Version, at_sign}
 
 -- what the last of the items that set it sets, and old where none does
 abbrev pub last_or : {A B : Type 0} → B → (A → Option B) → List A → B

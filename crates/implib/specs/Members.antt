@@ -41,7 +41,8 @@ abbrev pub has_u16_ordinal : ExportView → Bool
 has_u16_ordinal e = nat_lt e.ordinal 0x1_0000
 
 -- the members are those of the definition, which is not refused
-pub record AreMembersOf (d : DefinitionView) (machine : MachineType) (flavor : Flavor) (members : List MemberView) : Type 0 where
+pub record AreMembersOf (d : DefinitionView) (machine : MachineType) (flavor : Flavor)
+    (members : List MemberView) : Type 0 where
   pub accepted : refusal d machine flavor ≡ None
   pub made : members ≡ map member_of (member_specs (renamed d) machine flavor)
   pub ordinals : list_all has_u16_ordinal (public_exports (renamed d)) ≡ true

@@ -5,7 +5,9 @@ use Rattle.implib.specs.Bytes.{u16_bytes, u32_bytes}
 use Rattle.implib.specs.Machine.{has_leading_underscore, machine_number}
 use Rattle.implib.specs.Definition.{ExportView}
 use Rattle.implib.specs.Import.{begins_with, holds, underscore, at_sign, import_symbols}
-use Rattle.implib.specs.ShortImport.{ShortImport, short_import_header_size, import_code, import_data, import_const, import_ordinal, import_name, import_name_noprefix, import_name_undecorate, asked_by_name_type}
+use Rattle.implib.specs.ShortImport.{ShortImport, short_import_header_size, import_code, import_data}
+use Rattle.implib.specs.ShortImport.{import_const, import_ordinal, import_name, import_name_noprefix}
+use Rattle.implib.specs.ShortImport.{import_name_undecorate, asked_by_name_type}
 
 -- the symbol of an export's record: its symbol name or, where that is empty, its name
 abbrev pub symbol_or_name : List ℕ → List ℕ → List ℕ
@@ -21,7 +23,8 @@ name_type_of machine e =
     if e.no_name then import_ordinal
     else if begins_with underscore e.name && holds at_sign e.name then import_name
     else if not (bytes_eq (short_import_symbol e) e.name) then import_name_undecorate
-    else if has_leading_underscore machine && begins_with underscore (short_import_symbol e) then import_name_noprefix
+    else if has_leading_underscore machine && begins_with underscore (short_import_symbol e)
+    then import_name_noprefix
     else import_name
 
 -- what is imported
@@ -53,7 +56,8 @@ short_import_size r = short_import_header_size + short_import_data_size r
 abbrev pub short_import_header : ShortImport → List ℕ
 short_import_header r =
     u16_bytes 0 ++ (u16_bytes 0xFFFF ++ (u16_bytes r.version ++ (u16_bytes r.machine ++ (u32_bytes r.time ++
-    (u32_bytes (short_import_data_size r) ++ (u16_bytes r.ordinal ++ u16_bytes (r.kind + 4 * r.name_type)))))))
+    (u32_bytes (short_import_data_size r)
+    ++ (u16_bytes r.ordinal ++ u16_bytes (r.kind + 4 * r.name_type)))))))
 
 -- a record
 abbrev pub short_import_bytes : ShortImport → List ℕ

@@ -1,17 +1,22 @@
 -- The objects for Microsoft's linker, as tables (docs/FORMATS.md, "Members for Microsoft's linker").
-use Rattle.std.specs.Prelude.{ℕ, ◌+◌, ◌-◌, ◌||◌, List, [], ◌∷◌, ◌++◌, length, take, codes, nat_eq, if◌then◌else◌}
+use Rattle.std.specs.Prelude.{ℕ, ◌+◌, ◌-◌, ◌||◌, List, [], ◌∷◌, ◌++◌, length, take, codes, nat_eq}
+use Rattle.std.specs.Prelude.{if◌then◌else◌}
 use Rattle.std.specs.List.{ends_with}
 use Rattle.implib.specs.declared.machine.MachineType.{MachineType}
-use Rattle.implib.specs.Constants.{cnt_initialized_data, align_2bytes, align_4bytes, align_8bytes, mem_read_write, machine_32bit, class_external, class_static, class_section, section_undefined}
+use Rattle.implib.specs.Constants.{cnt_initialized_data, align_2bytes, align_4bytes, align_8bytes}
+use Rattle.implib.specs.Constants.{mem_read_write, machine_32bit, class_external, class_static, class_section}
+use Rattle.implib.specs.Constants.{section_undefined}
 use Rattle.implib.specs.Machine.{machine_number, is_32bit}
 use Rattle.implib.specs.Object.{ObjectSection}
 use Rattle.implib.specs.Layout.{symbol, ObjectLayout, LayoutSymbol, InRecord, InStringTable}
-use Rattle.implib.specs.ImportTables.{address_table_offset, descriptor_size, lookup_table_offset, name_offset, relocation, table_flags, thunk_width, zeros}
+use Rattle.implib.specs.ImportTables.{address_table_offset, descriptor_size, lookup_table_offset, name_offset}
+use Rattle.implib.specs.ImportTables.{relocation, table_flags, thunk_width, zeros}
 
 -- the DLL's name without a last `.dll` or `.exe`
 unfoldable pub base_name : List ℕ → List ℕ
 base_name dll =
-    if ends_with nat_eq dll (codes ".dll") || ends_with nat_eq dll (codes ".exe") then take (length dll - 4) dll else dll
+    if ends_with nat_eq dll (codes ".dll") || ends_with nat_eq dll (codes ".exe")
+    then take (length dll - 4) dll else dll
 
 -- the symbol of the import descriptor
 unfoldable pub descriptor_symbol : List ℕ → List ℕ
@@ -101,7 +106,8 @@ unfoldable pub null_thunk : MachineType → List ℕ → ObjectLayout
 null_thunk machine dll = record {
   machine = machine_number machine;
   characteristics = descriptor_characteristics machine;
-  sections = null_thunk_section machine (codes ".idata$5") ∷ null_thunk_section machine (codes ".idata$4") ∷ [];
+  sections =
+      null_thunk_section machine (codes ".idata$5") ∷ null_thunk_section machine (codes ".idata$4") ∷ [];
   symbols = symbol (InStringTable 0) 1 class_external ∷ [];
   strings = null_thunk_symbol dll ∷ [];
 }

@@ -1,7 +1,8 @@
 -- How an object is read (PE/COFF specification, "COFF File Header", "Section Table", "COFF
 -- Relocations", "COFF Symbol Table", "COFF String Table"): the places and counts in its bytes
 -- are followed, and there is no object where one of them leads out.
-use Rattle.std.specs.Prelude.{ℕ, zero, suc, ◌+◌, ◌*◌, List, [], ◌∷◌, Option, None, Some, length, take, drop, nat_le, nat_eq, slice_index, if◌then◌else◌}
+use Rattle.std.specs.Prelude.{ℕ, zero, suc, ◌+◌, ◌*◌, List, [], ◌∷◌, Option, None, Some, length, take, drop}
+use Rattle.std.specs.Prelude.{nat_le, nat_eq, slice_get, slice_index, if◌then◌else◌}
 use Rattle.std.specs.Int.{w16, w32, from_le_bytes}
 use Rattle.std.specs.Option.{option_and_then, option_map}
 use Rattle.implib.specs.declared.coff.object.Relocation.{Relocation}
@@ -20,6 +21,11 @@ pub record ObjectSymbol : Type 0 where
   pub section : ℕ
   pub kind : ℕ
   pub class : ℕ
+
+-- what a list has for the section of a number; section numbers count from 1
+abbrev pub section_numbered : {X : Type 0} → List X → ℕ → Option X
+section_numbered items zero = None
+section_numbered items (suc index) = slice_get items index
 
 -- an entry of the symbol table: a symbol, or an auxiliary record of the symbol before it
 pub data Entry : Type 0 where
@@ -83,18 +89,21 @@ relocation_at bytes place = option_map relocation_of (bytes_at bytes place 10)
 unfoldable pub data_at : List ℕ → ℕ → ℕ → Option (List ℕ)
 data_at bytes place size = if nat_eq place 0 then Some [] else bytes_at bytes place size
 
+-- the section of a header of 40 bytes, with its data and its relocations
+abbrev pub section_with : List ℕ → List ℕ → List Relocation → ObjectSection
+section_with header section_data relocations = record {
+  name = take 8 header;
+  flags = u32_at header 36;
+  bytes = section_data;
+  relocations = relocations;
+}
+
 -- the section that a header of 40 bytes describes
 unfoldable pub section_of : List ℕ → List ℕ → Option ObjectSection
-section_of bytes header = option_and_then
-    (λ section_data. option_map
-    (λ relocations. record {
-      name = take 8 header;
-      flags = u32_at header 36;
-      bytes = section_data;
-      relocations = relocations;
-    })
-    (each_at (relocation_at bytes) (u32_at header 24) 10 (u16_at header 32)))
-    (data_at bytes (u32_at header 20) (u32_at header 16))
+section_of bytes header =
+    let section_data = data_at bytes (u32_at header 20) (u32_at header 16) in
+    let relocations = each_at (relocation_at bytes) (u32_at header 24) 10 (u16_at header 32) in
+    option_and_then (λ d. option_map (λ rs. section_with header d rs) relocations) section_data
 
 -- the section whose header is at a place
 unfoldable pub section_at : List ℕ → ℕ → Option ObjectSection
@@ -106,17 +115,20 @@ unfoldable pub name_of : List ℕ → List ℕ → Option (List ℕ)
 name_of strings (zero ∷ zero ∷ zero ∷ zero ∷ offset) = before_nul (drop (u32_at offset 0) strings)
 name_of strings field = Some (up_to_nul field)
 
+-- the symbol of a record of 18 bytes, with its name
+abbrev pub symbol_with : List ℕ → List ℕ → ObjectSymbol
+symbol_with record_bytes name = record {
+  name = name;
+  value = u32_at record_bytes 8;
+  section = u16_at record_bytes 12;
+  kind = u16_at record_bytes 14;
+  class = slice_index record_bytes 16;
+}
+
 -- the symbol in a record of 18 bytes
 unfoldable pub symbol_of : List ℕ → List ℕ → Option ObjectSymbol
-symbol_of strings record_bytes = option_map
-    (λ name. record {
-      name = name;
-      value = u32_at record_bytes 8;
-      section = u16_at record_bytes 12;
-      kind = u16_at record_bytes 14;
-      class = slice_index record_bytes 16;
-    })
-    (name_of strings (take 8 record_bytes))
+symbol_of strings record_bytes =
+    option_map (λ name. symbol_with record_bytes name) (name_of strings (take 8 record_bytes))
 
 -- `count` entries from an offset on, the first few of them auxiliary records
 unfoldable pub entries_at : List ℕ → List ℕ → ℕ → ℕ → ℕ → Option (List Entry)
@@ -141,25 +153,26 @@ strings_at bytes place = option_and_then
     (λ size. bytes_at bytes place (u32_at size 0))
     (bytes_at bytes place 4)
 
+-- the object of a header of 20 bytes, with its sections and the entries of its symbol table
+abbrev pub object_with : List ℕ → List ObjectSection → List Entry → Object
+object_with header sections entries = record {
+  machine = u16_at header 0;
+  time = u32_at header 4;
+  optional_header_size = u16_at header 16;
+  characteristics = u16_at header 18;
+  sections = sections;
+  entries = entries;
+}
+
 -- the object that a header of 20 bytes describes
 unfoldable pub object_of_header : List ℕ → List ℕ → Option Object
 object_of_header bytes header =
     let symbol_table_offset : ℕ = u32_at header 8 in
     let records : ℕ = u32_at header 12 in
-    option_and_then
-    (λ strings. option_and_then
-    (λ sections. option_map
-    (λ entries. record {
-      machine = u16_at header 0;
-      time = u32_at header 4;
-      optional_header_size = u16_at header 16;
-      characteristics = u16_at header 18;
-      sections = sections;
-      entries = entries;
-    })
-    (entries_at bytes strings symbol_table_offset 0 records))
-    (each_at (section_at bytes) (20 + u16_at header 16) 40 (u16_at header 2)))
-    (strings_at bytes (symbol_table_offset + 18 * records))
+    let strings = strings_at bytes (symbol_table_offset + 18 * records) in
+    let sections = each_at (section_at bytes) (20 + u16_at header 16) 40 (u16_at header 2) in
+    let entries = option_and_then (λ table. entries_at bytes table symbol_table_offset 0 records) strings in
+    option_and_then (λ ss. option_map (λ es. object_with header ss es) entries) sections
 
 -- the object in a file's bytes
 unfoldable pub object_in : List ℕ → Option Object

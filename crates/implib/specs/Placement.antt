@@ -1,6 +1,7 @@
 -- Placement: where the sections of linked objects stand (this project's model of what linkers do,
 -- docs/FORMATS.md, "Placement").
-use Rattle.std.specs.Prelude.{ℕ, ◌+◌, ◌-◌, ◌/◌, ◌%◌, ◌^◌, Bool, ◌==◌, List, [], ◌∷◌, length, bytes_eq, codes, Option, Some, None, if◌then◌else◌}
+use Rattle.std.specs.Prelude.{ℕ, ◌+◌, ◌-◌, ◌/◌, ◌%◌, ◌^◌, Bool, ◌==◌, List, [], ◌∷◌, length, bytes_eq, codes}
+use Rattle.std.specs.Prelude.{Option, Some, None, if◌then◌else◌}
 use Rattle.implib.specs.Object.{Object, ObjectSection}
 
 -- The groups of sections that import tables are made of (PE/COFF specification, "The .idata
@@ -90,11 +91,13 @@ section_address_of ends s = place_after ends s.flags (group_named s.name)
 abbrev pub places_of : Bases → List ObjectSection → List SectionAddress
 places_of ends [] = []
 places_of ends (s ∷ sections) =
-    section_address_of ends s ∷ places_of (end_after ends (section_address_of ends s) (length s.bytes)) sections
+    section_address_of ends s
+    ∷ places_of (end_after ends (section_address_of ends s) (length s.bytes)) sections
 
 abbrev pub ends_after : Bases → List ObjectSection → Bases
 ends_after ends [] = ends
-ends_after ends (s ∷ sections) = ends_after (end_after ends (section_address_of ends s) (length s.bytes)) sections
+ends_after ends (s ∷ sections) =
+    ends_after (end_after ends (section_address_of ends s) (length s.bytes)) sections
 
 -- an object with the places of its sections
 pub record Placed : Type 0 where

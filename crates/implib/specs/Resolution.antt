@@ -1,11 +1,12 @@
 -- Resolution: the addresses of the symbols of objects that are placed (PE/COFF specification, "COFF
 -- Symbol Table").
-use Rattle.std.specs.Prelude.{ℕ, zero, suc, ◌+◌, Bool, ◌&&◌, ◌==◌, List, [], ◌∷◌, bytes_eq, slice_get, Option, Some, None, if◌then◌else◌}
+use Rattle.std.specs.Prelude.{ℕ, ◌+◌, Bool, ◌&&◌, ◌==◌, List, [], ◌∷◌, bytes_eq, slice_get, Option, Some}
+use Rattle.std.specs.Prelude.{None, if◌then◌else◌}
 use Rattle.std.specs.List.{filter, filter_map, flat_map}
 use Rattle.std.specs.Option.{option_and_then}
 use Rattle.implib.specs.Constants.{class_external, section_undefined}
 use Rattle.implib.specs.File.{is_defined_external}
-use Rattle.implib.specs.Object.{ASymbol, Auxiliary, Entry, ObjectSymbol}
+use Rattle.implib.specs.Object.{ASymbol, Auxiliary, Entry, ObjectSymbol, section_numbered}
 use Rattle.implib.specs.Placement.{At, Unplaced, SectionAddress, Placed}
 
 -- the address of a value at a place
@@ -15,9 +16,8 @@ address_at (At group address) value = Some (address + value)
 
 -- the address of a value in the section of a number, which counts from 1
 abbrev pub address_in : List SectionAddress → ℕ → ℕ → Option ℕ
-address_in places zero value = None
-address_in places (suc index) value =
-    option_and_then (λ place. address_at place value) (slice_get places index)
+address_in addresses number value =
+    option_and_then (λ address. address_at address value) (section_numbered addresses number)
 
 -- a symbol that an object defines for others, with its address, where its section has a place
 pub record SymbolDefinition : Type 0 where

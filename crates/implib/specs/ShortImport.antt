@@ -1,10 +1,12 @@
 -- Reading a short import record (PE/COFF specification, "Import Library Format"):
 -- a header of 20 bytes, then two texts with a NUL each: the symbol and the DLL's name.
 -- The reader takes what it finds in the bytes, and knows nothing of who wrote them.
-use Rattle.std.specs.Prelude.{ℕ, ◌-◌, ◌/◌, ◌%◌, Bool, ◌&&◌, ◌==◌, nat_le, List, [], ◌∷◌, length, drop, Option, Some, None, if◌then◌else◌}
+use Rattle.std.specs.Prelude.{ℕ, ◌-◌, ◌/◌, ◌%◌, Bool, ◌&&◌, ◌==◌, nat_le, List, [], ◌∷◌, length, drop, Option}
+use Rattle.std.specs.Prelude.{Some, None, if◌then◌else◌}
 use Rattle.std.specs.List.{before_first}
 use Rattle.implib.specs.Ascii.{question_mark}
-use Rattle.implib.specs.Import.{Ask, Ordinal, Name, Import, import_symbols, without_first, begins_with, underscore, at_sign}
+use Rattle.implib.specs.Import.{Ask, Ordinal, Name, Import, import_symbols, without_first, begins_with}
+use Rattle.implib.specs.Import.{underscore, at_sign}
 use Rattle.implib.specs.Object.{u16_at, u32_at}
 
 -- the fields of a record
@@ -83,7 +85,9 @@ short_import_from bytes (Some (symbol, rest)) = short_import_with bytes symbol (
 
 -- the record that these bytes are
 unfoldable pub short_import_in : List ℕ → Option ShortImport
-short_import_in bytes = if is_short_import bytes then short_import_from bytes (text_in (drop short_import_header_size bytes)) else None
+short_import_in bytes =
+    if is_short_import bytes then short_import_from bytes (text_in (drop short_import_header_size bytes))
+    else None
 
 -- a symbol without its first byte, where that is `?`, `@` or `_`
 abbrev pub without_prefix : List ℕ → List ℕ

@@ -1,9 +1,16 @@
 -- Syntax errors: the first token that no derivation allows, and the cause that is reported.
 use Rattle.std.specs.Prelude.{◌≡◌, ◌≢◌, ℕ, ◌⊎◌, Bool, true, false, List, [], ◌∷◌, ◌++◌, Option, Some, None}
 use Rattle.implib.specs.declared.def.lexer.TokenKind.{TokenKind}
-use Rattle.implib.specs.declared.def.lexer.TokenKind.TheVariants.{Eof, Identifier, Comma, Equal, EqualEqual, KwBase, KwConstant, KwData, KwExports, KwHeapsize, KwLibrary, KwName, KwNoname, KwPrivate, KwStacksize, KwVersion}
-use Rattle.implib.specs.Fault.{Cause, UnknownDirective, ExpectedIdentifier, ExpectedEqual, ExpectedInteger, InvalidOrdinal, LoneAt}
-use Rattle.implib.specs.Grammar.{Attribute, Joined, Apart, Export, Region, Statement, Exports, Sizes, Nameless, Named, Version, Of, NameOrLibrary, Word, Number, Terminal, StartsWith, IsLoneAt, IsVersion, exports_terminals, region_kind, terminals, at_sign}
+use Rattle.implib.specs.declared.def.lexer.TokenKind.TheVariants.{Eof, Identifier, Comma, Equal, EqualEqual}
+use Rattle.implib.specs.declared.def.lexer.TokenKind.TheVariants.{KwBase, KwConstant, KwData, KwExports}
+use Rattle.implib.specs.declared.def.lexer.TokenKind.TheVariants.{KwHeapsize, KwLibrary, KwName, KwNoname}
+use Rattle.implib.specs.declared.def.lexer.TokenKind.TheVariants.{KwPrivate, KwStacksize, KwVersion}
+use Rattle.implib.specs.Fault.{Cause, UnknownDirective, ExpectedIdentifier, ExpectedEqual, ExpectedInteger}
+use Rattle.implib.specs.Fault.{InvalidOrdinal, LoneAt}
+use Rattle.implib.specs.Grammar.{Attribute, Joined, Apart, Export, Region, Statement, Exports, Sizes}
+use Rattle.implib.specs.Grammar.{Nameless, Named, Version, Of, NameOrLibrary, Word, Number, Terminal}
+use Rattle.implib.specs.Grammar.{StartsWith, IsLoneAt, IsVersion, exports_terminals, region_kind, terminals}
+use Rattle.implib.specs.Grammar.{at_sign}
 use Rattle.implib.specs.Number.{IsNumber, u16_limit, u64_limit}
 use Rattle.implib.specs.Token.{TokenView}
 
@@ -32,7 +39,8 @@ bare word = record { word = word; target = None; attributes = [] }
 
 -- `EXPORTS`, the exports, one more of them, and what of it has begun
 abbrev pub partial_exports : List Export → Export → Terminal → List Terminal
-partial_exports exports last begun = Of KwExports ∷ (exports_terminals Word (exports ++ last ∷ []) ++ begun ∷ [])
+partial_exports exports last begun =
+    Of KwExports ∷ (exports_terminals Word (exports ++ last ∷ []) ++ begun ∷ [])
 
 -- the terminals of a partial statement
 abbrev pub partial_terminals : PartialStatement → List Terminal

@@ -1,8 +1,10 @@
--- The object of a weak external, for both flavours (PE/COFF specification, "Auxiliary Format 3: Weak Externals").
+-- The object of a weak external, for both flavours (PE/COFF specification, "Auxiliary Format 3: Weak
+-- Externals").
 use Rattle.std.specs.Prelude.{ℕ, ◌+◌, List, [], ◌∷◌, ◌++◌, Some, codes}
 use Rattle.implib.specs.declared.machine.MachineType.{MachineType}
 use Rattle.implib.specs.Bytes.{u32_bytes}
-use Rattle.implib.specs.Constants.{lnk_info, lnk_remove, class_external, class_static, class_weak_external, section_undefined, section_absolute, weak_search_alias}
+use Rattle.implib.specs.Constants.{lnk_info, lnk_remove, class_external, class_static, class_weak_external}
+use Rattle.implib.specs.Constants.{section_undefined, section_absolute, weak_search_alias}
 use Rattle.implib.specs.Machine.{machine_number}
 use Rattle.implib.specs.Object.{ObjectSection}
 use Rattle.implib.specs.Layout.{symbol, ObjectLayout, LayoutSymbol, InRecord, InStringTable}
@@ -28,7 +30,13 @@ weak_symbols =
     symbol (InRecord (codes "@comp.id")) section_absolute class_static
     ∷ symbol (InRecord (codes "@feat.00")) section_absolute class_static
     ∷ symbol (InStringTable 0) section_undefined class_external
-    ∷ record { name = InStringTable 1; value = 0; section = section_undefined; class = class_weak_external; aux = Some (weak_auxiliary 2) }
+    ∷ record {
+      name = InStringTable 1;
+      value = 0;
+      section = section_undefined;
+      class = class_weak_external;
+      aux = Some (weak_auxiliary 2);
+    }
     ∷ []
 
 -- an object that makes one symbol weak for another

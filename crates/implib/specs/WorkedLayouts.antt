@@ -6,7 +6,8 @@ use Rattle.implib.specs.declared.machine.MachineType.TheVariants.{I386, ARMNT, A
 use Rattle.implib.specs.Layout.{encoded}
 use Rattle.implib.specs.WorkedDigits.{hex}
 use Rattle.implib.specs.WorkedMachines.{numbers}
-use Rattle.implib.specs.WorkedObjects.{descriptor, function, head, null_descriptor, null_thunk, one_section, tail, two_names, weak}
+use Rattle.implib.specs.WorkedObjects.{descriptor, function, head, null_descriptor, null_thunk, one_section}
+use Rattle.implib.specs.WorkedObjects.{tail, two_names, weak}
 
 -- 70 bytes
 unfoldable pub two_names_bytes : List ℕ

@@ -3,7 +3,9 @@ use Rattle.std.specs.Prelude.{◌≡◌, ℕ, ◌+◌, List, [], ◌∷◌, ◌+
 use Rattle.implib.specs.declared.coff.object.Relocation.{Relocation}
 use Rattle.implib.specs.declared.machine.MachineType.TheVariants.{I386, AMD64}
 use Rattle.implib.specs.Object.{ObjectSection}
-use Rattle.implib.specs.Layout.{InRecord, InStringTable, ObjectLayout, LayoutSymbol, SymbolName, contents_offset, contents_size, header_bytes, encoded_size, string_offsets, strings_size, symbol_table_offset}
+use Rattle.implib.specs.Layout.{InRecord, InStringTable, ObjectLayout, LayoutSymbol, SymbolName}
+use Rattle.implib.specs.Layout.{contents_offset, contents_size, header_bytes, encoded_size, string_offsets}
+use Rattle.implib.specs.Layout.{strings_size, symbol_table_offset}
 use Rattle.implib.specs.WorkedDigits.{hex}
 use Rattle.implib.specs.WorkedMachines.{Numbers, at, numbers}
 
@@ -211,7 +213,11 @@ without_code n sections = record {
   machine = n.machine;
   characteristics = 0;
   sections = sections;
-  symbols = symbol (InStringTable 0) 0 2 ∷ symbol (InStringTable 1) 5 2 ∷ symbol (InRecord (codes ".idata$6")) 7 3 ∷ [];
+  symbols =
+      symbol (InStringTable 0) 0 2
+      ∷ symbol (InStringTable 1) 5 2
+      ∷ symbol (InRecord (codes ".idata$6")) 7 3
+      ∷ [];
   strings = n.head ∷ codes "__imp_bar" ∷ [];
 }
 

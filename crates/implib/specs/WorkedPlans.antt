@@ -1,4 +1,5 @@
--- All members of one definition, worked by hand: foo.dll with the function bar, which is another name for baz.
+-- All members of one definition, worked by hand: foo.dll with the function bar, which is another name for
+-- baz.
 use Rattle.std.specs.Prelude.{◌≡◌, ℕ, List, [], ◌∷◌, codes}
 use Rattle.implib.specs.declared.members.Flavor.TheVariants.{Msvc, Gnu}
 use Rattle.implib.specs.declared.machine.MachineType.{MachineType}
@@ -11,7 +12,10 @@ use Rattle.implib.specs.WorkedObjects.{descriptor, function, head, null_descript
 use Rattle.implib.specs.WorkedTables.{bar, foo_dll}
 
 abbrev pub definition : DefinitionView
-definition = record empty_definition { import_name = foo_dll; exports = record bar { alias_target = codes "baz" } ∷ [] }
+definition = record empty_definition {
+  import_name = foo_dll;
+  exports = record bar { alias_target = codes "baz" } ∷ [];
+}
 
 -- a member that is listed for one symbol
 abbrev pub member : List ℕ → Contents → List ℕ → MemberSpec

@@ -12,7 +12,8 @@ use Rattle.implib.specs.Layout.{ObjectLayout}
 use Rattle.implib.specs.Writer.{layout_of}
 use Rattle.implib.specs.WorkedDigits.{hex}
 use Rattle.implib.specs.WorkedMachines.{numbers}
-use Rattle.implib.specs.WorkedObjects.{descriptor, function, function_asking, function_by_ordinal, head, null_descriptor, null_thunk, tail, variable, variable_by_ordinal, weak}
+use Rattle.implib.specs.WorkedObjects.{descriptor, function, function_asking, function_by_ordinal, head}
+use Rattle.implib.specs.WorkedObjects.{null_descriptor, null_thunk, tail, variable, variable_by_ordinal, weak}
 use Rattle.implib.specs.WorkedStatements.{plain_export}
 
 abbrev pub foo_dll : List ℕ
@@ -125,7 +126,8 @@ pub record WorkedNameTypes : Type 0 where
   pub at_sign_alone : types_of I386 (under_symbol (codes "f@8") (codes "g")) ≡ hex "0c 00"
   pub underscore_alone : types_of I386 (under_symbol (codes "_f") (codes "g")) ≡ hex "0c 00"
   pub other_symbol_before_prefix : types_of I386 (under_symbol (codes "f") (codes "_g")) ≡ hex "0c 00"
-  pub ordinal_before_all : types_of I386 (record (under_symbol (codes "_f@8") (codes "_g")) { no_name = true })
+  pub ordinal_before_all : types_of I386
+      (record (under_symbol (codes "_f@8") (codes "_g")) { no_name = true })
       ≡ hex "00 00"
 
 -- What records ask for, by their name type.
@@ -133,7 +135,8 @@ pub record WorkedAskedNames : Type 0 where
   pub whole : asked_by_short_import AMD64 (plain_export (codes "_f")) ≡ codes "_f"
   pub whole_decorated : asked_by_short_import I386 (under_symbol (codes "_f@8") (codes "_g@4")) ≡ codes "_g@4"
   pub without_prefix : asked_by_short_import I386 (plain_export (codes "__f")) ≡ codes "_f"
-  pub without_question_mark : asked_by_short_import AMD64 (under_symbol (codes "f") (codes "?f@@YAXXZ")) ≡ codes "f"
+  pub without_question_mark : asked_by_short_import AMD64 (under_symbol (codes "f") (codes "?f@@YAXXZ"))
+      ≡ codes "f"
   pub without_at_sign : asked_by_short_import AMD64 (under_symbol (codes "f") (codes "@g@4")) ≡ codes "g"
   pub without_underscore : asked_by_short_import AMD64 (under_symbol (codes "f") (codes "_g@4")) ≡ codes "g"
   pub one_prefix_alone : asked_by_short_import AMD64 (under_symbol (codes "f") (codes "??g")) ≡ codes "?g"

@@ -1,6 +1,8 @@
 -- The state of an object writer, and the layout that it encodes (this project's layout,
 -- docs/FORMATS.md, "The layout of an object").
-use Rattle.std.specs.Prelude.{ℕ, zero, suc, ◌+◌, ◌<◌, ◌≤◌, Bool, List, [], ◌∷◌, ◌++◌, Option, None, Some, IsSomeAnd, length, map, fold, flat_map, slice_get, nat_lt, string_bytes, if◌then◌else◌, bytes_eq}
+use Rattle.std.specs.Prelude.{ℕ, zero, suc, ◌+◌, ◌<◌, ◌≤◌, Bool, List, [], ◌∷◌, ◌++◌, Option, None, Some}
+use Rattle.std.specs.Prelude.{IsSomeAnd, length, map, fold, flat_map, slice_get, nat_lt, string_bytes}
+use Rattle.std.specs.Prelude.{if◌then◌else◌, bytes_eq}
 use Rattle.std.specs.List.{list_any, position_or_len}
 use Rattle.implib.specs.declared.coff.object.Place.{Place}
 use Rattle.implib.specs.declared.coff.object.Place.TheVariants.{Undefined, Section, Absolute, Debug}
@@ -87,11 +89,6 @@ IsSymbol (Auxiliary bytes) = ⊥
 abbrev pub IsSymbolIndex : List AddedSymbol → ℕ → Type 0
 IsSymbolIndex symbols index = IsSomeAnd (slice_get (all_entries symbols) index) IsSymbol
 
--- the section of a number from 1
-abbrev pub section_numbered : List ObjectSection → ℕ → Option ObjectSection
-section_numbered sections zero = None
-section_numbered sections (suc index) = slice_get sections index
-
 -- the place names no section, or one of `count` sections
 abbrev pub IsPlaceAmong : ℕ → Place → Type 0
 IsPlaceAmong count Undefined = Unit {0}
@@ -140,7 +137,8 @@ long_names symbols = fold with_long_name [] (map (λ s. s.name) symbols)
 
 -- the location of a name
 unfoldable pub name_location : List (List ℕ) → List ℕ → SymbolName
-name_location names name = if is_long name then InStringTable (position_or_len (bytes_eq name) names) else InRecord name
+name_location names name =
+    if is_long name then InStringTable (position_or_len (bytes_eq name) names) else InRecord name
 
 -- a symbol as it is written
 unfoldable pub symbol_written : List (List ℕ) → AddedSymbol → LayoutSymbol

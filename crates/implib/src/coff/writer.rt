@@ -1,11 +1,11 @@
 //! The writer of objects.
 
 ghost use Rattle.implib.specs.Fault.{Cause, IfInvalid};
-ghost use Rattle.implib.specs.Object.{object_in};
+ghost use Rattle.implib.specs.Object.{object_in, section_numbered};
 ghost use Rattle.implib.specs.Layout.{Fits, HasNoNul, encoded, encoded_size};
 ghost use Rattle.implib.specs.LayoutView.{name_view, symbol_view};
 ghost use Rattle.implib.specs.Writer.{section_view};
-ghost use Rattle.implib.specs.Writer.{HasRoomFor, IsPlaceAmong, IsSymbolIndex, all_entries, entries_added, long_names, name_location, written_object, layout_of, section_number, section_numbered, symbol_written, with_long_name, with_relocation, with_section, with_symbol};
+ghost use Rattle.implib.specs.Writer.{HasRoomFor, IsPlaceAmong, IsSymbolIndex, all_entries, entries_added, long_names, name_location, written_object, layout_of, section_number, symbol_written, with_long_name, with_relocation, with_section, with_symbol};
 ghost use Rattle.implib.specs.Writer.{added_view};
 ghost use Rattle.implib.specs.WriterView.{writer_state};
 ghost use Rattle.std.specs.Prelude.{◌+◌, ◌<◌, ◌^◌, ◌≡◌, ◌≤◌, Some, [], IfErr, IfOk, IsSomeAnd, OnErr, OnOk, alloc_error, length, map, string_bytes};
