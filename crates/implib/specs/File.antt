@@ -1,4 +1,4 @@
--- Reading a member's file, as a record or as an object. The reader takes what it finds in the bytes,
+-- Reading a member's file, as a short import or as an object. The reader takes what it finds in the bytes,
 -- and knows nothing of who wrote them.
 use Rattle.std.specs.Prelude.{ℕ, Bool, ◌&&◌, ◌==◌, nat_le, List, [], ◌∷◌, slice_get, bytes_eq, codes, Option}
 use Rattle.std.specs.Prelude.{Some, None, if◌then◌else◌}
@@ -15,7 +15,7 @@ pub data File : Type 0 where
   ShortImportFile : ShortImport → File
   ObjectFile : Object → File
 
--- a record, or otherwise what is read as an object
+-- a short import, or otherwise what is read as an object
 abbrev pub short_import_or_object : Option ShortImport → Option Object → Option File
 short_import_or_object (Some r) o = Some (ShortImportFile r)
 short_import_or_object None o = option_map ObjectFile o
@@ -29,7 +29,7 @@ file_in bytes = short_import_or_object (short_import_in bytes) (object_in bytes)
 abbrev pub is_defined_external : ObjectSymbol → Bool
 is_defined_external s = (s.class == class_external) && nat_le 1 s.section && nat_le s.section 0x7FFF
 
--- the name that an entry declares: of a defined external, or of a weak one
+-- the name that an entry declares: that of a defined external, or of a weak one
 abbrev pub declared_by_entry : Entry → Option (List ℕ)
 declared_by_entry (Auxiliary bytes) = None
 declared_by_entry (ASymbol s) =
@@ -37,7 +37,8 @@ declared_by_entry (ASymbol s) =
     else if s.class == class_weak_external then Some s.name
     else None
 
--- the symbols that a file declares, in order
+-- The symbols that a file declares, in order. For example, the short import of bar declares `__imp_bar` and
+-- `bar`, and that of data `__imp_bar` alone.
 abbrev pub declared_by : File → List (List ℕ)
 declared_by (ShortImportFile r) = import_symbols (r.kind == import_data) r.symbol
 declared_by (ObjectFile o) = filter_map declared_by_entry o.entries
@@ -73,7 +74,8 @@ only_alias entries ((weak, Some index) ∷ other ∷ others) = None
 only_alias entries ((weak, Some index) ∷ []) =
     option_map (λ target. record { weak = weak; target = target }) (name_at entries index)
 
--- the alias that an object makes, where just one of its symbols is a weak external
+-- The alias that an object makes, where just one of its symbols is a weak external. For example, that foo is
+-- weak for baz.
 abbrev pub alias_of_object : Object → Option Alias
 alias_of_object o = only_alias o.entries (weak_symbols o.entries)
 

@@ -36,7 +36,8 @@ abbrev pub has_underscore : MachineType → List ℕ → Bool
 has_underscore machine name =
     has_leading_underscore machine && begins_with underscore name && not (holds at_sign name)
 
--- the name that an export asks for: its name without that underscore
+-- The name that an export asks for: its name without that underscore. For example, on I386 `_bar` asks for
+-- bar, and `_f@8` for `_f@8`.
 abbrev pub asked_name : MachineType → List ℕ → List ℕ
 asked_name machine name = if has_underscore machine name then without_first name else name
 
@@ -52,7 +53,8 @@ import_symbols is_data name = address_symbol name ∷ (if is_data then [] else n
 abbrev pub expected_ask : MachineType → ExportView → Ask
 expected_ask machine e = if e.no_name then Ordinal e.ordinal else Name (asked_name machine e.name) e.ordinal
 
--- the import that an export means
+-- The import that an export means. For example, `bar` of foo.dll on AMD64 declares `__imp_bar` and `bar`, and
+-- asks foo.dll for the name bar with the hint 0.
 abbrev pub expected_import : MachineType → List ℕ → ExportView → Import
 expected_import machine dll e = record {
   dll = dll;
@@ -75,7 +77,8 @@ is_empty_text (first ∷ rest) = false
 abbrev pub is_alias : List ℕ → List ℕ → Bool
 is_alias target symbol = not (is_empty_text target) && not (bytes_eq target symbol)
 
--- the aliases of a symbol for a target: of the name, and of its address
+-- The aliases of a symbol for a target: of the name, and of its address. For example, foo for the target baz:
+-- `foo` is weak for `baz`, and `__imp_foo` for `__imp_baz`.
 abbrev pub aliases_for : List ℕ → List ℕ → List Alias
 aliases_for symbol target =
     if is_alias target symbol then

@@ -34,7 +34,7 @@ layout_view p = record {
   strings = map (λ text. text.now) p.strings.now;
 }
 
--- a name in its record has at most 8 bytes, and one in the string table is of the strings
+-- a name in its record has at most 8 bytes, and one in the string table is one of the strings
 abbrev pub FitsField : ℕ → SymbolName → Type 0
 FitsField strings (InRecord text) = length text ≤ 8
 FitsField strings (InStringTable index) = index < strings

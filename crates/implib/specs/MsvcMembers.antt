@@ -47,7 +47,7 @@ weak_specs machine dll e =
     ∷ []
     else []
 
--- the specification of an export's short record
+-- the specification of an export's short import
 abbrev pub short_import_spec : MachineType → List ℕ → ExportView → MemberSpec
 short_import_spec machine dll e = record {
   name = dll;
@@ -55,7 +55,7 @@ short_import_spec machine dll e = record {
   listed = short_import_listed e;
 }
 
--- the number of an export's members: its weak externals, and its record
+-- the number of an export's members: its weak externals, and its short import
 abbrev pub member_count : ExportView → ℕ
 member_count e = if is_alias e.alias_target (short_import_symbol e) then 3 else 1
 

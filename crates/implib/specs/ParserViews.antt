@@ -42,7 +42,7 @@ abbrev pub Gives : {X Y : Type 0} → (X → Y) → Result X Error → Result Y 
 Gives view (Ok x) read = read ≡ Ok (view x)
 Gives view (Err e) read = Fails e read
 
--- an item that was read is put to what is there, and told; or there was none
+-- an item that was read is put to what is there, and reported; or there was none
 abbrev pub put : {A S : Type 0} → (S → A → S) → S → Option A × List TokenView →
     Result (Bool × S × List TokenView) Cause
 put apply state (None, rest) = Ok (false, state, rest)

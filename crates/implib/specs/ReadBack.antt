@@ -20,7 +20,7 @@ use Rattle.implib.specs.Layout.{HasNoNul, object_of}
 use Rattle.implib.specs.ShortImport.{ShortImport}
 use Rattle.implib.specs.Renaming.{renamed}
 
--- the fields of a record are within what the file has room for
+-- the fields of a short import have their ranges
 pub record FitsRecord (r : ShortImport) : Type 0 where
   pub version : r.version < 2 ^ 16
   pub machine : r.machine < 2 ^ 16
@@ -31,7 +31,7 @@ pub record FitsRecord (r : ShortImport) : Type 0 where
   pub symbol : HasNoNul r.symbol
   pub dll : HasNoNul r.dll
 
--- what an export's record asks for, with its symbol name
+-- what an export's short import asks for, with its symbol name
 abbrev pub ask_written : MachineType → ExportView → Ask
 ask_written machine e =
     if e.no_name then Ordinal e.ordinal else Name (asked_by_short_import machine e) e.ordinal
@@ -69,16 +69,17 @@ alias_among (AnAlias a) = Some a
 abbrev pub has_no_symbol_names : DefinitionView → Bool
 has_no_symbol_names d = list_all (λ e. is_empty_text e.symbol_name) d.exports
 
--- What the members for Microsoft's linker are read as.
+-- What the members for Microsoft's linker are read as. For example, of foo.dll with bar: the import
+-- descriptor of foo.dll, the null descriptor, the null thunk, and the import of bar.
 pub record MsvcReadBack (d : DefinitionView) (machine : MachineType) (members : List MemberView)
     : Type 0 where
-  -- each file reads as specified: each object as its table, each record as its fields
+  -- each file reads as specified: each object as its table, each short import as its fields
   pub files : map (λ m. file_in m.bytes) members
       ≡ map (λ p. Some (file_of p.contents)) (member_specs (renamed d) machine Msvc)
   -- each file has the specified length
   pub lengths : map (λ m. length m.bytes) members
       ≡ map (λ p. file_size p.contents) (member_specs (renamed d) machine Msvc)
-  -- each member declares exactly the symbols that it is listed for
+  -- each member declares exactly its archive symbols
   pub declared : map (λ m. option_map declared_by (file_in m.bytes)) members
       ≡ map (λ m. Some m.symbols) members
   -- the first member, the import descriptor, names the DLL
@@ -128,7 +129,7 @@ pub record GnuReadBack (d : DefinitionView) (machine : MachineType) (members : L
   -- each file has the specified length
   pub lengths : map (λ m. length m.bytes) members
       ≡ map (λ p. file_size p.contents) (member_specs (renamed d) machine Gnu)
-  -- each member declares exactly the symbols that it is listed for
+  -- each member declares exactly its archive symbols
   pub declared : map (λ m. option_map declared_by (file_in m.bytes)) members
       ≡ map (λ m. Some m.symbols) members
   pub tail : File

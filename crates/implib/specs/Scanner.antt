@@ -70,7 +70,7 @@ tokens_left text rest is_done =
 
 -- a lexeme without a token
 abbrev pub IsTrivia : Lexeme → Type 0
-IsTrivia lexeme = (place : ℕ) → tokens_of_lexeme place lexeme ≡ []
+IsTrivia lexeme = (offset : ℕ) → tokens_of_lexeme offset lexeme ≡ []
 
 -- the text begins with neither white space nor a comment
 pub record BeginsNoTrivia (text : List ℕ) : Type 0 where
@@ -100,13 +100,13 @@ pub record SkipsTrivia (text rest : List ℕ) : Type 0 where
   pub all : BeginsNoTrivia rest
 
 -- the text is a lexeme with this token, and then `after`
-pub record TakesLexeme (text : List ℕ) (place : ℕ) (token : TokenView) (after : List ℕ) : Type 0 where
+pub record TakesLexeme (text : List ℕ) (offset : ℕ) (token : TokenView) (after : List ℕ) : Type 0 where
   pub lexeme : Lexeme
   pub spelled : text ≡ lexeme_text lexeme ++ after
   pub stands : IsLexemeBefore lexeme after
-  pub given : tokens_of_lexeme place lexeme ≡ token ∷ []
+  pub given : tokens_of_lexeme offset lexeme ≡ token ∷ []
 
 -- this, or the text is at its end
 abbrev pub TakesToken : List ℕ → ℕ → TokenView → List ℕ → Type 0
-TakesToken text place token after =
-    TakesLexeme text place token after ⊎ (IsEnd text × (token ≡ eof place) × (after ≡ text))
+TakesToken text offset token after =
+    TakesLexeme text offset token after ⊎ (IsEnd text × (token ≡ eof offset) × (after ≡ text))

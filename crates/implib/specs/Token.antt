@@ -82,7 +82,7 @@ abbrev pub begins : (ℕ → Bool) → List ℕ → Bool
 begins test [] = false
 begins test (b ∷ rest) = test b
 
--- a word begins with a character that is neither white space, nor NUL, nor `"`; no delimiter begins it either
+-- a word begins with a character that is neither white space, nor NUL, nor `"`, nor a delimiter
 pub record BeginsWord (run : List ℕ) : Type 0 where
   pub character : ℕ
   pub tail : List ℕ
@@ -139,12 +139,18 @@ pub record Divides (text : List ℕ) (lexemes : List Lexeme) (end : List ℕ) : 
 -- The words that are keywords, in this case alone. For example, `Base` and `DATA1` are none.
 abbrev pub keywords : List (List ℕ × TokenKind)
 keywords =
-    (codes "BASE", kind.KwBase) ∷ (codes "CONSTANT", kind.KwConstant) ∷ (codes "DATA", kind.KwData)
+    (codes "BASE", kind.KwBase)
+    ∷ (codes "CONSTANT", kind.KwConstant)
+    ∷ (codes "DATA", kind.KwData)
     ∷ (codes "EXPORTS", kind.KwExports)
     ∷ (codes "HEAPSIZE", kind.KwHeapsize)
     ∷ (codes "LIBRARY", kind.KwLibrary)
-    ∷ (codes "NAME", kind.KwName) ∷ (codes "NONAME", kind.KwNoname) ∷ (codes "PRIVATE", kind.KwPrivate)
-    ∷ (codes "STACKSIZE", kind.KwStacksize) ∷ (codes "VERSION", kind.KwVersion) ∷ []
+    ∷ (codes "NAME", kind.KwName)
+    ∷ (codes "NONAME", kind.KwNoname)
+    ∷ (codes "PRIVATE", kind.KwPrivate)
+    ∷ (codes "STACKSIZE", kind.KwStacksize)
+    ∷ (codes "VERSION", kind.KwVersion)
+    ∷ []
 
 -- the kind that a table gives a word, and Identifier for a word that the table lacks
 abbrev pub kind_in : List (List ℕ × TokenKind) → List ℕ → TokenKind
@@ -155,7 +161,8 @@ kind_in (row ∷ rows) word = if bytes_eq word row.0 then row.1 else kind_in row
 unfoldable pub kind_of_word : List ℕ → TokenKind
 kind_of_word word = kind_in keywords word
 
--- where in a quoted name its value begins: after the white space, or at the front where nothing else is there
+-- where in a quoted name its value begins: after the white space, or at the front where nothing else is
+-- there
 abbrev pub value_start : List ℕ → ℕ
 value_start inside = if length (trim inside) == 0 then 0 else length inside - length (trim_start inside)
 
@@ -170,7 +177,8 @@ tokens_of_lexeme offset EqualSigns = record { kind = kind.EqualEqual; value = 61
 tokens_of_lexeme offset CommaSign = record { kind = kind.Comma; value = 44 ∷ []; at = offset } ∷ []
 tokens_of_lexeme offset (Quoted inside) =
     record { kind = kind.Identifier; value = trim inside; at = offset + 1 + value_start inside } ∷ []
-tokens_of_lexeme offset (Unclosed inside) = record { kind = kind.Identifier; value = []; at = offset + 1 } ∷ []
+tokens_of_lexeme offset (Unclosed inside) =
+    record { kind = kind.Identifier; value = []; at = offset + 1 } ∷ []
 tokens_of_lexeme offset (Word run) =
     record { kind = kind_of_word (trim_end run); value = trim_end run; at = offset } ∷ []
 
@@ -198,7 +206,7 @@ EndsInEof [] = ⊥
 EndsInEof (token ∷ []) = token.kind ≡ kind.Eof
 EndsInEof (token ∷ next ∷ rest) = (token.kind ≢ kind.Eof) × EndsInEof (next ∷ rest)
 
--- a text divides in one way
+-- a text divides into lexemes in one way
 pub record DividesOnce (text : List ℕ) : Type 0 where
   pub lexemes : List Lexeme
   pub end : List ℕ

@@ -254,7 +254,7 @@ unfoldable pub target_read : List TokenView → Reader (Option (List ℕ))
 target_read [] = Ok (None, [])
 target_read (token ∷ rest) = target_by token.kind token rest
 
--- all attributes that stand here
+-- all attributes at the front of the tokens
 unfoldable pub attributes_read : List TokenView → Reader (List Attribute)
 attributes_read tokens = all attribute_read tokens
 
@@ -274,7 +274,7 @@ unfoldable pub export_read : List TokenView → Reader (Option Export)
 export_read [] = Ok (None, [])
 export_read (token ∷ rest) = export_by token.kind token rest
 
--- all exports that stand here
+-- all exports at the front of the tokens
 unfoldable pub exports_read : List TokenView → Reader (List Export)
 exports_read tokens = all export_read tokens
 

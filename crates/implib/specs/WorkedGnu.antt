@@ -50,12 +50,12 @@ abbrev pub gnu_bytes_at : DefinitionView → MachineType → ℕ → Option (Lis
 gnu_bytes_at d machine index =
     option_map (λ p. file_bytes p.contents) (slice_get (gnu_plans_of d machine) index)
 
--- so many bytes from a place on of the member of the only export, which has no alias
+-- `count` bytes from an offset on of the member of the only export, which has no alias
 abbrev pub part_of_export : ℕ → ℕ → DefinitionView → MachineType → Option (List ℕ)
-part_of_export place count d machine =
-    option_map (λ bytes. take count (drop place bytes)) (gnu_bytes_at d machine 2)
+part_of_export offset count d machine =
+    option_map (λ bytes. take count (drop offset bytes)) (gnu_bytes_at d machine 2)
 
--- members by name, length and listed symbols
+-- members by name, length and archive symbols
 pub record WorkedGnuOutlines : Type 0 where
   pub one_function : TextHasGnuMembers bar_text AMD64 (foo_linkage ++ bar_member 474 ∷ [])
   pub one_function_i386 : TextHasGnuMembers bar_text I386

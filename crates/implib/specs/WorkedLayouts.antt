@@ -1,4 +1,4 @@
--- Whole objects byte by byte, worked by hand. A line is a header, a part of one, data, a relocation, a
+-- Whole objects byte by byte, worked by hand. A line is a header, half of one, data, a relocation, a
 -- symbol's record, or a string; a section's header takes two lines.
 use Rattle.std.specs.Prelude.{◌≡◌, ℕ, List, [], ◌∷◌, codes}
 use Rattle.std.specs.List.{concat}

@@ -1,4 +1,4 @@
--- Members for GNU's linker that were linked by hand: where their tables stand and what they hold.
+-- Members for GNU's linker that were linked by hand: the addresses of their tables and what they hold.
 use Rattle.std.specs.Prelude.{◌≡◌, ℕ, true, List, [], ◌∷◌, ◌++◌, map, bytes_eq, codes, Option, Some, None}
 use Rattle.std.specs.List.{AllByRecursion, IsDistinct, flat_map}
 use Rattle.std.specs.Option.{option_map}
@@ -24,21 +24,21 @@ use Rattle.implib.specs.WorkedStatements.{plain_export}
 abbrev pub placed : DefinitionView → MachineType → Bases → List ℕ → List Placed
 placed d machine bases chosen = placed_from bases (objects_in (linked_members d machine chosen))
 
--- so many bytes from an address on
+-- `count` bytes from an address on
 abbrev pub bytes_from : List Range → ℕ → ℕ → Option (List ℕ)
 bytes_from image count address = each_at (byte_at image) address 1 count
 
--- so many numbers of a width from an address on
+-- `count` numbers of `width` bytes from an address on
 abbrev pub numbers_from : List Range → ℕ → ℕ → ℕ → Option (List ℕ)
 numbers_from image width count address =
-    each_at (λ place. option_map number_in (bytes_from image width place)) address width count
+    each_at (λ at. option_map number_in (bytes_from image width at)) address width count
 
 -- the addresses at which a symbol is defined
 abbrev pub addresses_of : List ℕ → List Placed → List (Option ℕ)
 addresses_of name linked = map (λ d. d.address) (definitions_of name linked)
 
 -- what a linked image is asked: its groups' bases, the width of a thunk, how many thunks a table has
--- with the last one, how many bytes the hints and names have, and where the DLL's name stands
+-- with the last one, how many bytes the hints and names have, and the address of the DLL's name
 pub record Layout : Type 0 where
   pub bases : Bases
   pub width : ℕ
@@ -77,6 +77,7 @@ nameless name ordinal = record empty_export { name = name; ordinal = ordinal; no
 abbrev pub foo : List ℕ → List ℕ → DefinitionView
 foo by_name by_number = of_dll (codes "foo.dll") (plain_export by_name ∷ nameless by_number 5 ∷ [])
 
+-- bases for two exports of foo.dll, with thunks of 8 bytes, and of 4
 abbrev pub bases_64 : Bases
 bases_64 = record {
   descriptors = 0x1000;
@@ -95,7 +96,7 @@ bases_32 = record {
   dll_names = 0x1034;
 }
 
--- two DLLs with one export each
+-- an input: a DLL with one export
 abbrev pub input : List ℕ → List ℕ → LinkInput
 input dll name = record {
   definition = of_dll dll (plain_export name ∷ []);
@@ -103,6 +104,7 @@ input dll name = record {
   chosen = 0 ∷ [];
 }
 
+-- the two as inputs of a link, their bases, and their objects placed there
 abbrev pub two_parts : List LinkInput
 two_parts = input (codes "foo.dll") (codes "bar") ∷ input (codes "zed.dll") (codes "qux") ∷ []
 
@@ -131,7 +133,7 @@ pub record TwoLink : Type 0 where
   pub qux : addresses_of (codes "__imp_qux") placed_two ≡ Some 0x1060 ∷ []
 
 -- The law of linking speaks of these: they are the members of a definition that is not refused, they
--- are placed where they may be, and their listed symbols are distinct.
+-- are placed where they may be, and their archive symbols are distinct.
 pub record MayLink (d : DefinitionView) (machine : MachineType) (bases : Bases) (chosen : List ℕ)
     : Type 0 where
   pub made : AreMembersOf d machine Gnu (map member_of (member_specs (renamed d) machine Gnu))

@@ -17,12 +17,13 @@ use Rattle.implib.specs.ReadBack.{ask_written}
 use Rattle.implib.specs.Renaming.{renamed}
 use Rattle.implib.specs.WorkedStatements.{plain_export}
 
--- a member without its bytes: its name, their number, and the symbols that it is listed for
+-- a member without its bytes: its name, their number, and its archive symbols
 pub record Outline : Type 0 where
   pub name : List ℕ
   pub size : ℕ
   pub listed : List (List ℕ)
 
+-- the outline of a member's specification
 abbrev pub outline : MemberSpec → Outline
 outline p = record { name = p.name; size = file_size p.contents; listed = p.listed }
 
@@ -59,15 +60,15 @@ TextIsRefused text machine cause = Means text machine (λ d. IsRefused d machine
 abbrev pub bytes_at : DefinitionView → MachineType → ℕ → Option (List ℕ)
 bytes_at d machine index = option_map (λ p. file_bytes p.contents) (slice_get (specs d machine) index)
 
--- what the records of the exports ask for
+-- what the short imports of the exports ask for
 abbrev pub asks : DefinitionView → MachineType → List Ask
 asks d machine = map (ask_written machine) (renamed d).exports
 
--- the last two fields of a record's header: the ordinal or hint, and the two types
+-- the last two fields of a short import's header: the ordinal or hint, and the two types
 abbrev pub last_fields : List ℕ → List ℕ
 last_fields bytes = drop 16 (take 20 bytes)
 
--- the last two fields of the record of a definition's only export, which has no alias
+-- the last two fields of the short import of a definition's only export, which has no alias
 abbrev pub fields_of : MachineType → ExportView → Option (List ℕ)
 fields_of machine e = option_map last_fields (bytes_at (of_dll (codes "foo.dll") (e ∷ [])) machine 3)
 
@@ -102,7 +103,7 @@ foo_heading_32 = heading (codes "foo") (codes ".dll") 358 151
 abbrev pub of_foo : ℕ → List (List ℕ) → Outline
 of_foo size listed = record { name = codes "foo.dll"; size = size; listed = listed }
 
--- the member of a record of foo.dll for a function of three letters
+-- the member of a short import of foo.dll for a function of three letters
 abbrev pub foo_record : List ℕ → Outline
 foo_record name = of_foo 32 ((codes "__imp_" ++ name) ∷ name ∷ [])
 
@@ -121,7 +122,7 @@ a_text = codes "LIBRARY a.dll\nEXPORTS\nf\n_g@8\n@h@4 @ 7 NONAME"
 abbrev pub self_text : List ℕ
 self_text = codes "LIBRARY foo.dll\nEXPORTS\nfoo == foo"
 
--- members by name, length and listed symbols
+-- members by name, length and archive symbols
 pub record WorkedOutlines : Type 0 where
   pub one_function : TextHasMembers bar_text AMD64 (foo_heading ++ foo_record (codes "bar") ∷ [])
   pub one_function_32 : TextHasMembers bar_text ARMNT (foo_heading_32 ++ foo_record (codes "bar") ∷ [])
@@ -210,7 +211,7 @@ pub record WorkedRefusals : Type 0 where
 abbrev pub weak_for : List ℕ → List ℕ → Alias
 weak_for weak target = record { weak = weak; target = target }
 
--- the aliases of each export, by the symbol of its record
+-- the aliases of each export, by the symbol of its short import
 abbrev pub aliases_written : DefinitionView → List (List Alias)
 aliases_written d = map (λ e. aliases_for (short_import_symbol e) e.alias_target) (renamed d).exports
 
@@ -233,7 +234,7 @@ pub record WorkedMeanings : Type 0 where
       ≡ (weak_for (codes "_foo") (codes "foo") ∷ weak_for (codes "__imp__foo") (codes "__imp_foo") ∷ []) ∷ [])
   pub no_alias : Means self_text AMD64 (λ d. aliases_written d ≡ [] ∷ [])
 
--- the header of a record of foo.dll on AMD64, with the size of its data and the last two fields
+-- the header of a short import of foo.dll on AMD64, with the size of its data and the last two fields
 abbrev pub header_on_amd64 : ℕ → List ℕ → List ℕ
 header_on_amd64 size fields =
     0 ∷ 0 ∷ 0xFF ∷ 0xFF ∷ 0 ∷ 0 ∷ 0x64 ∷ 0x86 ∷ 0 ∷ 0 ∷ 0 ∷ 0 ∷ size ∷ 0 ∷ 0 ∷ 0 ∷ fields
@@ -271,7 +272,7 @@ pub record WorkedBytes : Type 0 where
 abbrev pub foo : ExportView
 foo = plain_export (codes "foo")
 
--- the last two fields of the records of foo
+-- the last two fields of the short imports of foo
 pub record WorkedFields : Type 0 where
   pub function : fields_of AMD64 foo ≡ Some (0 ∷ 0 ∷ 4 ∷ 0 ∷ [])
   pub is_data : fields_of AMD64 (record foo { is_data = true }) ≡ Some (0 ∷ 0 ∷ 5 ∷ 0 ∷ [])

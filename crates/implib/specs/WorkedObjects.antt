@@ -1,4 +1,4 @@
--- Objects worked by hand: those of foo.dll with all their numbers, and sizes and places of objects.
+-- Objects worked by hand: those of foo.dll with all their numbers, and sizes and offsets in objects.
 use Rattle.std.specs.Prelude.{◌≡◌, ℕ, ◌+◌, List, [], ◌∷◌, ◌++◌, None, Some, codes, replicate}
 use Rattle.implib.specs.declared.coff.object.Relocation.{Relocation}
 use Rattle.implib.specs.declared.machine.MachineType.TheVariants.{I386, AMD64}
@@ -13,6 +13,7 @@ use Rattle.implib.specs.WorkedMachines.{Numbers, at, numbers}
 abbrev pub symbol : SymbolName → ℕ → ℕ → LayoutSymbol
 symbol name section class = record { name = name; value = 0; section = section; class = class; aux = None }
 
+-- a section, by its name, its flags, its data and its relocations
 abbrev pub section : List ℕ → ℕ → List ℕ → List Relocation → ObjectSection
 section name flags bytes relocations = record {
   name = name;
@@ -21,13 +22,14 @@ section name flags bytes relocations = record {
   relocations = relocations;
 }
 
+-- `count` zero bytes
 abbrev pub zeros : ℕ → List ℕ
 zeros count = replicate count 0
 
 -- where the contents of sections begin that follow one another
 unfoldable pub places_from : ℕ → List ObjectSection → List ℕ
-places_from place [] = []
-places_from place (s ∷ rest) = place ∷ places_from (place + contents_size s) rest
+places_from offset [] = []
+places_from offset (s ∷ rest) = offset ∷ places_from (offset + contents_size s) rest
 
 -- two undefined externals, of 8 and of 9 bytes
 unfoldable pub two_names : ObjectLayout
@@ -246,7 +248,7 @@ variable n = without_code n
 unfoldable pub variable_by_ordinal : Numbers → ObjectLayout
 variable_by_ordinal n = without_code n (export_sections n [] [] n.thunk_of_258 [] [])
 
--- what is worked of them: sizes in bytes, places from the begin of the file
+-- what is worked of them: sizes in bytes, offsets from the beginning of the file
 pub record WorkedObjects : Type 0 where
   pub two_names_size : encoded_size two_names ≡ 70
   pub one_section_size : encoded_size one_section ≡ 112

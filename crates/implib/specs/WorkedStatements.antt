@@ -136,7 +136,7 @@ pub record WorkedRefusals : Type 0 where
 abbrev pub front : ℕ → List ℕ
 front n = take n (codes "EXPORTS\nfoo = bar == baz @ 1 NONAME")
 
--- the front of n bytes means a definition with so many exports
+-- the front of n bytes means a definition with `count` exports
 abbrev pub HasExports : ℕ → ℕ → Type 0
 HasExports count n =
     (definition : DefinitionView) × Parses (front n) AMD64 definition × (length definition.exports ≡ count)

@@ -4,10 +4,11 @@ use Rattle.implib.specs.declared.def.lexer.TokenKind.{TokenKind}
 use Rattle.implib.specs.declared.def.lexer.TokenKind.TheVariants as kind
 use Rattle.implib.specs.Token.{eof, Lexed, TokenView}
 
--- a token of this kind, with this value, at this place
+-- a token of this kind, with this value, at this offset
 abbrev pub token : TokenKind → List ℕ → ℕ → TokenView
 token k value at = record { kind = k; value = value; at = at }
 
+-- an identifier with this value, at this offset
 abbrev pub identifier : List ℕ → ℕ → TokenView
 identifier value at = token kind.Identifier value at
 
@@ -55,7 +56,7 @@ pub record WorkedTokens : Type 0 where
   pub quotes_in_word : Lexed (codes "x\"y\"") (identifier (codes "x\"y\"") 0 ∷ eof 4 ∷ [])
   pub unclosed_quote : Lexed (codes "LIBRARY \"a.dll")
       (token kind.KwLibrary (codes "LIBRARY") 0 ∷ identifier [] 9 ∷ eof 14 ∷ [])
-  -- white space that is no delimiter, as a form feed, parts no word, but is skipped before one and trimmed
+  -- white space that is no delimiter, as a form feed, divides no word, but is skipped before one and trimmed
   -- after it
   pub form_feeds : Lexed (codes "a\u{c}b\nc\u{c}\n")
       (identifier (codes "a\u{c}b") 0 ∷ identifier (codes "c") 4 ∷ eof 7 ∷ [])

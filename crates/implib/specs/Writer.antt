@@ -47,7 +47,7 @@ pub record WriterState : Type 0 where
   pub sections : List ObjectSection
   pub symbols : List AddedSymbol
 
--- the section number of a place, in 16 bits: -1 is absolute, -2 debug
+-- the section number of a symbol, in 16 bits ("Section Number Values"): -1 is absolute, -2 debug
 abbrev pub section_number : Place → ℕ
 section_number Undefined = 0
 section_number (Section number) = number
@@ -89,7 +89,7 @@ IsSymbol (Auxiliary bytes) = ⊥
 abbrev pub IsSymbolIndex : List AddedSymbol → ℕ → Type 0
 IsSymbolIndex symbols index = IsSomeAnd (slice_get (all_entries symbols) index) IsSymbol
 
--- the place names no section, or one of `count` sections
+-- the symbol is in no section, or in one of `count` sections
 abbrev pub IsPlaceAmong : ℕ → Place → Type 0
 IsPlaceAmong count Undefined = Unit {0}
 IsPlaceAmong count (Section number) = (0 < number) × (number ≤ count)
@@ -109,13 +109,14 @@ pub record HasRoomFor (r : Relocation) (s : ObjectSection) : Type 0 where
   pub count : length s.relocations < 65535
   pub within : r.offset + 4 ≤ length s.bytes
 
--- one relocation more, in the section of a number
+-- one relocation more, in the section of a number, which counts from 1
 abbrev pub sections_with_relocation : List ObjectSection → ℕ → Relocation → List ObjectSection
 sections_with_relocation [] number r = []
 sections_with_relocation (s ∷ rest) zero r = s ∷ rest
 sections_with_relocation (s ∷ rest) (suc zero) r = record s { relocations = s.relocations ++ r ∷ [] } ∷ rest
 sections_with_relocation (s ∷ rest) (suc (suc number)) r = s ∷ sections_with_relocation rest (suc number) r
 
+-- the writer's state after one relocation more
 abbrev pub with_relocation : WriterState → ℕ → Relocation → WriterState
 with_relocation h number r = record h { sections = sections_with_relocation h.sections number r }
 
@@ -135,7 +136,7 @@ with_long_name names name = if is_long name then with_name names name else names
 unfoldable pub long_names : List AddedSymbol → List (List ℕ)
 long_names symbols = fold with_long_name [] (map (λ s. s.name) symbols)
 
--- the location of a name
+-- The location of a name. For example, `abcdefgh` is in its record, and `abcdefghi` in the string table.
 unfoldable pub name_location : List (List ℕ) → List ℕ → SymbolName
 name_location names name =
     if is_long name then InStringTable (position_or_len (bytes_eq name) names) else InRecord name
