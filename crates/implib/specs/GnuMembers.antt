@@ -57,7 +57,8 @@ numbered_specs machine dll number [] = []
 numbered_specs machine dll number (e ∷ exports) =
     numbered_specs_of machine dll number e ++ numbered_specs machine dll (number + 1) exports
 
--- the tail, the head, and what was built, from the last to the first
+-- The tail, the head, and what was built, from the last to the first. For example, for bar and qux in
+-- foo.dll: `foo_dll_a_t.o`, `foo_dll_a_h.o`, `foo_dll_a_s00001.o` and `foo_dll_a_s00000.o`.
 abbrev pub gnu_specs : MachineType → List ℕ → List ExportView → List MemberSpec
 gnu_specs machine dll exports =
     tail_spec machine dll ∷ head_spec machine dll ∷ reverse (numbered_specs machine dll 0 exports)

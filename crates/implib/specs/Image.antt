@@ -72,7 +72,9 @@ abbrev pub range_of : ℕ → List Contribution → List Range
 range_of base [] = []
 range_of base (p ∷ others) = record { start = base; bytes = filled base (p ∷ others) } ∷ []
 
--- what objects are linked to: a range for each group that has contributions
+-- What objects are linked to: a range for each group that has contributions. For example, of foo.dll with two
+-- exports on AMD64, at the bases of WorkedLinks, the range of descriptors is 20 bytes from 0x1000 on, which
+-- begin with `20 10 00 00`, the address of the lookup table.
 abbrev pub image_of : MachineType → Bases → List Placed → List Range
 image_of machine bases linked =
     flat_map (λ group. range_of (base_of group bases) (contributions machine linked group linked)) groups

@@ -21,7 +21,8 @@ asked_in Gnu machine e = asked_name machine e.name
 abbrev pub holds_nul : ExportView → Bool
 holds_nul e = holds 0 e.name || holds 0 e.symbol_name || holds 0 e.alias_target
 
--- the first rule on names that an export breaks
+-- The first rule on names that an export breaks. For example, on I386 an export `_` for GNU's linker asks for
+-- the empty name.
 abbrev pub name_refusal : Flavor → MachineType → ℕ → ExportView → Option Cause
 name_refusal flavor machine index e =
     if is_empty_text e.name then Some (EmptyName index)

@@ -151,7 +151,7 @@ symbol_written names s = record {
   aux = s.aux;
 }
 
--- the layout that a writer encodes
+-- the layout that a writer encodes: long names in the string table, each once
 unfoldable pub layout_of : WriterState → ObjectLayout
 layout_of h = record {
   machine = machine_number h.machine;

@@ -41,7 +41,10 @@ pub(crate) struct SymbolRow<'a> {
 
 /// The bytes of the object of a table.
 ///
-/// Refuses with `MemberTooLong` where they are more than 2^32 - 1, before they grow.
+/// # Errors
+///
+/// `Invalid` with `MemberTooLong` where they are more than 2^32 - 1, before they are allocated;
+/// `OutOfMemory`.
 pub(crate) fn write_table(
     alloc: Global,
     machine: MachineType,
