@@ -12,7 +12,7 @@ use Rattle.implib.specs.declared.members.Flavor.TheVariants.{Gnu}
 use Rattle.implib.specs.declared.machine.MachineType.{MachineType}
 use Rattle.implib.specs.Definition.{DefinitionView, ExportView}
 use Rattle.implib.specs.Gnu.{head_symbol, name_symbol, export_listed, export_name, export_object, head_name, head_object, numbered_name, stem, tail_name, tail_object}
-use Rattle.implib.specs.Import.{asked_name, holds, has_underscore, public_exports, without_first}
+use Rattle.implib.specs.Import.{holds, has_underscore, public_exports, without_first}
 use Rattle.implib.specs.Image.{IsAdmissible}
 use Rattle.implib.specs.Placement.{Bases}
 use Rattle.implib.specs.Members.{AreMembersOf, is_too_long}

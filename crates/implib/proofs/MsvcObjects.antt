@@ -13,7 +13,7 @@ use Rattle.implib.specs.ImportTables.{relocation}
 use Rattle.implib.specs.MsvcObjects.{descriptor_characteristics, base_name, descriptor, descriptor_symbol, null_descriptor, null_descriptor_symbol, null_thunk, null_thunk_section, null_thunk_symbol}
 use Rattle.implib.specs.WeakExternal.{weak_auxiliary, weak_object}
 use Rattle.implib.specs.Object.{ObjectSection}
-use Rattle.implib.specs.Layout.{symbol, ObjectLayout, LayoutSymbol, Fits, FitsRelocation, FitsSection, FitsSymbol, HasNoNul, InRecord, InStringTable}
+use Rattle.implib.specs.Layout.{symbol, ObjectLayout, LayoutSymbol, Fits, FitsRelocation, FitsSection, FitsSymbol, InRecord, InStringTable}
 
 -- the front of a text without NUL has none
 holds-take : (n : ℕ) (text : List ℕ) → holds 0 text ≡ false → holds 0 (take n text) ≡ false

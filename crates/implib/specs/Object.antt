@@ -22,17 +22,12 @@ pub record ObjectSymbol : Type 0 where
   pub kind : ℕ
   pub class : ℕ
 
--- what a list has for the section of a number; section numbers count from 1
-abbrev pub section_numbered : {X : Type 0} → List X → ℕ → Option X
-section_numbered items zero = None
-section_numbered items (suc index) = slice_get items index
-
 -- an entry of the symbol table: a symbol, or an auxiliary record of the symbol before it
 pub data Entry : Type 0 where
   ASymbol : ObjectSymbol → Entry
   Auxiliary : List ℕ → Entry
 
--- an object; the index of an entry is its index in the list
+-- an object; the index of a symbol is that of its entry in the list, from 0
 pub record Object : Type 0 where
   pub machine : ℕ
   pub time : ℕ
@@ -40,6 +35,12 @@ pub record Object : Type 0 where
   pub characteristics : ℕ
   pub sections : List ObjectSection
   pub entries : List Entry
+
+-- What a list has for the section of a number, its section or its address, say. Section numbers count from 1
+-- ("Section Number Values"): the section 2 of two is the last one.
+abbrev pub section_numbered : {X : Type 0} → List X → ℕ → Option X
+section_numbered items zero = None
+section_numbered items (suc index) = slice_get items index
 
 -- `count` bytes from an offset on, if they are there
 unfoldable pub bytes_at : List ℕ → ℕ → ℕ → Option (List ℕ)

@@ -13,8 +13,7 @@ use Rattle.implib.specs.Definition.{DefinitionView, ExportView}
 use Rattle.implib.specs.Fault.{Cause, cause_of}
 use Rattle.implib.specs.Grammar.{Export, Statement, Nameless, Named}
 use Rattle.implib.specs.TokenReader as reading
-use Rattle.implib.specs.TokenReader.{◌>>=◌, Reader, made_export, with_attribute, with_settings}
-use Rattle.implib.specs.TokenReader.{with_statement}
+use Rattle.implib.specs.TokenReader.{◌>>=◌, Reader, made_export, with_settings}
 use Rattle.implib.specs.Token.{TokenView, token_view}
 
 -- the tokens to come: the one that was looked at, if any, and those of the lexer
