@@ -18,7 +18,7 @@ use Rattle.implib.specs.Layout.{Fits}
 use Rattle.implib.specs.Table.{CanBeHeld}
 use Rattle.implib.specs.Writer.{AddedSymbol, IsPlaceAmong, all_entries, layout_of}
 use Rattle.implib.specs.WriterView.{IsSound, IsSoundSection, IsSoundSymbol}
-use Rattle.implib.proofs.MsvcObjects.{HasNoNul-from_holds, plain_section_fits, relocation_fits}
+use Rattle.implib.proofs.MsvcObjects.{plain_section_fits, relocation_fits}
 use Rattle.implib.proofs.Table.{CanBeHeld-from_sound, LieWithin}
 use Rattle.implib.proofs.WriterLayout.{layout_of-fits}
 
@@ -77,7 +77,7 @@ plain_sound symbols name contents flags eight flags_fit = record { fits = plain_
 symbol_sound : (count : ℕ) (name : List ℕ) (place : Place) (class : ℕ) → 0 < length name → holds 0 name ≡ false → IsPlaceAmong count place →
     IsSoundSymbol count (added name place class)
 symbol_sound count name place class filled free among =
-    record { named = filled; no_nul = HasNoNul-from_holds name free; value = omega arith; place = among; aux = tt }
+    record { named = filled; no_nul = free; value = omega arith; place = among; aux = tt }
 
 file_symbol_sound : (count : ℕ) → IsSoundSymbol count file_symbol
 file_symbol_sound count = record { named = omega arith; no_nul = refl; value = omega arith; place = tt; aux = refl }

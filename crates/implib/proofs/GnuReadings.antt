@@ -32,7 +32,6 @@ use Rattle.implib.proofs.GnuLoop.{list_any-reverse, map-reverse}
 use Rattle.implib.proofs.GnuObjects.{Fits-export_object, Fits-head_object, Fits-tail_object}
 use Rattle.implib.proofs.MemberMeanings.{DeclaresListed, all_aliases, no_imports, read_declares, weak_declares}
 use Rattle.implib.proofs.MemberReadings.{ReadsBack, all_append, each_length, each_read, machine_number_nonzero, map_after, map_same, object_reads, weak_reads}
-use Rattle.implib.proofs.MsvcObjects.{HasNoNul-from_holds}
 use Rattle.implib.proofs.NotRefused.{Sound, exports_sound, import_name_is_free, none_long, short_enough}
 use Rattle.implib.proofs.Symbols.{before_nul-ended}
 use Rattle.implib.proofs.WriterLayout.{object_of-layout_of}
@@ -138,11 +137,11 @@ asks_by ARM64 dll e fits free true true = ap (λ n. Some (Ordinal n)) (from_le_b
 asks_by ARM64 dll e fits free false true = ap (λ n. Some (Ordinal n)) (from_le_bytes-to_le_bytes_2 e.ordinal fits)
 asks_by machine dll e fits free true false =
     ap (λ x. option_map (λ name. Name name (u16_at (u16_bytes e.ordinal ++ (asked_name machine e.name ++ 0 ∷ [])) 0)) x)
-    (before_nul-ended (asked_name machine e.name) [] (HasNoNul-from_holds (asked_name machine e.name) free))
+    (before_nul-ended (asked_name machine e.name) [] free)
     ∙ ap (λ n. Some (Name (asked_name machine e.name) n)) (from_le_bytes-to_le_bytes_2 e.ordinal fits)
 asks_by machine dll e fits free false false =
     ap (λ x. option_map (λ name. Name name (u16_at (u16_bytes e.ordinal ++ (asked_name machine e.name ++ 0 ∷ [])) 0)) x)
-    (before_nul-ended (asked_name machine e.name) [] (HasNoNul-from_holds (asked_name machine e.name) free))
+    (before_nul-ended (asked_name machine e.name) [] free)
     ∙ ap (λ n. Some (Name (asked_name machine e.name) n)) (from_le_bytes-to_le_bytes_2 e.ordinal fits)
 
 declared_by_import : (machine : MachineType) (dll : List ℕ) (e : ExportView) (is_data : Bool) →
@@ -160,7 +159,7 @@ dll_found : (machine : MachineType) (dll : List ℕ) (e : ExportView) → holds 
     dll_by_names (written_object (export_object machine dll e)) (written_object (head_object machine dll)) (written_object (tail_object machine dll)) ≡ Some dll
 unfolding export_object head_object tail_object
 dll_found machine dll e free =
-    rw (same_bytes (head_symbol machine dll), same_bytes (name_symbol machine dll)) (before_nul-ended dll [] (HasNoNul-from_holds dll free))
+    rw (same_bytes (head_symbol machine dll), same_bytes (name_symbol machine dll)) (before_nul-ended dll [] free)
 
 code_by : (machine : MachineType) (dll : List ℕ) (e : ExportView) (is_data : Bool) →
     code_relocations (written_object (export_object machine dll (record e { is_data = is_data }))) ≡ Some (expected_code machine (record e { is_data = is_data }))

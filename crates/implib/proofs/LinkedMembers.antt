@@ -12,7 +12,7 @@ use Rattle.implib.specs.declared.members.Flavor.TheVariants.{Gnu}
 use Rattle.implib.specs.declared.machine.MachineType.{MachineType}
 use Rattle.implib.specs.Definition.{DefinitionView, ExportView}
 use Rattle.implib.specs.Gnu.{head_symbol, name_symbol, export_listed, export_name, export_object, head_name, head_object, numbered_name, stem, tail_name, tail_object}
-use Rattle.implib.specs.Import.{asked_name, holds, has_underscore, public_exports, without_first}
+use Rattle.implib.specs.Import.{holds, has_underscore, public_exports, without_first}
 use Rattle.implib.specs.Image.{IsAdmissible}
 use Rattle.implib.specs.Placement.{Bases}
 use Rattle.implib.specs.Members.{AreMembersOf, is_too_long}
@@ -27,7 +27,6 @@ use Rattle.implib.specs.Writer.{WriterState, written_object, layout_of}
 use Rattle.implib.proofs.GnuObjects.{Fits-export_object, Fits-head_object, Fits-tail_object}
 use Rattle.implib.proofs.LinkedBlocks.{linked_objects, linked_symbols, objects_link}
 use Rattle.implib.proofs.MemberReadings.{map_after}
-use Rattle.implib.proofs.MsvcObjects.{HasNoNul-from_holds}
 use Rattle.implib.proofs.NotRefused.{Sound, exports_sound, import_name_is_free, none_long, short_enough}
 use Rattle.implib.proofs.ObjectReading.{object_in-encoded}
 use Rattle.implib.proofs.Placement.{export, head, tail}
@@ -151,7 +150,7 @@ module _ (machine : MachineType) (dll : List ℕ) (exports : List ExportView) (d
       let good = all_at Sound exports n e sound is in
       record {
         ordinal = ltb-true e.ordinal 0x1_0000 good.ordinal;
-        name = HasNoNul-from_holds (asked_name machine e.name) (asked_free (has_underscore machine e.name) e.name good.name);
+        name = asked_free (has_underscore machine e.name) e.name good.name;
       }
 
   -- what is linked after the head
@@ -308,7 +307,7 @@ module _ (d : DefinitionView) (machine : MachineType) (members : List MemberView
       Links machine bases d.import_name (chosen_exports d chosen) (objects_in (linked_members d machine chosen))
   members_link bases distinct admissible =
       subst (Links machine bases d.import_name (chosen_exports d chosen)) (sym objects_are)
-      (objects_link machine d.import_name (chosen_exports d chosen) bases (HasNoNul-from_holds d.import_name dll_free)
+      (objects_link machine d.import_name (chosen_exports d chosen) bases dll_free
       (chosen_fit machine d.import_name public dll_free sound not_long chosen)
       (subst (IsDistinct bytes_eq) symbols_are distinct)
       (subst (IsAdmissible machine bases) objects_are admissible))

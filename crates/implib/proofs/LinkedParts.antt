@@ -23,7 +23,6 @@ use Rattle.implib.specs.Linked.{IsLinked, AllLink, LinksAt}
 use Rattle.implib.specs.LinkedMembers.{IsMade, AllRise, IsPrefixOf, ComesBefore, IsLinkInput, NoneIsPrefix, LinkInput, member_prefix, all_linked, chosen_exports, linked_members, objects_in}
 use Rattle.implib.proofs.LinkedBlocks.{Block, CanBeLinked, blocks_link, blocks_objects, linked_objects, linked_symbols}
 use Rattle.implib.proofs.LinkedMembers.{members_among, members_read, members_named, members_rise, same_cmp, dll_free, exports_fit, objects_are, symbols_are}
-use Rattle.implib.proofs.MsvcObjects.{HasNoNul-from_holds}
 use Rattle.implib.proofs.Placement.{export, head, tail}
 
 -- what a part's objects are made of
@@ -34,7 +33,7 @@ pub parts_fit : (machine : MachineType) (ps : List LinkInput) → AllByRecursion
 parts_fit machine [] are = tt
 parts_fit machine (p ∷ ps) are = (
   record {
-    dll = HasNoNul-from_holds p.definition.import_name (dll_free p.definition machine p.members p.chosen are.0);
+    dll = dll_free p.definition machine p.members p.chosen are.0;
     exports = exports_fit p.definition machine p.members p.chosen are.0;
   },
   parts_fit machine ps are.1,

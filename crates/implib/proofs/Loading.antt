@@ -1,8 +1,8 @@
 -- An image is loaded in one way.
 use Rattle.std.proofs.Common.{◌≡◌, ℕ, ◌+◌, ◌%◌, ◌^◌, zero, suc, List, [], ◌∷◌, ◌++◌, length, Option, Some, refl, ap, sym, ◌∙◌, arith, subst}
-use Rattle.std.specs.Prelude.{nat_eq, not}
-use Rattle.std.specs.List.{list_all}
-use Rattle.std.proofs.lemmas.Bool.{and_parts, false≢true}
+use Rattle.std.specs.Prelude.{nat_eq}
+use Rattle.std.proofs.lemmas.Bool.{or_parts, false≢true}
+use Rattle.implib.specs.Ascii.{holds}
 use Rattle.implib.specs.Import.{Ask, Name, Ordinal}
 use Rattle.implib.specs.Image.{Range, byte_at}
 use Rattle.implib.specs.Load.{ThunkAsksFor, BytesAt, Loads, NumberAt, TableAt, number_in}
@@ -27,11 +27,11 @@ number_once image width a n m first second =
     sym first.value ∙ ap number_in (bytes_once image first.bytes second.bytes a first.stands second.stands (first.count ∙ sym second.count)) ∙ second.value
 
 no_nul_first : (y : ℕ) (ys : List ℕ) → HasNoNul (y ∷ ys) → 0 ≡ y → ⊥
-no_nul_first zero ys free is = false≢true free
+no_nul_first zero ys free is = false≢true (sym free)
 no_nul_first (suc n) ys free is = omega arith
 
 no_nul_rest : (y : ℕ) (ys : List ℕ) → HasNoNul (y ∷ ys) → HasNoNul ys
-no_nul_rest y ys free = (and_parts (not (nat_eq y 0)) (list_all (λ byte. not (nat_eq byte 0)) ys) free).1
+no_nul_rest y ys free = (or_parts (nat_eq y 0) (holds 0 ys) free).1
 
 pub text_once : (image : List Range) (xs ys : List ℕ) (a : ℕ) → HasNoNul xs → HasNoNul ys → BytesAt image a (xs ++ 0 ∷ []) → BytesAt image a (ys ++ 0 ∷ []) → xs ≡ ys
 unfolding BytesAt

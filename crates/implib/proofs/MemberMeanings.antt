@@ -26,7 +26,7 @@ use Rattle.implib.specs.ReadBack.{MsvcReadBack, MatchesDefinition, MsvcReadings,
 use Rattle.implib.specs.Renaming.{renamed, renamed_export}
 use Rattle.implib.proofs.Import.{import_of_short_import-short_import_of, import_written-meant, kind_is_data}
 use Rattle.implib.proofs.MemberReadings.{ReadsBack, machine_number_nonzero, object_reads, all_append, files_read, lengths_read, map_after, map_same, of_members, plans_read_back}
-use Rattle.implib.proofs.MsvcObjects.{Fits-weak_object, HasNoNul-from_holds}
+use Rattle.implib.proofs.MsvcObjects.{Fits-weak_object}
 use Rattle.implib.proofs.NotRefused.{import_name_is_free}
 use Rattle.implib.proofs.Symbols.{before_nul-ended}
 
@@ -184,7 +184,7 @@ public_plain (e ∷ exports) plain =
 
 dll_of_descriptor : (machine : MachineType) (dll : List ℕ) → holds 0 dll ≡ false → dll_of (ObjectFile (object_of (descriptor machine dll))) ≡ Some dll
 unfolding descriptor object_of
-dll_of_descriptor machine dll free = before_nul-ended dll [] (HasNoNul-from_holds dll free)
+dll_of_descriptor machine dll free = before_nul-ended dll [] free
 
 -- what all plans after the first three mean
 after_heading : (machine : MachineType) (dll : List ℕ) (specs : List MemberSpec) → AllByRecursion (λ p. ReadsBack p.contents) (header_specs machine dll ++ specs) →

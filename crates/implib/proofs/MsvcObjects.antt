@@ -13,14 +13,7 @@ use Rattle.implib.specs.ImportTables.{relocation}
 use Rattle.implib.specs.MsvcObjects.{descriptor_characteristics, base_name, descriptor, descriptor_symbol, null_descriptor, null_descriptor_symbol, null_thunk, null_thunk_section, null_thunk_symbol}
 use Rattle.implib.specs.WeakExternal.{weak_auxiliary, weak_object}
 use Rattle.implib.specs.Object.{ObjectSection}
-use Rattle.implib.specs.Layout.{symbol, ObjectLayout, LayoutSymbol, Fits, FitsRelocation, FitsSection, FitsSymbol, HasNoNul, InRecord, InStringTable}
-
--- a text without NUL
-pub HasNoNul-from_holds : (text : List ℕ) → holds 0 text ≡ false → HasNoNul text
-HasNoNul-from_holds [] free = refl
-HasNoNul-from_holds (b ∷ text) free =
-    let parts = or_parts (nat_eq b 0) (holds 0 text) free in
-    rw parts.0 (HasNoNul-from_holds text parts.1)
+use Rattle.implib.specs.Layout.{symbol, ObjectLayout, LayoutSymbol, Fits, FitsRelocation, FitsSection, FitsSymbol, InRecord, InStringTable}
 
 -- the front of a text without NUL has none
 holds-take : (n : ℕ) (text : List ℕ) → holds 0 text ≡ false → holds 0 (take n text) ≡ false
@@ -81,7 +74,7 @@ listed_fits strings index section class listed section_fits = record { name = li
 in_record_fits : (strings : List (List ℕ)) (name : List ℕ) (section class : ℕ) → 0 < length name → length name ≤ 8 → holds 0 name ≡ false → section < 2 ^ 16 →
     FitsSymbol strings (symbol (InRecord name) section class)
 in_record_fits strings name section class some few free section_fits =
-    record { name = (some, few, HasNoNul-from_holds name free); value = omega arith; section = section_fits; aux = tt }
+    record { name = (some, few, free); value = omega arith; section = section_fits; aux = tt }
 
 -- a section without relocations
 pub plain_section_fits : (name contents : List ℕ) (flags : ℕ) → length name ≡ 8 → flags < 2 ^ 32 → FitsSection (record { name = name; flags = flags; bytes = contents; relocations = [] })
@@ -131,10 +124,10 @@ Fits-descriptor machine dll free =
         ),
       );
       strings = (
-        HasNoNul-from_holds (descriptor_symbol dll) (holds-descriptor_symbol dll free),
+        holds-descriptor_symbol dll free,
         (
-          HasNoNul-from_holds null_descriptor_symbol holds-null_descriptor_symbol,
-          (HasNoNul-from_holds (null_thunk_symbol dll) (holds-null_thunk_symbol dll free), tt),
+          holds-null_descriptor_symbol,
+          (holds-null_thunk_symbol dll free, tt),
         ),
       );
     }
@@ -148,7 +141,7 @@ Fits-null_descriptor machine = record {
   count = omega arith;
   sections = (plain_section_fits _ _ _ refl (omega arith), tt);
   symbols = (listed_fits (null_descriptor_symbol ∷ []) _ _ _ (omega arith) (omega arith), tt);
-  strings = (HasNoNul-from_holds null_descriptor_symbol holds-null_descriptor_symbol, tt);
+  strings = (holds-null_descriptor_symbol, tt);
 }
 
 null_thunk_section_fits : (machine : MachineType) (name : List ℕ) → length name ≡ 8 → FitsSection (null_thunk_section machine name)
@@ -169,7 +162,7 @@ Fits-null_thunk machine dll free = record {
     (null_thunk_section_fits machine _ refl, tt),
   );
   symbols = (listed_fits (null_thunk_symbol dll ∷ []) _ _ _ (omega arith) (omega arith), tt);
-  strings = (HasNoNul-from_holds (null_thunk_symbol dll) (holds-null_thunk_symbol dll free), tt);
+  strings = (holds-null_thunk_symbol dll free, tt);
 }
 
 length-weak_auxiliary : length (weak_auxiliary 2) ≡ 18
@@ -196,7 +189,7 @@ Fits-weak_object machine weak target weak_free target_free =
           ),
         ),
       );
-      strings = (HasNoNul-from_holds target target_free, (HasNoNul-from_holds weak weak_free, tt));
+      strings = (target_free, (weak_free, tt));
     }
 
 -- A picture of the program is a table where its parts are.

@@ -1,12 +1,13 @@
 -- Sections, names and symbols, read from the bytes that are laid out for them.
-use Rattle.std.proofs.Common.{◌≡◌, ℕ, zero, suc, ◌+◌, ◌*◌, ◌-◌, ◌≤◌, ◌<◌, ◌^◌, List, [], ◌∷◌, ◌++◌, Some, length, take, drop, replicate, slice_index, slice_index_or, not, nat_eq, refl, sym, ◌∙◌, ap, arith, length-append, append_assoc}
-use Rattle.std.specs.List.{AllByRecursion, flat_map, list_all, sum_by}
-use Rattle.std.proofs.lemmas.Bool.{and_parts, false≢true}
+use Rattle.std.proofs.Common.{◌≡◌, ℕ, zero, suc, ◌+◌, ◌*◌, ◌-◌, ◌≤◌, ◌<◌, ◌^◌, List, [], ◌∷◌, ◌++◌, Some, length, take, drop, replicate, slice_index, slice_index_or, nat_eq, refl, sym, ◌∙◌, ap, arith, length-append, append_assoc}
+use Rattle.std.specs.List.{AllByRecursion, flat_map, sum_by}
+use Rattle.std.proofs.lemmas.Bool.{or_parts, false≢true}
 use Rattle.std.proofs.lemmas.List.{drop_at, drop_more, get_or-append-add, take_at, length-replicate, take-append-drop}
 use Rattle.std.proofs.lemmas.List.Concat.{flat_map-append}
 use Rattle.std.proofs.lemmas.List.Elements.{All-from_recursion}
 use Rattle.std.proofs.lemmas.List.Sums.{sum_by-append, sum_by-cons}
 use Rattle.std.proofs.lemmas.Nat.{from_le_bytes-to_le_bytes_2, from_le_bytes-to_le_bytes_4}
+use Rattle.implib.specs.Ascii.{holds}
 use Rattle.implib.specs.Bytes.{u16_bytes, u32_bytes}
 use Rattle.implib.specs.Object.{ObjectSection, ObjectSymbol, before_nul, each_at, name_of, section_at, strings_at, symbol_of, u16_at, u32_at, up_to_nul}
 use Rattle.implib.specs.Layout.{FitsName, FitsSection, FitsSymbol, HasNoNul, InRecord, InStringTable, LayoutSymbol, SymbolName, auxiliary_bytes, contents, contents_size, name_field, name_text, auxiliary_count, section_header, section_headers, string_bytes_of, string_offsets, offsets_from, string_size, string_table, strings_size, symbol_bytes}
@@ -59,7 +60,7 @@ sections_read bytes header place (s ∷ ss) all above below heads stands =
 -- texts without NUL
 
 HasNoNul-tail : (n : ℕ) (text : List ℕ) → HasNoNul (n ∷ text) → HasNoNul text
-HasNoNul-tail n text none = (and_parts (not (nat_eq n 0)) (list_all (λ byte. not (nat_eq byte 0)) text) none).1
+HasNoNul-tail n text none = (or_parts (nat_eq n 0) (holds 0 text) none).1
 
 up_to_nul-zeros : (count : ℕ) → up_to_nul (replicate count 0) ≡ []
 unfolding up_to_nul
@@ -69,13 +70,13 @@ up_to_nul-zeros (suc count) = refl
 pub up_to_nul-padded : (text : List ℕ) (count : ℕ) → HasNoNul text → up_to_nul (text ++ replicate count 0) ≡ text
 unfolding up_to_nul
 up_to_nul-padded [] count none = up_to_nul-zeros count
-up_to_nul-padded (zero ∷ text) count none = absurd (false≢true none)
+up_to_nul-padded (zero ∷ text) count none = absurd (false≢true (sym none))
 up_to_nul-padded (suc n ∷ text) count none = ap (λ t. suc n ∷ t) (up_to_nul-padded text count (HasNoNul-tail (suc n) text none))
 
 pub before_nul-ended : (text rest : List ℕ) → HasNoNul text → before_nul (text ++ (0 ∷ rest)) ≡ Some text
 unfolding before_nul
 before_nul-ended [] rest none = refl
-before_nul-ended (zero ∷ text) rest none = absurd (false≢true none)
+before_nul-ended (zero ∷ text) rest none = absurd (false≢true (sym none))
 before_nul-ended (suc n ∷ text) rest none = rw (before_nul-ended text rest (HasNoNul-tail (suc n) text none)) refl
 
 -- the string table
@@ -162,7 +163,7 @@ listed_read table offset below = ap (λ n. before_nul (drop n table)) (from_le_b
 in_record_read : (table text : List ℕ) (count : ℕ) → 0 < length text → HasNoNul text → name_of table (text ++ replicate count 0) ≡ Some text
 unfolding name_of
 in_record_read table [] count some none = absurd (omega (arith, some))
-in_record_read table (zero ∷ text) count some none = absurd (false≢true none)
+in_record_read table (zero ∷ text) count some none = absurd (false≢true (sym none))
 in_record_read table (suc n ∷ text) count some none = ap Some (up_to_nul-padded (suc n ∷ text) count none)
 
 pub name_of-field : (strings : List (List ℕ)) (name : SymbolName) → FitsName strings name → AllByRecursion HasNoNul strings → strings_size strings < 2 ^ 32 → name_of (string_table strings) (name_field (string_offsets strings) name) ≡ Some (name_text strings name)

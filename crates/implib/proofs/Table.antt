@@ -7,9 +7,9 @@ use Rattle.std.proofs.lemmas.List.Folds.{flat_map-map, length-flat_map-take}
 use Rattle.implib.specs.declared.coff.object.Relocation.{Relocation}
 use Rattle.implib.specs.declared.gnu.table.SectionRow.{SectionRow}
 use Rattle.implib.specs.declared.gnu.table.SymbolRow.{SymbolRow}
-use Rattle.implib.specs.Object.{ObjectSection}
+use Rattle.implib.specs.Object.{ObjectSection, section_numbered}
 use Rattle.implib.specs.Table.{CanBeAdded, CanBeHeld, HasRoomForAll, LiesIn, bare_row, section_row, symbol_row, with_relocations}
-use Rattle.implib.specs.Writer.{AddedSymbol, HasRoomFor, WriterState, IsSymbolIndex, all_entries, entries_added, sections_with_relocation, section_numbered}
+use Rattle.implib.specs.Writer.{AddedSymbol, HasRoomFor, WriterState, IsSymbolIndex, all_entries, entries_added, sections_with_relocation}
 use Rattle.implib.specs.WriterView.{IsSound, IsSoundSection, IsSoundSymbol}
 
 -- the fact at an index of a list

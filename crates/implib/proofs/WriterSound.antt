@@ -6,11 +6,11 @@ use Rattle.std.proofs.lemmas.List.Concat.{flat_map-append}
 use Rattle.implib.specs.declared.coff.object.Place.{Place}
 use Rattle.implib.specs.declared.coff.object.Place.TheVariants.{Undefined, Section, Absolute, Debug}
 use Rattle.implib.specs.declared.coff.object.Relocation.{Relocation}
-use Rattle.implib.specs.Object.{Auxiliary, Entry, ObjectSection}
+use Rattle.implib.specs.Object.{Auxiliary, Entry, ObjectSection, section_numbered}
 use Rattle.implib.specs.Layout.{FitsRelocation, FitsSection, auxiliary_count}
 use Rattle.implib.specs.declared.coff.object.Section.{Section as Held}
 use Rattle.implib.specs.Writer.{section_view}
-use Rattle.implib.specs.Writer.{AddedSymbol, HasRoomFor, WriterState, IsPlaceAmong, IsSymbol, IsSymbolIndex, all_entries, entries_added, sections_with_relocation, section_numbered, with_relocation, with_section, with_symbol}
+use Rattle.implib.specs.Writer.{AddedSymbol, HasRoomFor, WriterState, IsPlaceAmong, IsSymbol, IsSymbolIndex, all_entries, entries_added, sections_with_relocation, with_relocation, with_section, with_symbol}
 use Rattle.implib.specs.WriterView.{IsSound, IsSoundSection, IsSoundSymbol}
 
 all_push : {X : Type 0} (P : X → Type 0) (xs : List X) (x : X) → AllByRecursion P xs → P x → AllByRecursion P (xs ++ x ∷ [])

@@ -19,13 +19,13 @@ external_word e = e.word
 abbrev pub exports_of_text : List Statement → List Export
 exports_of_text statements = flat_map exports_in statements
 
--- where an export asks by name, it asks for this word: by what is meant, and in either flavour, by its
--- record for Microsoft's linker and by its object for GNU's
+-- Where an export asks by name, it asks for this word: by what is meant, and in either flavour, by its short
+-- import for Microsoft's linker and by its object for GNU's. For example, `_f@8` on I386 asks for `_f@8`.
 pub record AsksFor (machine : MachineType) (e : ExportView) (word : List ℕ) : Type 0 where
   pub meant : e.no_name ≡ false → asked_name machine e.name ≡ word
   pub in_each_flavor : (flavor : Flavor) → e.no_name ≡ false → asked_in flavor machine e ≡ word
 
--- there are as many exports as there are in the text, and each asks for the word of its own
+-- there are as many exports as in the text, and each asks for its own word
 abbrev pub EachAsksForItsWord : MachineType → List ExportView → List Export → Type 0
 EachAsksForItsWord machine [] [] = Unit {0}
 EachAsksForItsWord machine [] (e ∷ exports) = ⊥
@@ -34,6 +34,7 @@ EachAsksForItsWord machine (view ∷ views) (e ∷ exports) =
     AsksFor machine view (external_word e) × EachAsksForItsWord machine views exports
 
 -- each export of a text that means this definition, under its name to link by, asks for its word in the text
-abbrev pub AsksForWords : (text : List ℕ) (machine : MachineType) (definition : DefinitionView) → Parses text machine definition → Type 0
+abbrev pub AsksForWords : (text : List ℕ) (machine : MachineType) (definition : DefinitionView) →
+    Parses text machine definition → Type 0
 AsksForWords text machine definition parsed =
     EachAsksForItsWord machine (renamed definition).exports (exports_of_text parsed.statements)

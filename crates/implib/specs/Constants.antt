@@ -37,7 +37,7 @@ mem_execute_read = 0x2000_0000 + 0x4000_0000
 abbrev pub mem_read_write : ℕ
 mem_read_write = 0x4000_0000 + 0x8000_0000
 
--- "Characteristics": words of 32 bits
+-- "Characteristics": the machine has words of 32 bits
 abbrev pub machine_32bit : ℕ
 machine_32bit = 0x100
 
@@ -87,7 +87,7 @@ amd64_rel32 = 4
 abbrev pub arm_rel32 : ℕ
 arm_rel32 = 0x0A
 
--- on ARM64 the page of the address, relative to the page of the instruction, and its place in the page
+-- on ARM64 the page of the address, relative to the page of the instruction, and its offset in the page
 abbrev pub arm64_pagebase_rel21 : ℕ
 arm64_pagebase_rel21 = 4
 

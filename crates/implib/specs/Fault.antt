@@ -7,7 +7,7 @@ use Rattle.implib.specs.declared.error.Fault.{Fault}
 use Rattle.implib.specs.declared.error.Fault.TheVariants as fault
 use Rattle.implib.specs.declared.def.lexer.TokenKind.{TokenKind}
 
--- the faults, with what each of them tells
+-- the faults, with what each of them reports
 pub data Cause : Type 0 where
   UnknownDirective : List ℕ → Cause
   ExpectedIdentifier : TokenKind → Cause

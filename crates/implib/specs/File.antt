@@ -1,11 +1,13 @@
--- Reading a member's file, as a record or as an object. The reader takes what it finds in the bytes,
+-- Reading a member's file, as a short import or as an object. The reader takes what it finds in the bytes,
 -- and knows nothing of who wrote them.
-use Rattle.std.specs.Prelude.{ℕ, Bool, ◌&&◌, ◌==◌, nat_le, List, [], ◌∷◌, slice_get, bytes_eq, codes, Option, Some, None, if◌then◌else◌}
+use Rattle.std.specs.Prelude.{ℕ, Bool, ◌&&◌, ◌==◌, nat_le, List, [], ◌∷◌, slice_get, bytes_eq, codes, Option}
+use Rattle.std.specs.Prelude.{Some, None, if◌then◌else◌}
 use Rattle.std.specs.List.{filter_map, find}
 use Rattle.std.specs.Option.{option_and_then, option_map}
 use Rattle.implib.specs.Constants.{class_external, class_weak_external}
 use Rattle.implib.specs.Import.{Alias, Import, import_symbols}
-use Rattle.implib.specs.Object.{Entry, ASymbol, Auxiliary, Object, ObjectSection, ObjectSymbol, object_in, u32_at, before_nul}
+use Rattle.implib.specs.Object.{Entry, ASymbol, Auxiliary, Object, ObjectSection, ObjectSymbol, object_in}
+use Rattle.implib.specs.Object.{u32_at, before_nul}
 use Rattle.implib.specs.ShortImport.{ShortImport, import_data, import_of_short_import, short_import_in}
 
 -- a file that has been read
@@ -13,7 +15,7 @@ pub data File : Type 0 where
   ShortImportFile : ShortImport → File
   ObjectFile : Object → File
 
--- a record, or otherwise what is read as an object
+-- a short import, or otherwise what is read as an object
 abbrev pub short_import_or_object : Option ShortImport → Option Object → Option File
 short_import_or_object (Some r) o = Some (ShortImportFile r)
 short_import_or_object None o = option_map ObjectFile o
@@ -27,7 +29,7 @@ file_in bytes = short_import_or_object (short_import_in bytes) (object_in bytes)
 abbrev pub is_defined_external : ObjectSymbol → Bool
 is_defined_external s = (s.class == class_external) && nat_le 1 s.section && nat_le s.section 0x7FFF
 
--- the name that an entry declares: of a defined external, or of a weak one
+-- the name that an entry declares: that of a defined external, or of a weak one
 abbrev pub declared_by_entry : Entry → Option (List ℕ)
 declared_by_entry (Auxiliary bytes) = None
 declared_by_entry (ASymbol s) =
@@ -35,7 +37,8 @@ declared_by_entry (ASymbol s) =
     else if s.class == class_weak_external then Some s.name
     else None
 
--- the symbols that a file declares, in order
+-- The symbols that a file declares, in order. For example, the short import of bar declares `__imp_bar` and
+-- `bar`, and that of data `__imp_bar` alone.
 abbrev pub declared_by : File → List (List ℕ)
 declared_by (ShortImportFile r) = import_symbols (r.kind == import_data) r.symbol
 declared_by (ObjectFile o) = filter_map declared_by_entry o.entries
@@ -51,7 +54,8 @@ abbrev pub weak_symbols : List Entry → List (List ℕ × Option ℕ)
 weak_symbols [] = []
 weak_symbols (Auxiliary bytes ∷ entries) = weak_symbols entries
 weak_symbols (ASymbol s ∷ entries) =
-    if s.class == class_weak_external then (s.name, tag_index entries) ∷ weak_symbols entries else weak_symbols entries
+    if s.class == class_weak_external then (s.name, tag_index entries) ∷ weak_symbols entries
+    else weak_symbols entries
 
 -- the name of an entry that is a symbol
 abbrev pub symbol_name : Entry → Option (List ℕ)
@@ -67,9 +71,11 @@ abbrev pub only_alias : List Entry → List (List ℕ × Option ℕ) → Option 
 only_alias entries [] = None
 only_alias entries ((weak, None) ∷ others) = None
 only_alias entries ((weak, Some index) ∷ other ∷ others) = None
-only_alias entries ((weak, Some index) ∷ []) = option_map (λ target. record { weak = weak; target = target }) (name_at entries index)
+only_alias entries ((weak, Some index) ∷ []) =
+    option_map (λ target. record { weak = weak; target = target }) (name_at entries index)
 
--- the alias that an object makes, where just one of its symbols is a weak external
+-- The alias that an object makes, where just one of its symbols is a weak external. For example, that foo is
+-- weak for baz.
 abbrev pub alias_of_object : Object → Option Alias
 alias_of_object o = only_alias o.entries (weak_symbols o.entries)
 

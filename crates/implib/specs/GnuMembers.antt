@@ -2,7 +2,8 @@
 use Rattle.std.specs.Prelude.{ℕ, ◌+◌, List, [], ◌∷◌, ◌++◌, reverse, if◌then◌else◌}
 use Rattle.implib.specs.declared.machine.MachineType.{MachineType}
 use Rattle.implib.specs.Definition.{ExportView}
-use Rattle.implib.specs.Gnu.{export_listed, export_name, export_object, head_name, head_object, head_symbol, name_symbol, tail_name, tail_object, weak_address_name, weak_name}
+use Rattle.implib.specs.Gnu.{export_listed, export_name, export_object, head_name, head_object, head_symbol}
+use Rattle.implib.specs.Gnu.{name_symbol, tail_name, tail_object, weak_address_name, weak_name}
 use Rattle.implib.specs.Import.{address_symbol, is_alias}
 use Rattle.implib.specs.WeakExternal.{weak_spec}
 use Rattle.implib.specs.Writer.{layout_of}
@@ -43,7 +44,8 @@ alias_specs machine dll number e =
 
 -- the specifications of the export of this number, in the order of building
 abbrev pub numbered_specs_of : MachineType → List ℕ → ℕ → ExportView → List MemberSpec
-numbered_specs_of machine dll number e = alias_specs machine dll number e ++ export_spec machine dll number e ∷ []
+numbered_specs_of machine dll number e =
+    alias_specs machine dll number e ++ export_spec machine dll number e ∷ []
 
 -- the number of an export's members: its weak externals, and its own
 abbrev pub gnu_member_count : ExportView → ℕ
@@ -55,6 +57,8 @@ numbered_specs machine dll number [] = []
 numbered_specs machine dll number (e ∷ exports) =
     numbered_specs_of machine dll number e ++ numbered_specs machine dll (number + 1) exports
 
--- the tail, the head, and what was built, from the last to the first
+-- The tail, the head, and what was built, from the last to the first. For example, for bar and qux in
+-- foo.dll: `foo_dll_a_t.o`, `foo_dll_a_h.o`, `foo_dll_a_s00001.o` and `foo_dll_a_s00000.o`.
 abbrev pub gnu_specs : MachineType → List ℕ → List ExportView → List MemberSpec
-gnu_specs machine dll exports = tail_spec machine dll ∷ head_spec machine dll ∷ reverse (numbered_specs machine dll 0 exports)
+gnu_specs machine dll exports =
+    tail_spec machine dll ∷ head_spec machine dll ∷ reverse (numbered_specs machine dll 0 exports)

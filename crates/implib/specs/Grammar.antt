@@ -1,28 +1,42 @@
--- The statement grammar of a module definition: statements, and the terminals that each derives.
+-- The statement grammar of a module definition: statements, and the terminals that each derives
+-- (docs/GRAMMAR.md, "Statements"). `[ x ]` is x or nothing, `{ x }` any number of x, and `|` a choice; a
+-- word, a number and a version are one token each.
+--   definition = { statement } Eof
+--   statement  = "EXPORTS" { export }
+--              | ( "HEAPSIZE" | "STACKSIZE" ) number [ "," number ]
+--              | ( "NAME" | "LIBRARY" ) [ word [ "BASE" "=" number ] ]
+--              | "VERSION" version
+--   export     = name [ "=" target ] { attribute }
+--   attribute  = ordinal [ "NONAME" ] | "DATA" | "CONSTANT" | "PRIVATE" | "==" word
+--   ordinal    = "@" number, in one token or in two
 use Rattle.std.specs.Prelude.{◌≡◌, ◌≢◌, ℕ, ◌⊎◌, Bool, true, false, List, [], ◌∷◌, ◌++◌, Option, Some, None}
 use Rattle.std.specs.List.{flat_map}
 use Rattle.implib.specs.declared.def.lexer.TokenKind.{TokenKind}
-use Rattle.implib.specs.declared.def.lexer.TokenKind.TheVariants.{Eof, Identifier, Comma, Equal, EqualEqual, KwBase, KwConstant, KwData, KwExports, KwHeapsize, KwLibrary, KwName, KwNoname, KwPrivate, KwStacksize, KwVersion}
+use Rattle.implib.specs.declared.def.lexer.TokenKind.TheVariants.{Eof, Identifier, Comma, Equal, EqualEqual}
+use Rattle.implib.specs.declared.def.lexer.TokenKind.TheVariants.{KwBase, KwConstant, KwData, KwExports}
+use Rattle.implib.specs.declared.def.lexer.TokenKind.TheVariants.{KwHeapsize, KwLibrary, KwName, KwNoname}
+use Rattle.implib.specs.declared.def.lexer.TokenKind.TheVariants.{KwPrivate, KwStacksize, KwVersion}
 pub use Rattle.implib.specs.Ascii.{at_sign, full_stop}
 use Rattle.implib.specs.Number.{IsNumber, u16_limit, u32_limit, u64_limit}
 use Rattle.implib.specs.Token.{TokenView}
 
--- the value is `@` alone
+-- the value is "@" alone
 abbrev pub IsLoneAt : List ℕ → Type 0
 IsLoneAt value = value ≡ at_sign ∷ []
 
--- the value is `@` and a number of 16 bits, as in `@5`
+-- ordinal = "@" number, in one token: the number has 16 bits. For example, `@5` and `@+5` are 5, and
+-- `@70000` is none.
 pub record IsAtNumber (value : List ℕ) (n : ℕ) : Type 0 where
   pub number : List ℕ
   pub spelled : value ≡ at_sign ∷ number
   pub is_number : IsNumber number u16_limit n
 
--- the value is the major number alone, of 32 bits, and the minor is 0
+-- version = number: the major number alone, of 32 bits; the minor is 0
 pub record IsMajorAlone (value : List ℕ) (major minor : ℕ) : Type 0 where
   pub is_number : IsNumber value u32_limit major
   pub minor_is : minor ≡ 0
 
--- the value is two numbers of 32 bits with a `.` between; a number has no `.`, so this is its first
+-- version = number "." number: two numbers of 32 bits; a number has no `.`, so this is the first one
 pub record IsMajorMinor (value : List ℕ) (major minor : ℕ) : Type 0 where
   pub front : List ℕ
   pub back : List ℕ
@@ -30,7 +44,7 @@ pub record IsMajorMinor (value : List ℕ) (major minor : ℕ) : Type 0 where
   pub front_number : IsNumber front u32_limit major
   pub back_number : IsNumber back u32_limit minor
 
--- the value is one of these
+-- version = number [ "." number ]. For example, `1.2` is one, and `1.`, `.1` and `1.2.3` are none.
 abbrev pub IsVersion : List ℕ → ℕ → ℕ → Type 0
 IsVersion value major minor = IsMajorAlone value major minor ⊎ IsMajorMinor value major minor
 
@@ -50,7 +64,7 @@ pub data Terminal : Type 0 where
   Target : List ℕ → Terminal
   -- this word as the name of an export that follows another: any that begins no attribute
   Later : List ℕ → Terminal
-  -- `@` and this number of 16 bits in one word
+  -- `@` and this number of 16 bits, in one token
   At : ℕ → Terminal
   -- this number of 16 bits after the word `@`: a token of any kind but the end
   Ordinal : ℕ → Terminal
@@ -123,30 +137,38 @@ pub data Statement : Type 0 where
   -- `VERSION`, the major and the minor number
   Version : ℕ → ℕ → Statement
 
--- [ `NONAME` ]
+-- [ "NONAME" ]
 abbrev pub no_name_terminals : Bool → List Terminal
 no_name_terminals true = Of KwNoname ∷ []
 no_name_terminals false = []
 
--- attribute = `@`n [`NONAME`] | `@` n [`NONAME`] | `DATA` | `CONSTANT` | `PRIVATE` | `==` word
+-- attribute = ordinal [ "NONAME" ] | "DATA" | "CONSTANT" | "PRIVATE" | "==" word
 abbrev pub attribute_terminals : Attribute → List Terminal
+-- ordinal = "@" number, in one token, as in `@10 NONAME`
 attribute_terminals (Joined n no_name) = At n ∷ no_name_terminals no_name
+-- ordinal = "@" number, in two tokens, as in `@ 1 NONAME`; the number may be quoted
 attribute_terminals (Apart n no_name) = Word (at_sign ∷ []) ∷ Ordinal n ∷ no_name_terminals no_name
+-- "DATA"
 attribute_terminals Data = Of KwData ∷ []
+-- "CONSTANT"
 attribute_terminals Constant = Of KwConstant ∷ []
+-- "PRIVATE"
 attribute_terminals Private = Of KwPrivate ∷ []
+-- "==" word
 attribute_terminals (Alias value) = Of EqualEqual ∷ Word value ∷ []
 
--- [ `=` word ]
+-- [ "=" target ]: the target is a word other than "@"
 abbrev pub target_terminals : Option (List ℕ) → List Terminal
 target_terminals None = []
 target_terminals (Some value) = Of Equal ∷ Target value ∷ []
 
--- export = name [ `=` word ] { attribute }: the name is a word or a later name
+-- export = name [ "=" target ] { attribute }: the name is a word or a later name. For example,
+-- `foo = bar == baz` has the name foo, the target bar and the alias target baz.
 abbrev pub export_terminals : (List ℕ → Terminal) → Export → List Terminal
-export_terminals name e = name e.word ∷ (target_terminals e.target ++ flat_map attribute_terminals e.attributes)
+export_terminals name e =
+    name e.word ∷ (target_terminals e.target ++ flat_map attribute_terminals e.attributes)
 
--- { export }: only those that follow another have a later name
+-- { export }: those that follow another have a later name
 abbrev pub exports_terminals : (List ℕ → Terminal) → List Export → List Terminal
 exports_terminals name [] = []
 exports_terminals name (e ∷ exports) = export_terminals name e ++ exports_terminals Later exports
@@ -156,30 +178,36 @@ abbrev pub region_kind : Region → TokenKind
 region_kind Heap = KwHeapsize
 region_kind Stack = KwStacksize
 
--- [ `,` number ]
+-- [ "," number ]
 abbrev pub commit_terminals : Option ℕ → List Terminal
 commit_terminals None = []
 commit_terminals (Some n) = Of Comma ∷ Number n ∷ []
 
--- [ `BASE` `=` number ]
+-- [ "BASE" "=" number ]
 abbrev pub base_terminals : Option ℕ → List Terminal
 base_terminals None = []
 base_terminals (Some n) = Of KwBase ∷ Of Equal ∷ Number n ∷ []
 
--- statement = `EXPORTS` { export } | (`HEAPSIZE` | `STACKSIZE`) number [ `,` number ]
---     | (`NAME` | `LIBRARY`) [ word [ `BASE` `=` number ] ] | `VERSION` version
+-- the terminals of a statement
 abbrev pub statement_terminals : Statement → List Terminal
+-- EXPORTS-statement = "EXPORTS" { export }
 statement_terminals (Exports exports) = Of KwExports ∷ exports_terminals Word exports
-statement_terminals (Sizes region reserve commit) = Of (region_kind region) ∷ Number reserve ∷ commit_terminals commit
+-- HEAPSIZE-statement = "HEAPSIZE" number [ "," number ], STACKSIZE-statement = "STACKSIZE" ..
+statement_terminals (Sizes region reserve commit) =
+    Of (region_kind region) ∷ Number reserve ∷ commit_terminals commit
+-- NAME-statement = "NAME", LIBRARY-statement = "LIBRARY"
 statement_terminals Nameless = NameOrLibrary ∷ []
+-- NAME-statement = "NAME" word [ "BASE" "=" number ], LIBRARY-statement = "LIBRARY" ..
 statement_terminals (Named name base) = NameOrLibrary ∷ Word name ∷ base_terminals base
+-- VERSION-statement = "VERSION" version
 statement_terminals (Version major minor) = Of KwVersion ∷ Numbers major minor ∷ []
 
 -- { statement }
 abbrev pub terminals : List Statement → List Terminal
 terminals statements = flat_map statement_terminals statements
 
--- definition = { statement } Eof: the tokens are exactly those that the statements derive
+-- definition = { statement } Eof: the tokens are exactly those that the statements derive. For example, the
+-- tokens of `NAME a.exe BASE=4096` are those of one statement, with the name a.exe and the base 4096.
 abbrev pub Sentence : List TokenView → List Statement → Type 0
 Sentence tokens statements = StartsWith tokens (terminals statements ++ Of Eof ∷ []) []
 

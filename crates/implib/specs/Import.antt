@@ -1,9 +1,10 @@
 -- What a program imports by a definition: of which DLL, under which symbols, asking for what.
 -- Nothing here knows a byte of a file, nor for whose linker the files are.
-use Rattle.std.specs.Prelude.{ℕ, Bool, true, false, ◌&&◌, ◌==◌, not, List, [], ◌∷◌, ◌++◌, map, if◌then◌else◌, codes, bytes_eq}
-use Rattle.std.specs.List.{filter, flat_map, list_any}
+use Rattle.std.specs.Prelude.{ℕ, Bool, true, false, ◌&&◌, ◌==◌, not, List, [], ◌∷◌, ◌++◌, map, if◌then◌else◌}
+use Rattle.std.specs.Prelude.{codes, bytes_eq}
+use Rattle.std.specs.List.{filter, flat_map}
 use Rattle.implib.specs.declared.machine.MachineType.{MachineType}
-pub use Rattle.implib.specs.Ascii.{at_sign, underscore}
+pub use Rattle.implib.specs.Ascii.{at_sign, holds, underscore}
 use Rattle.implib.specs.Definition.{DefinitionView, ExportView}
 use Rattle.implib.specs.Machine.{has_leading_underscore}
 use Rattle.implib.specs.Renaming.{renamed}
@@ -25,10 +26,6 @@ pub record Import : Type 0 where
 abbrev pub begins_with : ℕ → List ℕ → Bool
 begins_with byte name = begins (λ b. b == byte) name
 
--- whether a name holds this byte
-abbrev pub holds : ℕ → List ℕ → Bool
-holds byte name = list_any (λ b. b == byte) name
-
 -- a name without its first byte
 abbrev pub without_first : List ℕ → List ℕ
 without_first [] = []
@@ -36,9 +33,11 @@ without_first (first ∷ rest) = rest
 
 -- whether a name has the underscore that I386 puts before an undecorated name
 abbrev pub has_underscore : MachineType → List ℕ → Bool
-has_underscore machine name = has_leading_underscore machine && begins_with underscore name && not (holds at_sign name)
+has_underscore machine name =
+    has_leading_underscore machine && begins_with underscore name && not (holds at_sign name)
 
--- the name that an export asks for: its name without that underscore
+-- The name that an export asks for: its name without that underscore. For example, on I386 `_bar` asks for
+-- bar, and `_f@8` for `_f@8`.
 abbrev pub asked_name : MachineType → List ℕ → List ℕ
 asked_name machine name = if has_underscore machine name then without_first name else name
 
@@ -54,7 +53,8 @@ import_symbols is_data name = address_symbol name ∷ (if is_data then [] else n
 abbrev pub expected_ask : MachineType → ExportView → Ask
 expected_ask machine e = if e.no_name then Ordinal e.ordinal else Name (asked_name machine e.name) e.ordinal
 
--- the import that an export means
+-- The import that an export means. For example, `bar` of foo.dll on AMD64 declares `__imp_bar` and `bar`, and
+-- asks foo.dll for the name bar with the hint 0.
 abbrev pub expected_import : MachineType → List ℕ → ExportView → Import
 expected_import machine dll e = record {
   dll = dll;
@@ -62,14 +62,11 @@ expected_import machine dll e = record {
   ask = expected_ask machine e;
 }
 
--- a weak external: a symbol that another one replaces where nothing defines it (PE/COFF specification, "Auxiliary Format 3: Weak Externals")
+-- a weak external: a symbol that another one replaces where nothing defines it (PE/COFF specification,
+-- "Auxiliary Format 3: Weak Externals")
 pub record Alias : Type 0 where
   pub weak : List ℕ
   pub target : List ℕ
-
--- whether two names are one
-abbrev pub same_name : List ℕ → List ℕ → Bool
-same_name first second = bytes_eq first second
 
 -- whether a text is empty
 abbrev pub is_empty_text : List ℕ → Bool
@@ -78,9 +75,10 @@ is_empty_text (first ∷ rest) = false
 
 -- whether a symbol is weak for an alias target: there is one, and it is another symbol
 abbrev pub is_alias : List ℕ → List ℕ → Bool
-is_alias target symbol = not (is_empty_text target) && not (same_name target symbol)
+is_alias target symbol = not (is_empty_text target) && not (bytes_eq target symbol)
 
--- the aliases of a symbol for a target: of the name, and of its address
+-- The aliases of a symbol for a target: of the name, and of its address. For example, foo for the target baz:
+-- `foo` is weak for `baz`, and `__imp_foo` for `__imp_baz`.
 abbrev pub aliases_for : List ℕ → List ℕ → List Alias
 aliases_for symbol target =
     if is_alias target symbol then

@@ -1,11 +1,13 @@
--- What the import tables of both flavours are made of.
+-- What the import tables of both flavours are made of (docs/FORMATS.md, "Import tables"; PE/COFF
+-- specification, "The .idata Section").
 use Rattle.std.specs.Prelude.{ℕ, ◌+◌, List, replicate, if◌then◌else◌}
 use Rattle.implib.specs.declared.coff.object.Relocation.{Relocation}
 use Rattle.implib.specs.declared.machine.MachineType.{MachineType}
 use Rattle.implib.specs.Constants.{align_4bytes, cnt_initialized_data, image_relative, mem_read_write}
 use Rattle.implib.specs.Machine.{is_32bit}
 
--- the size in bytes of an entry of the address table and the lookup table
+-- The size in bytes of an entry of the address table and the lookup table: 4 on I386 and ARMNT, 8 on AMD64
+-- and ARM64.
 abbrev pub thunk_width : MachineType → ℕ
 thunk_width machine = if is_32bit machine then 4 else 8
 
@@ -13,7 +15,8 @@ thunk_width machine = if is_32bit machine then 4 else 8
 abbrev pub zeros : ℕ → List ℕ
 zeros count = replicate count 0
 
--- an image-relative relocation
+-- An image-relative relocation, at an offset in its section, to the symbol of an index. For example, on AMD64
+-- its type is 3.
 abbrev pub relocation : MachineType → ℕ → ℕ → Relocation
 relocation machine offset index = record { offset = offset; symbol = index; kind = image_relative machine }
 
@@ -31,6 +34,6 @@ name_offset = 12
 abbrev pub address_table_offset : ℕ
 address_table_offset = 16
 
--- the flags of `.idata$2`, `.idata$3` and, in GNU's head and tail, of all import tables: 0xC0300040
+-- the flags of `.idata$2`, `.idata$3` and, in GNU's head and tail, of all import tables
 abbrev pub table_flags : ℕ
-table_flags = cnt_initialized_data + align_4bytes + mem_read_write
+table_flags = cnt_initialized_data + align_4bytes + mem_read_write  -- 0xC0300040

@@ -6,7 +6,8 @@ use Rattle.implib.specs.declared.coff.layout.LayoutSymbol.{LayoutSymbol as Borro
 use Rattle.implib.specs.declared.coff.layout.SymbolName.{SymbolName as BorrowedName}
 use Rattle.implib.specs.declared.coff.layout.SymbolName.TheVariants as borrowed
 use Rattle.implib.specs.Writer.{section_view}
-use Rattle.implib.specs.Layout.{InRecord, InStringTable, ObjectLayout, LayoutSymbol, SymbolName, encoded_size, records, strings_size, symbol_table_offset}
+use Rattle.implib.specs.Layout.{InRecord, InStringTable, ObjectLayout, LayoutSymbol, SymbolName, encoded_size}
+use Rattle.implib.specs.Layout.{records, strings_size, symbol_table_offset}
 
 -- the view of a name's location
 abbrev pub name_view : BorrowedName → SymbolName
@@ -33,7 +34,7 @@ layout_view p = record {
   strings = map (λ text. text.now) p.strings.now;
 }
 
--- a name in its record has at most 8 bytes, and one in the string table is of the strings
+-- a name in its record has at most 8 bytes, and one in the string table is one of the strings
 abbrev pub FitsField : ℕ → SymbolName → Type 0
 FitsField strings (InRecord text) = length text ≤ 8
 FitsField strings (InStringTable index) = index < strings

@@ -1,60 +1,72 @@
+-- characters, machines, numbers
+pub mod Ascii
 pub mod Machine
 pub mod Conversions
+pub mod Constants
+pub mod Bytes
+-- definitions and faults
 pub mod Definition
 pub mod Fault
+-- tokens
 pub mod Token
-pub mod Scanner
+-- statements
 pub mod Number
 pub mod Grammar
 pub mod Meaning
 pub mod SyntaxError
-pub mod WorkedTokens
 pub mod Parses
+pub mod Parser
+pub mod SymbolNames
+-- what a definition asks of its DLL
 pub mod Renaming
 pub mod Import
+pub mod Asked
+-- readers
 pub mod ShortImport
+pub mod Object
+pub mod File
+pub mod GnuReader
+-- encoding
+pub mod Pass
+pub mod Layout
+pub mod Writer
+-- tables of both flavours
+pub mod ImportTables
+pub mod WeakExternal
 pub mod Msvc
+pub mod MsvcObjects
+pub mod Gnu
+-- members
 pub mod MemberSpec
 pub mod MsvcMembers
 pub mod GnuMembers
 pub mod NameRules
 pub mod Members
-pub mod Library
-pub mod Bytes
-pub mod Pass
 pub mod ReadBack
-pub mod SymbolNames
-pub mod Object
-pub mod Layout
-pub mod Constants
-pub mod ImportTables
-pub mod WeakExternal
-pub mod MsvcObjects
-pub mod File
-pub mod LayoutView
-pub mod WorkedStatements
-pub mod TokenReader
-pub mod Parser
-pub mod ParserViews
-pub mod Writer
-pub mod Table
-pub mod WriterView
+pub mod Library
+-- linking and loading
 pub mod Placement
 pub mod Resolution
 pub mod Image
 pub mod Load
 pub mod LinkedMembers
 pub mod Linked
-pub mod WorkedLinks
-pub mod Asked
+-- worked by hand
+pub mod WorkedTokens
+pub mod WorkedStatements
 pub mod WorkedMembers
-pub mod Gnu
-pub mod GnuReader
 pub mod WorkedGnu
+pub mod WorkedObjects
+pub mod WorkedLinks
 pub mod WorkedDigits
 pub mod WorkedMachines
-pub mod WorkedObjects
 pub mod WorkedTables
 pub mod WorkedPlans
 pub mod WorkedLayouts
-pub mod Ascii
+-- views: no promise cites them
+pub mod Scanner
+pub mod TokenReader
+pub mod ParserViews
+pub mod LayoutView
+pub mod WriterView
+pub mod Table

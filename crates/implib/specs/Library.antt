@@ -18,9 +18,13 @@ pub record LibraryView : Type 0 where
   pub machine : MachineType
   pub flavor : Flavor
 
--- the parts of a library of the program
+-- what a library of the program holds
 abbrev pub library_view : ModuleDef → MachineType → Flavor → LibraryView
-library_view def machine flavor = record { definition = definition_view def; machine = machine; flavor = flavor }
+library_view def machine flavor = record {
+  definition = definition_view def;
+  machine = machine;
+  flavor = flavor;
+}
 
 -- what a member of the program shows
 abbrev pub member_view : Member → MemberView
@@ -30,13 +34,16 @@ member_view m = record {
   symbols = map string_bytes m.symbols.items;
 }
 
--- the library holds what the text means, renamed
-pub record LibraryOf (text : List ℕ) (machine : MachineType) (flavor : Flavor) (library : LibraryView) : Type 0 where
+-- The library holds what the text means, renamed. For example, of `foo = bar` an export of the name foo.
+pub record LibraryOf (text : List ℕ) (machine : MachineType) (flavor : Flavor) (library : LibraryView)
+    : Type 0 where
   pub meant : DefinitionView
   pub parses : Parses text machine meant
   pub held : library ≡ record { definition = renamed meant; machine = machine; flavor = flavor }
 
--- the parts at one index of the program's lists of definitions, members and choices
-abbrev pub inputs_held : {A B : Type 0} → List ModuleDef → List (Vec Member A) → List (Vec ℕ B) → List LinkInput
+-- the link inputs that the program's lists of definitions, members and choices make, index by index
+abbrev pub inputs_held : {A B : Type 0} → List ModuleDef → List (Vec Member A) → List (Vec ℕ B) →
+    List LinkInput
 inputs_held definitions members chosen =
-    inputs_of (map definition_view definitions) (map (λ list. map member_view list.items) members) (map (λ list. list.items) chosen)
+    inputs_of (map definition_view definitions) (map (λ list. map member_view list.items) members)
+    (map (λ list. list.items) chosen)

@@ -16,8 +16,8 @@ use Rattle.implib.specs.Object.{ASymbol, Auxiliary, Entry, Object, object_in}
 use Rattle.implib.specs.Placement.{Bases, Placed, placed_from}
 use Rattle.implib.specs.Resolution.{SymbolDefinition, definitions_of, is_undefined_external, symbol_address}
 
--- the symbols of each export's address are at entries of so many bytes, one after another from an
--- address on, and nowhere else
+-- the symbols of each export's address are at entries of `width` bytes, one after another from an address
+-- on, and nowhere else
 unfoldable pub EntriesAt : List Placed → ℕ → ℕ → List ExportView → Type 0
 EntriesAt linked width address [] = Unit {0}
 EntriesAt linked width address (e ∷ exports) =
@@ -43,7 +43,7 @@ abbrev pub IsDefinedAt : List Placed → List ℕ → Type 0
 IsDefinedAt linked name =
     (address : ℕ) × (definitions_of name linked ≡ record { name = name; address = Some address } ∷ [])
 
--- the symbol that a relocation of a placed object names has an address
+-- the symbol that a relocation of a placed object leads to has an address
 abbrev pub FindsTarget : List Placed → Placed → Relocation → Type 0
 FindsTarget linked p r =
     (address : ℕ) × (option_and_then (symbol_address linked p) (slice_get p.object.entries r.symbol)
@@ -53,10 +53,10 @@ FindsTarget linked p r =
 abbrev pub AllFind : List Placed → Placed → Type 0
 AllFind linked p = AllByRecursion (λ s. AllByRecursion (FindsTarget linked p) s.relocations) p.object.sections
 
--- Objects of a DLL among those that are linked import these exports from it: at the address of the
--- head's symbol stands a descriptor, by which a loader finds these exports from it: at the address of the
--- head's symbol stands a descriptor, by which a loader finds the DLL's name and twice what the
--- exports ask for, in their order; each export's address is its own entry of the address table.
+-- Objects of a DLL among those that are linked import these exports from it: at the address of the head's
+-- symbol is a descriptor, by which a loader finds the DLL's name and twice what the exports ask for, in their
+-- order; each export's address is its own entry of the address table. For example, with the address table of
+-- foo.dll at 0x1040 on AMD64, `__imp_bar` is 0x1040 and `__imp_baz` 0x1048 (WorkedLinks).
 pub record LinksAt (machine : MachineType) (image : List Range) (linked : List Placed) (dll : List ℕ)
     (exports : List ExportView)
     : Type 0 where
@@ -85,13 +85,13 @@ pub record Links (machine : MachineType) (bases : Bases) (dll : List ℕ) (expor
   pub defined : AllByRecursion (IsDefinedOnce (placed_from bases objects))
       (undefined_names (placed_from bases objects))
 
--- what is linked of a part are members of the part, and each reads as an object
+-- what is linked of an input are members of it, and each reads as an object
 pub record IsLinked (machine : MachineType) (p : LinkInput) : Type 0 where
   pub from_members : AllByRecursion (Contains p.members) (linked_members p.definition machine p.chosen)
   pub read : map (λ m. object_in m.bytes) (linked_members p.definition machine p.chosen)
       ≡ map Some (objects_in (linked_members p.definition machine p.chosen))
 
--- each part links among the others, and no symbol stays undefined or is ambiguous
+-- each input links among the others, and no symbol stays undefined or is ambiguous
 pub record AllLink (machine : MachineType) (bases : Bases) (inputs : List LinkInput) (objects : List Object)
     : Type 0 where
   pub linked : AllByRecursion (IsLinked machine) inputs

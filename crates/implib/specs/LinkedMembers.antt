@@ -1,6 +1,7 @@
--- What is linked: the head, the members of chosen exports and the tail of one definition or of several,
--- and the order of their names.
-use Rattle.std.specs.Prelude.{◌≡◌, ℕ, List, [], ◌∷◌, ◌++◌, map, slice_get, slice_index, Option, ◌<◌, codes, length}
+-- What is linked: the head, the members of the selected exports and the tail of one definition or of several,
+-- and the order of their names (docs/FORMATS.md, "Placement").
+use Rattle.std.specs.Prelude.{◌≡◌, ℕ, List, [], ◌∷◌, ◌++◌, map, slice_get, slice_index, Option, ◌<◌, codes}
+use Rattle.std.specs.Prelude.{length}
 use Rattle.std.specs.Cmp.Lexicographic.{slice_cmp}
 use Rattle.std.specs.List.{AllByRecursion, filter_map, flat_map}
 use Rattle.std.specs.Option.{option_map}
@@ -27,13 +28,14 @@ abbrev pub numbered_spec : MachineType → List ℕ → List ExportView → ℕ 
 numbered_spec machine dll exports number =
     option_map (export_spec machine dll number) (slice_get exports number)
 
--- what is linked: the head, the members of chosen exports, the tail
+-- the specifications of what is linked: the head, the members of the selected exports, the tail
 abbrev pub linked_specs : DefinitionView → MachineType → List ℕ → List MemberSpec
 linked_specs d machine chosen =
     head_spec machine d.import_name
     ∷ (filter_map (numbered_spec machine d.import_name (public_exports (renamed d))) chosen
     ++ tail_spec machine d.import_name ∷ [])
 
+-- what is linked
 abbrev pub linked_members : DefinitionView → MachineType → List ℕ → List MemberView
 linked_members d machine chosen = map member_of (linked_specs d machine chosen)
 
@@ -61,13 +63,13 @@ bases_of bases = record {
   dll_names = slice_index bases 4;
 }
 
--- a definition, its members, and the numbers of the exports that are chosen
+-- an input of a link: a definition, its members, and the numbers of the selected exports
 pub record LinkInput : Type 0 where
   pub definition : DefinitionView
   pub members : List MemberView
   pub chosen : List ℕ
 
--- the parts of definitions, members and choices at one index
+-- the inputs that lists of definitions, members and choices make, index by index
 abbrev pub inputs_of : List DefinitionView → List (List MemberView) → List (List ℕ) → List LinkInput
 inputs_of [] members chosen = []
 inputs_of (d ∷ definitions) [] chosen = []
@@ -86,7 +88,7 @@ pub record IsLinkInput (machine : MachineType) (p : LinkInput) : Type 0 where
   pub numbers : AllByRecursion (λ n. n < length (public_exports (renamed p.definition))) p.chosen
   pub in_order : AllRise (map (export_name p.definition.import_name) p.chosen)
 
--- what the names of a definition's members begin with
+-- What the names of a definition's members begin with. For example, `foo_dll_a_` of foo.dll.
 abbrev pub member_prefix : DefinitionView → List ℕ
 member_prefix d = stem d.import_name ++ codes "_a_"
 
@@ -98,8 +100,9 @@ IsPrefixOf first second = (rest : List ℕ) × (second ≡ first ++ rest)
 abbrev pub NoneIsPrefix : List (List ℕ) → Type 0
 NoneIsPrefix [] = Unit {0}
 NoneIsPrefix (text ∷ others) =
-    AllByRecursion (λ other. (IsPrefixOf text other → ⊥) × (IsPrefixOf other text → ⊥)) others × NoneIsPrefix others
+    AllByRecursion (λ other. (IsPrefixOf text other → ⊥) × (IsPrefixOf other text → ⊥)) others
+    × NoneIsPrefix others
 
--- what is linked of all parts, one after another
+-- what is linked of all inputs, one after another
 abbrev pub all_linked : MachineType → List LinkInput → List MemberView
 all_linked machine inputs = flat_map (λ p. linked_members p.definition machine p.chosen) inputs

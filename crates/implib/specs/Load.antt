@@ -1,5 +1,6 @@
 -- Loading: what a loader finds in an image (PE/COFF specification, "The .idata Section").
-use Rattle.std.specs.Prelude.{◌≡◌, ◌≢◌, ℕ, ◌+◌, ◌*◌, ◌-◌, ◌%◌, ◌^◌, ◌<◌, ◌≤◌, List, [], ◌∷◌, ◌++◌, length, Some}
+use Rattle.std.specs.Prelude.{◌≡◌, ◌≢◌, ℕ, ◌+◌, ◌*◌, ◌-◌, ◌%◌, ◌^◌, ◌<◌, ◌≤◌, List, [], ◌∷◌, ◌++◌, length}
+use Rattle.std.specs.Prelude.{Some}
 use Rattle.implib.specs.Import.{Ask, Ordinal, Name}
 use Rattle.implib.specs.Image.{Range, byte_at}
 use Rattle.implib.specs.Layout.{HasNoNul}
@@ -9,7 +10,7 @@ unfoldable pub BytesAt : List Range → ℕ → List ℕ → Type 0
 BytesAt image address [] = Unit {0}
 BytesAt image address (byte ∷ bytes) = (byte_at image address ≡ Some byte) × BytesAt image (address + 1) bytes
 
--- the number in bytes, the low one first
+-- The number in bytes, the low one first. For example, `02 01` is 258.
 abbrev pub number_in : List ℕ → ℕ
 number_in [] = 0
 number_in (byte ∷ bytes) = byte + 256 * number_in bytes
@@ -26,8 +27,9 @@ pub record TextAt (image : List Range) (address : ℕ) (text : List ℕ) : Type 
   pub no_nul : HasNoNul text
   pub stands : BytesAt image address (text ++ 0 ∷ [])
 
--- A thunk asks for this ("Import Lookup Table", "Hint/Name Table"): with its top bit set for the
--- ordinal in its low 16 bits, otherwise for the hint and the name at the address in its low 31 bits.
+-- A thunk asks for this ("Import Lookup Table", "Hint/Name Table"): with its top bit set for the ordinal in
+-- its low 16 bits, otherwise for the hint and the name at the address in its low 31 bits. For example,
+-- 0x8000_0005, of 4 bytes, asks for the ordinal 5.
 unfoldable pub ThunkAsksFor : List Range → ℕ → ℕ → Ask → Type 0
 ThunkAsksFor image width thunk (Ordinal n) = (2 ^ (8 * width - 1) ≤ thunk) × (thunk % 2 ^ 16 ≡ n)
 ThunkAsksFor image width thunk (Name text hint) =
@@ -66,8 +68,9 @@ WholeTableAt image width address [] = Unit {0}
 WholeTableAt image width address (ask ∷ asks) =
     WholeThunkAt image width address ask × WholeTableAt image width (address + width) asks
 
--- what the descriptor at an address leads to: the lookup table by its field at 0, the DLL's name by
--- that at 12, the address table by that at 16 ("Import Directory Table")
+-- What the descriptor at an address leads to: the lookup table by its field at 0, the DLL's name by that at
+-- 12, the address table by that at 16 ("Import Directory Table"). For example, the fields 0x1020, 0, 0,
+-- 0x1088 and 0x1040 lead to a lookup table at 0x1020, a name at 0x1088 and an address table at 0x1040.
 pub record Loads (image : List Range) (width : ℕ) (descriptor : ℕ) (dll : List ℕ) (asks : List Ask)
     : Type 0 where
   pub lookups : ℕ

@@ -1,13 +1,16 @@
--- What statements mean: the definition that they make.
-use Rattle.std.specs.Prelude.{ℕ, Bool, true, false, ◌||◌, ◌==◌, List, [], ◌∷◌, map, Option, Some, None, unwrap_or, option_map, if◌then◌else◌, slice_index}
+-- What statements mean: the definition that they make (docs/GRAMMAR.md, "Statements").
+use Rattle.std.specs.Prelude.{ℕ, Bool, true, false, ◌||◌, ◌==◌, List, [], ◌∷◌, map, Option, Some, None}
+use Rattle.std.specs.Prelude.{unwrap_or, option_map, if◌then◌else◌, slice_index}
 use Rattle.std.specs.List.{flat_map, list_any}
 use Rattle.implib.specs.declared.machine.MachineType.{MachineType}
 use Rattle.implib.specs.declared.machine.MachineType.TheVariants.{I386, ARMNT, AMD64, ARM64}
 pub use Rattle.implib.specs.Ascii.{question_mark, underscore}
 use Rattle.implib.specs.Definition.{DefinitionView, ExportView}
-use Rattle.implib.specs.Grammar.{Attribute, Joined, Apart, Data, Constant, Private, Alias, Export, Heap, Stack, Statement, Exports, Sizes, Nameless, Named, Version, at_sign}
+use Rattle.implib.specs.Grammar.{Attribute, Joined, Apart, Data, Constant, Private, Alias, Export, Heap}
+use Rattle.implib.specs.Grammar.{Stack, Statement, Exports, Sizes, Nameless, Named, Version, at_sign}
 
--- what the last of the items that set it sets, and old where none does
+-- What the last of the items that set it sets, and old where none does. For example, of `@5 NONAME @6` the
+-- ordinal is 6, and `NONAME` stays.
 abbrev pub last_or : {A B : Type 0} → B → (A → Option B) → List A → B
 last_or old set [] = old
 last_or old set (item ∷ items) = last_or (unwrap_or (set item) old) set items
@@ -16,7 +19,8 @@ last_or old set (item ∷ items) = last_or (unwrap_or (set item) old) set items
 abbrev pub is_decorated : List ℕ → Bool
 is_decorated name = slice_index name 0 == question_mark || list_any (λ byte. byte == at_sign) name
 
--- a name as the symbols of a machine have it: with `_` in front on I386, unless it is decorated
+-- A name as the symbols of a machine have it: with `_` in front on I386, unless it is decorated. For
+-- example, on I386 `foo` is `_foo`, and `_x@8` and `?y` stay.
 abbrev pub decorated : MachineType → List ℕ → List ℕ
 decorated I386 name = if is_decorated name then name else underscore ∷ name
 decorated ARMNT name = name
@@ -62,7 +66,8 @@ alias_in _ = None
 abbrev pub inner_name : Export → List ℕ
 inner_name e = unwrap_or e.target e.word
 
--- what an export means
+-- What an export means. For example, `foo = bar == baz` has the name bar, the external name foo and the
+-- alias target baz, on AMD64.
 abbrev pub export_meaning : MachineType → Export → ExportView
 export_meaning machine e = record {
   name = decorated machine (inner_name e);
@@ -81,19 +86,19 @@ abbrev pub exports_in : Statement → List Export
 exports_in (Exports exports) = exports
 exports_in _ = []
 
--- what a statement sets, `NAME` or `LIBRARY` alone an empty name and the base 0
+-- the import name that a statement sets: `NAME` or `LIBRARY` alone sets an empty one
 abbrev pub import_name_in : Statement → Option (List ℕ)
 import_name_in Nameless = Some []
 import_name_in (Named name base) = Some name
 import_name_in _ = None
 
--- a name without a base sets the base 0
+-- the image base that a statement sets: a name without a base sets 0
 abbrev pub image_base_in : Statement → Option ℕ
 image_base_in Nameless = Some 0
 image_base_in (Named name base) = Some (unwrap_or base 0)
 image_base_in _ = None
 
--- a missing size to commit is 0
+-- the sizes in bytes that a statement sets; a missing size to commit is 0
 abbrev pub stack_reserve_in : Statement → Option ℕ
 stack_reserve_in (Sizes Stack reserve commit) = Some reserve
 stack_reserve_in _ = None
@@ -119,7 +124,8 @@ abbrev pub minor_in : Statement → Option ℕ
 minor_in (Version major minor) = Some minor
 minor_in _ = None
 
--- the definition that statements make: all exports in order, and of each setting the last
+-- The definition that statements make: all exports in order, and of each setting the last. For example,
+-- after `NAME a.exe BASE=4096` a statement `LIBRARY` leaves an empty name and the base 0.
 abbrev pub meaning : MachineType → List Statement → DefinitionView
 meaning machine statements = record {
   exports = map (export_meaning machine) (flat_map exports_in statements);

@@ -10,7 +10,7 @@ pub record MemberView : Type 0 where
   pub bytes : List ℕ
   pub symbols : List (List ℕ)
 
--- what a member's file is: a short record, or an object
+-- what a member's file is: a short import, or an object
 pub data Contents : Type 0 where
   AShortImport : ShortImport → Contents
   AnObject : ObjectLayout → Contents
@@ -21,7 +21,7 @@ pub record MemberSpec : Type 0 where
   pub contents : Contents
   pub listed : List (List ℕ)
 
--- the length of a member's file
+-- the size in bytes of a member's file
 abbrev pub file_size : Contents → ℕ
 file_size (AShortImport r) = short_import_size r
 file_size (AnObject p) = encoded_size p

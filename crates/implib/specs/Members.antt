@@ -40,8 +40,11 @@ refusal d machine flavor = renamed_refusal (renamed d) machine flavor
 abbrev pub has_u16_ordinal : ExportView → Bool
 has_u16_ordinal e = nat_lt e.ordinal 0x1_0000
 
--- the members are those of the definition, which is not refused
-pub record AreMembersOf (d : DefinitionView) (machine : MachineType) (flavor : Flavor) (members : List MemberView) : Type 0 where
+-- The members are those of the definition, which is not refused. For example, foo.dll with bar on AMD64 has
+-- four members for Microsoft's linker, of 358, 127, 159 and 32 bytes, and three for GNU's, of 356, 450 and
+-- 474.
+pub record AreMembersOf (d : DefinitionView) (machine : MachineType) (flavor : Flavor)
+    (members : List MemberView) : Type 0 where
   pub accepted : refusal d machine flavor ≡ None
   pub made : members ≡ map member_of (member_specs (renamed d) machine flavor)
   pub ordinals : list_all has_u16_ordinal (public_exports (renamed d)) ≡ true

@@ -1,11 +1,13 @@
 -- The rules on names: which definitions are refused for a name, and for which cause first.
-use Rattle.std.specs.Prelude.{◌≡◌, ℕ, ◌+◌, Bool, ◌&&◌, ◌||◌, not, List, [], ◌∷◌, Option, Some, None, Result, IsErrAnd, if◌then◌else◌}
+use Rattle.std.specs.Prelude.{◌≡◌, ℕ, ◌+◌, Bool, ◌&&◌, ◌||◌, not, List, [], ◌∷◌, Option, Some, None, Result}
+use Rattle.std.specs.Prelude.{IsErrAnd, if◌then◌else◌}
 use Rattle.implib.specs.declared.error.Error.{Error}
 use Rattle.implib.specs.declared.members.Flavor.{Flavor}
 use Rattle.implib.specs.declared.members.Flavor.TheVariants.{Msvc, Gnu}
 use Rattle.implib.specs.declared.machine.MachineType.{MachineType}
 use Rattle.implib.specs.Definition.{DefinitionView, ExportView}
-use Rattle.implib.specs.Fault.{Cause, EmptyImportName, NulInImportName, EmptyName, NulInExport, EmptyAskedName, error_cause}
+use Rattle.implib.specs.Fault.{Cause, EmptyImportName, NulInImportName, EmptyName, NulInExport}
+use Rattle.implib.specs.Fault.{EmptyAskedName, error_cause}
 use Rattle.implib.specs.Import.{asked_name, holds, is_empty_text}
 use Rattle.implib.specs.Msvc.{asked_by_short_import}
 use Rattle.implib.specs.Renaming.{renamed}
@@ -19,7 +21,8 @@ asked_in Gnu machine e = asked_name machine e.name
 abbrev pub holds_nul : ExportView → Bool
 holds_nul e = holds 0 e.name || holds 0 e.symbol_name || holds 0 e.alias_target
 
--- the first rule on names that an export breaks
+-- The first rule on names that an export breaks. For example, on I386 an export `_` for GNU's linker asks for
+-- the empty name.
 abbrev pub name_refusal : Flavor → MachineType → ℕ → ExportView → Option Cause
 name_refusal flavor machine index e =
     if is_empty_text e.name then Some (EmptyName index)
@@ -32,7 +35,8 @@ abbrev pub first_of_both : Option Cause → Option Cause → Option Cause
 first_of_both (Some cause) later = Some cause
 first_of_both None later = later
 
--- the first rule on names that an export breaks, the exports numbered from this index; private ones are skipped
+-- the first rule on names that an export breaks, the exports numbered from this index; private ones are
+-- skipped
 abbrev pub names_refusal : Flavor → MachineType → ℕ → List ExportView → Option Cause
 names_refusal flavor machine index [] = None
 names_refusal flavor machine index (e ∷ exports) =
@@ -54,4 +58,5 @@ definition_names_refusal d machine flavor =
 -- where a rule on names refuses the definition, the answer is that refusal, whatever memory there is
 abbrev pub RefusesAlways : {T : Type 0} → DefinitionView → MachineType → Flavor → Result T Error → Type 0
 RefusesAlways d machine flavor result =
-    (cause : Cause) → definition_names_refusal (renamed d) machine flavor ≡ Some cause → IsErrAnd result (λ error. error_cause error ≡ Some cause)
+    (cause : Cause) → definition_names_refusal (renamed d) machine flavor ≡ Some cause →
+    IsErrAnd result (λ error. error_cause error ≡ Some cause)

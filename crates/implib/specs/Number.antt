@@ -1,4 +1,4 @@
--- Numbers as texts.
+-- Numbers as texts (docs/GRAMMAR.md, "Tokens").
 use Rattle.std.specs.Prelude.{◌≡◌, ℕ, ◌<◌, ◌≤◌, ◌⊎◌, List, ◌∷◌, length, IsTrue}
 use Rattle.std.specs.Str.{all_ascii_digits}
 use Rattle.std.specs.Str.Parse.{digits_value}
@@ -17,8 +17,9 @@ u64_limit = 0xFFFFFFFFFFFFFFFF
 abbrev pub plus_sign : ℕ
 plus_sign = 43
 
--- value is one ASCII digit or more, with or without a `+` in front, and writes in base ten the
--- number n, which is at most limit; leading zeros are allowed
+-- number = [ "+" ] digit { digit }
+-- The value is a number in ASCII digits, in base ten, with the value n, which is at most limit; leading zeros
+-- are allowed. For example, `+0007` is 7, and neither `+` nor `-1` is a number.
 pub record IsNumber (value : List ℕ) (limit n : ℕ) : Type 0 where
   pub digits : List ℕ
   pub spelled : (value ≡ digits) ⊎ (value ≡ plus_sign ∷ digits)

@@ -13,8 +13,9 @@ pub record Source : Type 0 where
 
 -- the text with these tokens means this definition on this machine
 abbrev pub ParsesFrom : Source → DefinitionView → Type 0
-ParsesFrom source definition = (text : List ℕ) → Lexed text source.tokens → Parses text source.machine definition
+ParsesFrom source definition =
+    (text : List ℕ) → Lexed text source.tokens → Parses text source.machine definition
 
--- the text with these tokens is outside the grammar, for this cause
+-- the text with these tokens is refused, for this cause
 abbrev pub RefusesFrom : Source → Cause → Type 0
 RefusesFrom source cause = (text : List ℕ) → Lexed text source.tokens → Refuses text cause

@@ -1,5 +1,6 @@
 -- Views of the parser's state and of what its functions answer. No promise cites them.
-use Rattle.std.specs.Prelude.{◌≡◌, ℕ, ◌++◌, Bool, true, false, List, [], ◌∷◌, Option, Some, None, MatchOption, Result, Ok, Err}
+use Rattle.std.specs.Prelude.{◌≡◌, ℕ, ◌++◌, Bool, true, false, List, [], ◌∷◌, Option, Some, None, MatchOption}
+use Rattle.std.specs.Prelude.{Result, Ok, Err}
 use Rattle.std.specs.List.{fold}
 use Rattle.std.specs.Borrow.{Bor}
 use Rattle.implib.specs.declared.def.lexer.Token.{Token}
@@ -12,7 +13,7 @@ use Rattle.implib.specs.Definition.{DefinitionView, ExportView}
 use Rattle.implib.specs.Fault.{Cause, cause_of}
 use Rattle.implib.specs.Grammar.{Export, Statement, Nameless, Named}
 use Rattle.implib.specs.TokenReader as reading
-use Rattle.implib.specs.TokenReader.{◌>>=◌, Reader, made_export, with_attribute, with_settings, with_statement}
+use Rattle.implib.specs.TokenReader.{◌>>=◌, Reader, made_export, with_settings}
 use Rattle.implib.specs.Token.{TokenView, token_view}
 
 -- the tokens to come: the one that was looked at, if any, and those of the lexer
@@ -22,11 +23,13 @@ ahead (Some token) tokens = token_view token ∷ tokens
 
 -- the first token is the one that was given, and the others are left
 abbrev pub TakesFirst : List TokenView → Option Token → List TokenView → Type 0
-TakesFirst before given after = MatchOption given ((before ≡ []) × (after ≡ [])) (λ token. before ≡ token_view token ∷ after)
+TakesFirst before given after =
+    MatchOption given ((before ≡ []) × (after ≡ [])) (λ token. before ≡ token_view token ∷ after)
 
 -- the first token is the one that was given
 abbrev pub ShowsFirst : List TokenView → Option Token → Type 0
-ShowsFirst tokens given = MatchOption given (tokens ≡ []) (λ token. (rest : List TokenView) × (tokens ≡ token_view token ∷ rest))
+ShowsFirst tokens given =
+    MatchOption given (tokens ≡ []) (λ token. (rest : List TokenView) × (tokens ≡ token_view token ∷ rest))
 
 -- an error is the cause that a reader gives, unless memory ran out
 abbrev pub Fails : {Y : Type 0} → Error → Result Y Cause → Type 0
@@ -38,17 +41,20 @@ abbrev pub Gives : {X Y : Type 0} → (X → Y) → Result X Error → Result Y 
 Gives view (Ok x) read = read ≡ Ok (view x)
 Gives view (Err e) read = Fails e read
 
--- an item that was read is put to what is there, and told; or there was none
-abbrev pub put : {A S : Type 0} → (S → A → S) → S → Option A × List TokenView → Result (Bool × S × List TokenView) Cause
+-- an item that was read is put to what is there, and reported; or there was none
+abbrev pub put : {A S : Type 0} → (S → A → S) → S → Option A × List TokenView →
+    Result (Bool × S × List TokenView) Cause
 put apply state (None, rest) = Ok (false, state, rest)
 put apply state (Some item, rest) = Ok (true, apply state item, rest)
 
 -- all items that were read are put to what is there
-abbrev pub put_all : {A S : Type 0} → (S → A → S) → S → List A × List TokenView → Result (S × List TokenView) Cause
+abbrev pub put_all : {A S : Type 0} → (S → A → S) → S → List A × List TokenView →
+    Result (S × List TokenView) Cause
 put_all apply state items = Ok (fold apply state items.0, items.1)
 
 -- the same, of what a reader of one item gives
-abbrev pub one_put : {A S : Type 0} → (S → A → S) → S → Reader (Option A) → Result (Bool × S × List TokenView) Cause
+abbrev pub one_put : {A S : Type 0} → (S → A → S) → S → Reader (Option A) →
+    Result (Bool × S × List TokenView) Cause
 one_put apply state read = read >>= put apply state
 
 -- the same, of what a reader of all items gives
@@ -56,7 +62,8 @@ abbrev pub all_put : {A S : Type 0} → (S → A → S) → S → Reader (List A
 all_put apply state read = read >>= put_all apply state
 
 -- a statement that was read sets what it sets
-abbrev pub put_settings : DefinitionView → Statement × List TokenView → Result (DefinitionView × List TokenView) Cause
+abbrev pub put_settings : DefinitionView → Statement × List TokenView →
+    Result (DefinitionView × List TokenView) Cause
 put_settings d s = Ok (with_settings d s.0, s.1)
 
 -- the same, of what a reader of a statement gives

@@ -1,4 +1,4 @@
--- What a text means, and why a text is refused.
+-- What a text means, and why a text is refused (docs/GRAMMAR.md).
 use Rattle.std.specs.Prelude.{◌≡◌, ℕ, List}
 use Rattle.implib.specs.declared.machine.MachineType.{MachineType}
 use Rattle.implib.specs.Definition.{DefinitionView}
@@ -8,7 +8,8 @@ use Rattle.implib.specs.Meaning.{meaning}
 use Rattle.implib.specs.SyntaxError.{IsSyntaxError}
 use Rattle.implib.specs.Token.{Lexed, TokenView}
 
--- the text's tokens are statements, which mean this definition on this machine
+-- The text's tokens are statements, which mean this definition on this machine. For example, `HEAPSIZE 1,2`
+-- means a definition with 1 byte of heap to reserve and 2 to commit, and nothing else (WorkedStatements).
 pub record Parses (text : List ℕ) (machine : MachineType) (definition : DefinitionView) : Type 0 where
   pub tokens : List TokenView
   pub statements : List Statement
@@ -16,7 +17,8 @@ pub record Parses (text : List ℕ) (machine : MachineType) (definition : Defini
   pub sentence : Sentence tokens statements
   pub means : meaning machine statements ≡ definition
 
--- the text's tokens are no statements, for this cause
+-- The text's tokens are no statements, for this cause. For example, `HEAPSIZE 1,` is refused for
+-- ExpectedIdentifier with Eof.
 pub record Refuses (text : List ℕ) (cause : Cause) : Type 0 where
   pub tokens : List TokenView
   pub lexed : Lexed text tokens

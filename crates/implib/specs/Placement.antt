@@ -1,6 +1,7 @@
--- Placement: where the sections of linked objects stand (this project's model of what linkers do,
+-- Placement: the addresses of the sections of linked objects (this project's model of what linkers do,
 -- docs/FORMATS.md, "Placement").
-use Rattle.std.specs.Prelude.{ℕ, ◌+◌, ◌-◌, ◌/◌, ◌%◌, ◌^◌, Bool, ◌==◌, List, [], ◌∷◌, length, bytes_eq, codes, Option, Some, None, if◌then◌else◌}
+use Rattle.std.specs.Prelude.{ℕ, ◌+◌, ◌-◌, ◌/◌, ◌%◌, ◌^◌, Bool, ◌==◌, List, [], ◌∷◌, length, bytes_eq, codes}
+use Rattle.std.specs.Prelude.{Option, Some, None, if◌then◌else◌}
 use Rattle.implib.specs.Object.{Object, ObjectSection}
 
 -- The groups of sections that import tables are made of (PE/COFF specification, "The .idata
@@ -13,6 +14,7 @@ pub data Group : Type 0 where
   HintNames : Group
   DllNames : Group
 
+-- all groups
 abbrev pub groups : List Group
 groups = Descriptors ∷ Lookups ∷ Addresses ∷ HintNames ∷ DllNames ∷ []
 
@@ -24,6 +26,7 @@ group_number Addresses = 5
 group_number HintNames = 6
 group_number DllNames = 7
 
+-- whether two groups are one
 abbrev pub same_group : Group → Group → Bool
 same_group first second = group_number first == group_number second
 
@@ -45,6 +48,7 @@ pub record Bases : Type 0 where
   pub hint_names : ℕ
   pub dll_names : ℕ
 
+-- the address of a group
 abbrev pub base_of : Group → Bases → ℕ
 base_of Descriptors b = b.descriptors
 base_of Lookups b = b.lookups
@@ -52,6 +56,7 @@ base_of Addresses b = b.addresses
 base_of HintNames b = b.hint_names
 base_of DllNames b = b.dll_names
 
+-- the addresses, with another one for a group
 abbrev pub with_base : Group → ℕ → Bases → Bases
 with_base Descriptors n b = record b { descriptors = n }
 with_base Lookups n b = record b { lookups = n }
@@ -59,8 +64,8 @@ with_base Addresses n b = record b { addresses = n }
 with_base HintNames n b = record b { hint_names = n }
 with_base DllNames n b = record b { dll_names = n }
 
--- the alignment that a section's flags say (PE/COFF specification, "Section Flags"): their field of
--- mask 0xF00000 is 1 more than its exponent
+-- The alignment in bytes that a section's flags say (PE/COFF specification, "Section Flags"): their field of
+-- mask 0xF00000 is 1 more than its exponent. For example, of 0xC0300040 it is 4.
 abbrev pub alignment : ℕ → ℕ
 alignment flags = 2 ^ (flags / 0x0010_0000 % 16 - 1)
 
@@ -68,42 +73,47 @@ alignment flags = 2 ^ (flags / 0x0010_0000 % 16 - 1)
 unfoldable pub next_multiple : ℕ → ℕ → ℕ
 next_multiple step n = n + (step - n % step) % step
 
--- where a section stands: nowhere, if it is of no group
+-- the address of a section: none, if it is of no group
 pub data SectionAddress : Type 0 where
   Unplaced : SectionAddress
   At : Group → ℕ → SectionAddress
 
--- the place after the ends of what is placed already
+-- the address behind the ends of what is placed already
 abbrev pub place_after : Bases → ℕ → Option Group → SectionAddress
 place_after ends flags None = Unplaced
 place_after ends flags (Some group) = At group (next_multiple (alignment flags) (base_of group ends))
 
--- the ends, when so many bytes stand at this place too
+-- the ends, when `size` bytes are at this address too
 abbrev pub end_after : Bases → SectionAddress → ℕ → Bases
 end_after ends Unplaced size = ends
 end_after ends (At group address) size = with_base group (address + size) ends
 
+-- the address of a section, behind these ends
 abbrev pub section_address_of : Bases → ObjectSection → SectionAddress
 section_address_of ends s = place_after ends s.flags (group_named s.name)
 
--- the places of sections that are placed one after another, and the ends after them
+-- the addresses of sections that are placed one after another
 abbrev pub places_of : Bases → List ObjectSection → List SectionAddress
 places_of ends [] = []
 places_of ends (s ∷ sections) =
-    section_address_of ends s ∷ places_of (end_after ends (section_address_of ends s) (length s.bytes)) sections
+    section_address_of ends s
+    ∷ places_of (end_after ends (section_address_of ends s) (length s.bytes)) sections
 
+-- the ends after them
 abbrev pub ends_after : Bases → List ObjectSection → Bases
 ends_after ends [] = ends
-ends_after ends (s ∷ sections) = ends_after (end_after ends (section_address_of ends s) (length s.bytes)) sections
+ends_after ends (s ∷ sections) =
+    ends_after (end_after ends (section_address_of ends s) (length s.bytes)) sections
 
--- an object with the places of its sections
+-- an object with the addresses of its sections
 pub record Placed : Type 0 where
   pub object : Object
   pub places : List SectionAddress
 
--- Objects that are placed in their order. Each group has an address from which on it is free: its base,
--- and then the end of the last section placed. A section goes there, or as far behind it as its
--- alignment makes it; a base that the alignment divides is taken as it is.
+-- Objects that are placed in their order. Each group has an address from which on it is free: its base, and
+-- then the end of the last section placed. A section goes there, or as far behind it as its alignment makes
+-- it; a base that the alignment divides is taken as it is. For example, on AMD64 the thunk of the tail,
+-- behind two entries from 0x1020 on, goes to 0x1030.
 abbrev pub placed_from : Bases → List Object → List Placed
 placed_from ends [] = []
 placed_from ends (o ∷ objects) =

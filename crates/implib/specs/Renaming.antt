@@ -8,7 +8,7 @@ abbrev pub name_to_link : Option (List ℕ) → List ℕ → List ℕ
 name_to_link (Some external) name = external
 name_to_link None name = name
 
--- the export under the name to link by
+-- The export under the name to link by. For example, that of `foo = bar` is linked by foo.
 abbrev pub renamed_export : ExportView → ExportView
 renamed_export e = record e { name = name_to_link e.ext_name e.name; ext_name = None }
 

@@ -1,36 +1,38 @@
 -- Resolution: the addresses of the symbols of objects that are placed (PE/COFF specification, "COFF
 -- Symbol Table").
-use Rattle.std.specs.Prelude.{ℕ, zero, suc, ◌+◌, Bool, ◌&&◌, ◌==◌, List, [], ◌∷◌, bytes_eq, slice_get, Option, Some, None, if◌then◌else◌}
+use Rattle.std.specs.Prelude.{ℕ, ◌+◌, Bool, ◌&&◌, ◌==◌, List, [], ◌∷◌, bytes_eq, slice_get, Option, Some}
+use Rattle.std.specs.Prelude.{None, if◌then◌else◌}
 use Rattle.std.specs.List.{filter, filter_map, flat_map}
 use Rattle.std.specs.Option.{option_and_then}
 use Rattle.implib.specs.Constants.{class_external, section_undefined}
 use Rattle.implib.specs.File.{is_defined_external}
-use Rattle.implib.specs.Object.{ASymbol, Auxiliary, Entry, ObjectSymbol}
+use Rattle.implib.specs.Object.{ASymbol, Auxiliary, Entry, ObjectSymbol, section_numbered}
 use Rattle.implib.specs.Placement.{At, Unplaced, SectionAddress, Placed}
 
--- the address of a value at a place
+-- the address of a value in a section with this address
 abbrev pub address_at : SectionAddress → ℕ → Option ℕ
 address_at Unplaced value = None
 address_at (At group address) value = Some (address + value)
 
 -- the address of a value in the section of a number, which counts from 1
 abbrev pub address_in : List SectionAddress → ℕ → ℕ → Option ℕ
-address_in places zero value = None
-address_in places (suc index) value =
-    option_and_then (λ place. address_at place value) (slice_get places index)
+address_in addresses number value =
+    option_and_then (λ address. address_at address value) (section_numbered addresses number)
 
--- a symbol that an object defines for others, with its address, where its section has a place
+-- a symbol that an object defines for others, with its address, if its section has one
 pub record SymbolDefinition : Type 0 where
   pub name : List ℕ
   pub address : Option ℕ
 
+-- the symbol that an entry defines for others
 abbrev pub defined_by_entry : List SectionAddress → Entry → Option SymbolDefinition
-defined_by_entry places (Auxiliary bytes) = None
-defined_by_entry places (ASymbol s) =
+defined_by_entry addresses (Auxiliary bytes) = None
+defined_by_entry addresses (ASymbol s) =
     if is_defined_external s
-    then Some (record { name = s.name; address = address_in places s.section s.value })
+    then Some (record { name = s.name; address = address_in addresses s.section s.value })
     else None
 
+-- the symbols that an object defines for others
 abbrev pub defined_by : Placed → List SymbolDefinition
 defined_by p = filter_map (defined_by_entry p.places) p.object.entries
 
@@ -38,10 +40,11 @@ defined_by p = filter_map (defined_by_entry p.places) p.object.entries
 abbrev pub definitions : List Placed → List SymbolDefinition
 definitions linked = flat_map defined_by linked
 
--- the definitions of a name
+-- The definitions of a name. For example, of `_head_foo_dll` there is one, at the descriptor of foo.dll.
 abbrev pub definitions_of : List ℕ → List Placed → List SymbolDefinition
 definitions_of name linked = filter (λ d. bytes_eq name d.name) (definitions linked)
 
+-- the address of the first definition
 abbrev pub first_address : List SymbolDefinition → Option ℕ
 first_address [] = None
 first_address (d ∷ others) = d.address
@@ -58,11 +61,12 @@ symbol_address linked p (ASymbol s) =
     then first_address (definitions_of s.name linked)
     else address_in p.places s.section s.value
 
--- the address of the symbol of an index, 0 where it has none
+-- an address, or 0 where there is none
 abbrev pub address_or_zero : Option ℕ → ℕ
 address_or_zero None = 0
 address_or_zero (Some address) = address
 
+-- the address of the symbol of an index of an object, 0 where it has none
 abbrev pub target_address : List Placed → Placed → ℕ → ℕ
 target_address linked p index =
     address_or_zero (option_and_then (symbol_address linked p) (slice_get p.object.entries index))

@@ -1,9 +1,13 @@
 -- A view of the lexer's state, and witnesses for proofs; no promise cites this file.
-use Rattle.std.specs.Prelude.{◌≡◌, ◌≢◌, ℕ, suc, zero, ◌-◌, ◌<◌, Bool, false, ◌==◌, ◌⊎◌, Option, Some, None, List, [], ◌∷◌, ◌++◌, length, drop, if◌then◌else◌, slice_index}
+use Rattle.std.specs.Prelude.{◌≡◌, ◌≢◌, ℕ, suc, zero, ◌-◌, ◌<◌, Bool, false, ◌==◌, ◌⊎◌, Option, Some, None}
+use Rattle.std.specs.Prelude.{List, [], ◌∷◌, ◌++◌, length, drop, if◌then◌else◌, slice_index}
 use Rattle.std.specs.Char.{is_whitespace, is_not_whitespace}
 use Rattle.std.specs.List.{AllByRecursion}
 use Rattle.std.specs.Str.{chars, EmptyOrStartsWithPassing}
-use Rattle.implib.specs.Token.{TokenView, eof, Lexeme, Blank, Comment, LastComment, EqualSign, EqualSigns, CommaSign, Quoted, Unclosed, Word, lexeme_text, IsLexemeBefore, EachIsLexeme, IsEnd, text_of, tokens_of_lexeme, tokens_of, is_line_feed, is_quote, is_delimiter, is_equal_sign, begins}
+use Rattle.implib.specs.Token.{TokenView, eof, Lexeme, Blank, Comment, LastComment, EqualSign, EqualSigns}
+use Rattle.implib.specs.Token.{CommaSign, Quoted, Unclosed, Word, lexeme_text, IsLexemeBefore, EachIsLexeme}
+use Rattle.implib.specs.Token.{IsEnd, text_of, tokens_of_lexeme, tokens_of, is_line_feed, is_quote}
+use Rattle.implib.specs.Token.{is_delimiter, is_equal_sign, begins}
 
 -- the byte is `;`
 abbrev pub is_semicolon : ℕ → Bool
@@ -12,7 +16,8 @@ is_semicolon b = b == 59
 -- the longest front without a byte that passes the test, and what follows it
 abbrev pub cut_before : (ℕ → Bool) → List ℕ → List ℕ × List ℕ
 cut_before test [] = ([], [])
-cut_before test (b ∷ rest) = if test b then ([], b ∷ rest) else (b ∷ (cut_before test rest).0, (cut_before test rest).1)
+cut_before test (b ∷ rest) =
+    if test b then ([], b ∷ rest) else (b ∷ (cut_before test rest).0, (cut_before test rest).1)
 
 -- the comment after its `;`, by what its first line feed cuts
 abbrev pub comment_lexeme : List ℕ × List ℕ → Lexeme
@@ -65,7 +70,7 @@ tokens_left text rest is_done =
 
 -- a lexeme without a token
 abbrev pub IsTrivia : Lexeme → Type 0
-IsTrivia lexeme = (place : ℕ) → tokens_of_lexeme place lexeme ≡ []
+IsTrivia lexeme = (offset : ℕ) → tokens_of_lexeme offset lexeme ≡ []
 
 -- the text begins with neither white space nor a comment
 pub record BeginsNoTrivia (text : List ℕ) : Type 0 where
@@ -95,12 +100,13 @@ pub record SkipsTrivia (text rest : List ℕ) : Type 0 where
   pub all : BeginsNoTrivia rest
 
 -- the text is a lexeme with this token, and then `after`
-pub record TakesLexeme (text : List ℕ) (place : ℕ) (token : TokenView) (after : List ℕ) : Type 0 where
+pub record TakesLexeme (text : List ℕ) (offset : ℕ) (token : TokenView) (after : List ℕ) : Type 0 where
   pub lexeme : Lexeme
   pub spelled : text ≡ lexeme_text lexeme ++ after
   pub stands : IsLexemeBefore lexeme after
-  pub given : tokens_of_lexeme place lexeme ≡ token ∷ []
+  pub given : tokens_of_lexeme offset lexeme ≡ token ∷ []
 
 -- this, or the text is at its end
 abbrev pub TakesToken : List ℕ → ℕ → TokenView → List ℕ → Type 0
-TakesToken text place token after = TakesLexeme text place token after ⊎ (IsEnd text × (token ≡ eof place) × (after ≡ text))
+TakesToken text offset token after =
+    TakesLexeme text offset token after ⊎ (IsEnd text × (token ≡ eof offset) × (after ≡ text))

@@ -1,13 +1,15 @@
--- Reading a short import record (PE/COFF specification, "Import Library Format"):
--- a header of 20 bytes, then two texts with a NUL each: the symbol and the DLL's name.
--- The reader takes what it finds in the bytes, and knows nothing of who wrote them.
-use Rattle.std.specs.Prelude.{ℕ, ◌-◌, ◌/◌, ◌%◌, Bool, ◌&&◌, ◌==◌, nat_le, List, [], ◌∷◌, length, drop, Option, Some, None, if◌then◌else◌}
+-- Reading a short import (PE/COFF specification, "Import Library Format"; docs/FORMATS.md, "Short imports"):
+-- a header of 20 bytes, then two texts with a NUL each: the symbol and the DLL's name. The reader takes what
+-- it finds in the bytes, and knows nothing of who wrote them.
+use Rattle.std.specs.Prelude.{ℕ, ◌-◌, ◌/◌, ◌%◌, Bool, ◌&&◌, ◌==◌, nat_le, List, [], ◌∷◌, length, drop, Option}
+use Rattle.std.specs.Prelude.{Some, None, if◌then◌else◌}
 use Rattle.std.specs.List.{before_first}
 use Rattle.implib.specs.Ascii.{question_mark}
-use Rattle.implib.specs.Import.{Ask, Ordinal, Name, Import, import_symbols, without_first, begins_with, underscore, at_sign}
+use Rattle.implib.specs.Import.{Ask, Ordinal, Name, Import, import_symbols, without_first, begins_with}
+use Rattle.implib.specs.Import.{underscore, at_sign}
 use Rattle.implib.specs.Object.{u16_at, u32_at}
 
--- the fields of a record
+-- the fields of a short import
 pub record ShortImport : Type 0 where
   pub version : ℕ
   pub machine : ℕ
@@ -50,7 +52,7 @@ abbrev pub text_longer : ℕ → Option (List ℕ × List ℕ) → Option (List 
 text_longer byte None = None
 text_longer byte (Some (text, rest)) = Some (byte ∷ text, rest)
 
--- the text up to the first NUL, and what follows that NUL
+-- the text up to the first NUL, and what follows that NUL, where the next text begins
 abbrev pub text_in : List ℕ → Option (List ℕ × List ℕ)
 text_in [] = None
 text_in (byte ∷ rest) = if byte == 0 then Some ([], rest) else text_longer byte (text_in rest)
@@ -61,7 +63,7 @@ is_short_import bytes =
     nat_le short_import_header_size (length bytes) && (u16_at bytes 0 == 0) && (u16_at bytes 2 == 0xFFFF)
     && (u32_at bytes 12 == length bytes - short_import_header_size)
 
--- the record, where nothing follows the second text
+-- the short import, where nothing follows the second text
 abbrev pub short_import_with : List ℕ → List ℕ → Option (List ℕ × List ℕ) → Option ShortImport
 short_import_with bytes symbol None = None
 short_import_with bytes symbol (Some (dll, byte ∷ rest)) = None
@@ -76,16 +78,20 @@ short_import_with bytes symbol (Some (dll, [])) = Some record {
   dll = dll;
 }
 
--- the record, from its first text and what follows it
+-- the short import, from its first text and what follows it
 abbrev pub short_import_from : List ℕ → Option (List ℕ × List ℕ) → Option ShortImport
 short_import_from bytes None = None
 short_import_from bytes (Some (symbol, rest)) = short_import_with bytes symbol (text_in rest)
 
--- the record that these bytes are
+-- The short import that these bytes are. For example,
+-- `00 00 ff ff 00 00 64 86 00 00 00 00 0c 00 00 00 00 00 04 00`, `bar`, NUL, `foo.dll` and NUL: of the symbol
+-- bar and the DLL foo.dll on AMD64, with the import type 0 and the name type 1.
 unfoldable pub short_import_in : List ℕ → Option ShortImport
-short_import_in bytes = if is_short_import bytes then short_import_from bytes (text_in (drop short_import_header_size bytes)) else None
+short_import_in bytes =
+    if is_short_import bytes then short_import_from bytes (text_in (drop short_import_header_size bytes))
+    else None
 
--- a symbol without its first byte, where that is `?`, `@` or `_`
+-- A symbol without its first byte, where that is `?`, `@` or `_`. For example, `__f` gives `_f`.
 abbrev pub without_prefix : List ℕ → List ℕ
 without_prefix symbol =
     if begins_with question_mark symbol then without_first symbol
@@ -93,19 +99,20 @@ without_prefix symbol =
     else if begins_with underscore symbol then without_first symbol
     else symbol
 
--- a symbol up to its first `@`
+-- A symbol up to its first `@`. For example, `f@@YAXXZ` gives `f`.
 abbrev pub before_at_sign : List ℕ → List ℕ
 before_at_sign symbol = before_first (λ byte. byte == at_sign) symbol
 
--- the name that a record asks for, by its name type. The specification leaves open what the last
--- two cut off; this is this project's reading of it.
+-- The name that a short import asks for, by its name type. The specification leaves open what the last two
+-- cut off; this is this project's reading of it. For example, undecorate takes `f` of `?f@@YAXXZ`, and no
+-- prefix `_f` of `__f`.
 abbrev pub asked_by_name_type : ℕ → List ℕ → List ℕ
 asked_by_name_type name_type symbol =
     if name_type == import_name then symbol
     else if name_type == import_name_noprefix then without_prefix symbol
     else before_at_sign (without_prefix symbol)
 
--- what a record asks of its DLL
+-- what a short import asks of its DLL
 abbrev pub ask_of_short_import : ShortImport → Ask
 ask_of_short_import r =
     if r.name_type == import_ordinal then Ordinal r.ordinal

@@ -1,9 +1,17 @@
--- Syntax errors: the first token that no derivation allows, and the cause that is reported.
+-- Syntax errors: the first token that no derivation allows, and the cause that is reported (docs/GRAMMAR.md,
+-- "Syntax errors"). A row `position | token | cause` says what is reported for a token at a position.
 use Rattle.std.specs.Prelude.{◌≡◌, ◌≢◌, ℕ, ◌⊎◌, Bool, true, false, List, [], ◌∷◌, ◌++◌, Option, Some, None}
 use Rattle.implib.specs.declared.def.lexer.TokenKind.{TokenKind}
-use Rattle.implib.specs.declared.def.lexer.TokenKind.TheVariants.{Eof, Identifier, Comma, Equal, EqualEqual, KwBase, KwConstant, KwData, KwExports, KwHeapsize, KwLibrary, KwName, KwNoname, KwPrivate, KwStacksize, KwVersion}
-use Rattle.implib.specs.Fault.{Cause, UnknownDirective, ExpectedIdentifier, ExpectedEqual, ExpectedInteger, InvalidOrdinal, LoneAt}
-use Rattle.implib.specs.Grammar.{Attribute, Joined, Apart, Export, Region, Statement, Exports, Sizes, Nameless, Named, Version, Of, NameOrLibrary, Word, Number, Terminal, StartsWith, IsLoneAt, IsVersion, exports_terminals, region_kind, terminals, at_sign}
+use Rattle.implib.specs.declared.def.lexer.TokenKind.TheVariants.{Eof, Identifier, Comma, Equal, EqualEqual}
+use Rattle.implib.specs.declared.def.lexer.TokenKind.TheVariants.{KwBase, KwConstant, KwData, KwExports}
+use Rattle.implib.specs.declared.def.lexer.TokenKind.TheVariants.{KwHeapsize, KwLibrary, KwName, KwNoname}
+use Rattle.implib.specs.declared.def.lexer.TokenKind.TheVariants.{KwPrivate, KwStacksize, KwVersion}
+use Rattle.implib.specs.Fault.{Cause, UnknownDirective, ExpectedIdentifier, ExpectedEqual, ExpectedInteger}
+use Rattle.implib.specs.Fault.{InvalidOrdinal, LoneAt}
+use Rattle.implib.specs.Grammar.{Attribute, Joined, Apart, Export, Region, Statement, Exports, Sizes}
+use Rattle.implib.specs.Grammar.{Nameless, Named, Version, Of, NameOrLibrary, Word, Number, Terminal}
+use Rattle.implib.specs.Grammar.{StartsWith, IsLoneAt, IsVersion, exports_terminals, region_kind, terminals}
+use Rattle.implib.specs.Grammar.{at_sign}
 use Rattle.implib.specs.Number.{IsNumber, u16_limit, u64_limit}
 use Rattle.implib.specs.Token.{TokenView}
 
@@ -32,7 +40,8 @@ bare word = record { word = word; target = None; attributes = [] }
 
 -- `EXPORTS`, the exports, one more of them, and what of it has begun
 abbrev pub partial_exports : List Export → Export → Terminal → List Terminal
-partial_exports exports last begun = Of KwExports ∷ (exports_terminals Word (exports ++ last ∷ []) ++ begun ∷ [])
+partial_exports exports last begun =
+    Of KwExports ∷ (exports_terminals Word (exports ++ last ∷ []) ++ begun ∷ [])
 
 -- the terminals of a partial statement
 abbrev pub partial_terminals : PartialStatement → List Terminal
@@ -45,54 +54,69 @@ partial_terminals (ToTarget exports word) = partial_exports exports (bare word) 
 partial_terminals (ToAlias exports last) = partial_exports exports last (Of EqualEqual)
 partial_terminals (ToOrdinal exports last) = partial_exports exports last (Word (at_sign ∷ []))
 
--- expected an identifier, found another kind: the kind is reported
+-- expected an identifier, found another kind: ExpectedIdentifier with the kind
 pub record IsNotIdentifier (token : TokenView) (cause : Cause) : Type 0 where
   pub other : token.kind ≢ Identifier
   pub reported : cause ≡ ExpectedIdentifier token.kind
 
--- expected a number, found an identifier that is none
+-- expected a number of 64 bits, found an identifier that is none: ExpectedInteger
 pub record IsNotNumber (token : TokenView) (cause : Cause) : Type 0 where
   pub kind : token.kind ≡ Identifier
   pub none : (n : ℕ) → ¬ (IsNumber token.value u64_limit n)
   pub reported : cause ≡ ExpectedInteger
 
--- expected a version, found an identifier that is none
+-- expected a version, found an identifier that is none: ExpectedInteger
 pub record IsNotVersion (token : TokenView) (cause : Cause) : Type 0 where
   pub kind : token.kind ≡ Identifier
   pub none : (major minor : ℕ) → ¬ (IsVersion token.value major minor)
   pub reported : cause ≡ ExpectedInteger
 
--- expected the `=` of a base, found another kind: the kind is reported
+-- expected the `=` of a base, found another kind: ExpectedEqual with the kind
 pub record IsNotEqualSign (token : TokenView) (cause : Cause) : Type 0 where
   pub other : token.kind ≢ Equal
   pub reported : cause ≡ ExpectedEqual token.kind
 
--- found the identifier `@` after the `=` of an export
+-- found the identifier `@` as the target of an export: LoneAt
 pub record IsLoneTarget (token : TokenView) (cause : Cause) : Type 0 where
   pub kind : token.kind ≡ Identifier
   pub lone : IsLoneAt token.value
   pub reported : cause ≡ LoneAt
 
--- found the end after the lone `@` of an export
+-- found the end after the attribute `@` alone: ExpectedIdentifier with Eof
 pub record IsEndForOrdinal (token : TokenView) (cause : Cause) : Type 0 where
   pub end : token.kind ≡ Eof
   pub reported : cause ≡ ExpectedIdentifier Eof
 
--- found another token there that is no number of 16 bits: its value is reported
+-- found another token there whose value is no number of 16 bits: InvalidOrdinal with the value
 pub record IsNotOrdinal (token : TokenView) (cause : Cause) : Type 0 where
   pub not_end : token.kind ≢ Eof
   pub none : (n : ℕ) → ¬ (IsNumber token.value u16_limit n)
   pub reported : cause ≡ InvalidOrdinal token.value
 
--- the token is unexpected after the partial statement, and the cause is reported
+-- The token is unexpected after the partial statement, and the cause is reported. For example, after
+-- `HEAPSIZE` the identifier `-1` is reported as ExpectedInteger.
 abbrev pub IsUnexpectedAfter : PartialStatement → TokenView → Cause → Type 0
+-- after "HEAPSIZE" or "STACKSIZE" | no identifier | ExpectedIdentifier with its kind
+-- the same | an identifier that is no number of 64 bits | ExpectedInteger
 IsUnexpectedAfter (ToSize _) token cause = IsNotIdentifier token cause ⊎ IsNotNumber token cause
+-- after the comma of sizes | no identifier | ExpectedIdentifier with its kind
+-- the same | an identifier that is no number of 64 bits | ExpectedInteger
 IsUnexpectedAfter (ToSecondSize _ _) token cause = IsNotIdentifier token cause ⊎ IsNotNumber token cause
+-- after "BASE" | no `=` | ExpectedEqual with its kind
 IsUnexpectedAfter (ToBaseSign _) token cause = IsNotEqualSign token cause
+-- after "BASE" "=" | no identifier | ExpectedIdentifier with its kind
+-- the same | an identifier that is no number of 64 bits | ExpectedInteger
 IsUnexpectedAfter (ToBase _) token cause = IsNotIdentifier token cause ⊎ IsNotNumber token cause
+-- after "VERSION" | no identifier | ExpectedIdentifier with its kind
+-- the same | an identifier that is no version | ExpectedInteger
 IsUnexpectedAfter ToVersion token cause = IsNotIdentifier token cause ⊎ IsNotVersion token cause
+-- an export's target | no identifier | ExpectedIdentifier with its kind
+-- the same | the identifier `@` | LoneAt
 IsUnexpectedAfter (ToTarget _ _) token cause = IsNotIdentifier token cause ⊎ IsLoneTarget token cause
+-- an export's alias target | no identifier | ExpectedIdentifier with its kind
 IsUnexpectedAfter (ToAlias _ _) token cause = IsNotIdentifier token cause
+-- after the attribute "@" alone | Eof | ExpectedIdentifier with Eof
+-- the same | another token whose value is no number of 16 bits | InvalidOrdinal with its value
 IsUnexpectedAfter (ToOrdinal _ _) token cause = IsEndForOrdinal token cause ⊎ IsNotOrdinal token cause
 
 -- the kind is none of these
@@ -150,13 +174,17 @@ abbrev pub follow_name : Option ℕ → List TokenKind
 follow_name None = KwBase ∷ []
 follow_name (Some base) = []
 
--- FOLLOW of a whole statement, as kinds of tokens: any identifier goes on `EXPORTS`, as an
--- export or an ordinal, and a name goes on `NAME` or `LIBRARY` alone
+-- FOLLOW of a whole statement, as kinds of tokens
 abbrev pub follow : Statement → List TokenKind
+-- "EXPORTS" { export }: any identifier goes on, as an export or an ordinal
 follow (Exports exports) = Identifier ∷ follow_exports exports
+-- ( "HEAPSIZE" | "STACKSIZE" ) number [ "," number ]
 follow (Sizes region reserve commit) = follow_size commit
+-- ( "NAME" | "LIBRARY" ): a name goes on
 follow Nameless = Identifier ∷ []
+-- ( "NAME" | "LIBRARY" ) word [ "BASE" "=" number ]
 follow (Named name base) = follow_name base
+-- "VERSION" version
 follow (Version major minor) = []
 
 -- FOLLOW of the last statement
@@ -165,8 +193,10 @@ follow_last [] = []
 follow_last (last ∷ []) = follow last
 follow_last (first ∷ second ∷ rest) = follow_last (second ∷ rest)
 
--- whole statements, then a token that neither ends the text, nor begins a statement, nor is in
--- the last one's FOLLOW set: an unknown directive
+-- the start of a statement, where no export goes on | neither Eof nor a statement's keyword |
+--     UnknownDirective with its value
+-- That is: whole statements, then a token that neither ends the text, nor begins a statement, nor is in the
+-- last one's FOLLOW set. For example, `foo` alone, and the `NONAME` of `EXPORTS foo NONAME`.
 pub record IsUnknownDirective (tokens : List TokenView) (cause : Cause) : Type 0 where
   pub statements : List Statement
   pub token : TokenView
@@ -177,7 +207,8 @@ pub record IsUnknownDirective (tokens : List TokenView) (cause : Cause) : Type 0
   pub not_in_follow : IsNoneOf token.kind (follow_last statements)
   pub reported : cause ≡ UnknownDirective token.value
 
--- whole statements, a partial one, and then a token that is unexpected there
+-- Whole statements, a partial one, and then a token that is unexpected there. For example, the `5` of
+-- `NAME x BASE 5`, where `=` is expected.
 pub record IsUnexpectedToken (tokens : List TokenView) (cause : Cause) : Type 0 where
   pub statements : List Statement
   pub partial : PartialStatement
@@ -186,7 +217,8 @@ pub record IsUnexpectedToken (tokens : List TokenView) (cause : Cause) : Type 0 
   pub begins : StartsWith tokens (terminals statements ++ partial_terminals partial) (token ∷ rest)
   pub refused : IsUnexpectedAfter partial token cause
 
--- the tokens have a syntax error, with this cause
+-- The tokens have a syntax error, with this cause. For example, those of `VERSION 1.2.3` have
+-- ExpectedInteger.
 abbrev pub IsSyntaxError : List TokenView → Cause → Type 0
 IsSyntaxError tokens cause = IsUnknownDirective tokens cause ⊎ IsUnexpectedToken tokens cause
 

@@ -52,7 +52,7 @@ with_relocations (s ∷ rest) zero more = s ∷ rest
 with_relocations (s ∷ rest) (suc zero) more = record s { relocations = s.relocations ++ more } ∷ rest
 with_relocations (s ∷ rest) (suc (suc number)) more = s ∷ with_relocations rest (suc number) more
 
--- a symbol has a name, and a place among so many sections
+-- a symbol has a name, and is defined in none or one of `sections` sections
 pub record CanBeAdded (sections : ℕ) (s : AddedSymbol) : Type 0 where
   pub named : 0 < length s.name
   pub no_nul : HasNoNul s.name
@@ -69,7 +69,7 @@ pub record HasRoomForAll (symbols : List AddedSymbol) (more : List Relocation) (
   pub count : length s.relocations + length more ≤ 65535
   pub each : AllByRecursion (LiesIn symbols s) more
 
--- a writer can take each part of what it is to hold: the sections, the symbols, the relocations
+-- a writer can take all that it is to hold: the sections, the symbols, the relocations
 pub record CanBeHeld (h : WriterState) : Type 0 where
   pub few : length h.sections ≤ 32767
   pub records : length (all_entries h.symbols) < 2 ^ 32

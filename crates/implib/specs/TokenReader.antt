@@ -1,16 +1,26 @@
 -- A view of the parser, not a promise: readers of token lists, each the answer of one of its
 -- functions. A reader gives a value and the tokens after it, or the first cause.
-use Rattle.std.specs.Prelude.{ℕ, zero, suc, ◌==◌, ◌&&◌, ◌++◌, Bool, true, false, List, [], ◌∷◌, map, length, Option, Some, None, unwrap_or, option_map, Result, Ok, Err, if◌then◌else◌, nat_lt, nat_le}
+use Rattle.std.specs.Prelude.{ℕ, zero, suc, ◌==◌, ◌&&◌, ◌++◌, Bool, true, false, List, [], ◌∷◌, map, length}
+use Rattle.std.specs.Prelude.{Option, Some, None, unwrap_or, option_map, Result, Ok, Err, if◌then◌else◌}
+use Rattle.std.specs.Prelude.{nat_lt, nat_le}
 use Rattle.std.specs.List.{fold}
 use Rattle.std.specs.Str.{all_ascii_digits}
 use Rattle.std.specs.Str.Parse.{digits_value, without_leading_plus}
 use Rattle.implib.specs.declared.def.lexer.TokenKind.{TokenKind}
-use Rattle.implib.specs.declared.def.lexer.TokenKind.TheVariants.{Eof, Identifier, Comma, Equal, EqualEqual, KwBase, KwConstant, KwData, KwExports, KwHeapsize, KwLibrary, KwName, KwNoname, KwPrivate, KwStacksize, KwVersion}
+use Rattle.implib.specs.declared.def.lexer.TokenKind.TheVariants.{Eof, Identifier, Comma, Equal, EqualEqual}
+use Rattle.implib.specs.declared.def.lexer.TokenKind.TheVariants.{KwBase, KwConstant, KwData, KwExports}
+use Rattle.implib.specs.declared.def.lexer.TokenKind.TheVariants.{KwHeapsize, KwLibrary, KwName, KwNoname}
+use Rattle.implib.specs.declared.def.lexer.TokenKind.TheVariants.{KwPrivate, KwStacksize, KwVersion}
 use Rattle.implib.specs.declared.machine.MachineType.{MachineType}
 use Rattle.implib.specs.Definition.{DefinitionView, ExportView, empty_definition}
-use Rattle.implib.specs.Fault.{Cause, UnknownDirective, ExpectedIdentifier, ExpectedEqual, ExpectedInteger, InvalidOrdinal, LoneAt}
-use Rattle.implib.specs.Grammar.{Attribute, Joined, Apart, Data, Constant, Private, Alias, Export, Region, Heap, Stack, Statement, Exports, Sizes, Nameless, Named, Version, at_sign, full_stop}
-use Rattle.implib.specs.Meaning.{decorated, ordinal_in, no_name_in, is_data_in, constant_in, private_in, alias_in, exports_in, import_name_in, image_base_in, stack_reserve_in, stack_commit_in, heap_reserve_in, heap_commit_in, major_in, minor_in}
+use Rattle.implib.specs.Fault.{Cause, UnknownDirective, ExpectedIdentifier, ExpectedEqual, ExpectedInteger}
+use Rattle.implib.specs.Fault.{InvalidOrdinal, LoneAt}
+use Rattle.implib.specs.Grammar.{Attribute, Joined, Apart, Data, Constant, Private, Alias, Export, Region}
+use Rattle.implib.specs.Grammar.{Heap, Stack, Statement, Exports, Sizes, Nameless, Named, Version, at_sign}
+use Rattle.implib.specs.Grammar.{full_stop}
+use Rattle.implib.specs.Meaning.{decorated, ordinal_in, no_name_in, is_data_in, constant_in, private_in}
+use Rattle.implib.specs.Meaning.{alias_in, exports_in, import_name_in, image_base_in, stack_reserve_in}
+use Rattle.implib.specs.Meaning.{stack_commit_in, heap_reserve_in, heap_commit_in, major_in, minor_in}
 use Rattle.implib.specs.Number.{u16_limit, u32_limit, u64_limit}
 use Rattle.implib.specs.Token.{TokenView}
 
@@ -212,12 +222,14 @@ attribute_read (token ∷ rest) = attribute_by token.kind token rest
 abbrev pub cons_item : {A : Type 0} → A → List A × List TokenView → Reader (List A)
 cons_item first others = Ok (first ∷ others.0, others.1)
 
-abbrev pub many_from : {A : Type 0} → (List TokenView → Reader (List A)) → Option A × List TokenView → Reader (List A)
+abbrev pub many_from : {A : Type 0} → (List TokenView → Reader (List A)) → Option A × List TokenView →
+    Reader (List A)
 many_from others (None, rest) = Ok ([], rest)
 many_from others (Some first, rest) = others rest >>= cons_item first
 
 -- at most n items, one after another, until there is none
-unfoldable pub many : {A : Type 0} → (List TokenView → Reader (Option A)) → ℕ → List TokenView → Reader (List A)
+unfoldable pub many : {A : Type 0} → (List TokenView → Reader (Option A)) → ℕ → List TokenView →
+    Reader (List A)
 many item zero tokens = Ok ([], tokens)
 many item (suc n) tokens = item tokens >>= many_from (many item n)
 
@@ -242,7 +254,7 @@ unfoldable pub target_read : List TokenView → Reader (Option (List ℕ))
 target_read [] = Ok (None, [])
 target_read (token ∷ rest) = target_by token.kind token rest
 
--- all attributes that stand here
+-- all attributes at the front of the tokens
 unfoldable pub attributes_read : List TokenView → Reader (List Attribute)
 attributes_read tokens = all attribute_read tokens
 
@@ -262,7 +274,7 @@ unfoldable pub export_read : List TokenView → Reader (Option Export)
 export_read [] = Ok (None, [])
 export_read (token ∷ rest) = export_by token.kind token rest
 
--- all exports that stand here
+-- all exports at the front of the tokens
 unfoldable pub exports_read : List TokenView → Reader (List Export)
 exports_read tokens = all export_read tokens
 
@@ -348,7 +360,9 @@ with_settings d s = record {
 
 -- a definition after one more statement
 abbrev pub with_statement : MachineType → DefinitionView → Statement → DefinitionView
-with_statement machine d s = record (with_settings d s) { exports = d.exports ++ map (made_export machine) (exports_in s) }
+with_statement machine d s = record (with_settings d s) {
+  exports = d.exports ++ map (made_export machine) (exports_in s);
+}
 
 -- a definition after all statements
 unfoldable pub with_statements : MachineType → DefinitionView → List Statement → DefinitionView

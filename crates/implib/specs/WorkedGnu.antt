@@ -1,5 +1,6 @@
 -- Definitions with what their members for GNU's linker are or why they have none, worked by hand.
-use Rattle.std.specs.Prelude.{◌≡◌, ℕ, true, List, [], ◌∷◌, ◌++◌, map, take, drop, slice_get, Option, Some, None, codes}
+use Rattle.std.specs.Prelude.{◌≡◌, ℕ, true, List, [], ◌∷◌, ◌++◌, map, take, drop, slice_get, Option, Some}
+use Rattle.std.specs.Prelude.{None, codes}
 use Rattle.std.specs.Option.{option_map}
 use Rattle.implib.specs.declared.members.Flavor.TheVariants.{Gnu}
 use Rattle.implib.specs.declared.machine.MachineType.{MachineType}
@@ -46,13 +47,15 @@ bar_member size = shown (codes "foo_dll_a_s00000.o") size (codes "bar" ∷ codes
 
 -- the bytes of the member of an index
 abbrev pub gnu_bytes_at : DefinitionView → MachineType → ℕ → Option (List ℕ)
-gnu_bytes_at d machine index = option_map (λ p. file_bytes p.contents) (slice_get (gnu_plans_of d machine) index)
+gnu_bytes_at d machine index =
+    option_map (λ p. file_bytes p.contents) (slice_get (gnu_plans_of d machine) index)
 
--- so many bytes from a place on of the member of the only export, which has no alias
+-- `count` bytes from an offset on of the member of the only export, which has no alias
 abbrev pub part_of_export : ℕ → ℕ → DefinitionView → MachineType → Option (List ℕ)
-part_of_export place count d machine = option_map (λ bytes. take count (drop place bytes)) (gnu_bytes_at d machine 2)
+part_of_export offset count d machine =
+    option_map (λ bytes. take count (drop offset bytes)) (gnu_bytes_at d machine 2)
 
--- members by name, length and listed symbols
+-- members by name, length and archive symbols
 pub record WorkedGnuOutlines : Type 0 where
   pub one_function : TextHasGnuMembers bar_text AMD64 (foo_linkage ++ bar_member 474 ∷ [])
   pub one_function_i386 : TextHasGnuMembers bar_text I386
@@ -60,13 +63,19 @@ pub record WorkedGnuOutlines : Type 0 where
       ∷ shown (codes "foo_dll_a_h.o") 452 (codes "__head_foo_dll" ∷ [])
       ∷ shown (codes "foo_dll_a_s00000.o") 468 (codes "_bar" ∷ codes "__imp__bar" ∷ [])
       ∷ [])
-  pub one_function_arm : Means bar_text ARMNT (λ d. map (λ p. (outline p).size) (gnu_plans_of d ARMNT) ≡ 348 ∷ 450 ∷ 470 ∷ [])
+  pub one_function_arm : Means bar_text ARMNT
+      (λ d. map (λ p. (outline p).size) (gnu_plans_of d ARMNT) ≡ 348 ∷ 450 ∷ 470 ∷ [])
   pub one_function_arm64 : TextHasGnuMembers bar_text ARM64 (foo_linkage ++ bar_member 488 ∷ [])
   -- private exports have no number, and the last export comes first
   pub numbered : TextHasGnuMembers (codes "LIBRARY foo.dll\nEXPORTS\nbar\nbaz PRIVATE\nqux") AMD64
-      (foo_linkage ++ shown (codes "foo_dll_a_s00001.o") 474 (codes "qux" ∷ codes "__imp_qux" ∷ []) ∷ bar_member 474 ∷ [])
+      (foo_linkage
+      ++ shown (codes "foo_dll_a_s00001.o") 474 (codes "qux" ∷ codes "__imp_qux" ∷ [])
+      ∷ bar_member 474
+      ∷ [])
   pub private_nul : HasGnuMembers
-      (of_dll (codes "foo.dll") (record empty_export { name = codes "b" ++ nul; private = true } ∷ plain_export (codes "bar") ∷ [])) AMD64
+      (of_dll (codes "foo.dll")
+      (record empty_export { name = codes "b" ++ nul; private = true } ∷ plain_export (codes "bar") ∷ []))
+      AMD64
       (foo_linkage ++ bar_member 474 ∷ [])
   pub data_alone : TextHasGnuMembers (codes "LIBRARY foo.dll\nEXPORTS\nbar DATA") AMD64
       (foo_linkage ++ shown (codes "foo_dll_a_s00000.o") 438 (codes "__imp_bar" ∷ []) ∷ [])
@@ -78,8 +87,12 @@ pub record WorkedGnuOutlines : Type 0 where
       ∷ [])
   -- the head's symbol is exported too: its name is once in the string table
   pub head_exported : TextHasGnuMembers (codes "LIBRARY foo.dll\nEXPORTS\n_head_foo_dll") AMD64
-      (foo_linkage ++ shown (codes "foo_dll_a_s00000.o") 494 (codes "_head_foo_dll" ∷ codes "__imp__head_foo_dll" ∷ []) ∷ [])
-  pub underscore_by_ordinal : HasGnuMembers (of_dll (codes "foo.dll") (record empty_export { name = codes "_"; no_name = true; ordinal = 3 } ∷ [])) I386
+      (foo_linkage
+      ++ shown (codes "foo_dll_a_s00000.o") 494 (codes "_head_foo_dll" ∷ codes "__imp__head_foo_dll" ∷ [])
+      ∷ [])
+  pub underscore_by_ordinal : HasGnuMembers
+      (of_dll (codes "foo.dll") (record empty_export { name = codes "_"; no_name = true; ordinal = 3 } ∷ []))
+      I386
       (shown (codes "foo_dll_a_t.o") 349 (codes "_foo_dll_iname" ∷ [])
       ∷ shown (codes "foo_dll_a_h.o") 452 (codes "__head_foo_dll" ∷ [])
       ∷ shown (codes "foo_dll_a_s00000.o") 431 (codes "_" ∷ codes "__imp__" ∷ [])
@@ -87,27 +100,40 @@ pub record WorkedGnuOutlines : Type 0 where
 
 -- definitions that are refused
 pub record WorkedGnuRefusals : Type 0 where
-  pub nul_in_name : IsRefusedForGnu (of_dll (codes "foo.dll") (plain_export (codes "b" ++ nul) ∷ plain_export (codes "bar") ∷ [])) AMD64 (NulInExport 0)
+  pub nul_in_name : IsRefusedForGnu
+      (of_dll (codes "foo.dll") (plain_export (codes "b" ++ nul) ∷ plain_export (codes "bar") ∷ [])) AMD64
+      (NulInExport 0)
   -- a symbol name asks for nothing here
   pub empty_name : IsRefusedForGnu
-      (of_dll (codes "foo.dll") (record empty_export { name = codes "f"; symbol_name = codes "_@8" } ∷ plain_export [] ∷ [])) AMD64 (EmptyName 1)
+      (of_dll (codes "foo.dll")
+      (record empty_export { name = codes "f"; symbol_name = codes "_@8" } ∷ plain_export [] ∷ [])) AMD64
+      (EmptyName 1)
   pub nul_in_symbol_name : IsRefusedForGnu
-      (of_dll (codes "foo.dll") (plain_export (codes "bar") ∷ record empty_export { name = codes "foo"; symbol_name = nul } ∷ [])) AMD64 (NulInExport 1)
+      (of_dll (codes "foo.dll")
+      (plain_export (codes "bar") ∷ record empty_export { name = codes "foo"; symbol_name = nul } ∷ [])) AMD64
+      (NulInExport 1)
   pub nul_in_alias_target : IsRefusedForGnu
-      (of_dll (codes "foo.dll") (plain_export (codes "bar") ∷ record empty_export { name = codes "foo"; alias_target = nul } ∷ [])) AMD64 (NulInExport 1)
-  pub nothing_asked : IsRefusedForGnu (of_dll (codes "foo.dll") (plain_export (codes "_") ∷ [])) I386 (EmptyAskedName 0)
+      (of_dll (codes "foo.dll")
+      (plain_export (codes "bar") ∷ record empty_export { name = codes "foo"; alias_target = nul } ∷ []))
+      AMD64 (NulInExport 1)
+  pub nothing_asked : IsRefusedForGnu (of_dll (codes "foo.dll") (plain_export (codes "_") ∷ [])) I386
+      (EmptyAskedName 0)
 
 -- bytes of members
 pub record WorkedGnuBytes : Type 0 where
-  pub hint_and_name : Means bar_text AMD64 (λ d. part_of_export 368 6 d AMD64 ≡ Some (0 ∷ 0 ∷ 0x62 ∷ 0x61 ∷ 0x72 ∷ 0 ∷ []))
+  pub hint_and_name : Means bar_text AMD64
+      (λ d. part_of_export 368 6 d AMD64 ≡ Some (0 ∷ 0 ∷ 0x62 ∷ 0x61 ∷ 0x72 ∷ 0 ∷ []))
   pub strings : Means bar_text AMD64 (λ d. part_of_export 446 100 d AMD64 ≡ Some
       (0x1C ∷ 0 ∷ 0 ∷ 0 ∷ (codes "_head_foo_dll" ++ nul ++ codes "__imp_bar" ++ nul)))
   pub stub : Means bar_text AMD64 (λ d. part_of_export 300 18 d AMD64 ≡ Some
       (0xFF ∷ 0x25 ∷ 0 ∷ 0 ∷ 0 ∷ 0 ∷ 0x90 ∷ 0x90 ∷ 2 ∷ 0 ∷ 0 ∷ 0 ∷ 2 ∷ 0 ∷ 0 ∷ 0 ∷ 4 ∷ 0 ∷ []))
-  pub stub_relocation_i386 : Means bar_text I386 (λ d. part_of_export 308 10 d I386 ≡ Some (2 ∷ 0 ∷ 0 ∷ 0 ∷ 2 ∷ 0 ∷ 0 ∷ 0 ∷ 6 ∷ 0 ∷ []))
-  pub hint : Means (codes "LIBRARY foo.dll\nEXPORTS\nbar @258") AMD64 (λ d. part_of_export 368 6 d AMD64 ≡ Some (2 ∷ 1 ∷ 0x62 ∷ 0x61 ∷ 0x72 ∷ 0 ∷ []))
+  pub stub_relocation_i386 : Means bar_text I386
+      (λ d. part_of_export 308 10 d I386 ≡ Some (2 ∷ 0 ∷ 0 ∷ 0 ∷ 2 ∷ 0 ∷ 0 ∷ 0 ∷ 6 ∷ 0 ∷ []))
+  pub hint : Means (codes "LIBRARY foo.dll\nEXPORTS\nbar @258") AMD64
+      (λ d. part_of_export 368 6 d AMD64 ≡ Some (2 ∷ 1 ∷ 0x62 ∷ 0x61 ∷ 0x72 ∷ 0 ∷ []))
   -- by ordinal: the contents of the export's entries in the two tables, and then the symbols
-  pub ordinal_on_i386 : Means (codes "LIBRARY foo.dll\nEXPORTS\nfoo @0 NONAME") I386 (λ d. part_of_export 332 8 d I386 ≡ Some
+  pub ordinal_on_i386 : Means (codes "LIBRARY foo.dll\nEXPORTS\nfoo @0 NONAME") I386
+      (λ d. part_of_export 332 8 d I386 ≡ Some
       (0 ∷ 0 ∷ 0 ∷ 0x80 ∷ 0 ∷ 0 ∷ 0 ∷ 0x80 ∷ []))
   pub ordinal_size_on_i386 : Means (codes "LIBRARY foo.dll\nEXPORTS\nfoo @0 NONAME") I386
       (λ d. map (λ p. (outline p).size) (gnu_plans_of d I386) ≡ 349 ∷ 452 ∷ 442 ∷ [])

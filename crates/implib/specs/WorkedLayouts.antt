@@ -1,4 +1,4 @@
--- Whole objects byte by byte, worked by hand. A line is a header, a part of one, data, a relocation, a
+-- Whole objects byte by byte, worked by hand. A line is a header, half of one, data, a relocation, a
 -- symbol's record, or a string; a section's header takes two lines.
 use Rattle.std.specs.Prelude.{◌≡◌, ℕ, List, [], ◌∷◌, codes}
 use Rattle.std.specs.List.{concat}
@@ -6,7 +6,8 @@ use Rattle.implib.specs.declared.machine.MachineType.TheVariants.{I386, ARMNT, A
 use Rattle.implib.specs.Layout.{encoded}
 use Rattle.implib.specs.WorkedDigits.{hex}
 use Rattle.implib.specs.WorkedMachines.{numbers}
-use Rattle.implib.specs.WorkedObjects.{descriptor, function, head, null_descriptor, null_thunk, one_section, tail, two_names, weak}
+use Rattle.implib.specs.WorkedObjects.{descriptor, function, head, null_descriptor, null_thunk, one_section}
+use Rattle.implib.specs.WorkedObjects.{tail, two_names, weak}
 
 -- 70 bytes
 unfoldable pub two_names_bytes : List ℕ

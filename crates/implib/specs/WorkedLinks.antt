@@ -1,4 +1,4 @@
--- Members for GNU's linker that were linked by hand: where their tables stand and what they hold.
+-- Members for GNU's linker that were linked by hand: the addresses of their tables and what they hold.
 use Rattle.std.specs.Prelude.{◌≡◌, ℕ, true, List, [], ◌∷◌, ◌++◌, map, bytes_eq, codes, Option, Some, None}
 use Rattle.std.specs.List.{AllByRecursion, IsDistinct, flat_map}
 use Rattle.std.specs.Option.{option_map}
@@ -15,7 +15,8 @@ use Rattle.implib.specs.Members.{AreMembersOf, member_specs}
 use Rattle.implib.specs.MemberSpec.{member_of}
 use Rattle.implib.specs.Object.{each_at}
 use Rattle.implib.specs.Renaming.{renamed}
-use Rattle.implib.specs.LinkedMembers.{AllRise, ComesBefore, IsLinkInput, NoneIsPrefix, LinkInput, all_linked, member_prefix, linked_members, objects_in}
+use Rattle.implib.specs.LinkedMembers.{AllRise, ComesBefore, IsLinkInput, NoneIsPrefix, LinkInput, all_linked}
+use Rattle.implib.specs.LinkedMembers.{member_prefix, linked_members, objects_in}
 use Rattle.implib.specs.WorkedMembers.{of_dll}
 use Rattle.implib.specs.WorkedStatements.{plain_export}
 
@@ -23,20 +24,21 @@ use Rattle.implib.specs.WorkedStatements.{plain_export}
 abbrev pub placed : DefinitionView → MachineType → Bases → List ℕ → List Placed
 placed d machine bases chosen = placed_from bases (objects_in (linked_members d machine chosen))
 
--- so many bytes from an address on
+-- `count` bytes from an address on
 abbrev pub bytes_from : List Range → ℕ → ℕ → Option (List ℕ)
 bytes_from image count address = each_at (byte_at image) address 1 count
 
--- so many numbers of a width from an address on
+-- `count` numbers of `width` bytes from an address on
 abbrev pub numbers_from : List Range → ℕ → ℕ → ℕ → Option (List ℕ)
-numbers_from image width count address = each_at (λ place. option_map number_in (bytes_from image width place)) address width count
+numbers_from image width count address =
+    each_at (λ at. option_map number_in (bytes_from image width at)) address width count
 
 -- the addresses at which a symbol is defined
 abbrev pub addresses_of : List ℕ → List Placed → List (Option ℕ)
 addresses_of name linked = map (λ d. d.address) (definitions_of name linked)
 
 -- what a linked image is asked: its groups' bases, the width of a thunk, how many thunks a table has
--- with the last one, how many bytes the hints and names have, and where the DLL's name stands
+-- with the last one, how many bytes the hints and names have, and the address of the DLL's name
 pub record Layout : Type 0 where
   pub bases : Bases
   pub width : ℕ
@@ -53,12 +55,18 @@ pub record Found : Type 0 where
   pub places : List (List (Option ℕ))
 
 -- the linked members of chosen exports of a definition of foo.dll answer so
-pub record Answers (d : DefinitionView) (machine : MachineType) (l : Layout) (chosen : List ℕ) (symbols : List (List ℕ)) (found : Found) : Type 0 where
-  pub descriptor : numbers_from (image_of machine l.bases (placed d machine l.bases chosen)) 4 5 l.bases.descriptors ≡ Some found.descriptor
-  pub lookups : numbers_from (image_of machine l.bases (placed d machine l.bases chosen)) l.width l.thunks l.bases.lookups ≡ Some found.thunks
-  pub addresses : numbers_from (image_of machine l.bases (placed d machine l.bases chosen)) l.width l.thunks l.bases.addresses ≡ Some found.thunks
-  pub hints : bytes_from (image_of machine l.bases (placed d machine l.bases chosen)) l.hints l.bases.hint_names ≡ Some found.hints
-  pub dll : bytes_from (image_of machine l.bases (placed d machine l.bases chosen)) 8 l.dll ≡ Some (codes "foo.dll" ++ 0 ∷ [])
+pub record Answers (d : DefinitionView) (machine : MachineType) (l : Layout) (chosen : List ℕ)
+    (symbols : List (List ℕ)) (found : Found) : Type 0 where
+  pub descriptor : numbers_from (image_of machine l.bases (placed d machine l.bases chosen)) 4 5
+      l.bases.descriptors ≡ Some found.descriptor
+  pub lookups : numbers_from (image_of machine l.bases (placed d machine l.bases chosen)) l.width l.thunks
+      l.bases.lookups ≡ Some found.thunks
+  pub addresses : numbers_from (image_of machine l.bases (placed d machine l.bases chosen)) l.width l.thunks
+      l.bases.addresses ≡ Some found.thunks
+  pub hints : bytes_from (image_of machine l.bases (placed d machine l.bases chosen)) l.hints
+      l.bases.hint_names ≡ Some found.hints
+  pub dll : bytes_from (image_of machine l.bases (placed d machine l.bases chosen)) 8 l.dll
+      ≡ Some (codes "foo.dll" ++ 0 ∷ [])
   pub places : map (λ name. addresses_of name (placed d machine l.bases chosen)) symbols ≡ found.places
 
 -- an export that is asked for by its number
@@ -69,13 +77,26 @@ nameless name ordinal = record empty_export { name = name; ordinal = ordinal; no
 abbrev pub foo : List ℕ → List ℕ → DefinitionView
 foo by_name by_number = of_dll (codes "foo.dll") (plain_export by_name ∷ nameless by_number 5 ∷ [])
 
+-- bases for two exports of foo.dll, with thunks of 8 bytes, and of 4
 abbrev pub bases_64 : Bases
-bases_64 = record { descriptors = 0x1000; lookups = 0x1020; addresses = 0x1040; hint_names = 0x1060; dll_names = 0x1080 }
+bases_64 = record {
+  descriptors = 0x1000;
+  lookups = 0x1020;
+  addresses = 0x1040;
+  hint_names = 0x1060;
+  dll_names = 0x1080;
+}
 
 abbrev pub bases_32 : Bases
-bases_32 = record { descriptors = 0x1000; lookups = 0x1014; addresses = 0x1020; hint_names = 0x102C; dll_names = 0x1034 }
+bases_32 = record {
+  descriptors = 0x1000;
+  lookups = 0x1014;
+  addresses = 0x1020;
+  hint_names = 0x102C;
+  dll_names = 0x1034;
+}
 
--- two DLLs with one export each
+-- an input: a DLL with one export
 abbrev pub input : List ℕ → List ℕ → LinkInput
 input dll name = record {
   definition = of_dll dll (plain_export name ∷ []);
@@ -83,11 +104,18 @@ input dll name = record {
   chosen = 0 ∷ [];
 }
 
+-- the two as inputs of a link, their bases, and their objects placed there
 abbrev pub two_parts : List LinkInput
 two_parts = input (codes "foo.dll") (codes "bar") ∷ input (codes "zed.dll") (codes "qux") ∷ []
 
 abbrev pub bases_of_two : Bases
-bases_of_two = record { descriptors = 0x1000; lookups = 0x1030; addresses = 0x1050; hint_names = 0x1070; dll_names = 0x1080 }
+bases_of_two = record {
+  descriptors = 0x1000;
+  lookups = 0x1030;
+  addresses = 0x1050;
+  hint_names = 0x1070;
+  dll_names = 0x1080;
+}
 
 abbrev pub placed_two : List Placed
 placed_two =
@@ -97,14 +125,17 @@ placed_two =
 pub record TwoLink : Type 0 where
   pub descriptors : numbers_from (image_of AMD64 bases_of_two placed_two) 4 10 0x1000
       ≡ Some (0x1030 ∷ 0 ∷ 0 ∷ 0x1084 ∷ 0x1050 ∷ 0x1040 ∷ 0 ∷ 0 ∷ 0x1090 ∷ 0x1060 ∷ [])
-  pub lookups : numbers_from (image_of AMD64 bases_of_two placed_two) 8 4 0x1030 ≡ Some (0x1070 ∷ 0 ∷ 0x1076 ∷ 0 ∷ [])
-  pub addresses : numbers_from (image_of AMD64 bases_of_two placed_two) 8 4 0x1050 ≡ Some (0x1070 ∷ 0 ∷ 0x1076 ∷ 0 ∷ [])
+  pub lookups : numbers_from (image_of AMD64 bases_of_two placed_two) 8 4 0x1030
+      ≡ Some (0x1070 ∷ 0 ∷ 0x1076 ∷ 0 ∷ [])
+  pub addresses : numbers_from (image_of AMD64 bases_of_two placed_two) 8 4 0x1050
+      ≡ Some (0x1070 ∷ 0 ∷ 0x1076 ∷ 0 ∷ [])
   pub bar : addresses_of (codes "__imp_bar") placed_two ≡ Some 0x1050 ∷ []
   pub qux : addresses_of (codes "__imp_qux") placed_two ≡ Some 0x1060 ∷ []
 
 -- The law of linking speaks of these: they are the members of a definition that is not refused, they
--- are placed where they may be, and their listed symbols are distinct.
-pub record MayLink (d : DefinitionView) (machine : MachineType) (bases : Bases) (chosen : List ℕ) : Type 0 where
+-- are placed where they may be, and their archive symbols are distinct.
+pub record MayLink (d : DefinitionView) (machine : MachineType) (bases : Bases) (chosen : List ℕ)
+    : Type 0 where
   pub made : AreMembersOf d machine Gnu (map member_of (member_specs (renamed d) machine Gnu))
   pub distinct : IsDistinct bytes_eq (flat_map (λ m. m.symbols) (linked_members d machine chosen))
   pub admissible : IsAdmissible machine bases (objects_in (linked_members d machine chosen))
@@ -171,4 +202,5 @@ pub record WorkedLinks : Type 0 where
         places = (Some 0x1020 ∷ []) ∷ [];
       })
   -- from six digits on, the order of names is not that of numbers
-  pub six_digits_first : ComesBefore (export_name (codes "foo.dll") 100000) (export_name (codes "foo.dll") 99999)
+  pub six_digits_first : ComesBefore (export_name (codes "foo.dll") 100000)
+      (export_name (codes "foo.dll") 99999)

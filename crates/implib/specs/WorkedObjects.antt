@@ -1,9 +1,11 @@
--- Objects worked by hand: those of foo.dll with all their numbers, and sizes and places of objects.
+-- Objects worked by hand: those of foo.dll with all their numbers, and sizes and offsets in objects.
 use Rattle.std.specs.Prelude.{◌≡◌, ℕ, ◌+◌, List, [], ◌∷◌, ◌++◌, None, Some, codes, replicate}
 use Rattle.implib.specs.declared.coff.object.Relocation.{Relocation}
 use Rattle.implib.specs.declared.machine.MachineType.TheVariants.{I386, AMD64}
 use Rattle.implib.specs.Object.{ObjectSection}
-use Rattle.implib.specs.Layout.{InRecord, InStringTable, ObjectLayout, LayoutSymbol, SymbolName, contents_offset, contents_size, header_bytes, encoded_size, string_offsets, strings_size, symbol_table_offset}
+use Rattle.implib.specs.Layout.{InRecord, InStringTable, ObjectLayout, LayoutSymbol, SymbolName}
+use Rattle.implib.specs.Layout.{contents_offset, contents_size, header_bytes, encoded_size, string_offsets}
+use Rattle.implib.specs.Layout.{strings_size, symbol_table_offset}
 use Rattle.implib.specs.WorkedDigits.{hex}
 use Rattle.implib.specs.WorkedMachines.{Numbers, at, numbers}
 
@@ -11,6 +13,7 @@ use Rattle.implib.specs.WorkedMachines.{Numbers, at, numbers}
 abbrev pub symbol : SymbolName → ℕ → ℕ → LayoutSymbol
 symbol name section class = record { name = name; value = 0; section = section; class = class; aux = None }
 
+-- a section, by its name, its flags, its data and its relocations
 abbrev pub section : List ℕ → ℕ → List ℕ → List Relocation → ObjectSection
 section name flags bytes relocations = record {
   name = name;
@@ -19,13 +22,14 @@ section name flags bytes relocations = record {
   relocations = relocations;
 }
 
+-- `count` zero bytes
 abbrev pub zeros : ℕ → List ℕ
 zeros count = replicate count 0
 
 -- where the contents of sections begin that follow one another
 unfoldable pub places_from : ℕ → List ObjectSection → List ℕ
-places_from place [] = []
-places_from place (s ∷ rest) = place ∷ places_from (place + contents_size s) rest
+places_from offset [] = []
+places_from offset (s ∷ rest) = offset ∷ places_from (offset + contents_size s) rest
 
 -- two undefined externals, of 8 and of 9 bytes
 unfoldable pub two_names : ObjectLayout
@@ -211,7 +215,11 @@ without_code n sections = record {
   machine = n.machine;
   characteristics = 0;
   sections = sections;
-  symbols = symbol (InStringTable 0) 0 2 ∷ symbol (InStringTable 1) 5 2 ∷ symbol (InRecord (codes ".idata$6")) 7 3 ∷ [];
+  symbols =
+      symbol (InStringTable 0) 0 2
+      ∷ symbol (InStringTable 1) 5 2
+      ∷ symbol (InRecord (codes ".idata$6")) 7 3
+      ∷ [];
   strings = n.head ∷ codes "__imp_bar" ∷ [];
 }
 
@@ -240,7 +248,7 @@ variable n = without_code n
 unfoldable pub variable_by_ordinal : Numbers → ObjectLayout
 variable_by_ordinal n = without_code n (export_sections n [] [] n.thunk_of_258 [] [])
 
--- what is worked of them: sizes in bytes, places from the begin of the file
+-- what is worked of them: sizes in bytes, offsets from the beginning of the file
 pub record WorkedObjects : Type 0 where
   pub two_names_size : encoded_size two_names ≡ 70
   pub one_section_size : encoded_size one_section ≡ 112

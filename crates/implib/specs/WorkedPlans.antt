@@ -1,4 +1,5 @@
--- All members of one definition, worked by hand: foo.dll with the function bar, which is another name for baz.
+-- All members of one definition, worked by hand: foo.dll with the function bar, which is another name for
+-- baz.
 use Rattle.std.specs.Prelude.{◌≡◌, ℕ, List, [], ◌∷◌, codes}
 use Rattle.implib.specs.declared.members.Flavor.TheVariants.{Msvc, Gnu}
 use Rattle.implib.specs.declared.machine.MachineType.{MachineType}
@@ -10,14 +11,18 @@ use Rattle.implib.specs.WorkedMachines.{Numbers, numbers}
 use Rattle.implib.specs.WorkedObjects.{descriptor, function, head, null_descriptor, null_thunk, tail, weak}
 use Rattle.implib.specs.WorkedTables.{bar, foo_dll}
 
+-- the definition
 abbrev pub definition : DefinitionView
-definition = record empty_definition { import_name = foo_dll; exports = record bar { alias_target = codes "baz" } ∷ [] }
+definition = record empty_definition {
+  import_name = foo_dll;
+  exports = record bar { alias_target = codes "baz" } ∷ [];
+}
 
--- a member that is listed for one symbol
+-- a member of one archive symbol
 abbrev pub member : List ℕ → Contents → List ℕ → MemberSpec
 member name contents symbol = record { name = name; contents = contents; listed = symbol ∷ [] }
 
--- the record of bar
+-- the short import of bar
 abbrev pub record_of_bar : Numbers → Contents
 record_of_bar n = AShortImport (record {
   version = 0;

@@ -12,13 +12,15 @@ use Rattle.implib.specs.Layout.{ObjectLayout}
 use Rattle.implib.specs.Writer.{layout_of}
 use Rattle.implib.specs.WorkedDigits.{hex}
 use Rattle.implib.specs.WorkedMachines.{numbers}
-use Rattle.implib.specs.WorkedObjects.{descriptor, function, function_asking, function_by_ordinal, head, null_descriptor, null_thunk, tail, variable, variable_by_ordinal, weak}
+use Rattle.implib.specs.WorkedObjects.{descriptor, function, function_asking, function_by_ordinal, head}
+use Rattle.implib.specs.WorkedObjects.{null_descriptor, null_thunk, tail, variable, variable_by_ordinal, weak}
 use Rattle.implib.specs.WorkedStatements.{plain_export}
 
+-- the import name
 abbrev pub foo_dll : List ℕ
 foo_dll = codes "foo.dll"
 
--- The objects for Microsoft's linker, and both weak externals that make foo stand for baz.
+-- The objects for Microsoft's linker, and both weak externals that make foo weak for baz.
 pub record WorkedMsvcTables (machine : MachineType) : Type 0 where
   pub descriptor : msvc.descriptor machine foo_dll ≡ descriptor (numbers machine)
   pub null_descriptor : msvc.null_descriptor machine ≡ null_descriptor (numbers machine)
@@ -74,7 +76,7 @@ pub record WorkedNames : Type 0 where
   pub greatest_number_of_five : five_digits 99999 ≡ codes "99999"
   pub number_of_six : five_digits 100000 ≡ codes "100000"
 
--- the record of an export of foo.dll
+-- the short import of an export of foo.dll
 abbrev pub record_for : MachineType → ExportView → List ℕ
 record_for machine e = short_import_bytes (short_import_of machine foo_dll e)
 
@@ -86,8 +88,8 @@ under_symbol name symbol = record empty_export { name = name; symbol_name = symb
 abbrev pub texts : List ℕ → List ℕ → List ℕ
 texts symbol dll = symbol ++ 0 ∷ (dll ++ 0 ∷ [])
 
--- Whole records. The last four bytes of a header are the ordinal or hint, and the import type with 4 times
--- the name type.
+-- Whole short imports. The last four bytes of a header are the ordinal or hint, and the import type with 4
+-- times the name type.
 pub record WorkedRecords : Type 0 where
   pub on_i386 : record_for I386 bar
       ≡ hex "00 00 ff ff 00 00 4c 01 00 00 00 00 0c 00 00 00 00 00 04 00" ++ texts (codes "bar") foo_dll
@@ -105,11 +107,11 @@ pub record WorkedRecords : Type 0 where
       ≡ hex "00 00 ff ff 00 00 4c 01 00 00 00 00 0b 00 00 00 00 00 09 00" ++ texts (codes "_v") foo_dll
   pub undecorated : record_for AMD64 (under_symbol (codes "f") (codes "_f@8"))
       ≡ hex "00 00 ff ff 00 00 64 86 00 00 00 00 0d 00 00 00 00 00 0c 00" ++ texts (codes "_f@8") foo_dll
-  -- a record byte by byte
+  -- a short import byte by byte
   pub bytes : record_for AMD64 bar
       ≡ hex "00 00 ff ff 00 00 64 86 00 00 00 00 0c 00 00 00 00 00 04 00 62 61 72 00 66 6f 6f 2e 64 6c 6c 00"
 
--- the last two bytes of a record's header
+-- the last two bytes of a short import's header
 abbrev pub types_of : MachineType → ExportView → List ℕ
 types_of machine e = take 2 (drop 18 (record_for machine e))
 
@@ -125,15 +127,17 @@ pub record WorkedNameTypes : Type 0 where
   pub at_sign_alone : types_of I386 (under_symbol (codes "f@8") (codes "g")) ≡ hex "0c 00"
   pub underscore_alone : types_of I386 (under_symbol (codes "_f") (codes "g")) ≡ hex "0c 00"
   pub other_symbol_before_prefix : types_of I386 (under_symbol (codes "f") (codes "_g")) ≡ hex "0c 00"
-  pub ordinal_before_all : types_of I386 (record (under_symbol (codes "_f@8") (codes "_g")) { no_name = true })
+  pub ordinal_before_all : types_of I386
+      (record (under_symbol (codes "_f@8") (codes "_g")) { no_name = true })
       ≡ hex "00 00"
 
--- What records ask for, by their name type.
+-- What short imports ask for, by their name type.
 pub record WorkedAskedNames : Type 0 where
   pub whole : asked_by_short_import AMD64 (plain_export (codes "_f")) ≡ codes "_f"
   pub whole_decorated : asked_by_short_import I386 (under_symbol (codes "_f@8") (codes "_g@4")) ≡ codes "_g@4"
   pub without_prefix : asked_by_short_import I386 (plain_export (codes "__f")) ≡ codes "_f"
-  pub without_question_mark : asked_by_short_import AMD64 (under_symbol (codes "f") (codes "?f@@YAXXZ")) ≡ codes "f"
+  pub without_question_mark : asked_by_short_import AMD64 (under_symbol (codes "f") (codes "?f@@YAXXZ"))
+      ≡ codes "f"
   pub without_at_sign : asked_by_short_import AMD64 (under_symbol (codes "f") (codes "@g@4")) ≡ codes "g"
   pub without_underscore : asked_by_short_import AMD64 (under_symbol (codes "f") (codes "_g@4")) ≡ codes "g"
   pub one_prefix_alone : asked_by_short_import AMD64 (under_symbol (codes "f") (codes "??g")) ≡ codes "?g"

@@ -1,6 +1,8 @@
 -- The state of an object writer, and the layout that it encodes (this project's layout,
 -- docs/FORMATS.md, "The layout of an object").
-use Rattle.std.specs.Prelude.{ℕ, zero, suc, ◌+◌, ◌<◌, ◌≤◌, Bool, List, [], ◌∷◌, ◌++◌, Option, None, Some, IsSomeAnd, length, map, fold, flat_map, slice_get, nat_lt, string_bytes, if◌then◌else◌, bytes_eq}
+use Rattle.std.specs.Prelude.{ℕ, zero, suc, ◌+◌, ◌<◌, ◌≤◌, Bool, List, [], ◌∷◌, ◌++◌, Option, None, Some}
+use Rattle.std.specs.Prelude.{IsSomeAnd, length, map, fold, flat_map, slice_get, nat_lt, string_bytes}
+use Rattle.std.specs.Prelude.{if◌then◌else◌, bytes_eq}
 use Rattle.std.specs.List.{list_any, position_or_len}
 use Rattle.implib.specs.declared.coff.object.Place.{Place}
 use Rattle.implib.specs.declared.coff.object.Place.TheVariants.{Undefined, Section, Absolute, Debug}
@@ -45,7 +47,7 @@ pub record WriterState : Type 0 where
   pub sections : List ObjectSection
   pub symbols : List AddedSymbol
 
--- the section number of a place, in 16 bits: -1 is absolute, -2 debug
+-- the section number of a symbol, in 16 bits ("Section Number Values"): -1 is absolute, -2 debug
 abbrev pub section_number : Place → ℕ
 section_number Undefined = 0
 section_number (Section number) = number
@@ -87,12 +89,7 @@ IsSymbol (Auxiliary bytes) = ⊥
 abbrev pub IsSymbolIndex : List AddedSymbol → ℕ → Type 0
 IsSymbolIndex symbols index = IsSomeAnd (slice_get (all_entries symbols) index) IsSymbol
 
--- the section of a number from 1
-abbrev pub section_numbered : List ObjectSection → ℕ → Option ObjectSection
-section_numbered sections zero = None
-section_numbered sections (suc index) = slice_get sections index
-
--- the place names no section, or one of `count` sections
+-- the symbol is in no section, or in one of `count` sections
 abbrev pub IsPlaceAmong : ℕ → Place → Type 0
 IsPlaceAmong count Undefined = Unit {0}
 IsPlaceAmong count (Section number) = (0 < number) × (number ≤ count)
@@ -112,13 +109,14 @@ pub record HasRoomFor (r : Relocation) (s : ObjectSection) : Type 0 where
   pub count : length s.relocations < 65535
   pub within : r.offset + 4 ≤ length s.bytes
 
--- one relocation more, in the section of a number
+-- one relocation more, in the section of a number, which counts from 1
 abbrev pub sections_with_relocation : List ObjectSection → ℕ → Relocation → List ObjectSection
 sections_with_relocation [] number r = []
 sections_with_relocation (s ∷ rest) zero r = s ∷ rest
 sections_with_relocation (s ∷ rest) (suc zero) r = record s { relocations = s.relocations ++ r ∷ [] } ∷ rest
 sections_with_relocation (s ∷ rest) (suc (suc number)) r = s ∷ sections_with_relocation rest (suc number) r
 
+-- the writer's state after one relocation more
 abbrev pub with_relocation : WriterState → ℕ → Relocation → WriterState
 with_relocation h number r = record h { sections = sections_with_relocation h.sections number r }
 
@@ -138,9 +136,10 @@ with_long_name names name = if is_long name then with_name names name else names
 unfoldable pub long_names : List AddedSymbol → List (List ℕ)
 long_names symbols = fold with_long_name [] (map (λ s. s.name) symbols)
 
--- the location of a name
+-- The location of a name. For example, `abcdefgh` is in its record, and `abcdefghi` in the string table.
 unfoldable pub name_location : List (List ℕ) → List ℕ → SymbolName
-name_location names name = if is_long name then InStringTable (position_or_len (bytes_eq name) names) else InRecord name
+name_location names name =
+    if is_long name then InStringTable (position_or_len (bytes_eq name) names) else InRecord name
 
 -- a symbol as it is written
 unfoldable pub symbol_written : List (List ℕ) → AddedSymbol → LayoutSymbol
@@ -152,7 +151,7 @@ symbol_written names s = record {
   aux = s.aux;
 }
 
--- the layout that a writer encodes
+-- the layout that a writer encodes: long names in the string table, each once
 unfoldable pub layout_of : WriterState → ObjectLayout
 layout_of h = record {
   machine = machine_number h.machine;

@@ -1,4 +1,4 @@
-//! Module definitions: what a definition file says, and how its text is read.
+//! Module definitions: what a definition file says, and how its text is read (docs/GRAMMAR.md).
 
 pub(crate) mod definition;
 pub mod lexer;

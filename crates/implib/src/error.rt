@@ -1,4 +1,4 @@
-//! What a call answers in place of its result.
+//! The errors of the crate's calls.
 
 ghost use Rattle.implib.specs.declared.error.Error.TheVariants.{OutOfMemory};
 ghost use Rattle.implib.specs.Fault.{cause_of, export_index};
@@ -7,9 +7,9 @@ ghost use Rattle.std.specs.Prelude.{◌≡◌};
 use crate::def::lexer::TokenKind;
 use std::alloc::{AllocError, AllocFailed};
 
-/// What is wrong with a text or with a definition.
+/// What is wrong with a text (docs/GRAMMAR.md, "Syntax errors") or with a definition.
 ///
-/// A `usize` tells the export: its place among all exports of the definition, from 0.
+/// A `usize` is the index of an export among all exports of the definition, private ones counted, from 0.
 #[derive(Debug, PartialEq, Eq, Drop, thiserror::Error)]
 pub enum Fault {
     /// `parse`: a statement begins with this value, which is no directive.
@@ -24,10 +24,10 @@ pub enum Fault {
     /// `parse`: an identifier is not a number of the expected type.
     #[error("expected integer")]
     ExpectedInteger,
-    /// `parse`: the value after `@` is no `u16` number.
+    /// `parse`: this value after the attribute `@` is no `u16` number.
     #[error("invalid ordinal: {0}")]
     InvalidOrdinal(String),
-    /// `parse`: the name after `=` is `@`.
+    /// `parse`: the target of an export, after `=`, is `@`.
     #[error("lone @ after =")]
     LoneAt,
     /// `members`: the import name is empty.
@@ -70,7 +70,7 @@ pub enum Error {
     /// The text or the definition is refused.
     #[error("{0}")]
     Invalid(#[from] Fault),
-    /// Memory was asked for and not given.
+    /// An allocation failed.
     #[error("out of memory")]
     OutOfMemory(AllocError),
 }

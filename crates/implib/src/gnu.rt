@@ -22,7 +22,7 @@ mod names;
 mod objects;
 mod table;
 
-/// The import library of a module definition for GNU's linker.
+/// The import library of a module definition for GNU's linker (docs/FORMATS.md, "Members for GNU's linker").
 #[derive(Drop)]
 pub struct GnuImportLibrary {
     library: ImportLibrary,
@@ -41,7 +41,7 @@ impl Model for GnuImportLibrary {
 }
 
 impl GnuImportLibrary {
-    /// Holds a definition: each `ext_name` that is given is moved into `name`.
+    /// The library of a definition: each `ext_name` that is given is moved into `name`.
     pub fn new(def: ModuleDef, machine: MachineType) -> Self
         ensures held { result ≡ record { definition = renamed (definition_view def); machine = machine; flavor = Gnu } }
     {

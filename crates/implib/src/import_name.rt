@@ -1,4 +1,5 @@
-//! The name that an export asks its DLL for, in each flavour.
+//! The name that an export asks its DLL for, in each flavour (docs/FORMATS.md, "Short imports" and "Members
+//! for GNU's linker").
 
 ghost use Rattle.implib.specs.Definition.{export_view};
 ghost use Rattle.implib.specs.Import.{asked_name, at_sign, begins_with};
@@ -13,7 +14,7 @@ use crate::def::lexer::begins_with;
 use crate::machine::MachineType;
 use crate::members::Flavor;
 
-// PE/COFF specification, "Import Name Type".
+// The name types of a short import (PE/COFF specification, "Import Name Type").
 const IMPORT_ORDINAL: u16 = 0;
 
 const IMPORT_NAME: u16 = 1;
@@ -32,7 +33,7 @@ pub(crate) fn asked(export: &ShortExport, machine: MachineType, flavor: Flavor) 
     }
 }
 
-/// The symbol of the export's record.
+/// The symbol of the export's short import.
 pub(crate) fn short_import_symbol(export: &ShortExport) -> &str
     ensures { result.now ≡ short_import_symbol (export_view export.now) }
 {
@@ -43,7 +44,7 @@ pub(crate) fn short_import_symbol(export: &ShortExport) -> &str
     }
 }
 
-/// How the DLL is asked, by the first rule that holds.
+/// The name type of the export's short import, by the first rule that holds.
 pub(crate) fn name_type(export: &ShortExport, machine: MachineType) -> u16
     ensures number { result ≡ name_type_of machine (export_view export.now) }
     ensures at_most { result ≤ IMPORT_NAME_UNDECORATE }
@@ -63,6 +64,7 @@ pub(crate) fn name_type(export: &ShortExport, machine: MachineType) -> u16
     }
 }
 
+// The symbol without its first byte, where that is `?`, `@` or `_`.
 fn without_prefix(symbol: &[u8]) -> &[u8]
     ensures { result.now ≡ without_prefix symbol.now }
 {
@@ -72,6 +74,7 @@ fn without_prefix(symbol: &[u8]) -> &[u8]
     }
 }
 
+// The symbol up to its first `@`.
 #[tactic(auto, using(crate::proofs::AskedName::take_to_position))]
 fn before_at_sign(symbol: &[u8]) -> &[u8]
     ensures { result.now ≡ before_at_sign symbol.now }
@@ -82,6 +85,7 @@ fn before_at_sign(symbol: &[u8]) -> &[u8]
     }
 }
 
+// The position of the first `@` of a symbol.
 fn position_of_at_sign(symbol: &[u8]) -> Option<usize>
     ensures { result ≡ position (λ byte. byte == at_sign) symbol.now }
 {

@@ -1,4 +1,4 @@
-//! What the import tables of an object are made of, for either linker.
+//! What the import tables of an object are made of, for either linker (docs/FORMATS.md, "Import tables").
 
 ghost use Rattle.implib.specs.Constants.{image_relative};
 ghost use Rattle.implib.specs.Import.{address_symbol};
@@ -10,7 +10,7 @@ use crate::coff::object::Relocation;
 use crate::machine::MachineType;
 use std::alloc::{AllocError, Global};
 
-/// An import descriptor (PE format, "Import Directory Table").
+/// An import descriptor (PE/COFF specification, "Import Directory Table").
 pub(crate) mod descriptor {
     /// The size in bytes.
     pub(crate) const SIZE: usize = 20;
@@ -41,7 +41,8 @@ fn image_relative(machine: MachineType) -> u16
     }
 }
 
-/// The size in bytes of an entry of the address table and the lookup table.
+/// The size in bytes of a thunk, an entry of the address table or the lookup table (PE/COFF specification,
+/// "Import Lookup Table").
 pub(crate) fn thunk_width(machine: MachineType) -> usize
     ensures { result ≡ thunk_width machine }
 {
@@ -55,7 +56,7 @@ pub(crate) fn zeros(alloc: Global, count: usize) -> Result<Vec<u8>, AllocError>
     Ok(vec![in alloc; 0; count]?)
 }
 
-/// An image-relative relocation.
+/// An image-relative relocation, at an offset in bytes, to the symbol of an index.
 pub(crate) fn image_relocation(machine: MachineType, offset: u32, symbol: u32) -> Relocation
     ensures { result ≡ relocation machine offset symbol }
 {

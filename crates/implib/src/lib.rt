@@ -1,4 +1,29 @@
-//! Windows import objects from module definition files.
+//! The members of import libraries for Windows DLLs, from module definition files (`.def`).
+//!
+//! A module definition names a DLL and its exports. This crate parses it and makes the members of the DLL's
+//! import library. For Microsoft's linker these are an import descriptor, a null descriptor, a null thunk and
+//! a short import for each export; for GNU's linker a head, a tail and an object for each export. Archives
+//! are for others to write.
+//!
+//! It is proved that a text is parsed to what its grammar means, or refused for its first syntax error, and
+//! that readers of the PE/COFF formats, which know nothing of the code, find in the members exactly the
+//! imports and aliases that the text means. The members for GNU's linker link and load to exactly the
+//! selected imports, in a model of linker and loader.
+//!
+//! [`ImportLibrary`] makes members of a text. [`def`] has definitions and their parser, [`coff`] a writer of
+//! objects, [`laws`] what a caller may conclude. `docs/GUARANTEES.md` says what is promised,
+//! `docs/GRAMMAR.md` what a text means, `docs/FORMATS.md` what each byte is.
+//!
+//! ```
+//! use implib::{Error, Flavor, ImportLibrary, MachineType, Member};
+//! use std::alloc::Global;
+//!
+//! fn members_of_zoo(alloc: Global) -> Result<Vec<Member>, Error> {
+//!     let text = "LIBRARY zoo.dll\nEXPORTS\n    feed\n    keepers DATA\n";
+//!     let library = ImportLibrary::new(alloc, text, MachineType::AMD64, Flavor::Msvc)?;
+//!     library.members()
+//! }
+//! ```
 #![tactic(auto)]
 
 pub mod coff;

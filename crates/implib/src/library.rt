@@ -1,4 +1,4 @@
-//! The import library of a definition: its members.
+//! The import library of a definition.
 
 ghost use Rattle.implib.specs.Definition.{definition_view, export_view};
 ghost use Rattle.implib.specs.Fault.{IfInvalid, error_cause};
@@ -42,9 +42,11 @@ impl Model for ImportLibrary {
 }
 
 impl ImportLibrary {
-    /// Reads a definition and holds it, each export under the name to link by.
+    /// The library of the definition that a text means, each export under the name to link by.
     ///
-    /// Answers the faults of [`ModuleDef::parse`], and nothing else but for memory.
+    /// # Errors
+    ///
+    /// Those of [`ModuleDef::parse`].
     pub fn new(
         alloc: Global,
         def: &str,
@@ -58,7 +60,7 @@ impl ImportLibrary {
         Ok(ImportLibrary::from_def(def, machine, flavor))
     }
 
-    /// Holds a definition: each `ext_name` that is given is moved into `name`.
+    /// The library of a definition: each `ext_name` that is given is moved into `name`.
     pub fn from_def(def: ModuleDef, machine: MachineType, flavor: Flavor) -> Self
         ensures held { result ≡ record { definition = renamed (definition_view def); machine = machine; flavor = flavor } }
     {
@@ -104,15 +106,15 @@ impl ImportLibrary {
         self.def.import_name.as_str()
     }
 
-    /// The members, in order. An error leaves the library as it was.
+    /// The members, in order (docs/FORMATS.md, "Members for Microsoft's linker" and "Members for GNU's
+    /// linker"). An error leaves the library as it was.
     ///
     /// # Errors
     ///
-    /// The first that applies: `EmptyImportName` or `NulInImportName`; then, export by export,
-    /// private ones left out, `EmptyName`, `NulInExport` (of its name, symbol name or alias target) or
-    /// `EmptyAskedName`, with the index that the export has in the definition; then `MemberTooLong`
-    /// for a member of more than 2^32 - 1 bytes. Those of names come whatever memory there is; all
-    /// others can be preceded by `OutOfMemory`.
+    /// The first that applies: `EmptyImportName` or `NulInImportName`; then, export by export, private ones
+    /// left out, `EmptyName`, `NulInExport` (of its name, symbol name or alias target) or `EmptyAskedName`,
+    /// with the index of the export in the definition; then `MemberTooLong` for a member of more than
+    /// 2^32 - 1 bytes. Those of names come whatever memory there is; `OutOfMemory` can precede the others.
     pub fn members(&self) -> Result<Vec<Member>, Error>
         ensures ok { IfOk result (λ members.
             AreMembersOf self.now.definition self.now.machine self.now.flavor (map member_view members.items)) }
@@ -128,7 +130,11 @@ impl ImportLibrary {
         }
     }
 
-    /// An equal library. Refuses for memory alone.
+    /// An equal library.
+    ///
+    /// # Errors
+    ///
+    /// `OutOfMemory` alone.
     pub fn clone(&self) -> Result<Self, Error>
         ensures ok { IfOk result (λ copy. copy ≡ self.now) }
         ensures memory { IfErr result (λ error. error_cause error ≡ None) }

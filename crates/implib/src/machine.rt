@@ -5,7 +5,7 @@ ghost use Rattle.std.specs.Prelude.{◌≡◌};
 
 use crate::coff::constants::machine;
 
-/// A machine by its name in the PE/COFF specification, "Machine Types".
+/// A machine, by its name in the PE/COFF specification, "Machine Types" (`IMAGE_FILE_MACHINE_..`).
 #[derive(Clone, Copy, Debug, PartialEq, Eq)]
 pub enum MachineType {
     /// x86, 32 bits.
@@ -19,7 +19,7 @@ pub enum MachineType {
 }
 
 impl MachineType {
-    /// The machine's number in a file header.
+    /// The machine's number in a file header, one of `coff::machine`.
     pub fn number(self) -> u16
         ensures { result ≡ machine_number self }
     {
@@ -31,7 +31,7 @@ impl MachineType {
         }
     }
 
-    /// Whether addresses have 32 bits.
+    /// Whether addresses have 32 bits; those of the other machines have 64.
     pub fn is_32bit(self) -> bool
         ensures { result ≡ is_32bit self }
     {

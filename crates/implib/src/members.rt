@@ -1,4 +1,4 @@
-//! What an import library is made for, and what it is made of.
+//! Which linker an import library is for, and its members.
 
 ghost use Rattle.implib.specs.Library.{member_view};
 ghost use Rattle.std.specs.Prelude.{[], string_bytes, ◌∷◌, ◌≡◌, IfOk};
@@ -8,25 +8,25 @@ use std::alloc::{AllocError, Global};
 /// The linker that the members are for.
 #[derive(Clone, Copy, Debug)]
 pub enum Flavor {
-    /// Microsoft's.
+    /// Microsoft's: objects for the DLL, and short imports.
     Msvc,
-    /// GNU's.
+    /// GNU's: objects alone.
     Gnu,
 }
 
-/// One object or short record of an import library.
+/// One member of an import library: an object or a short import (docs/FORMATS.md).
 #[derive(Debug, Drop)]
 pub struct Member {
     /// The name that an archive would give it.
     pub name: String,
-    /// The file, at most 2^32 - 1 bytes.
+    /// The file: at most 2^32 - 1 bytes.
     pub bytes: Vec<u8>,
-    /// The symbols that an archive's index would list for it.
+    /// The symbols that an archive's symbol table would list for it, in order.
     pub symbols: Vec<String>,
 }
 
 impl Member {
-    // A member of one archive symbol.
+    /// A member of one archive symbol.
     pub(crate) fn of_symbol(
         alloc: Global,
         name: String,

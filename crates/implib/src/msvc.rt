@@ -21,7 +21,8 @@ pub(crate) mod members;
 mod objects;
 mod short_import;
 
-/// The import library of a module definition for Microsoft's linker.
+/// The import library of a module definition for Microsoft's linker (docs/FORMATS.md, "Members for
+/// Microsoft's linker").
 #[derive(Drop)]
 pub struct MsvcImportLibrary {
     library: ImportLibrary,
@@ -40,7 +41,7 @@ impl Model for MsvcImportLibrary {
 }
 
 impl MsvcImportLibrary {
-    /// Holds a definition: each `ext_name` that is given is moved into `name`.
+    /// The library of a definition: each `ext_name` that is given is moved into `name`.
     pub fn new(def: ModuleDef, machine: MachineType) -> Self
         ensures held { result ≡ record { definition = renamed (definition_view def); machine = machine; flavor = Msvc } }
     {

@@ -31,12 +31,14 @@ pub(crate) fn names_fault(def: &ModuleDef, machine: MachineType, flavor: Flavor)
     None
 }
 
+// Whether a text holds a NUL.
 fn holds_nul(text: &str) -> bool
     ensures { result ≡ holds 0 text.now }
 {
     text.as_bytes().contains(&0)
 }
 
+// The rule on the import name that it breaks, if any.
 fn import_name_fault(name: &str) -> Option<Fault>
     ensures { option_map cause_of result ≡ import_name_refusal name.now }
 {
@@ -49,6 +51,7 @@ fn import_name_fault(name: &str) -> Option<Fault>
     }
 }
 
+// The first rule on names that the export of this index breaks, if any.
 fn export_fault(
     index: usize,
     export: &ShortExport,

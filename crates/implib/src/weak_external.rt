@@ -1,4 +1,5 @@
-//! Weak externals: a symbol that another one replaces where nothing defines it, in both flavours.
+//! Weak externals: a symbol that another one replaces where nothing defines it, in both flavours
+//! (docs/FORMATS.md, "Weak externals"; PE/COFF specification, "Auxiliary Format 3: Weak Externals").
 
 ghost use Rattle.implib.specs.Fault.{IfInvalid, MemberTooLong};
 ghost use Rattle.implib.specs.File.{AnAlias, meaning_in};
@@ -20,14 +21,14 @@ use crate::machine::MachineType;
 use crate::members::Member;
 use std::alloc::Global;
 
-/// How many members make an alias: one for the symbol, one for its `__imp_` symbol.
+/// The number of members that make an alias: one for the symbol, one for its `__imp_` symbol.
 pub(crate) const MEMBERS_OF_ALIAS: usize = 2;
 
-// How the symbol that a weak external stands for is searched for.
+// The characteristics of a weak external: an alias.
 const ALIAS: u8 = weak::SEARCH_ALIAS as u8;
 
-// The auxiliary record of a weak external: the index of the symbol that it stands for, 2, and that it
-// is an alias.
+// The auxiliary record of a weak external: the index of the symbol that replaces it, 2, and the
+// characteristics.
 const WEAK_AUXILIARY: [u8; 18] = [2, 0, 0, 0, ALIAS, 0, 0, 0, 0, 0, 0, 0, 0, 0, 0, 0, 0, 0];
 
 /// Whether the symbol is weak for an alias target: there is one, and it is another symbol.
@@ -68,7 +69,7 @@ fn weak_symbols() -> [LayoutSymbol<'static>; 4]
     ]
 }
 
-// The object that makes one symbol weak for another; its reading is that pair.
+// The object that makes one symbol weak for another; it reads as that pair.
 fn weak_external(
     alloc: Global,
     machine: MachineType,

@@ -11,7 +11,7 @@ host_failed host = host.has_failed
 abbrev pub host_inner : {T : Type 0} → Host T → T
 host_inner host = host.inner
 
--- a writer took a beginning of the bytes, perhaps none or all of them, where it tells what it has
+-- a writer took a beginning of the bytes, perhaps none or all of them, if what it has is known
 pub record AppendsBeginning (before after : Option (List ℕ)) (bytes : List ℕ) : Type 0 where
   pub taken : List ℕ
   pub left : List ℕ

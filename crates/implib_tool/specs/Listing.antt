@@ -1,5 +1,6 @@
--- The listing: the text that shows members (this project's layout).
-use Rattle.std.specs.Prelude.{ℕ, Bool, ◌+◌, ◌/◌, ◌%◌, ◌==◌, ◌&&◌, ◌||◌, not, nat_lt, nat_le, if◌then◌else◌, List, [], ◌∷◌, ◌++◌, length, codes, decimal, flat_map}
+-- The listing: the text that shows members (this project's layout, docs/FORMATS.md, "The listing").
+use Rattle.std.specs.Prelude.{ℕ, Bool, ◌+◌, ◌/◌, ◌%◌, ◌==◌, ◌&&◌, ◌||◌, not, nat_lt, nat_le, if◌then◌else◌}
+use Rattle.std.specs.Prelude.{List, [], ◌∷◌, ◌++◌, length, codes, decimal, flat_map}
 use Rattle.std.specs.List.{enumerate_from}
 use Rattle.implib.specs.MemberSpec.{MemberView}
 
@@ -15,7 +16,8 @@ hex_byte byte = hex_digit (byte / 16) ∷ hex_digit (byte % 16) ∷ []
 abbrev pub is_plain : ℕ → Bool
 is_plain byte = nat_le 0x21 byte && nat_le byte 0x7E && not (byte == 0x5C)
 
--- a byte of a name; one that is not plain as a backslash, an `x` and two hexadecimal digits
+-- A byte of a name; one that is not plain as a backslash, an `x` and two hexadecimal digits. For example, a
+-- space is `\x20`.
 abbrev pub escaped_byte : ℕ → List ℕ
 escaped_byte byte = if is_plain byte then byte ∷ [] else codes "\\x" ++ hex_byte byte
 
@@ -35,11 +37,11 @@ byte_listing count place = hex_byte place.1 ++ after_byte count place.0 ∷ []
 abbrev pub bytes_listing : List ℕ → List ℕ
 bytes_listing bytes = flat_map (byte_listing (length bytes)) (enumerate_from 0 bytes)
 
--- the line of a listed symbol
+-- the line of an archive symbol
 abbrev pub symbol_listing : List ℕ → List ℕ
 symbol_listing symbol = codes "symbol " ++ (escaped symbol ++ 10 ∷ [])
 
--- a member: a line with its name and its length, its listed symbols, its bytes
+-- a member: a line with its name and its length, its archive symbols, its bytes
 abbrev pub member_listing : MemberView → List ℕ
 member_listing member =
     codes "member " ++ (escaped member.name ++ (32 ∷ (decimal (length member.bytes) ++ (10 ∷

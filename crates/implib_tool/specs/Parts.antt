@@ -1,4 +1,5 @@
--- The parts of a text: its lines that separate divide it, and stand in no part (this project's layout).
+-- The documents of the input: its separating lines divide it, and are in no document (this project's layout).
+-- For example, `a`, a line `---` and `b` are the documents `a` with its line end, and `b`.
 use Rattle.std.specs.Prelude.{ℕ, ◌≡◌, ◌⊎◌, List, [], ◌∷◌, ◌++◌, codes}
 
 -- three hyphens, perhaps with a carriage return
@@ -13,7 +14,7 @@ LineBeginsAfter before = (before ≡ []) ⊎ ((front : List ℕ) × (before ≡ 
 abbrev pub LineEndsBefore : List ℕ → Type 0
 LineEndsBefore after = (after ≡ []) ⊎ ((rest : List ℕ) × (after ≡ 10 ∷ rest))
 
--- a separating line stands in the text between these bytes
+-- a separating line is in the text between these bytes
 pub record Separates (text before line after : List ℕ) : Type 0 where
   pub whole : text ≡ before ++ (line ++ after)
   pub separator : IsSeparator line
@@ -28,7 +29,7 @@ IsUndivided text = (before line after : List ℕ) → Separates text before line
 abbrev pub Follows : List ℕ → List ℕ → Type 0
 Follows after rest = ((after ≡ []) × (rest ≡ [])) ⊎ (after ≡ 10 ∷ rest)
 
--- the text is a part, a separating line, and the rest
+-- the text is a document, a separating line, and the rest
 pub record Divides (text part rest : List ℕ) : Type 0 where
   pub line : List ℕ
   pub after : List ℕ
@@ -36,13 +37,14 @@ pub record Divides (text part rest : List ℕ) : Type 0 where
   pub follows : Follows after rest
   pub undivided : IsUndivided part
 
--- the parts of a text: with a separating line between each two they give it back, and none has a separating line of its own
+-- the documents of a text: with a separating line between each two they give it back, and none has a
+-- separating line of its own
 abbrev pub Parts : List ℕ → List (List ℕ) → Type 0
 Parts text [] = ⊥
 Parts text (part ∷ []) = (text ≡ part) × IsUndivided part
 Parts text (part ∷ next ∷ parts) = (rest : List ℕ) × Divides text part rest × Parts rest (next ∷ parts)
 
--- the text has one list of parts
+-- the text has one list of documents
 pub record HasOneParting (text : List ℕ) : Type 0 where
   pub parts : List (List ℕ)
   pub parted : Parts text parts

@@ -1,5 +1,6 @@
 -- What a run of the program does with its devices.
-use Rattle.std.specs.Prelude.{◌≡◌, ◌⊎◌, ℕ, Bool, true, false, List, [], ◌∷◌, ◌++◌, map, reverse, drop, Option, Some, Result, IfSome, OnOk, IfErr, flat_map}
+use Rattle.std.specs.Prelude.{◌≡◌, ◌⊎◌, ℕ, Bool, true, false, List, [], ◌∷◌, ◌++◌, map, reverse, drop, Option}
+use Rattle.std.specs.Prelude.{Some, Result, IfSome, OnOk, IfErr, flat_map}
 use Rattle.std.specs.List.{filter_map}
 use Rattle.std.specs.Option.{option_and_then}
 use Rattle.std.specs.Io.KnownBytes.{Appends, IsAtEnd, Keeps}
@@ -30,22 +31,28 @@ pub record BeginWith (members : List MemberView) (tail head : File) : Type 0 whe
   pub tail_read : file_at members 0 ≡ Some tail
   pub head_read : file_at members 1 ≡ Some head
 
--- what the members are read as, in the definition's order: for Microsoft's linker each after the first three by itself, for GNU's each after the tail and the head, with these two, from the last to the first
+-- what the members are read as, in the definition's order: for Microsoft's linker each after the first three
+-- by itself, for GNU's each after the tail and the head, with these two, from the last to the first
 abbrev pub AreReadAs : Flavor → List MemberView → List Meaning → Type 0
 AreReadAs Msvc members meanings = map (λ m. meaning_in m.bytes) (drop 3 members) ≡ map Some meanings
 AreReadAs Gnu members meanings =
     (tail : File) × (head : File) × BeginWith members tail head
-    × (map (λ m. option_and_then (meaning_with head tail) (file_in m.bytes)) (reverse (drop 2 members)) ≡ map Some meanings)
+    × (map (λ m. option_and_then (meaning_with head tail) (file_in m.bytes)) (reverse (drop 2 members))
+    ≡ map Some meanings)
 
--- the members are read as the imports and the aliases of a definition, each once and in order, and as nothing else
-pub record ReadAsMeant (meant : DefinitionView) (machine : MachineType) (flavor : Flavor) (members : List MemberView) : Type 0 where
+-- the members are read as the imports and the aliases of a definition, each once and in order, and as nothing
+-- else
+pub record ReadAsMeant (meant : DefinitionView) (machine : MachineType) (flavor : Flavor)
+    (members : List MemberView) : Type 0 where
   pub meanings : List Meaning
   pub read : AreReadAs flavor members meanings
   pub imports : filter_map import_among meanings ≡ imports_of machine meant
   pub aliases : filter_map alias_among meanings ≡ aliases_of meant
 
--- the members are those of the definition that the text means, renamed, and are read as the imports and the aliases that it means
-pub record MembersOf (text : List ℕ) (machine : MachineType) (flavor : Flavor) (members : List MemberView) : Type 0 where
+-- the members are those of the definition that the text means, renamed, and are read as the imports and the
+-- aliases that it means
+pub record MembersOf (text : List ℕ) (machine : MachineType) (flavor : Flavor) (members : List MemberView)
+    : Type 0 where
   pub meant : DefinitionView
   pub parses : Parses text machine meant
   pub made : AreMembersOf (renamed meant) machine flavor members
@@ -53,7 +60,8 @@ pub record MembersOf (text : List ℕ) (machine : MachineType) (flavor : Flavor)
   pub read_as_meant : ReadAsMeant meant machine flavor members
 
 -- the definition that the text means, renamed, has no members, for this cause
-pub record HasNoMembers (text : List ℕ) (machine : MachineType) (flavor : Flavor) (cause : Cause) : Type 0 where
+pub record HasNoMembers (text : List ℕ) (machine : MachineType) (flavor : Flavor) (cause : Cause)
+    : Type 0 where
   pub meant : DefinitionView
   pub parses : Parses text machine meant
   pub refused : refusal (renamed meant) machine flavor ≡ Some cause
@@ -67,9 +75,10 @@ abbrev pub EachMade : MachineType → Flavor → List (List ℕ) → List (List 
 EachMade machine flavor [] [] = Unit {0}
 EachMade machine flavor [] (members ∷ lists) = ⊥
 EachMade machine flavor (text ∷ texts) [] = ⊥
-EachMade machine flavor (text ∷ texts) (members ∷ lists) = MembersOf text machine flavor members × EachMade machine flavor texts lists
+EachMade machine flavor (text ∷ texts) (members ∷ lists) =
+    MembersOf text machine flavor members × EachMade machine flavor texts lists
 
--- the listing shows the members of each part of the text, in order
+-- the listing shows the members of each document of the text, in order
 pub record Lists (text : List ℕ) (machine : MachineType) (flavor : Flavor) (listing : List ℕ) : Type 0 where
   pub parts : List (List ℕ)
   pub lists : List (List MemberView)
@@ -77,8 +86,9 @@ pub record Lists (text : List ℕ) (machine : MachineType) (flavor : Flavor) (li
   pub made : EachMade machine flavor parts lists
   pub listed : listing ≡ flat_map listing_of lists
 
--- a part of the text is refused for this cause, and those before it have members
-pub record FirstRefused (text : List ℕ) (machine : MachineType) (flavor : Flavor) (cause : Cause) : Type 0 where
+-- a document of the text is refused for this cause, and those before it have members
+pub record FirstRefused (text : List ℕ) (machine : MachineType) (flavor : Flavor) (cause : Cause)
+    : Type 0 where
   pub before : List (List ℕ)
   pub part : List ℕ
   pub after : List (List ℕ)
@@ -87,7 +97,8 @@ pub record FirstRefused (text : List ℕ) (machine : MachineType) (flavor : Flav
   pub made : EachMade machine flavor before lists
   pub refused : IsRefused part machine flavor cause
 
--- what the devices tell: the bytes that the reader has left and those that the writer has, where they tell them, and whether they have failed
+-- what is known of the devices: the bytes that the reader has left and those that the writer has, if they are
+-- known, and whether they have failed
 pub record Devices : Type 0 where
   pub remaining : Option (List ℕ)
   pub contents : Option (List ℕ)
@@ -119,16 +130,19 @@ abbrev pub HasCause : MachineType → Flavor → Devices → Devices → RunErro
 HasCause machine flavor before after (Refused fault) =
     NothingWritten before after × IfSome before.remaining IsUtf8
     × IfSome before.remaining (λ text. FirstRefused text machine flavor (cause_of fault))
-HasCause machine flavor before after NotUtf8 = NothingWritten before after × IfSome before.remaining (λ text. ¬ (IsUtf8 text))
+HasCause machine flavor before after NotUtf8 =
+    NothingWritten before after × IfSome before.remaining (λ text. ¬ (IsUtf8 text))
 HasCause machine flavor before after Read =
     (after.reader_failed ≡ true) × (after.writer_failed ≡ false) × Keeps before.contents after.contents
 HasCause machine flavor before after Write =
     (after.reader_failed ≡ false) × (after.writer_failed ≡ true) × IfSome before.remaining IsUtf8
     × IfSome before.remaining (λ text.
-    (listing : List ℕ) × Lists text machine flavor listing × AppendsBeginning before.contents after.contents listing)
+    (listing : List ℕ) × Lists text machine flavor listing
+    × AppendsBeginning before.contents after.contents listing)
 HasCause machine flavor before after OutOfMemory = NothingWritten before after
 
 -- what a run answers, and what it does
-pub record Runs (machine : MachineType) (flavor : Flavor) (before after : Devices) (answer : Result (Unit {0}) RunError) : Type 0 where
+pub record Runs (machine : MachineType) (flavor : Flavor) (before after : Devices)
+    (answer : Result (Unit {0}) RunError) : Type 0 where
   pub done : OnOk answer (IsDone machine flavor before after)
   pub fault : IfErr answer (HasCause machine flavor before after)

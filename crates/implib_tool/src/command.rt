@@ -1,4 +1,4 @@
-//! The program, but for the devices of the system.
+//! The program, over any devices: its arguments, its run, and its exit status.
 
 ghost use Rattle.implib_tool.specs.Words.{Answers, asked, status_of};
 ghost use Rattle.std.specs.Prelude.{◌≡◌, ◌↔◌, IfSome, IsNone, OnOk, false, map};
@@ -11,7 +11,7 @@ use std::alloc::Global;
 use std::fmt;
 use std::fmt::Write;
 
-/// A sink that text is written to.
+// A sink that text is written to.
 #[derive(Drop)]
 struct Lines<'a, E> {
     sink: &'a mut E,
@@ -23,7 +23,7 @@ impl<'a, E: Sink> fmt::Write for Lines<'a, E> {
     }
 }
 
-/// The machine and the flavour that the words ask for.
+// The machine and the flavour that the arguments name.
 fn asked_by(words: &[String]) -> Option<(MachineType, Flavor)>
     ensures { result ≡ asked (map string_bytes words.now) }
 {
@@ -38,7 +38,7 @@ fn asked_by(words: &[String]) -> Option<(MachineType, Flavor)>
     }
 }
 
-/// The status of a run that ended with an error.
+// The exit status of a run that ended with an error.
 fn status(error: &RunError) -> u8
     ensures { result ≡ status_of (Err error.now) }
 {
@@ -48,7 +48,7 @@ fn status(error: &RunError) -> u8
     }
 }
 
-/// Writes the line of an error, and gives its status. A fault of `faults` is not told.
+/// Writes the line of an error, and gives its exit status. A failure of `faults` is not reported.
 pub fn fault<E: Sink>(faults: &mut E, error: &RunError) -> u8
     ensures { result ≡ status_of (Err error.now) }
 {
@@ -57,8 +57,7 @@ pub fn fault<E: Sink>(faults: &mut E, error: &RunError) -> u8
     status(error)
 }
 
-/// Writes the line that says which words there are, and gives its status. A fault of `faults` is not
-/// told.
+/// Writes the usage line, and gives its exit status. A failure of `faults` is not reported.
 pub fn usage<E: Sink>(faults: &mut E) -> u8
     ensures { result ≡ 2 }
 {
@@ -67,12 +66,12 @@ pub fn usage<E: Sink>(faults: &mut E) -> u8
     2
 }
 
-/// Runs what the words ask for: none, or a machine and a flavour. Neither the reader nor the writer has
-/// failed before.
+/// Runs the program with these arguments: none, or a machine and a flavour. Neither the reader nor the writer
+/// has failed before.
 ///
-/// What is wrong goes as a line to `faults`; a failure of `faults` is not reported. The status is 0 where the
-/// listing is written, 1 where the input is refused, 2 for other words, and 3 where a device or
-/// memory failed.
+/// What is wrong goes as a line to `faults`; a failure of `faults` is not reported. The exit status is 0 where
+/// the listing is written, 1 where the input is refused, 2 for other arguments, and 3 where a device or an
+/// allocation failed.
 pub fn command<R: Source, W: Sink, E: Sink>(
     alloc: Global,
     words: &[String],

@@ -10,7 +10,7 @@ pub struct DeviceFault;
 
 /// A device that bytes come from.
 pub trait Source {
-    // The bytes that it has left, where it tells them.
+    // The bytes that it has left, if they are known.
     ghost remaining: { Self → Option (List ℕ) };
 
     // Whether a read has failed.
@@ -22,7 +22,7 @@ pub trait Source {
 
     /// Moves bytes to the front of `buf` and answers how many.
     ///
-    /// No bytes for a `buf` that is not empty mean the end. Of a fault's bytes nothing is said.
+    /// No bytes for a `buf` that is not empty mean the end. Where it fails, nothing is said of the bytes in `buf`.
     fn read(&mut self, buf: &mut [u8]) -> Result<usize, DeviceFault>
         ensures bound { IfOk result (λ n. n ≤ length buf.new) }
         ensures moved { IfOk result (λ n. Consumes (remaining self.old) (remaining self.new) (take n buf.new)) }
@@ -33,7 +33,7 @@ pub trait Source {
 
 /// A device that bytes go to.
 pub trait Sink {
-    // The bytes that were written so far, where it tells them.
+    // The bytes that were written so far, if they are known.
     ghost contents: { Self → Option (List ℕ) };
 
     // Whether a write has failed.
@@ -45,7 +45,7 @@ pub trait Sink {
 
     /// Takes bytes from the front of `buf` and answers how many.
     ///
-    /// To take none of a `buf` that is not empty is a failure, too. A write that fails takes none.
+    /// To take none of a `buf` that is not empty is a failure too. A write that fails takes none.
     fn write(&mut self, buf: &[u8]) -> Result<usize, DeviceFault>
         ensures bound { IfOk result (λ n. n ≤ length buf.now) }
         ensures moved { IfOk result (λ n. Appends (contents self.old) (contents self.new) (take n buf.now)) }

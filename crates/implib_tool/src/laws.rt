@@ -1,4 +1,4 @@
-//! What holds of the program's definitions.
+//! Laws: what a caller may conclude from the program's definitions.
 
 ghost use Rattle.implib_tool.specs.Parts.{HasOneParting};
 ghost use Rattle.std.specs.Prelude.{List, ℕ};

@@ -1,4 +1,4 @@
-//! The program, but for its process.
+//! The program as a process runs it: from its arguments to its exit code.
 
 ghost use Rattle.implib_tool.specs.Device.{host_failed};
 ghost use Rattle.implib_tool.specs.Words.{Performs, status_unread, words_of};
@@ -16,15 +16,15 @@ use std::env::Args;
 use std::io::{self, ErrorKind, Stderr, Stdin, Stdout};
 use std::process::ExitCode;
 
-/// The arguments but for the first.
+// The arguments but for the first.
 fn but_the_first(alloc: Global, arguments: Args) -> Result<Vec<String>, AllocError>
     ensures { IfOk result (λ words. words.items ≡ drop 1 (into_iter_items arguments)) }
 {
     arguments.skip(1).collect(alloc)
 }
 
-/// Runs what the words ask for: the arguments but for the first. Where memory for them is refused, this
-/// is told as where memory for the listing is.
+// Runs the program with the arguments but for the first. Where memory for them cannot be allocated, this is
+// reported as it is for the listing.
 fn perform_words<R: Source, W: Sink, E: Sink>(
     alloc: Global,
     arguments: Args,
@@ -45,11 +45,11 @@ fn perform_words<R: Source, W: Sink, E: Sink>(
     command(alloc, words.as_slice(), reader, writer, faults)
 }
 
-/// Runs what the arguments ask for: the first is the program's name, and the others are the words of
+/// Runs the program with these arguments: the first is the program's name, and the others are those of
 /// [`command`]. Neither the reader nor the writer has failed before.
 ///
-/// Where memory for the arguments is refused, this is told as where memory for the listing is;
-/// arguments that cannot be read are told as other words are.
+/// Where memory for the arguments cannot be allocated, this is reported as it is for the listing; arguments
+/// that cannot be read are reported as other arguments are.
 pub fn perform<R: Source, W: Sink, E: Sink>(
     alloc: Global,
     arguments: io::Result<Args>,

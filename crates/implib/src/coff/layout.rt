@@ -1,4 +1,5 @@
-//! Encodes an object from a borrowed layout of it, in one forward pass.
+//! Encodes an object from a borrowed layout of it, front to back (docs/FORMATS.md, "The layout of an
+//! object").
 
 ghost use Rattle.implib.specs.Bytes.{u16_bytes, u32_bytes};
 ghost use Rattle.implib.specs.Fault.{Cause, IfInvalid};
@@ -88,7 +89,7 @@ pub(crate) struct ObjectLayout<'a> {
     pub(crate) sections: &'a [Section],
     /// The symbols.
     pub(crate) symbols: &'a [LayoutSymbol<'a>],
-    /// What the string table lists, in order.
+    /// The strings of the string table, in order.
     pub(crate) strings: &'a [&'a str],
 }
 
@@ -103,7 +104,10 @@ struct Measure {
 
 /// The encoded object.
 ///
-/// Refuses with `MemberTooLong` where they are more than 2^32 - 1, before they grow.
+/// # Errors
+///
+/// `Invalid` with `MemberTooLong` where its bytes are more than 2^32 - 1, before they are allocated;
+/// `OutOfMemory`.
 pub(crate) fn encode(alloc: Global, layout: &ObjectLayout) -> Result<Vec<u8>, Error>
     requires { Fits (layout_view layout.now) }
     ensures bytes { IfOk result (λ bytes. bytes.items ≡ encoded (layout_view layout.now)) }
@@ -118,7 +122,7 @@ pub(crate) fn encode(alloc: Global, layout: &ObjectLayout) -> Result<Vec<u8>, Er
     Ok(pass.finish())
 }
 
-// Puts the five parts of an object: headers, section headers, contents, symbol table, string table.
+// Puts an object: file header, section headers, contents, symbol table, string table.
 fn put_object(pass: &mut Pass, layout: &ObjectLayout, measure: &Measure, offsets: &[u32])
     requires fits { Fits (layout_view layout.now) }
     requires measured { Measured (layout_view layout.now) measure.now }
@@ -161,7 +165,7 @@ fn measure_of(layout: &ObjectLayout) -> Result<Measure, Error>
     })
 }
 
-// The bytes of the sections' data and relocations; 2^64 - 1 where they are more.
+// The size in bytes of the sections' data and relocations; 2^64 - 1 where it is more.
 fn contents_length(sections: &[Section]) -> u64
     ensures { result ≡ min (sum_by contents_size (map section_view sections.now)) (2 ^ 64 - 1) }
 {
@@ -175,7 +179,7 @@ fn contents_length(sections: &[Section]) -> u64
     total
 }
 
-// The symbol records, auxiliary ones counted; 2^64 - 1 where they are more.
+// The number of symbol records, auxiliary ones counted; 2^64 - 1 where it is more.
 fn records_of(symbols: &[LayoutSymbol]) -> u64
     ensures { result ≡ min (sum_by record_count (map symbol_view symbols.now)) (2 ^ 64 - 1) }
 {
@@ -186,19 +190,19 @@ fn records_of(symbols: &[LayoutSymbol]) -> u64
     total
 }
 
-// The auxiliary records of a symbol.
+/// The number of auxiliary records of a symbol.
 #[tactic(auto, unfolding(crate::specs::Layout::auxiliary_count))]
 pub(crate) fn auxiliary_count(aux: Option<[u8; 18]>) -> u32
     ensures count { result ≡ auxiliary_count aux }
     ensures whole { FitsAuxiliary aux }
 {
     match aux {
-        Some(_record) => 1,
+        Some(_) => 1,
         None => 0,
     }
 }
 
-// The bytes of the strings, each with its NUL; 2^64 - 1 where they are more.
+// The size in bytes of the strings, each with its NUL; 2^64 - 1 where it is more.
 fn strings_length(strings: &[&str]) -> u64
     ensures { result ≡ min (sum_by string_size (map (λ text. text.now) strings.now)) (2 ^ 64 - 1) }
 {
@@ -253,7 +257,7 @@ fn put_section_headers(pass: &mut Pass, sections: &[Section])
     }
 }
 
-// Puts the header of a section whose data and relocations begin at a place; virtual size, virtual
+// Puts the header of a section whose data and relocations begin at an offset; virtual size, virtual
 // address and line numbers are 0.
 fn put_section_header(pass: &mut Pass, section: &Section, place: u32)
     requires room { 40 ≤ pass.old.left }

@@ -1,4 +1,4 @@
-//! One forward pass over bytes whose number is known before.
+//! A writer of bytes whose number is known before.
 
 ghost use Rattle.implib.specs.Bytes.{u16_bytes, u32_bytes};
 ghost use Rattle.implib.specs.Pass.{Puts};
@@ -8,7 +8,7 @@ use crate::error::Error;
 use std::alloc::Global;
 use std::marker::Model;
 
-/// Bytes that are written front to back into one reservation; nothing is patched.
+/// A writer of bytes, front to back, into one reservation. What was put is not changed again.
 #[derive(Debug, Drop)]
 pub struct Pass {
     bytes: Vec<u8>,
@@ -27,7 +27,11 @@ impl Model for Pass {
 }
 
 impl Pass {
-    /// Makes room for `length` bytes: the only allocation.
+    /// Reserves room for `length` bytes: the only allocation.
+    ///
+    /// # Errors
+    ///
+    /// `OutOfMemory` where it fails.
     pub fn reserve(alloc: Global, length: u32) -> Result<Pass, Error>
         ensures ok { IfOk result (λ pass. pass ≡ record { put = []; left = length }) }
         ensures memory { IfErr result (λ e. e ≡ Error.OutOfMemory alloc_error) }
@@ -39,7 +43,7 @@ impl Pass {
         })
     }
 
-    /// Appends a number, in 2 bytes, the low one first. There is room for them.
+    /// Appends a number in 2 bytes, the low one first. There is room for them.
     #[tactic(auto, unfolding(crate::specs::Bytes::u16_bytes))]
     pub fn put_u16(&mut self, value: u16)
         requires { 2 ≤ self.old.left }
@@ -50,7 +54,7 @@ impl Pass {
         self.left -= 2;
     }
 
-    /// Appends a number, in 4 bytes, the low one first. There is room for them.
+    /// Appends a number in 4 bytes, the low one first. There is room for them.
     #[tactic(auto, unfolding(crate::specs::Bytes::u32_bytes))]
     pub fn put_u32(&mut self, value: u32)
         requires { 4 ≤ self.old.left }
@@ -71,7 +75,7 @@ impl Pass {
         self.left -= bytes.len() as u32;
     }
 
-    /// The bytes that still fit: the length reserved, less what was put.
+    /// The size in bytes of the room that is left: the length reserved, less that of what was put.
     pub fn left(&self) -> u32
         ensures { result ≡ self.now.left }
     {

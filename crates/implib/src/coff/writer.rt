@@ -1,11 +1,11 @@
-//! The writer of objects.
+//! The writer of objects (docs/FORMATS.md, "The layout of an object").
 
 ghost use Rattle.implib.specs.Fault.{Cause, IfInvalid};
-ghost use Rattle.implib.specs.Object.{object_in};
+ghost use Rattle.implib.specs.Object.{object_in, section_numbered};
 ghost use Rattle.implib.specs.Layout.{Fits, HasNoNul, encoded, encoded_size};
 ghost use Rattle.implib.specs.LayoutView.{name_view, symbol_view};
 ghost use Rattle.implib.specs.Writer.{section_view};
-ghost use Rattle.implib.specs.Writer.{HasRoomFor, IsPlaceAmong, IsSymbolIndex, all_entries, entries_added, long_names, name_location, written_object, layout_of, section_number, section_numbered, symbol_written, with_long_name, with_relocation, with_section, with_symbol};
+ghost use Rattle.implib.specs.Writer.{HasRoomFor, IsPlaceAmong, IsSymbolIndex, all_entries, entries_added, long_names, name_location, written_object, layout_of, section_number, symbol_written, with_long_name, with_relocation, with_section, with_symbol};
 ghost use Rattle.implib.specs.Writer.{added_view};
 ghost use Rattle.implib.specs.WriterView.{writer_state};
 ghost use Rattle.std.specs.Prelude.{◌+◌, ◌<◌, ◌^◌, ◌≡◌, ◌≤◌, Some, [], IfErr, IfOk, IsSomeAnd, OnErr, OnOk, alloc_error, length, map, string_bytes};
@@ -19,7 +19,7 @@ use indexmap::IndexSet;
 use std::alloc::{AllocError, Global};
 use std::marker::Model;
 
-/// An object in the making: sections and symbols, in the order they are added.
+/// An object that is being made: sections and symbols, in the order in which they are added.
 #[derive(Debug, Drop)]
 pub struct ObjectWriter {
     machine: MachineType,
@@ -62,7 +62,7 @@ impl ObjectWriter {
         }
     }
 
-    /// Makes room for so many sections and symbols more; what the writer holds stays.
+    /// Reserves room for further sections and symbols; what the writer holds is unchanged.
     pub(crate) fn reserve(&mut self, sections: usize, symbols: usize) -> Result<(), Error>
         ensures held { self.new ≡ self.old }
         ensures memory { IfErr result (λ e. e ≡ Error.OutOfMemory alloc_error) }
@@ -72,9 +72,13 @@ impl ObjectWriter {
         Ok(())
     }
 
-    /// Adds a section and gives its number, from 1. Where memory is refused the writer is as before.
+    /// Adds a section and gives its number, from 1.
     ///
-    /// The section has no relocation yet, and fewer than 32,767 others are there.
+    /// The section has no relocation yet, and the writer has fewer than 32,767 sections.
+    ///
+    /// # Errors
+    ///
+    /// `OutOfMemory` alone; the writer is as before.
     pub fn add_section(&mut self, section: Section) -> Result<u16, Error>
         requires no_relocation { section.relocations.items ≡ [] }
         requires room { length self.old.sections < 32767 }
@@ -87,11 +91,14 @@ impl ObjectWriter {
         Ok(self.sections.len() as u16)
     }
 
-    /// Adds a symbol and gives its index, for which auxiliary records count too. Where memory is
-    /// refused the writer is as before.
+    /// Adds a symbol and gives its index, for which auxiliary records count too.
     ///
-    /// The name has a byte or more and no NUL. The place is no section, or one that was added. The
-    /// symbol table has room for 2^32 - 1 records.
+    /// The name has a byte or more and no NUL. The symbol is in no section, or in one that was added. The
+    /// symbol table has at most 2^32 - 1 records.
+    ///
+    /// # Errors
+    ///
+    /// `OutOfMemory` alone; the writer is as before.
     pub fn add_symbol(&mut self, symbol: Symbol) -> Result<u32, Error>
         requires named { 0 < length (string_bytes symbol.name) }
         requires no_nul { HasNoNul (string_bytes symbol.name) }
@@ -110,11 +117,14 @@ impl ObjectWriter {
         Ok(index)
     }
 
-    /// Adds a relocation to the section of this number. Where memory is refused the writer is as
-    /// before.
+    /// Adds a relocation to the section of this number.
     ///
-    /// The section was added, with four bytes of data at the offset, and takes 65,535 relocations at
-    /// most. The symbol's index is one that `add_symbol` gave.
+    /// The section was added, with four bytes of data at the offset, and has at most 65,535 relocations. The
+    /// symbol's index is one that `add_symbol` gave.
+    ///
+    /// # Errors
+    ///
+    /// `OutOfMemory` alone; the writer is as before.
     pub fn add_relocation(&mut self, section: u16, relocation: Relocation) -> Result<(), Error>
         requires section { IsSomeAnd (section_numbered self.old.sections section) (HasRoomFor relocation) }
         requires symbol { IsSymbolIndex self.old.symbols relocation.symbol }
@@ -127,9 +137,12 @@ impl ObjectWriter {
         Ok(())
     }
 
-    /// The bytes of the object.
+    /// The bytes of the object (docs/FORMATS.md, "The layout of an object").
     ///
-    /// Refuses with `MemberTooLong` where they are more than 2^32 - 1, before they grow.
+    /// # Errors
+    ///
+    /// `Invalid` with `MemberTooLong` where they are more than 2^32 - 1, before they are allocated;
+    /// `OutOfMemory`.
     pub fn write(&self) -> Result<Vec<u8>, Error>
         ensures bytes { IfOk result (λ bytes. bytes.items ≡ encoded (layout_of self.now)) }
         ensures read { IfOk result (λ bytes. object_in bytes.items ≡ Some (written_object self.now)) }
@@ -143,7 +156,7 @@ impl ObjectWriter {
     }
 }
 
-// The bytes of the object of these parts, laid out as by a writer that holds them.
+// The bytes of the object of these sections and symbols, laid out as by a writer that holds them.
 fn write_parts(
     alloc: Global,
     machine: MachineType,

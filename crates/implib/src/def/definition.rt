@@ -11,23 +11,26 @@ use std::alloc::Global;
 /// One export of a module definition.
 #[derive(Debug, Drop)]
 pub struct ShortExport {
-    /// The name to link by; the name inside the DLL where `ext_name` is given.
+    /// The name to link by; where `ext_name` is given, the name inside the DLL. On I386 parsing puts `_`
+    /// before it, and before `ext_name`, unless it is decorated.
     pub name: String,
-    /// The name outside the DLL, where it differs.
+    /// The name outside the DLL, where it differs. An import library moves it into `name`.
     pub ext_name: Option<String>,
-    /// The symbol of a short record, where it differs from `name`; parsing leaves it empty.
+    /// The symbol of the short import, where it differs from `name`; empty for none. Parsing leaves it empty.
+    /// It has no effect for GNU's linker.
     pub symbol_name: String,
-    /// What the name is a weak alias for; empty for none.
+    /// What the name is a weak external for (`==`); empty for none.
     pub alias_target: String,
-    /// The ordinal, or the hint of an export that is asked for by name.
+    /// The ordinal, or the hint of an export that is asked for by name. It is 0 where none is given; this is
+    /// not distinguished from `@0`.
     pub ordinal: u16,
-    /// Whether the export is asked for by its ordinal.
+    /// Whether the export is asked for by its ordinal (`NONAME`).
     pub no_name: bool,
-    /// Whether it is data.
+    /// Whether it is data (`DATA`): then only its `__imp_` symbol is declared.
     pub is_data: bool,
-    /// Whether it is left out of the import library.
+    /// Whether it is left out of the import library (`PRIVATE`).
     pub private: bool,
-    /// Whether it is a constant.
+    /// Whether it is a constant (`CONSTANT`). It has no effect for GNU's linker, nor beside `is_data`.
     pub constant: bool,
 }
 
@@ -36,25 +39,26 @@ pub struct ShortExport {
 pub struct ModuleDef {
     /// The exports, in the order of the text.
     pub exports: Vec<ShortExport>,
-    /// The name of the DLL or program.
+    /// The name of the DLL or program; empty where no statement gives it. An import library of an empty name
+    /// has no members: `ImportLibrary::members` refuses it with `EmptyImportName`.
     pub import_name: String,
-    /// `BASE`: the address of the image.
+    /// `BASE`: the preferred address of the image, in bytes; 0 where none is given. No alignment is required.
     pub image_base: u64,
-    /// `STACKSIZE`, the bytes to reserve.
+    /// `STACKSIZE`: the size in bytes to reserve for the stack; 0 where none is given.
     pub stack_reserve: u64,
-    /// `STACKSIZE`, the bytes to commit.
+    /// `STACKSIZE`: the size in bytes to commit of it; 0 where none is given.
     pub stack_commit: u64,
-    /// `HEAPSIZE`, the bytes to reserve.
+    /// `HEAPSIZE`: the size in bytes to reserve for the heap; 0 where none is given.
     pub heap_reserve: u64,
-    /// `HEAPSIZE`, the bytes to commit.
+    /// `HEAPSIZE`: the size in bytes to commit of it; 0 where none is given.
     pub heap_commit: u64,
-    /// `VERSION`, before the point.
+    /// `VERSION`: the number before the full stop; 0 where none is given.
     pub major_image_version: u32,
-    /// `VERSION`, after the point.
+    /// `VERSION`: the number after the full stop; 0 where none is given.
     pub minor_image_version: u32,
-    /// No statement sets it.
+    /// The major number of the system's version; no statement sets it.
     pub major_os_version: u32,
-    /// No statement sets it.
+    /// The minor number of the system's version; no statement sets it.
     pub minor_os_version: u32,
 }
 
@@ -90,7 +94,11 @@ impl ShortExport {
         Ok(export)
     }
 
-    /// An equal export. Refuses for memory alone.
+    /// An equal export.
+    ///
+    /// # Errors
+    ///
+    /// `OutOfMemory` alone.
     pub fn clone(&self) -> Result<Self, Error>
         ensures ok { IfOk result (λ copy. export_view copy ≡ export_view self.now) }
         ensures memory { IfErr result (λ error. error_cause error ≡ None) }
@@ -133,7 +141,11 @@ impl ModuleDef {
         }
     }
 
-    /// An equal definition. Refuses for memory alone.
+    /// An equal definition.
+    ///
+    /// # Errors
+    ///
+    /// `OutOfMemory` alone.
     pub fn clone(&self) -> Result<Self, Error>
         ensures ok { IfOk result (λ copy. definition_view copy ≡ definition_view self.now) }
         ensures memory { IfErr result (λ error. error_cause error ≡ None) }
@@ -154,6 +166,7 @@ impl ModuleDef {
     }
 }
 
+// Equal exports, in order.
 fn clone_exports(exports: &Vec<ShortExport>) -> Result<Vec<ShortExport>, Error>
     ensures ok { IfOk result (λ copies. map export_view copies.items ≡ map export_view exports.now.items) }
     ensures memory { IfErr result (λ error. error_cause error ≡ None) }
@@ -175,6 +188,7 @@ pub(crate) fn rename(mut def: ModuleDef) -> ModuleDef
     def
 }
 
+// Moves the external name, where it is given, into the name.
 fn rename_export(export: &mut ShortExport)
     ensures { export_view export.new ≡ renamed_export (export_view export.old) }
 {

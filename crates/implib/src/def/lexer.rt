@@ -1,4 +1,4 @@
-//! The tokens of a module definition, as slices of its text.
+//! The tokens of a module definition, as slices of its text (docs/GRAMMAR.md, "Tokens").
 
 ghost use Rattle.implib.specs.Scanner.{BeginsNoTrivia, PassesTrivia, SkipsTrivia, StartsWord, TakesLexeme, TakesToken, tokens_left};
 ghost use Rattle.implib.specs.Token.{begins, is_delimiter, is_equal_sign, is_quote, kind_of_word, token_view, value_start, IsWordEnd, Lexed, TokenView};
@@ -17,7 +17,7 @@ pub enum TokenKind {
     Unknown,
     /// The end of the text.
     Eof,
-    /// A name, quoted or not.
+    /// A quoted name, or a word that is no keyword.
     Identifier,
     /// `,`
     Comma,
@@ -60,9 +60,10 @@ impl fmt::Display for TokenKind {
 pub struct Token<'a> {
     /// What the token is.
     pub kind: TokenKind,
-    /// Its text, a slice of the whole; empty at the end.
+    /// Its value, a slice of the text: of a word without white space at its end, of a quoted name without
+    /// white space at both ends; empty at the end of the text.
     pub value: &'a str,
-    /// Where `value` begins in the whole text, in bytes.
+    /// The offset in bytes of `value` in the text.
     pub at: usize,
 }
 
@@ -118,8 +119,8 @@ impl<'a> Iterator for Lexer<'a> {
 /// Where a word ends that goes on at the index `from`: the index of the next byte that ends a word,
 /// which may be at `from` itself, or the length.
 ///
-/// `=`, `,`, `;`, `\r`, `\n`, space, `\t` and `\x0B` end a word. `from` is not above the length. Any
-/// bytes will do, also such as are not UTF-8.
+/// `=`, `,`, `;`, `\r`, `\n`, space, `\t` and `\x0B` end a word. `from` is at most the length. The bytes need
+/// not be UTF-8.
 pub fn word_end(bytes: &[u8], from: usize) -> usize
     requires { from ≤ length bytes.now }
     ensures { IsWordEnd bytes.now from result }
@@ -269,7 +270,7 @@ fn word<'a>(text: &'a str, at: usize) -> (Token<'a>, &'a str)
     (Token { kind, value, at }, after)
 }
 
-// A word is a keyword in this case alone.
+// The kind of a word; a keyword is one in this case alone.
 #[tactic(auto, unfolding(crate::specs::Token::kind_of_word))]
 fn word_kind(word: &str) -> TokenKind
     ensures { result ≡ kind_of_word word.now }

@@ -1,4 +1,4 @@
-//! The statements of a module definition.
+//! The statements of a module definition (docs/GRAMMAR.md, "Statements").
 
 ghost use Rattle.implib.specs.Definition.{definition_view};
 ghost use Rattle.implib.specs.Fault.{IfInvalid};
@@ -24,11 +24,11 @@ use std::alloc::Global;
 use std::marker::Model;
 
 impl ModuleDef {
-    /// What a text means on a machine, in time linear in its length.
+    /// What a text means on a machine (docs/GRAMMAR.md), in time linear in its length.
     ///
     /// # Errors
     ///
-    /// As [`Parser::parse`].
+    /// Those of [`Parser::parse`].
     pub fn parse(alloc: Global, def: &str, machine: MachineType) -> Result<ModuleDef, Error>
         ensures parses { IfOk result (λ d. Parses def.now machine (definition_view d)) }
         ensures refused { IfInvalid result (Refuses def.now) }
@@ -70,10 +70,10 @@ impl<'a> Parser<'a> {
     ///
     /// # Errors
     ///
-    /// `Invalid` where the text is no module definition, with the first of
-    /// `UnknownDirective`, `ExpectedIdentifier`, `ExpectedEqual`, `ExpectedInteger`,
-    /// `InvalidOrdinal` and `LoneAt` that its tokens meet from the left; `OutOfMemory` where
-    /// memory was asked for and not given.
+    /// `Invalid` where the text is no module definition, with the fault of the first token, from the left,
+    /// that no derivation allows: `UnknownDirective`, `ExpectedIdentifier`, `ExpectedEqual`,
+    /// `ExpectedInteger`, `InvalidOrdinal` or `LoneAt` (docs/GRAMMAR.md, "Syntax errors"). `OutOfMemory`
+    /// where an allocation failed.
     pub fn parse(self, alloc: Global) -> Result<ModuleDef, Error>
         ensures parses { IfOk result (λ d. ParsesFrom self.entry (definition_view d)) }
         ensures refused { IfInvalid result (RefusesFrom self.entry) }
@@ -89,7 +89,7 @@ impl<'a> Parser<'a> {
 }
 
 impl<'a> Tokens<'a> {
-    /// Reads all statements into the definition.
+    // Reads all statements into the definition.
     fn statements(
         &mut self,
         alloc: Global,
@@ -104,7 +104,7 @@ impl<'a> Tokens<'a> {
         Ok(())
     }
 
-    /// Reads a statement into the definition, and answers false where the tokens end.
+    // Reads a statement into the definition, and answers false where the tokens end.
     #[tactic(auto, unfolding(crate::specs::TokenReader::statement_read))]
     fn statement(
         &mut self,
@@ -151,7 +151,7 @@ impl<'a> Tokens<'a> {
         Ok(true)
     }
 
-    /// Sets the name and the base, to nothing and 0 where they are not given.
+    // Sets the name and the base, to nothing and 0 where they are not given.
     fn set_name(&mut self, alloc: Global, def: &mut ModuleDef) -> Result<(), Error>
         ensures read { Gives (λ _. (definition_view def.new, self.new)) result
             (settings_put (definition_view def.old) (name_read self.old)) }

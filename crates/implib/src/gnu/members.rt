@@ -87,7 +87,7 @@ fn build(def: &ModuleDef, machine: MachineType, head: &str) -> Result<Vec<Member
     Ok(members)
 }
 
-// How many members there are, as far as 64 bits can count.
+// The number of members; 2^64 - 1 where it is more.
 fn member_count(def: &ModuleDef) -> usize
     ensures { result ≡ min u64.MAX (2 + sum_by gnu_member_count (public_exports (definition_view def.now))) }
 {
@@ -245,6 +245,7 @@ fn export_member(
     ensures too_long { IfInvalid result (λ cause. (cause ≡ MemberTooLong)
         × (is_too_long (export_spec machine dll.now number (export_view export.now)) ≡ true)) }
 {
+    // This brings the range of the ordinal, 16 bits, into the proof.
     let _ordinal = export.ordinal;
     let address = address_symbol(alloc, export.name.as_str())?;
     let bytes = export_object(alloc, export, machine, dll, head, address.as_str())?;

@@ -1,4 +1,5 @@
-//! The objects for GNU's linker: the head, the tail, and the exports.
+//! The objects for GNU's linker: the head, the tail, and the exports (docs/FORMATS.md, "Members for GNU's
+//! linker").
 
 ghost use Rattle.implib.specs.Definition.{export_view};
 ghost use Rattle.implib.specs.Constants.{align_4bytes, cnt_code, mem_execute_read};
@@ -26,7 +27,7 @@ const TEXT: u32 = flags::CNT_CODE | flags::MEM_EXECUTE | flags::MEM_READ;
 
 const BSS: u32 = flags::CNT_UNINITIALIZED_DATA | flags::MEM_READ | flags::MEM_WRITE;
 
-// What the head and the tail put into the import tables.
+// The flags of what the head and the tail put into the import tables: 0xC0300040.
 const TABLE_FLAGS: u32 = DATA | flags::ALIGN_4BYTES;
 
 // The names of the sections that every object has, filled with NUL.
@@ -36,7 +37,7 @@ const DATA_NAME: [u8; 8] = *b".data\0\0\0";
 
 const BSS_NAME: [u8; 8] = *b".bss\0\0\0\0";
 
-// What an export puts into the import tables.
+// The flags of what an export puts into the import tables: 0xC0300000.
 const ENTRY_FLAGS: u32 = flags::ALIGN_4BYTES | flags::MEM_READ | flags::MEM_WRITE;
 
 // The top bit of a thunk, in its last byte, says that it is an ordinal.
@@ -184,7 +185,7 @@ pub(crate) fn tail_object(
     write_table(alloc, machine, &sections, &symbols)
 }
 
-// The instructions that jump to the address of the import; data has none.
+// The instructions that jump to the address of the import (docs/FORMATS.md, "Stubs"); data has none.
 #[tactic(auto, unfolding(crate::specs::Gnu::stub))]
 fn stub(export: &ShortExport, machine: MachineType) -> &'static [u8]
     ensures { result.now ≡ stub machine (export_view export.now) }

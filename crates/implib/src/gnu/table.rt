@@ -2,8 +2,9 @@
 
 ghost use Rattle.implib.specs.Fault.{IfInvalid, MemberTooLong};
 ghost use Rattle.implib.specs.Layout.{encoded, encoded_size};
+ghost use Rattle.implib.specs.Object.{section_numbered};
 ghost use Rattle.implib.specs.Table.{CanBeAdded, CanBeHeld, HasRoomForAll, bare_row, section_row, symbol_row, table_view, with_relocations};
-ghost use Rattle.implib.specs.Writer.{all_entries, layout_of, section_numbered};
+ghost use Rattle.implib.specs.Writer.{all_entries, layout_of};
 ghost use Rattle.std.specs.List.{AllByRecursion};
 ghost use Rattle.std.specs.Prelude.{◌+◌, ◌++◌, ◌<◌, ◌^◌, ◌≡◌, ◌≤◌, [], IfErr, IfOk, IsSomeAnd, OnOk, alloc_error, length, map};
 
@@ -41,7 +42,10 @@ pub(crate) struct SymbolRow<'a> {
 
 /// The bytes of the object of a table.
 ///
-/// Refuses with `MemberTooLong` where they are more than 2^32 - 1, before they grow.
+/// # Errors
+///
+/// `Invalid` with `MemberTooLong` where they are more than 2^32 - 1, before they are allocated;
+/// `OutOfMemory`.
 pub(crate) fn write_table(
     alloc: Global,
     machine: MachineType,

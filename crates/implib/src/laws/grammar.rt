@@ -10,8 +10,8 @@ ghost use Rattle.implib.specs.WorkedStatements.{WorkedExports, WorkedFronts, Wor
 ghost use Rattle.implib.specs.declared.machine.MachineType.{MachineType};
 ghost use Rattle.std.specs.Prelude.{◌≡◌, ◌⊎◌, List};
 
-/// Tokens that end in `Eof` are statements or broken, never both; they are one list of statements,
-/// or broken for one cause.
+/// Tokens that end in `Eof` are statements or have a syntax error, never both; they are one list of
+/// statements, or have a syntax error of one cause.
 pub fn sentence_or_broken()
     ensures either { (tokens : List TokenView) → EndsInEof tokens → IsSentence tokens ⊎ HasSyntaxError tokens }
     ensures never_both { (tokens : List TokenView) (statements : List Statement) (cause : Cause) →
@@ -22,8 +22,8 @@ pub fn sentence_or_broken()
         IsSyntaxError tokens cause → IsSyntaxError tokens other → cause ≡ other }
 {}
 
-/// Every text either is in the grammar, and then means one definition on each machine, or is broken,
-/// and then for one cause.
+/// Every text either is in the grammar, and then means one definition on each machine, or is refused, and
+/// then for one cause.
 pub fn grammar_or_broken(text: &str)
     ensures either { InGrammar text.now ⊎ IsIllFormed text.now }
     ensures never_both { (machine : MachineType) (definition : DefinitionView) (cause : Cause) →

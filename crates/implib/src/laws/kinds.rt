@@ -1,4 +1,4 @@
-//! What `==` and `default` tell of machines and of kinds of tokens.
+//! What `==` and `default` give for machines and for kinds of tokens.
 
 ghost use Rattle.implib.specs.Conversions.{ConversionsReturn};
 ghost use Rattle.std.specs.Prelude.{◌↔◌, ◌≡◌, IsTrue};

@@ -20,11 +20,12 @@ use crate::def::definition::ModuleDef;
 use crate::machine::MachineType;
 use crate::members::Member;
 
-/// The head, the tail and the members of any chosen exports, where their listed symbols are distinct,
-/// link, at any admissible bases, to an import of just these exports from the DLL.
+/// The head, the tail and the members of any selected exports, where their archive symbols are distinct,
+/// link, at any admissible bases, to an import of exactly these exports from the DLL.
 ///
-/// `chosen` has the numbers of the exports, which count those that are not private from 0, in the
-/// order of their members' names. `bases` are the addresses of `.idata$2`, `$4`, `$5`, `$6`, `$7`.
+/// `chosen` has the numbers of the exports, which count those that are not private from 0, in the order of
+/// their members' names. `bases` are the addresses of `.idata$2`, `$4`, `$5`, `$6`, `$7`: nonzero multiples
+/// of 4.
 pub fn gnu_links(
     def: &ModuleDef,
     machine: MachineType,
@@ -51,20 +52,14 @@ pub fn gnu_links(
     ensures links { Links machine (bases_of bases) (definition_view def.now).import_name
         (chosen_exports (definition_view def.now) chosen.now)
         (objects_in (linked_members (definition_view def.now) machine chosen.now)) }
-{
-    let _definition = def;
-    let _members = members;
-    let _chosen = chosen;
-    let _bases = bases;
-    let _machine = machine;
-}
+{}
 
-/// The head, the tail and the members of any chosen exports, of several DLLs one after another,
-/// link at any admissible bases, for each DLL to an import of just these exports from it.
+/// The head, the tail and the members of any selected exports, of several DLLs one after another, link at any
+/// admissible bases, for each DLL to an import of exactly these exports from it.
 ///
-/// `members` and `chosen` have for each definition its members and the numbers of the chosen exports,
-/// as `gnu_links` takes them. The definitions stand in the order of what their members' names begin
-/// with, no such text begins another, and the listed symbols of all that is linked are distinct.
+/// `members` and `chosen` have for each definition its members and the numbers of the selected exports, as
+/// `gnu_links` takes them. The definitions are in the order of the prefixes of their members' names, no such
+/// prefix is a prefix of another, and the archive symbols of all that is linked are distinct.
 pub fn gnu_links_many(
     defs: &[ModuleDef],
     machine: MachineType,
@@ -84,13 +79,7 @@ pub fn gnu_links_many(
     ensures links { AllLink machine (bases_of bases) (inputs_held defs.now members.now chosen.now)
         (objects_in (all_linked machine (inputs_held defs.now members.now chosen.now))) }
     ensures names_rise { AllRise (map (λ m. m.name) (all_linked machine (inputs_held defs.now members.now chosen.now))) }
-{
-    let _definitions = defs;
-    let _members = members;
-    let _chosen = chosen;
-    let _bases = bases;
-    let _machine = machine;
-}
+{}
 
 /// A descriptor of an image leads to one DLL and one list of what is asked of it.
 pub fn loads_once()

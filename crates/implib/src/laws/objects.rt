@@ -10,12 +10,12 @@ ghost use Rattle.std.specs.Prelude.{◌<◌, ◌^◌, ◌≡◌, ℕ, List, Some
 use crate::machine::MachineType;
 
 /// A layout whose fields have their ranges and whose encoding has fewer than 2^32 bytes reads back from its
-/// bytes as what it shows.
+/// bytes as the object that it describes.
 pub fn layout_reads_back()
     ensures { (p : ObjectLayout) → Fits p → encoded_size p < 2 ^ 32 → object_in (encoded p) ≡ Some (object_of p) }
 {}
 
-/// The encoding of such a layout has the length that the layout's parts give.
+/// The encoding of such a layout has the size in bytes that `encoded_size` computes from the layout.
 pub fn layout_has_its_size()
     ensures { (p : ObjectLayout) → Fits p → encoded_size p < 2 ^ 32 → length (encoded p) ≡ encoded_size p }
 {}
@@ -25,7 +25,7 @@ pub fn object_is_one()
     ensures { (bytes : List ℕ) (a b : Object) → object_in bytes ≡ Some a → object_in bytes ≡ Some b → a ≡ b }
 {}
 
-/// Objects that were worked by hand have their sizes and places, and these bytes.
+/// Objects that were worked by hand have these sizes, offsets and bytes.
 pub fn worked_objects()
     ensures sizes { WorkedObjects }
     ensures bytes { WorkedLayouts }
@@ -39,7 +39,7 @@ pub fn worked_tables()
     ensures names { WorkedNames }
 {}
 
-/// Records that were worked by hand have these bytes, and ask for these names.
+/// Short imports that were worked by hand have these bytes, and ask for these names.
 pub fn worked_records()
     ensures bytes { WorkedRecords }
     ensures name_types { WorkedNameTypes }

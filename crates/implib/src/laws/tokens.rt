@@ -25,7 +25,7 @@ pub fn kinds_are_known(text: &str)
     ensures { (tokens : List TokenView) → Lexed text.now tokens → AllByRecursion IsKnown tokens }
 {}
 
-/// A token's value is cut from the text, from the token's place on.
+/// A token's value is cut from the text, from the token's offset on.
 pub fn values_are_slices(text: &str)
     ensures { (tokens : List TokenView) → Lexed text.now tokens → AllByRecursion (IsSliceOf text.now) tokens }
 {}

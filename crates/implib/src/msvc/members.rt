@@ -64,7 +64,7 @@ fn named_members(def: &ModuleDef, machine: MachineType) -> Result<Vec<Member>, E
     Ok(members)
 }
 
-// How many members there are, as far as 64 bits can count.
+// The number of members; 2^64 - 1 where it is more.
 fn member_count(def: &ModuleDef) -> usize
     ensures { result ≡ min u64.MAX (3 + sum_by member_count (public_exports (definition_view def.now))) }
 {
@@ -107,7 +107,7 @@ fn push_header_members(
     Ok(())
 }
 
-// Pushes the weak externals of an export, if any, and then its record.
+// Pushes the weak externals of an export, if any, and then its short import.
 #[tactic(auto, unfolding(crate::specs::MsvcMembers::weak_specs))]
 fn push_export(
     members: &mut Vec<Member>,

@@ -1,4 +1,5 @@
-//! The objects for Microsoft's linker: import descriptor, null descriptor and null thunk.
+//! The objects for Microsoft's linker: import descriptor, null descriptor and null thunk (docs/FORMATS.md,
+//! "Members for Microsoft's linker").
 
 ghost use Rattle.implib.specs.Fault.{IfInvalid, MemberTooLong};
 ghost use Rattle.implib.specs.Import.{holds};
@@ -25,6 +26,7 @@ use std::alloc::{AllocError, Global};
 // The symbol of the descriptor that ends the import directory.
 const NULL_DESCRIPTOR_SYMBOL: &str = "__NULL_IMPORT_DESCRIPTOR";
 
+// Whether a text ends with this suffix.
 #[tactic(auto, using(std::proofs::lemmas::Str::Pattern::ends_text))]
 fn ends_with(text: &str, suffix: &str) -> bool
     ensures { result ≡ ends_with nat_eq text.now suffix.now }
@@ -65,7 +67,7 @@ fn null_thunk_symbol(alloc: Global, dll: &str) -> Result<String, AllocError>
     Ok(symbol)
 }
 
-// What the first three members say of the machine.
+// The characteristics of the first three members.
 fn descriptor_characteristics(machine: MachineType) -> u16
     ensures { result ≡ descriptor_characteristics machine }
 {

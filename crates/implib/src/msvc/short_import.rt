@@ -1,4 +1,5 @@
-//! The short import record of an export.
+//! The short import of an export (PE/COFF specification, "Import Library Format"; docs/FORMATS.md, "Short
+//! imports").
 
 ghost use Rattle.implib.specs.declared.members.Flavor.TheVariants.{Msvc};
 ghost use Rattle.implib.specs.Definition.{definition_view, export_view};
@@ -23,19 +24,19 @@ use crate::machine::MachineType;
 use crate::members::Member;
 use std::alloc::{AllocError, Global};
 
-// PE/COFF specification, "Import Type".
+// The import types (PE/COFF specification, "Import Type").
 const IMPORT_CODE: u16 = 0;
 
 const IMPORT_DATA: u16 = 1;
 
 const IMPORT_CONST: u16 = 2;
 
-// The header of a short record, and the NULs of its two texts.
+// The size in bytes of the header of a short import, and of the NULs of its two texts.
 const RECORD_HEADER_SIZE: usize = 20;
 
 const RECORD_NULS: usize = 2;
 
-/// What is imported.
+// The import type.
 fn kind(export: &ShortExport) -> u16
     ensures number { result ≡ kind_of (export_view export.now) }
     ensures at_most { result ≤ IMPORT_CONST }
@@ -49,7 +50,7 @@ fn kind(export: &ShortExport) -> u16
     }
 }
 
-/// The length of a record, where it fits a `u32`.
+// The size in bytes of a short import, where a `u32` can hold it.
 fn short_import_size(symbol: &str, dll: &str) -> Option<u32>
     ensures fits { IfSome result (λ size. size ≡ RECORD_HEADER_SIZE + (length symbol.now + length dll.now + RECORD_NULS)) }
     ensures too_long { IfNone result (u32.MAX < RECORD_HEADER_SIZE + (length symbol.now + length dll.now + RECORD_NULS)) }
@@ -59,7 +60,7 @@ fn short_import_size(symbol: &str, dll: &str) -> Option<u32>
     u32::try_from(size).ok()
 }
 
-/// The bytes of the export's record.
+// The bytes of the export's short import.
 fn short_import_bytes(
     alloc: Global,
     export: &ShortExport,
@@ -90,7 +91,7 @@ fn short_import_bytes(
     Ok(pass.finish())
 }
 
-/// Puts the header of the export's record, whose texts have this size with their NULs.
+// Puts the header of the export's short import, whose texts have this size in bytes with their NULs.
 fn put_header(
     pass: &mut Pass,
     export: &ShortExport,
@@ -113,7 +114,7 @@ fn put_header(
     pass.put_u16(kind(export) + 4 * name_type(export, machine));
 }
 
-/// The symbols that the export's record is listed for.
+// The archive symbols of the export's short import.
 fn short_import_listed(alloc: Global, export: &ShortExport) -> Result<Vec<String>, AllocError>
     ensures { IfOk result (λ symbols. map string_bytes symbols.items ≡ short_import_listed (export_view export.now)) }
 {
@@ -126,7 +127,7 @@ fn short_import_listed(alloc: Global, export: &ShortExport) -> Result<Vec<String
     Ok(vec![in alloc; address, name]?)
 }
 
-/// The member of the export's record.
+/// The member of the export's short import.
 pub(crate) fn record_member(
     alloc: Global,
     export: &ShortExport,
@@ -139,6 +140,7 @@ pub(crate) fn record_member(
     ensures too_long { IfInvalid result (λ cause. (cause ≡ MemberTooLong)
         × (is_too_long (short_import_spec machine dll.now (export_view export.now)) ≡ true)) }
 {
+    // This brings the range of the ordinal, 16 bits, into the proof.
     let _ordinal = export.ordinal;
     let bytes = short_import_bytes(alloc, export, machine, dll)?;
     let symbols = short_import_listed(alloc, export)?;

@@ -30,7 +30,7 @@ impl<'a> Tokens<'a> {
         Ok(())
     }
 
-    /// Reads an attribute into the export; false where there is none.
+    // Reads an attribute into the export; false where there is none.
     #[tactic(auto, unfolding(crate::specs::TokenReader::attribute_read))]
     fn attribute(&mut self, alloc: Global, export: &mut ShortExport) -> Result<bool, Error>
         ensures read { Gives (λ more. (more, export_view export.new, self.new)) result
@@ -76,7 +76,7 @@ impl<'a> Tokens<'a> {
         Ok(true)
     }
 
-    /// The ordinal in the token after a lone `@`.
+    // The ordinal in the token after a lone `@`.
     #[tactic(auto, unfolding(crate::specs::TokenReader::ordinal_read))]
     fn ordinal(&mut self, alloc: Global) -> Result<u16, Error>
         ensures read { Gives (λ n. (n, self.new)) result (ordinal_read self.old) }
@@ -97,7 +97,7 @@ impl<'a> Tokens<'a> {
         }
     }
 
-    /// Sets the ordinal of the export, and takes `NONAME` after it.
+    // Sets the ordinal of the export, and takes `NONAME` after it.
     fn set_ordinal(&mut self, ordinal: u16, export: &mut ShortExport)
         ensures set { export_view export.new
             ≡ with_attribute (export_view export.old) (Joined ordinal (no_name_read self.old).0) }
@@ -110,7 +110,7 @@ impl<'a> Tokens<'a> {
         }
     }
 
-    /// Takes `NONAME`, and says whether it was there.
+    // Takes `NONAME`, and says whether it was there.
     #[tactic(auto, unfolding(crate::specs::TokenReader::no_name_read))]
     fn no_name(&mut self) -> bool
         ensures read { (result, self.new) ≡ no_name_read self.old }

@@ -32,7 +32,7 @@ impl<'a> Tokens<'a> {
         Ok(())
     }
 
-    /// Reads an export onto the list; false where there is none.
+    // Reads an export onto the list; false where there is none.
     #[tactic(auto, unfolding(crate::specs::TokenReader::export_read))]
     fn export(
         &mut self,
@@ -62,7 +62,7 @@ impl<'a> Tokens<'a> {
         }
     }
 
-    /// The word after the `=` of an export, if they are there.
+    // The word after the `=` of an export, if they are there.
     #[tactic(auto, unfolding(crate::specs::TokenReader::target_read))]
     fn target(&mut self) -> Result<Option<&'a str>, Error>
         ensures read { Gives (λ target. (value_of target, self.new)) result
@@ -86,7 +86,7 @@ impl<'a> Tokens<'a> {
     }
 }
 
-/// An export with its names alone: the word, or the target inside and the word outside.
+// An export with its names alone: the word, or the target inside and the word outside.
 fn named_export(
     alloc: Global,
     machine: MachineType,
@@ -107,7 +107,7 @@ fn named_export(
     Ok(export)
 }
 
-/// The name to link by: on I386 with `_` in front, unless it begins with `?` or holds `@`.
+// The name to link by: on I386 with `_` in front, unless it begins with `?` or holds `@`.
 fn decorated(alloc: Global, machine: MachineType, name: &str) -> Result<String, AllocError>
     ensures { IfOk result (λ made. string_bytes made ≡ decorated machine name.now) }
 {
@@ -119,7 +119,7 @@ fn decorated(alloc: Global, machine: MachineType, name: &str) -> Result<String, 
     Ok(made)
 }
 
-/// Whether the name begins with `?` or holds `@`.
+// Whether the name begins with `?` or holds `@`.
 fn is_decorated(name: &str) -> bool
     ensures { result ≡ is_decorated name.now }
 {

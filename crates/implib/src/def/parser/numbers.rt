@@ -24,7 +24,7 @@ pub fn u16_of(text: &str) -> Option<u16>
     text.parse::<u16>().ok()
 }
 
-/// The number of 32 bits that the text is.
+// The number of 32 bits that the text is.
 #[tactic(auto, using(crate::proofs::NumberParsed::number_parsed))]
 fn u32_of(text: &str) -> Option<u32>
     ensures { result ≡ number_of text.now u32_limit }

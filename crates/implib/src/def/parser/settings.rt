@@ -21,7 +21,7 @@ impl<'a> Tokens<'a> {
         Ok((reserve, commit))
     }
 
-    /// The number after a comma, if there is one.
+    // The number after a comma, if there is one.
     #[tactic(auto, unfolding(crate::specs::TokenReader::commit_read))]
     fn commit(&mut self) -> Result<Option<u64>, Error>
         ensures read { Gives (λ commit. (commit, self.new)) result (commit_read self.old) }
@@ -58,7 +58,7 @@ impl<'a> Tokens<'a> {
         }
     }
 
-    /// The number of `BASE =`, if it is there.
+    // The number of `BASE =`, if it is there.
     #[tactic(auto, unfolding(crate::specs::TokenReader::base_read))]
     fn base(&mut self) -> Result<Option<u64>, Error>
         ensures read { Gives (λ base. (base, self.new)) result (base_read self.old) }
