@@ -1,6 +1,8 @@
 pub mod Others
 pub mod Directory
 pub mod Blocks
+pub mod Claims
+pub mod FullNames
 pub mod Program
 pub mod Alone
 pub mod Texts

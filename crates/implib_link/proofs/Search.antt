@@ -21,6 +21,7 @@ use Rattle.implib.proofs.Placement.{export, head, tail}
 use Rattle.implib.proofs.Ranges.{Among, among_back, among_first, among_front, among_later}
 use Rattle.implib_link.specs.Program.{claimed_names}
 use Rattle.implib_link.specs.Search.{Asks, HaveSame, IsTakenInTurn, is_listed_for, NamesNoLinkage, Takes, exports_wanted, is_wanted, left_by, linked_if_any, names_claimed, names_left, numbers_wanted}
+use Rattle.implib_link.proofs.Claims.{claimed_export, claimed_head, claimed_tail}
 use Rattle.implib_link.proofs.SearchLists.{all_listed, among_any, among_either, among_mapped, among_reversed, any_among, any_member, contains_among, listed_is, listed_once, name_read, none_listed, one_member, read_name}
 
 -- What plans there are.
@@ -179,18 +180,6 @@ left_head machine dll = refl
 pub left_export : (machine : MachineType) (dll : List ℕ) (e : ExportView) → left_by (export machine dll e) ≡ head_symbol machine dll ∷ []
 unfolding left_by export_object
 left_export machine dll e = elim (cases_Bool e.is_data) [ inl is ↦ rw is refl | inr is ↦ rw is refl ]
-
-claimed_tail : (machine : MachineType) (dll : List ℕ) → claimed_names (tail machine dll) ≡ name_symbol machine dll ∷ []
-unfolding tail_object
-claimed_tail machine dll = refl
-
-claimed_head : (machine : MachineType) (dll : List ℕ) → claimed_names (head machine dll) ≡ head_symbol machine dll ∷ []
-unfolding head_object
-claimed_head machine dll = refl
-
-claimed_export : (machine : MachineType) (dll : List ℕ) (e : ExportView) → claimed_names (export machine dll e) ≡ export_listed e
-unfolding export_object
-claimed_export machine dll e = elim (cases_Bool e.is_data) [ inl is ↦ rw is refl | inr is ↦ rw is refl ]
 
 listed_tail : (machine : MachineType) (dll : List ℕ) → (member_of (tail_spec machine dll)).symbols ≡ name_symbol machine dll ∷ []
 unfolding tail_spec

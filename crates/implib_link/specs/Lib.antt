@@ -1,5 +1,6 @@
 pub mod Directory
 pub mod Program
+pub mod FullNames
 pub mod Texts
 pub mod Loaded
 pub mod Packed
