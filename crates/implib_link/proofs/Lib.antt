@@ -16,6 +16,10 @@ pub mod RefusedLinks
 pub mod SearchLists
 pub mod Search
 pub mod SearchExists
+pub mod ArchiveGroups
+pub mod ArchiveMembers
+pub mod Archives
 pub mod Searched
 pub mod SearchSorted
 pub mod WorkedSearch
+pub mod WorkedArchives

@@ -169,7 +169,7 @@ chosen_plan machine dll exports (k ∷ chosen) p held =
 
 -- What the members leave to others, claim, and are listed for.
 
-left_tail : (machine : MachineType) (dll : List ℕ) → left_by (tail machine dll) ≡ []
+pub left_tail : (machine : MachineType) (dll : List ℕ) → left_by (tail machine dll) ≡ []
 unfolding left_by tail_object
 left_tail machine dll = refl
 
@@ -181,7 +181,7 @@ pub left_export : (machine : MachineType) (dll : List ℕ) (e : ExportView) → 
 unfolding left_by export_object
 left_export machine dll e = elim (cases_Bool e.is_data) [ inl is ↦ rw is refl | inr is ↦ rw is refl ]
 
-listed_tail : (machine : MachineType) (dll : List ℕ) → (member_of (tail_spec machine dll)).symbols ≡ name_symbol machine dll ∷ []
+pub listed_tail : (machine : MachineType) (dll : List ℕ) → (member_of (tail_spec machine dll)).symbols ≡ name_symbol machine dll ∷ []
 unfolding tail_spec
 listed_tail machine dll = refl
 

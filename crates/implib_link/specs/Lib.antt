@@ -8,4 +8,6 @@ pub mod Stub
 pub mod WorkedPrograms
 pub mod RefusedLinks
 pub mod Search
+pub mod Archives
 pub mod WorkedSearch
+pub mod WorkedArchives

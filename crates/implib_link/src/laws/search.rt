@@ -8,7 +8,10 @@ ghost use Rattle.implib.specs.Object.{Object};
 ghost use Rattle.implib.specs.Placement.{Bases};
 ghost use Rattle.implib.specs.declared.library.Flavor.TheVariants.{Gnu};
 ghost use Rattle.implib.specs.declared.machine.MachineType.{MachineType};
+ghost use Rattle.implib_link.specs.WorkedArchives.{WorkedArchives};
 ghost use Rattle.implib_link.specs.WorkedSearch.{WorkedSearch};
+ghost use Rattle.implib_link.specs.Archives.{IsArchive, Library, NamesNoLinkageOf, TakesOfLibraries, archive_of, inputs_wanted, wanted_with};
+ghost use Rattle.implib_link.specs.Program.{IsProgram, LinksAmong};
 ghost use Rattle.implib_link.specs.Search.{HaveSame, ImportsWanted, IsArranged, IsLinkedOfWanted, IsLinkedWith, NamesNoLinkage, Takes, exports_wanted, linked_if_any};
 ghost use Rattle.std.specs.List.{Contains, IsDistinct, flat_map};
 ghost use Rattle.std.specs.Prelude.{ℕ, List, bytes_eq, map};
@@ -61,7 +64,27 @@ pub fn searched_program_links()
         ImportsWanted machine d members wanted bases objects }
 {}
 
-/// A search by hand of the members of three exports.
+/// In an archive of several libraries, whose exports may have aliases, a linker takes just what is linked of the
+/// wanted exports of each library, and weak externals, whose targets are then wanted, too; and a program of it
+/// and of any other objects imports just these exports from these DLLs.
+///
+/// The weak externals are those of data whose bare name is undefined. In a program they are among the other
+/// objects.
+pub fn libraries_are_searched()
+    ensures takes { (machine : MachineType) (libraries : List Library) (taken : List MemberView) (wanted : List (List ℕ)) →
+        IsArchive machine libraries →
+        NamesNoLinkageOf machine libraries (wanted_with wanted taken) →
+        Takes (archive_of libraries) wanted taken →
+        TakesOfLibraries machine libraries wanted taken }
+    ensures links { (machine : MachineType) (libraries : List Library) (wanted : List (List ℕ)) (bases : Bases)
+        (objects : List Object) →
+        IsArchive machine libraries →
+        IsProgram machine bases (inputs_wanted libraries wanted) objects →
+        LinksAmong machine bases (inputs_wanted libraries wanted) objects }
+{}
+
+/// Searches by hand: of the members of three exports, and of two libraries with an alias.
 pub fn worked_search()
-    ensures { WorkedSearch }
+    ensures one { WorkedSearch }
+    ensures two { WorkedArchives }
 {}
