@@ -62,7 +62,7 @@ first_is name (x ∷ members) m found =
     ]
 
 -- what is found among some members, or nothing
-found_or_not : (name : List ℕ) (members : List MemberView) → (first_listed members name ≡ None) ⊎ ((m : MemberView) × (first_listed members name ≡ Some m))
+pub found_or_not : (name : List ℕ) (members : List MemberView) → (first_listed members name ≡ None) ⊎ ((m : MemberView) × (first_listed members name ≡ Some m))
 found_or_not name members = by (first_listed members name) refl
   where
     by : (o : Option MemberView) → first_listed members name ≡ o → (first_listed members name ≡ None) ⊎ ((m : MemberView) × (first_listed members name ≡ Some m))

@@ -1,5 +1,5 @@
 -- What a linker takes of an archive of libraries.
-use Rattle.std.proofs.Common.{◌≡◌, ℕ, zero, suc, Bool, true, false, List, [], ◌∷◌, ◌++◌, Some, refl, ap, sym, ◌∙◌, subst, inl, inr}
+use Rattle.std.proofs.Common.{◌≡◌, ℕ, Bool, true, false, List, [], ◌∷◌, ◌++◌, Some, refl, ap, sym, ◌∙◌, subst, inl, inr}
 use Rattle.std.specs.Prelude.{bytes_eq, not, slice_get}
 use Rattle.std.specs.List.{AllByRecursion, cons_option, filter, flat_map, list_any}
 use Rattle.std.proofs.lemmas.Bool.{cases_Bool, false_from_ne_true, true≢false}
@@ -24,7 +24,7 @@ use Rattle.implib_link.proofs.ArchiveMembers.{Found, FoundExport, FoundHead, Fou
 use Rattle.implib_link.proofs.Claims.{claimed_export, claimed_head, claimed_tail}
 use Rattle.implib_link.proofs.Program.{program_links}
 use Rattle.implib_link.proofs.Search.{AnExport, AnyWanted, Needed, TheHead, TheTail, any_wanted, in_nothing, left_export, left_head, left_tail, linked_if_needed, listed_export, listed_head, listed_tail, needed_if_linked, numbers_are_wanted, only_one, wanted_name, wants}
-use Rattle.implib_link.proofs.SearchLists.{among_any, among_either, any_among, any_member, contains_among, name_read, none_listed, read_name}
+use Rattle.implib_link.proofs.SearchLists.{among_any, among_at, among_either, any_among, any_member, contains_among, name_read, none_listed, read_name}
 
 -- Lists that a test divides.
 
@@ -55,12 +55,6 @@ among_kept test x (y ∷ xs) (inr held) is =
 all_from : {X : Type 0} (P : X → Type 0) (xs : List X) → ((x : X) → Among x xs → P x) → AllByRecursion P xs
 all_from P [] each = tt
 all_from P (x ∷ xs) each = (each x (among_first x xs), all_from P xs (λ y held. each y (among_later y x xs held)))
-
-among_at : {X : Type 0} (x : X) (xs : List X) (n : ℕ) → slice_get xs n ≡ Some x → Among x xs
-unfolding Among
-among_at x [] n is = cc
-among_at x (y ∷ xs) zero is = inl (let same : y ≡ x = cc in sym same)
-among_at x (y ∷ xs) (suc n) is = inr (among_at x xs n is)
 
 not_true : (b : Bool) → b ≡ false → not b ≡ true
 not_true b is = rw is refl

@@ -15,7 +15,8 @@ pub mod WorkedPrograms
 pub mod RefusedLinks
 pub mod SearchLists
 pub mod Search
-pub mod SearchExists
+pub mod SearchNumbers
+pub mod SearchEnds
 pub mod ArchiveGroups
 pub mod ArchiveMembers
 pub mod Archives

@@ -1,6 +1,6 @@
 -- An archive whose listed symbols differ: each name has one member, and what members leave and claim.
 use Rattle.std.proofs.Common.{◌≡◌, ℕ, zero, suc, true, false, List, [], ◌∷◌, ◌++◌, map, Option, Some, None, refl, ap, sym, ◌∙◌, subst, inl, inr, ◌⊎◌, arith}
-use Rattle.std.specs.Prelude.{bytes_eq, reverse}
+use Rattle.std.specs.Prelude.{bytes_eq, reverse, slice_get}
 use Rattle.std.specs.List.{AllByRecursion, Contains, IsDistinct, cons_option, flat_map, list_any}
 use Rattle.std.proofs.lemmas.Bool.{cases_Bool, false_from_ne_true, or_parts, true≢false}
 use Rattle.std.proofs.lemmas.List.{reverse-append}
@@ -18,6 +18,12 @@ unfolding Among
 contains_among x [] (i, below, is) = absurd (omega arith)
 contains_among x (y ∷ xs) (zero, below, is) = inl (sym is)
 contains_among x (y ∷ xs) (suc i, below, is) = inr (contains_among x xs (i, omega arith, is))
+
+pub among_at : {X : Type 0} (x : X) (xs : List X) (n : ℕ) → slice_get xs n ≡ Some x → Among x xs
+unfolding Among
+among_at x [] n is = cc
+among_at x (y ∷ xs) zero is = inl (let same : y ≡ x = cc in sym same)
+among_at x (y ∷ xs) (suc n) is = inr (among_at x xs n is)
 
 pub among_either : {X : Type 0} (x : X) (xs ys : List X) → Among x (xs ++ ys) → Among x xs ⊎ Among x ys
 unfolding Among

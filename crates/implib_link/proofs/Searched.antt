@@ -22,7 +22,7 @@ use Rattle.implib_link.specs.Search.{HaveSame, ImportsWanted, IsArranged, IsLink
 use Rattle.implib_link.proofs.Program.{program_links}
 use Rattle.implib_link.proofs.SearchLists.{all_listed, among_either, among_mapped, apart_none, contains_among, distinct_apart, some_distinct}
 use Rattle.implib_link.proofs.Search.{AnExport, IsExport, Needed, TheHead, TheTail, chosen_plan, in_nothing, needed, numbers_are_wanted, only_one, taken_held, taken_if_needed}
-use Rattle.implib_link.proofs.SearchExists.{head_no_export, same_number, tail_no_export}
+use Rattle.implib_link.proofs.SearchNumbers.{head_no_export, same_number, tail_no_export}
 
 -- a member of a wanted export
 abbrev OfWanted : MachineType → List ℕ → List ExportView → List (List ℕ) → MemberView → Type 0

@@ -15,7 +15,8 @@ slash = 0x2F
 unfoldable pub digits_behind : ℕ → List ℕ → Option ℕ
 digits_behind n [] = Some n
 digits_behind n (digit ∷ digits) =
-    if nat_le 0x30 digit && nat_le digit 0x39 then digits_behind (10 * n + (digit - 0x30)) digits else None
+    if nat_le 0x30 digit && nat_le digit 0x39 then digits_behind (10 * n + (digit - 0x30)) digits
+    else None
 
 -- the number of decimal digits, one at least
 unfoldable pub decimal_in : List ℕ → Option ℕ
@@ -40,7 +41,9 @@ unfoldable pub sections_by_full_names : Option (List ℕ) → List ObjectSection
 sections_by_full_names strings [] = Some []
 sections_by_full_names strings (s ∷ sections) =
     option_and_then
-    (λ name. option_map (λ others. record s { name = name } ∷ others) (sections_by_full_names strings sections))
+    (λ name. option_map
+    (λ others. record s { name = name } ∷ others)
+    (sections_by_full_names strings sections))
     (full_name strings s.name)
 
 abbrev pub by_full_names : Option (List ℕ) → Object → Option Object
@@ -50,7 +53,9 @@ by_full_names strings o =
 -- the string table of a file, which stands behind the records of 18 bytes of the symbol table
 unfoldable pub strings_of : List ℕ → Option (List ℕ)
 strings_of bytes =
-    option_and_then (λ header. strings_at bytes (u32_at header 8 + 18 * u32_at header 12)) (bytes_at bytes 0 20)
+    option_and_then
+    (λ header. strings_at bytes (u32_at header 8 + 18 * u32_at header 12))
+    (bytes_at bytes 0 20)
 
 -- the object in a file's bytes, with the full names of its sections
 unfoldable pub object_by_full_names : List ℕ → Option Object
@@ -72,8 +77,8 @@ shows_tables name text =
 -- one of debug information; a slash without an offset of the string table is no name.
 pub record WorkedFullNames : Type 0 where
   pub table : shows_tables (codes "/4") (codes ".idata$23") ≡ Some true
-  pub by_header : option_map has_tables (object_in (file_with_section (codes "/4" ++ zeros 6) (codes ".idata$23")))
-      ≡ Some false
+  pub by_header : option_map has_tables
+      (object_in (file_with_section (codes "/4" ++ zeros 6) (codes ".idata$23"))) ≡ Some false
   pub other : shows_tables (codes "/4") (codes ".debug_fo") ≡ Some false
   pub plain : shows_tables (codes ".idata$3") (codes "/idata$23") ≡ Some true
   pub no_number : shows_tables (codes "/x") (codes ".idata$23") ≡ None

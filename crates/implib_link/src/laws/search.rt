@@ -17,7 +17,7 @@ ghost use Rattle.std.specs.List.{Contains, IsDistinct, flat_map};
 ghost use Rattle.std.specs.Prelude.{ℕ, List, bytes_eq, map};
 
 /// A linker takes of an archive of the members just the head, the members of the exports that are wanted and
-/// the tail, whichever undefined name it takes up first; nothing, where no export is wanted. It comes to an end.
+/// the tail, whichever undefined name it takes up first; nothing, where no export is wanted.
 ///
 /// Names that no member is listed for may be wanted, too. All listed symbols differ, so no export has an alias.
 pub fn search_takes_wanted()
@@ -25,11 +25,6 @@ pub fn search_takes_wanted()
         AreMembersOf d machine Gnu members → IsDistinct bytes_eq (flat_map (λ m. m.symbols) members) →
         NamesNoLinkage machine d.import_name wanted → Takes members wanted taken →
         HaveSame taken (linked_if_any d machine (exports_wanted d wanted)) }
-    ensures ends { (machine : MachineType) (d : DefinitionView) (members : List MemberView) (wanted : List (List ℕ)) →
-        AreMembersOf d machine Gnu members →
-        IsDistinct bytes_eq (flat_map (λ m. m.symbols) members) →
-        NamesNoLinkage machine d.import_name wanted →
-        (taken : List MemberView) × Takes members wanted taken }
 {}
 
 /// What a linker takes of the archive for wanted names is, in its order, what is linked of just the wanted
@@ -81,6 +76,11 @@ pub fn libraries_are_searched()
         IsArchive machine libraries →
         IsProgram machine bases (inputs_wanted libraries wanted) objects →
         LinksAmong machine bases (inputs_wanted libraries wanted) objects }
+{}
+
+/// A search of any archive for any names comes to an end.
+pub fn search_ends()
+    ensures { (archive : List MemberView) (wanted : List (List ℕ)) → (taken : List MemberView) × Takes archive wanted taken }
 {}
 
 /// Searches by hand: of the members of three exports, and of two libraries with an alias.
