@@ -61,7 +61,7 @@ not_true b is = rw is refl
 
 -- What is linked of libraries.
 
-input_linked : (machine : MachineType) (l : Library) (chosen : List ℕ) (others : List LinkInput) →
+pub input_linked : (machine : MachineType) (l : Library) (chosen : List ℕ) (others : List LinkInput) →
     all_linked machine (cons_option (input_if_any l chosen) others) ≡ linked_if_any l.definition machine chosen ++ all_linked machine others
 input_linked machine l [] others = refl
 input_linked machine l (n ∷ chosen) others = refl

@@ -20,6 +20,7 @@ pub mod SearchEnds
 pub mod ArchiveGroups
 pub mod ArchiveMembers
 pub mod Archives
+pub mod SearchOne
 pub mod Searched
 pub mod SearchSorted
 pub mod WorkedSearch

@@ -7,7 +7,7 @@ use Rattle.std.proofs.lemmas.List.{reverse-append}
 use Rattle.std.proofs.lemmas.Grind.{flat_map-append}
 use Rattle.std.proofs.lemmas.Slice.Eq.{bytes_eq-Decides}
 use Rattle.implib.specs.LinkedMembers.{objects_in}
-use Rattle.implib.specs.MemberSpec.{MemberView}
+use Rattle.implib.specs.MemberSpec.{MemberSpec, MemberView, member_of}
 use Rattle.implib.specs.Object.{Object, object_in}
 use Rattle.implib.proofs.LinkedMembers.{among_map, among_reverse}
 use Rattle.implib.proofs.Ranges.{Among, all_among, among_back, among_front}
@@ -259,3 +259,8 @@ some_distinct archive (x ∷ some) distinct held once =
     let same : x ≡ from.0 = one_member archive name x from.0 distinct (held x (inl refl)) (held from.0 (inr from.1)) here from.2 in
     apart_none x.name (map (λ (m : MemberView). m.name) some)
     (subst (λ (y : MemberView). Among y.name (map (λ (m : MemberView). m.name) some)) (sym same) (among_map (λ (m : MemberView). m.name) from.0 some from.1)) once.0)
+
+-- what plans list is what their members are listed for
+pub listed_mapped : (ps : List MemberSpec) → all_listed (map member_of ps) ≡ flat_map (λ (p : MemberSpec). p.listed) ps
+listed_mapped [] = refl
+listed_mapped (p ∷ ps) = ap (λ names. p.listed ++ names) (listed_mapped ps)

@@ -1,5 +1,5 @@
 -- One name is not listed for two exports, and no member is that of two, the head's or the tail's.
-use Rattle.std.proofs.Common.{◌≡◌, ℕ, zero, suc, ◌+◌, List, [], ◌∷◌, ◌++◌, map, Some, refl, ap, sym, ◌∙◌, subst, arith}
+use Rattle.std.proofs.Common.{◌≡◌, ℕ, zero, suc, ◌+◌, List, [], ◌∷◌, ◌++◌, Some, refl, ap, sym, ◌∙◌, subst, arith}
 use Rattle.std.specs.Prelude.{bytes_eq, reverse, slice_get, slice_index}
 use Rattle.std.specs.List.{IsDistinct, flat_map}
 use Rattle.std.proofs.lemmas.List.{append_cancel_left}
@@ -14,7 +14,7 @@ use Rattle.implib.specs.MemberSpec.{MemberView, MemberSpec, member_of}
 use Rattle.implib.specs.GnuMembers.{alias_specs, export_spec, head_spec, numbered_specs, numbered_specs_of, tail_spec}
 use Rattle.implib.specs.Renaming.{renamed}
 use Rattle.implib.proofs.Ranges.{Among, among_back, among_first}
-use Rattle.implib_link.proofs.SearchLists.{all_listed, distinct_apart, distinct_later, distinct_reversed, flat_map_among}
+use Rattle.implib_link.proofs.SearchLists.{all_listed, listed_mapped, distinct_apart, distinct_later, distinct_reversed, flat_map_among}
 use Rattle.implib_link.proofs.Search.{address_listed, listed_export, name_differs, numbered_in, same_export}
 
 head_apart : (dll : List ℕ) (n : ℕ) → head_name dll ≡ export_name dll n → ⊥
@@ -76,10 +76,6 @@ one_place machine dll (x ∷ exports) start (suc n) (suc k) e other name distinc
     (distinct_later (flat_map (λ (p : MemberSpec). p.listed) (numbered_specs_of machine dll start x)) (flat_map (λ (p : MemberSpec). p.listed) (numbered_specs machine dll (start + 1) exports))
     (subst (IsDistinct bytes_eq) (flat_map-append (λ (p : MemberSpec). p.listed) (numbered_specs_of machine dll start x) (numbered_specs machine dll (start + 1) exports)) distinct))
     is is_too listed listed_too)
-
-listed_mapped : (ps : List MemberSpec) → all_listed (map member_of ps) ≡ flat_map (λ (p : MemberSpec). p.listed) ps
-listed_mapped [] = refl
-listed_mapped (p ∷ ps) = ap (λ names. p.listed ++ names) (listed_mapped ps)
 
 module _ (d : DefinitionView) (machine : MachineType) (members : List MemberView) (made : AreMembersOf d machine Gnu members)
     (distinct : IsDistinct bytes_eq (all_listed members)) where
