@@ -21,7 +21,7 @@ use Rattle.implib.proofs.Placement.{export, head, tail}
 use Rattle.implib.proofs.Ranges.{Among, among_first, among_later}
 use Rattle.implib_link.specs.Archives.{IsArchive, IsLibrary, Library, archive_of, exports_of, has_weak, is_weak, is_weak_entry, symbols_of_export}
 use Rattle.implib_link.specs.Program.{claimed_names}
-use Rattle.implib_link.specs.Search.{first_listed, is_listed_for, left_by}
+use Rattle.implib_link.specs.Search.{first_listed, is_listed_for}
 use Rattle.implib_link.proofs.ArchiveGroups.{Group, IsWithin, Kind, OfExport, OfHead, OfTail, all_groups, archive_groups, export_group, export_group_held, export_of, first_in_group, first_is, group_kind, group_of_first, head_group, head_group_held, head_of, symbols_groups, symbols_of_groups, tail_group, tail_group_held, tail_of, weak_address_of, weak_of}
 use Rattle.implib_link.proofs.Search.{address_listed, listed_export, listed_head, listed_tail, numbered_in, only_one}
 use Rattle.implib_link.proofs.SearchLists.{among_any, any_among}
@@ -225,10 +225,6 @@ module _ (machine : MachineType) where
         let short : encoded_size (weak_object machine e.name e.alias_target) ≤ 0xFFFF_FFFF =
         short_enough p (none_long p (gnu_specs machine dll (exports_of l)) there (not_long l.definition machine l.members [] made)) in
         object_in-encoded (weak_object machine e.name e.alias_target) (Fits-weak_object machine e.name e.alias_target good.name good.alias_target) (omega arith)
-
-  pub left_weak : (weak target : List ℕ) → left_by (object_of (weak_object machine weak target)) ≡ target ∷ []
-  unfolding left_by weak_object object_of entries_of name_text
-  left_weak weak target = refl
 
   pub claimed_weak : (weak target : List ℕ) → claimed_names (object_of (weak_object machine weak target)) ≡ weak ∷ []
   unfolding weak_object object_of entries_of name_text

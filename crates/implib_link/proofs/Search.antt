@@ -261,12 +261,6 @@ module _ (d : DefinitionView) (machine : MachineType) (members : List MemberView
   planned : (p : MemberSpec) → Among p (gnu_specs machine d.import_name public) → Among (member_of p) members
   planned p held = subst (Among (member_of p)) (sym made.made) (among_map member_of p (gnu_specs machine d.import_name public) held)
 
-  pub tail_held : Among the_tail members
-  tail_held = planned (tail_spec machine d.import_name) (among_first _ _)
-
-  pub head_held : Among the_head members
-  head_held = planned (head_spec machine d.import_name) (among_later _ _ _ (among_first _ _))
-
   plan_held : (n : ℕ) (e : ExportView) (p : MemberSpec) → slice_get public n ≡ Some e → Among p (numbered_specs_of machine d.import_name n e) → Among (member_of p) members
   plan_held n e p is held =
       let place : n ≡ 0 + n = omega arith in

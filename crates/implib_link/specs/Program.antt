@@ -100,7 +100,8 @@ pub record ImportsBy (machine : MachineType) (image : List Range) (linked : List
 abbrev pub thunks_before : ℕ → List LinkInput → ℕ
 thunks_before zero inputs = 0
 thunks_before (suc i) [] = 0
-thunks_before (suc i) (p ∷ inputs) = length (chosen_exports p.definition p.chosen) + 1 + thunks_before i inputs
+thunks_before (suc i) (p ∷ inputs) =
+    length (chosen_exports p.definition p.chosen) + 1 + thunks_before i inputs
 
 -- the objects of a link that hold import tables
 abbrev pub with_tables : List Placed → List Placed
@@ -119,8 +120,8 @@ names_claimed_in linked = flat_map (λ p. claimed_names p.object) linked
 -- `defined`: every symbol that a member leaves to others is defined once, at an address;
 -- `listed`: every symbol that a member is listed for is defined once;
 -- `claimed`: the names that the members claim are those that they are listed for, and no others.
-pub record LinksAmong (machine : MachineType) (bases : Bases) (inputs : List LinkInput) (objects : List Object)
-    : Type 0 where
+pub record LinksAmong (machine : MachineType) (bases : Bases) (inputs : List LinkInput)
+    (objects : List Object) : Type 0 where
   pub linked : AllByRecursion (IsLinked machine) inputs
   pub imports : (i : ℕ) (p : LinkInput) → slice_get inputs i ≡ Some p →
       ImportsBy machine (image_of machine bases (placed_from bases objects)) (placed_from bases objects)
