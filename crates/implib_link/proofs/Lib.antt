@@ -1,6 +1,8 @@
 pub mod Others
 pub mod Directory
 pub mod Blocks
+pub mod Claims
+pub mod FullNames
 pub mod Program
 pub mod Alone
 pub mod Texts
@@ -13,7 +15,13 @@ pub mod WorkedPrograms
 pub mod RefusedLinks
 pub mod SearchLists
 pub mod Search
-pub mod SearchExists
+pub mod SearchNumbers
+pub mod SearchEnds
+pub mod ArchiveGroups
+pub mod ArchiveMembers
+pub mod Archives
+pub mod SearchOne
 pub mod Searched
 pub mod SearchSorted
 pub mod WorkedSearch
+pub mod WorkedArchives

@@ -20,7 +20,8 @@ use Rattle.implib.proofs.LinkedBlocks.{Block, EachLinks, all_stand, blocks_defin
 use Rattle.implib.proofs.LinkedMembers.{among_map}
 use Rattle.implib.proofs.LinkedParts.{block_of, parts_fit, parts_linked, parts_objects, parts_symbols}
 use Rattle.implib.proofs.Ranges.{Among, among_first, among_later}
-use Rattle.implib_link.specs.Program.{ClaimsNone, EachGets, GetsAddress, ImportsBy, IsProgram, LinksAmong, claimed_names, has_tables, linked_symbols, null_descriptor, thunks_before, with_tables}
+use Rattle.implib_link.specs.Program.{ClaimsNone, EachGets, GetsAddress, ImportsBy, IsProgram, LinksAmong, claimed_names, has_tables, linked_symbols, names_claimed_in, null_descriptor, thunks_before, with_tables}
+use Rattle.implib_link.proofs.Claims.{claimed_blocks, claimed_placed}
 use Rattle.implib_link.proofs.Others.{contributions_kept, definitions_kept, placed_kept}
 use Rattle.implib_link.proofs.Blocks.{aligned_blocks, directory_of, nth_block, null_stands, objects_behind}
 
@@ -144,4 +145,7 @@ program_links machine b inputs objects made program =
       defined = subst (λ ps. AllByRecursion (IsDefinedAt (placed_from b objects)) (undefined_names ps)) (sym (kept_placed machine b inputs objects made program)) (found.defined tt);
       listed = subst (AllByRecursion (IsDefinedOnce (placed_from b objects))) (names_are machine b inputs objects made program)
           (once_of (placed_from b objects) (defined machine b inputs objects made program) (only machine b inputs objects made program));
+      claimed = ap names_claimed_in (kept_placed machine b inputs objects made program)
+          ∙ claimed_placed b (blocks_objects machine (map block_of inputs) (null_descriptor ∷ []))
+          ∙ claimed_blocks machine (map block_of inputs) ∙ sym (parts_symbols machine inputs made);
     }

@@ -1,28 +1,27 @@
 -- What a linker takes of the members for GNU's linker.
 use Rattle.std.proofs.Common.{◌≡◌, ℕ, zero, suc, ◌+◌, ◌<◌, true, List, [], ◌∷◌, ◌++◌, Option, Some, None, refl, ap, sym, ◌∙◌, subst, inl, inr, ◌⊎◌, arith}
 use Rattle.std.specs.Prelude.{bytes_eq, slice_get, slice_index}
-use Rattle.std.specs.List.{IsDistinct, cons_option, filter_map, flat_map, list_any}
-use Rattle.std.proofs.lemmas.Bool.{cases_Bool, false_from_ne_true, true≢false}
+use Rattle.std.specs.List.{IsDistinct, cons_option, filter_map, list_any}
+use Rattle.std.proofs.lemmas.Bool.{cases_Bool, true≢false}
 use Rattle.std.proofs.lemmas.List.{append_cancel_left}
 use Rattle.implib.specs.declared.members.Flavor.TheVariants.{Gnu}
 use Rattle.implib.specs.declared.machine.MachineType.{MachineType}
 use Rattle.implib.specs.Definition.{DefinitionView, ExportView}
 use Rattle.implib.specs.Gnu.{export_listed, export_name, export_object, head_object, head_symbol, name_symbol, numbered_name, stem, tail_object, weak_address_name}
 use Rattle.implib.specs.Import.{address_symbol, is_alias, public_exports}
-use Rattle.implib.specs.LinkedMembers.{linked_members, objects_in, numbered_spec}
+use Rattle.implib.specs.LinkedMembers.{linked_members, numbered_spec}
 use Rattle.std.specs.Option.{option_map}
 use Rattle.implib.specs.Members.{AreMembersOf}
 use Rattle.implib.specs.MemberSpec.{MemberView, MemberSpec, member_of}
 use Rattle.implib.specs.GnuMembers.{alias_specs, export_spec, gnu_specs, head_spec, numbered_specs, numbered_specs_of, tail_spec}
 use Rattle.implib.specs.WeakExternal.{weak_spec}
-use Rattle.implib.specs.Object.{Object, object_in}
+use Rattle.implib.specs.Object.{Object}
 use Rattle.implib.specs.Renaming.{renamed}
-use Rattle.implib.proofs.LinkedMembers.{among_contains, among_map, among_reverse, dll_free, export_reads, head_reads, not_long, sound, tail_reads}
+use Rattle.implib.proofs.LinkedMembers.{among_map, among_reverse}
 use Rattle.implib.proofs.Placement.{export, head, tail}
 use Rattle.implib.proofs.Ranges.{Among, among_back, among_first, among_front, among_later}
-use Rattle.implib_link.specs.Program.{claimed_names}
-use Rattle.implib_link.specs.Search.{Asks, HaveSame, IsTakenInTurn, is_listed_for, NamesNoLinkage, Takes, exports_wanted, is_wanted, left_by, linked_if_any, names_claimed, names_left, numbers_wanted}
-use Rattle.implib_link.proofs.SearchLists.{all_listed, among_any, among_either, among_mapped, among_reversed, any_among, any_member, contains_among, listed_is, listed_once, name_read, none_listed, one_member, read_name}
+use Rattle.implib_link.specs.Search.{is_wanted, left_by, linked_if_any, numbers_wanted}
+use Rattle.implib_link.proofs.SearchLists.{all_listed, among_any, among_either, among_mapped, among_reversed, any_among, one_member}
 
 -- What plans there are.
 
@@ -169,7 +168,7 @@ chosen_plan machine dll exports (k ∷ chosen) p held =
 
 -- What the members leave to others, claim, and are listed for.
 
-left_tail : (machine : MachineType) (dll : List ℕ) → left_by (tail machine dll) ≡ []
+pub left_tail : (machine : MachineType) (dll : List ℕ) → left_by (tail machine dll) ≡ []
 unfolding left_by tail_object
 left_tail machine dll = refl
 
@@ -181,19 +180,7 @@ pub left_export : (machine : MachineType) (dll : List ℕ) (e : ExportView) → 
 unfolding left_by export_object
 left_export machine dll e = elim (cases_Bool e.is_data) [ inl is ↦ rw is refl | inr is ↦ rw is refl ]
 
-claimed_tail : (machine : MachineType) (dll : List ℕ) → claimed_names (tail machine dll) ≡ name_symbol machine dll ∷ []
-unfolding tail_object
-claimed_tail machine dll = refl
-
-claimed_head : (machine : MachineType) (dll : List ℕ) → claimed_names (head machine dll) ≡ head_symbol machine dll ∷ []
-unfolding head_object
-claimed_head machine dll = refl
-
-claimed_export : (machine : MachineType) (dll : List ℕ) (e : ExportView) → claimed_names (export machine dll e) ≡ export_listed e
-unfolding export_object
-claimed_export machine dll e = elim (cases_Bool e.is_data) [ inl is ↦ rw is refl | inr is ↦ rw is refl ]
-
-listed_tail : (machine : MachineType) (dll : List ℕ) → (member_of (tail_spec machine dll)).symbols ≡ name_symbol machine dll ∷ []
+pub listed_tail : (machine : MachineType) (dll : List ℕ) → (member_of (tail_spec machine dll)).symbols ≡ name_symbol machine dll ∷ []
 unfolding tail_spec
 listed_tail machine dll = refl
 
@@ -275,12 +262,6 @@ module _ (d : DefinitionView) (machine : MachineType) (members : List MemberView
   planned : (p : MemberSpec) → Among p (gnu_specs machine d.import_name public) → Among (member_of p) members
   planned p held = subst (Among (member_of p)) (sym made.made) (among_map member_of p (gnu_specs machine d.import_name public) held)
 
-  pub tail_held : Among the_tail members
-  tail_held = planned (tail_spec machine d.import_name) (among_first _ _)
-
-  pub head_held : Among the_head members
-  head_held = planned (head_spec machine d.import_name) (among_later _ _ _ (among_first _ _))
-
   plan_held : (n : ℕ) (e : ExportView) (p : MemberSpec) → slice_get public n ≡ Some e → Among p (numbered_specs_of machine d.import_name n e) → Among (member_of p) members
   plan_held n e p is held =
       let place : n ≡ 0 + n = omega arith in
@@ -300,7 +281,7 @@ module _ (d : DefinitionView) (machine : MachineType) (members : List MemberView
   alias_there n e alias = rw alias (among_later _ _ _ (among_first _ _))
 
   -- an alias is listed for a symbol of its export
-  no_alias : (n : ℕ) (e : ExportView) → slice_get public n ≡ Some e → is_alias e.alias_target e.name ≡ true → ⊥
+  pub no_alias : (n : ℕ) (e : ExportView) → slice_get public n ≡ Some e → is_alias e.alias_target e.name ≡ true → ⊥
   unfolding export_spec
   no_alias n e is alias =
       names_apart d.import_name n (ap (λ (m : MemberView). m.name)
@@ -324,151 +305,6 @@ module _ (d : DefinitionView) (machine : MachineType) (members : List MemberView
   kind m held =
       let p = among_mapped member_of m (gnu_specs machine d.import_name public) (subst (Among m) made.made held) in
       kind_planned m p.0 p.2 p.1
-
-  tail_is : object_in the_tail.bytes ≡ Some (tail machine d.import_name)
-  tail_is = tail_reads machine d.import_name public (dll_free d machine members [] made) (sound d machine members [] made) (not_long d machine members [] made)
-
-  pub head_is : object_in the_head.bytes ≡ Some (head machine d.import_name)
-  head_is = head_reads machine d.import_name public (dll_free d machine members [] made) (sound d machine members [] made) (not_long d machine members [] made)
-
-  pub export_is : (n : ℕ) (e : ExportView) → slice_get public n ≡ Some e → object_in (the_export n e).bytes ≡ Some (export machine d.import_name e)
-  export_is n e is = export_reads machine d.import_name public (dll_free d machine members [] made) (sound d machine members [] made) (not_long d machine members [] made) n e is
-
-  object_of : (m x : MemberView) (o own : Object) → m ≡ x → object_in x.bytes ≡ Some own → object_in m.bytes ≡ Some o → o ≡ own
-  object_of m x o own same is read = same_object o own (sym read ∙ ap (λ (y : MemberView). object_in y.bytes) same ∙ is)
-
-  -- a member leaves no name to others but these two
-  leaves : (m : MemberView) (o : Object) (name : List ℕ) → Kind machine d.import_name public m → object_in m.bytes ≡ Some o → Among name (left_by o) →
-      (name ≡ head_symbol machine d.import_name) ⊎ (name ≡ name_symbol machine d.import_name)
-  leaves m o name (IsTail same) read left =
-      absurd (in_nothing name (subst (Among name) (left_tail machine d.import_name) (subst (λ o. Among name (left_by o)) (object_of m the_tail o (tail machine d.import_name) same tail_is read) left)))
-  leaves m o name (IsHead same) read left =
-      inr (only_one name _ (subst (Among name) (left_head machine d.import_name) (subst (λ o. Among name (left_by o)) (object_of m the_head o (head machine d.import_name) same head_is read) left)))
-  leaves m o name (OfAnExport x) read left =
-      inl (only_one name _ (subst (Among name) (left_export machine d.import_name x.export)
-      (subst (λ o. Among name (left_by o)) (object_of m (the_export x.number x.export) o (export machine d.import_name x.export) x.same (export_is x.number x.export x.is) read) left)))
-
-  -- a member claims only what it is listed for
-  pub claims : (m : MemberView) (o : Object) (name : List ℕ) → Kind machine d.import_name public m → object_in m.bytes ≡ Some o → Among name (claimed_names o) → Among name m.symbols
-  claims m o name (IsTail same) read claimed =
-      subst (λ (y : MemberView). Among name y.symbols) (sym same) (subst (Among name) (claimed_tail machine d.import_name ∙ sym (listed_tail machine d.import_name))
-      (subst (λ o. Among name (claimed_names o)) (object_of m the_tail o (tail machine d.import_name) same tail_is read) claimed))
-  claims m o name (IsHead same) read claimed =
-      subst (λ (y : MemberView). Among name y.symbols) (sym same) (subst (Among name) (claimed_head machine d.import_name ∙ sym (listed_head machine d.import_name))
-      (subst (λ o. Among name (claimed_names o)) (object_of m the_head o (head machine d.import_name) same head_is read) claimed))
-  claims m o name (OfAnExport x) read claimed =
-      subst (λ (y : MemberView). Among name y.symbols) (sym x.same) (subst (Among name) (claimed_export machine d.import_name x.export ∙ sym (listed_export machine d.import_name x.number x.export))
-      (subst (λ o. Among name (claimed_names o)) (object_of m (the_export x.number x.export) o (export machine d.import_name x.export) x.same (export_is x.number x.export x.is) read) claimed))
-
-  pub head_listed : Among (head_symbol machine d.import_name) the_head.symbols
-  head_listed = subst (Among (head_symbol machine d.import_name)) (sym (listed_head machine d.import_name)) (among_first _ _)
-
-  pub tail_listed : Among (name_symbol machine d.import_name) the_tail.symbols
-  tail_listed = subst (Among (name_symbol machine d.import_name)) (sym (listed_tail machine d.import_name)) (among_first _ _)
-
-  module _ (wanted : List (List ℕ)) (plain : NamesNoLinkage machine d.import_name wanted) where
-    pub taken_held : (taken : List MemberView) → IsTakenInTurn members wanted taken → (m : MemberView) → Among m taken → Among m members
-    unfolding Among IsTakenInTurn
-    taken_held [] turn m held = absurd held
-    taken_held (t ∷ earlier) turn m (inl e) = subst (λ x. Among x members) (sym e) (listed_is members turn.0.0 t turn.0.1.listed).0
-    taken_held (t ∷ earlier) turn m (inr held) = taken_held earlier turn.1 m held
-
-    -- a member that a wanted name is listed for
-    needed_first : (name : List ℕ) (m : MemberView) → Among name m.symbols → Among name wanted → Kind machine d.import_name public m → Needed machine d.import_name public wanted m
-    needed_first name m listed want (IsTail same) =
-        let is : name ≡ name_symbol machine d.import_name =
-        only_one name _ (subst (Among name) (listed_tail machine d.import_name) (subst (λ (y : MemberView). Among name y.symbols) same listed)) in
-        absurd (true≢false (sym (among_any (name_symbol machine d.import_name) wanted (subst (λ n. Among n wanted) is want)) ∙ plain.name))
-    needed_first name m listed want (IsHead same) =
-        let is : name ≡ head_symbol machine d.import_name =
-        only_one name _ (subst (Among name) (listed_head machine d.import_name) (subst (λ (y : MemberView). Among name y.symbols) same listed)) in
-        absurd (true≢false (sym (among_any (head_symbol machine d.import_name) wanted (subst (λ n. Among n wanted) is want)) ∙ plain.head))
-    needed_first name m listed want (OfAnExport x) =
-        AnExport x (wants wanted (export_listed x.export) name
-        (subst (Among name) (listed_export machine d.import_name x.number x.export) (subst (λ (y : MemberView). Among name y.symbols) x.same listed)) want)
-
-    -- a member that a name is listed for that members leave to others
-    needed_next : (name : List ℕ) (m : MemberView) → Among m members → Among name m.symbols → AnyWanted public wanted →
-        (name ≡ head_symbol machine d.import_name) ⊎ (name ≡ name_symbol machine d.import_name) → Needed machine d.import_name public wanted m
-    needed_next name m held listed any (inl is) =
-        TheHead (one_member members (head_symbol machine d.import_name) m the_head distinct held head_held (subst (λ n. Among n m.symbols) is listed) head_listed) any
-    needed_next name m held listed any (inr is) =
-        TheTail (one_member members (name_symbol machine d.import_name) m the_tail distinct held tail_held (subst (λ n. Among n m.symbols) is listed) tail_listed) any
-
-    -- a member that an undefined name asks for
-    pub asked_needed : (earlier : List MemberView) → ((m : MemberView) → Among m earlier → Among m members) →
-        ((m : MemberView) → Among m earlier → Needed machine d.import_name public wanted m) →
-        (name : List ℕ) (t : MemberView) → Asks members wanted earlier name t → Needed machine d.import_name public wanted t
-    unfolding names_left
-    asked_needed earlier held all name t asks =
-        let found = listed_is members name t asks.listed in
-        elim (among_either name wanted (flat_map left_by (objects_in earlier)) (contains_among name _ asks.named)) [
-          | inl want ↦ needed_first name t found.1 want (kind t found.0)
-          | inr left ↦
-              let from = name_read left_by name earlier left in
-              needed_next name t found.0 found.1 (any_wanted machine d.import_name public wanted from.0 (all from.0 from.2))
-              (leaves from.0 from.1 name (kind from.0 (held from.0 from.2)) from.3 from.4)
-        ]
-
-    pub needed : (taken : List MemberView) → IsTakenInTurn members wanted taken → (m : MemberView) → Among m taken → Needed machine d.import_name public wanted m
-    unfolding Among IsTakenInTurn
-    needed [] turn m held = absurd held
-    needed (t ∷ earlier) turn m (inr held) = needed earlier turn.1 m held
-    needed (t ∷ earlier) turn m (inl e) =
-        subst (Needed machine d.import_name public wanted) (sym e)
-        (asked_needed earlier (taken_held earlier turn.1) (needed earlier turn.1) turn.0.0 t turn.0.1)
-
-    -- an undefined name that is listed for a member asks for it where it is not taken
-    pub asks_for : (earlier : List MemberView) → ((m : MemberView) → Among m earlier → Among m members) → (name : List ℕ) (m : MemberView) →
-        Among m members → Among name m.symbols → Among name (wanted ++ names_left earlier) → (Among m earlier → ⊥) → Asks members wanted earlier name m
-    unfolding names_claimed
-    asks_for earlier held name m own listed named new = record {
-      named = among_contains name (wanted ++ names_left earlier) named;
-      undefined = false_from_ne_true (list_any (bytes_eq name) (flat_map claimed_names (objects_in earlier))) (λ claimed.
-          let by = name_read claimed_names name earlier (any_among name _ claimed) in
-          let same : m ≡ by.0 = one_member members name m by.0 distinct own (held by.0 by.2) listed (claims by.0 by.1 name (kind by.0 (held by.0 by.2)) by.3 by.4) in
-          new (subst (λ x. Among x earlier) (sym same) by.2));
-      listed = listed_once members name m distinct own listed;
-      new = λ has. new (contains_among m earlier has);
-    }
-
-    module _ (taken : List MemberView) (takes : Takes members wanted taken) where
-      -- a member is taken where a name of its is undefined
-      pub reached : (name : List ℕ) (m : MemberView) → Among m members → Among name m.symbols → Among name (wanted ++ names_left taken) → Among m taken
-      reached name m held listed named =
-          elim (cases_Bool (list_any (is_listed_for name) taken)) [
-            | inl is ↦
-                let t = any_member name taken is in
-                subst (λ x. Among x taken) (sym (one_member members name m t.0 distinct held (taken_held taken takes.in_turn t.0 t.1) listed t.2)) t.1
-            | inr none ↦ absurd (takes.ended name m (asks_for taken (taken_held taken takes.in_turn) name m held listed named
-                (λ has. none_listed name m taken none has listed)))
-          ]
-
-      export_taken : (n : ℕ) (e : ExportView) → slice_get public n ≡ Some e → is_wanted wanted e ≡ true → Among (the_export n e) taken
-      export_taken n e is want =
-          let name = wanted_name wanted (export_listed e) want in
-          reached name.0 (the_export n e) (export_held n e is) (subst (Among name.0) (sym (listed_export machine d.import_name n e)) name.1)
-          (among_front name.0 wanted (names_left taken) name.2)
-
-      head_taken : AnyWanted public wanted → Among the_head taken
-      unfolding names_left
-      head_taken any =
-          reached (head_symbol machine d.import_name) the_head head_held head_listed
-          (among_back _ wanted (flat_map left_by (objects_in taken)) (read_name left_by _ taken (the_export any.number any.export) (export machine d.import_name any.export)
-          (export_taken any.number any.export any.is any.want) (export_is any.number any.export any.is)
-          (subst (Among (head_symbol machine d.import_name)) (sym (left_export machine d.import_name any.export)) (among_first _ _))))
-
-      tail_taken : AnyWanted public wanted → Among the_tail taken
-      unfolding names_left
-      tail_taken any =
-          reached (name_symbol machine d.import_name) the_tail tail_held tail_listed
-          (among_back _ wanted (flat_map left_by (objects_in taken)) (read_name left_by _ taken the_head (head machine d.import_name) (head_taken any) head_is
-          (subst (Among (name_symbol machine d.import_name)) (sym (left_head machine d.import_name)) (among_first _ _))))
-
-      pub taken_if_needed : (m : MemberView) → Needed machine d.import_name public wanted m → Among m taken
-      taken_if_needed m (TheTail same any) = subst (λ x. Among x taken) (sym same) (tail_taken any)
-      taken_if_needed m (TheHead same any) = subst (λ x. Among x taken) (sym same) (head_taken any)
-      taken_if_needed m (AnExport x want) = subst (λ y. Among y taken) (sym x.same) (export_taken x.number x.export x.is want)
 
 -- What is linked of chosen exports.
 
@@ -548,16 +384,3 @@ module _ (d : DefinitionView) (machine : MachineType) (wanted : List (List ℕ))
       let some = linked_some d machine chosen m held in
       let p = among_mapped member_of m (plans_linked machine d.import_name (public_exports (renamed d)) chosen) some.2 in
       needed_plan m p.0 p.2 (any_of some.0 some.1) (plan_linked machine d.import_name (public_exports (renamed d)) chosen p.0 p.1)
-
-  takes_chosen : (members taken : List MemberView) (made : AreMembersOf d machine Gnu members) (distinct : IsDistinct bytes_eq (all_listed members))
-      (plain : NamesNoLinkage machine d.import_name wanted) → Takes members wanted taken → HaveSame taken (linked_if_any d machine chosen)
-  takes_chosen members taken made distinct plain takes m = (
-    λ has. among_contains m _ (linked_if_needed m (needed d machine members made distinct wanted plain taken takes.in_turn m (contains_among m taken has))),
-    λ has. among_contains m taken (taken_if_needed d machine members made distinct wanted plain taken takes m (needed_if_linked m (contains_among m _ has))),
-  )
-
-pub takes_wanted : (machine : MachineType) (d : DefinitionView) (members taken : List MemberView) (wanted : List (List ℕ)) → AreMembersOf d machine Gnu members →
-    IsDistinct bytes_eq (all_listed members) → NamesNoLinkage machine d.import_name wanted → Takes members wanted taken →
-    HaveSame taken (linked_if_any d machine (exports_wanted d wanted))
-takes_wanted machine d members taken wanted made distinct plain takes =
-    takes_chosen d machine wanted (exports_wanted d wanted) (numbers_are_wanted (public_exports (renamed d)) wanted) members taken made distinct plain takes

@@ -1,13 +1,13 @@
 -- An archive whose listed symbols differ: each name has one member, and what members leave and claim.
 use Rattle.std.proofs.Common.{◌≡◌, ℕ, zero, suc, true, false, List, [], ◌∷◌, ◌++◌, map, Option, Some, None, refl, ap, sym, ◌∙◌, subst, inl, inr, ◌⊎◌, arith}
-use Rattle.std.specs.Prelude.{bytes_eq, reverse}
+use Rattle.std.specs.Prelude.{bytes_eq, reverse, slice_get}
 use Rattle.std.specs.List.{AllByRecursion, Contains, IsDistinct, cons_option, flat_map, list_any}
 use Rattle.std.proofs.lemmas.Bool.{cases_Bool, false_from_ne_true, or_parts, true≢false}
 use Rattle.std.proofs.lemmas.List.{reverse-append}
 use Rattle.std.proofs.lemmas.Grind.{flat_map-append}
 use Rattle.std.proofs.lemmas.Slice.Eq.{bytes_eq-Decides}
 use Rattle.implib.specs.LinkedMembers.{objects_in}
-use Rattle.implib.specs.MemberSpec.{MemberView}
+use Rattle.implib.specs.MemberSpec.{MemberSpec, MemberView, member_of}
 use Rattle.implib.specs.Object.{Object, object_in}
 use Rattle.implib.proofs.LinkedMembers.{among_map, among_reverse}
 use Rattle.implib.proofs.Ranges.{Among, all_among, among_back, among_front}
@@ -18,6 +18,12 @@ unfolding Among
 contains_among x [] (i, below, is) = absurd (omega arith)
 contains_among x (y ∷ xs) (zero, below, is) = inl (sym is)
 contains_among x (y ∷ xs) (suc i, below, is) = inr (contains_among x xs (i, omega arith, is))
+
+pub among_at : {X : Type 0} (x : X) (xs : List X) (n : ℕ) → slice_get xs n ≡ Some x → Among x xs
+unfolding Among
+among_at x [] n is = cc
+among_at x (y ∷ xs) zero is = inl (let same : y ≡ x = cc in sym same)
+among_at x (y ∷ xs) (suc n) is = inr (among_at x xs n is)
 
 pub among_either : {X : Type 0} (x : X) (xs ys : List X) → Among x (xs ++ ys) → Among x xs ⊎ Among x ys
 unfolding Among
@@ -253,3 +259,8 @@ some_distinct archive (x ∷ some) distinct held once =
     let same : x ≡ from.0 = one_member archive name x from.0 distinct (held x (inl refl)) (held from.0 (inr from.1)) here from.2 in
     apart_none x.name (map (λ (m : MemberView). m.name) some)
     (subst (λ (y : MemberView). Among y.name (map (λ (m : MemberView). m.name) some)) (sym same) (among_map (λ (m : MemberView). m.name) from.0 some from.1)) once.0)
+
+-- what plans list is what their members are listed for
+pub listed_mapped : (ps : List MemberSpec) → all_listed (map member_of ps) ≡ flat_map (λ (p : MemberSpec). p.listed) ps
+listed_mapped [] = refl
+listed_mapped (p ∷ ps) = ap (λ names. p.listed ++ names) (listed_mapped ps)

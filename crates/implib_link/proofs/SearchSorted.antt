@@ -20,7 +20,8 @@ use Rattle.implib.proofs.LinkedMembers.{among_contains, head_before_tail, head_f
 use Rattle.implib.proofs.Ranges.{Among, among_first, among_later}
 use Rattle.implib_link.specs.Search.{HaveSame, IsArranged, NamesNoLinkage, Takes, exports_wanted}
 use Rattle.implib_link.proofs.SearchLists.{all_listed, contains_among}
-use Rattle.implib_link.proofs.Search.{AnExport, AnyWanted, Needed, TheHead, TheTail, needed, numbers_are_wanted, taken_if_needed}
+use Rattle.implib_link.proofs.Search.{AnExport, AnyWanted, Needed, TheHead, TheTail, numbers_are_wanted}
+use Rattle.implib_link.proofs.SearchOne.{needed, taken_if_needed}
 
 less_or_greater : Less ≡ Greater → ⊥
 less_or_greater same = cc
@@ -133,7 +134,7 @@ sorted_is_arranged machine d members taken arranged wanted number made distinct 
     let found = (numbers_are_wanted exports wanted).only number (contains_among number (exports_wanted d wanted) some) in
     let any : AnyWanted exports wanted = record { number = number; export = found.0; is = found.1; want = found.2 } in
     let is_needed = λ (m : MemberView) (held : Among m arranged).
-    needed d machine members made distinct wanted plain taken takes.in_turn m (contains_among m taken ((same m).1 (among_contains m arranged held))) in
+    needed d machine members made distinct wanted plain taken takes m (contains_among m taken ((same m).1 (among_contains m arranged held))) in
     let is_there = λ (m : MemberView) (need : Needed machine d.import_name exports wanted m).
     contains_among m arranged ((same m).0 (among_contains m taken (taken_if_needed d machine members made distinct wanted plain taken takes m need))) in
     let order = ordered (member_of (head_spec machine d.import_name)) (member_of (tail_spec machine d.import_name)) arranged rise

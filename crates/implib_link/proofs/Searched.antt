@@ -20,9 +20,10 @@ use Rattle.implib.proofs.Ranges.{Among, among_first, among_front, among_later}
 use Rattle.implib_link.specs.Program.{ClaimsNone, IsProgram, has_tables, null_descriptor}
 use Rattle.implib_link.specs.Search.{HaveSame, ImportsWanted, IsArranged, IsLinkedOfWanted, IsLinkedWith, NamesNoLinkage, Takes, exports_wanted, is_wanted}
 use Rattle.implib_link.proofs.Program.{program_links}
+use Rattle.implib_link.proofs.SearchOne.{needed, taken_held, taken_if_needed}
 use Rattle.implib_link.proofs.SearchLists.{all_listed, among_either, among_mapped, apart_none, contains_among, distinct_apart, some_distinct}
-use Rattle.implib_link.proofs.Search.{AnExport, IsExport, Needed, TheHead, TheTail, chosen_plan, in_nothing, needed, numbers_are_wanted, only_one, taken_held, taken_if_needed}
-use Rattle.implib_link.proofs.SearchExists.{head_no_export, same_number, tail_no_export}
+use Rattle.implib_link.proofs.Search.{AnExport, IsExport, Needed, TheHead, TheTail, chosen_plan, in_nothing, numbers_are_wanted, only_one}
+use Rattle.implib_link.proofs.SearchNumbers.{head_no_export, same_number, tail_no_export}
 
 -- a member of a wanted export
 abbrev OfWanted : MachineType → List ℕ → List ExportView → List (List ℕ) → MemberView → Type 0
@@ -92,7 +93,7 @@ module _ (machine : MachineType) (d : DefinitionView) (members taken arranged : 
   numbers : HaveNumbers machine d.import_name exports wanted between
   numbers =
       numbers_of machine d.import_name exports wanted between (λ m held. needed_between m held
-      (needed d machine members made distinct wanted plain taken takes.in_turn m
+      (needed d machine members made distinct wanted plain taken takes m
       (is_taken m (among_later m head_member (between ++ tail_member ∷ []) (among_front m between (tail_member ∷ []) held)))))
 
   abbrev input : LinkInput
@@ -141,7 +142,7 @@ module _ (machine : MachineType) (d : DefinitionView) (members taken arranged : 
       IsProgram machine bases (input ∷ []) objects
   is_program bases objects tables others admissible = record {
     distinct = subst (λ ms. IsDistinct bytes_eq (all_listed ms)) all_are (some_distinct members arranged distinct
-        (λ m held. taken_held d machine members made distinct wanted plain taken takes.in_turn m (is_taken m (subst (Among m) is_arranged.order held)))
+        (λ m held. taken_held members wanted taken takes.in_turn m (is_taken m (subst (Among m) is_arranged.order held)))
         is_arranged.once);
     tables = tables ∙ ap (λ ms. objects_in ms ++ null_descriptor ∷ []) all_are;
     others = subst (λ ms. AllByRecursion (ClaimsNone (all_listed ms)) (filter (λ o. not (has_tables o)) objects)) all_are others;

@@ -1,17 +1,17 @@
 -- Stubs jump through their own entries.
 use Rattle.std.proofs.Common.{◌≡◌, ℕ, zero, suc, ◌+◌, ◌*◌, ◌%◌, ◌^◌, ◌<◌, ◌≤◌, Bool, false, List, [], ◌∷◌, ◌++◌, length, map, Some, refl, ap, sym, ◌∙◌, subst, inl, inr, arith}
 use Rattle.std.specs.Prelude.{option_map, slice_get}
-use Rattle.std.specs.List.{AllByRecursion, filter}
+use Rattle.std.specs.List.{AllByRecursion, filter, flat_map}
 use Rattle.std.proofs.lemmas.Bool.{cases_Bool}
 use Rattle.std.proofs.lemmas.Option.{slice_get-map}
 use Rattle.implib.specs.declared.machine.MachineType.{MachineType}
 use Rattle.implib.specs.declared.machine.MachineType.TheVariants.{I386, ARMNT, AMD64, ARM64}
 use Rattle.implib.specs.Constants.{align_4bytes, cnt_code, mem_execute_read, class_external}
 use Rattle.implib.specs.Definition.{ExportView}
-use Rattle.implib.specs.Gnu.{export_object, relocations_of_stub, section, stub, stub_bytes, stub_relocations, text_name}
+use Rattle.implib.specs.Gnu.{export_listed, export_object, relocations_of_stub, section, stub, stub_bytes, stub_relocations, text_name}
 use Rattle.implib.specs.Image.{Range, image_of, range_end}
 use Rattle.implib.specs.Import.{Ask, address_symbol, expected_ask}
-use Rattle.implib.specs.Linked.{EntriesAt}
+use Rattle.implib.specs.Linked.{EntriesAt, IsDefinedOnce}
 use Rattle.implib.specs.LinkedMembers.{IsMade, LinkInput, chosen_exports}
 use Rattle.implib.specs.Load.{BytesAt, TableAt}
 use Rattle.implib.specs.ImportTables.{thunk_width}
@@ -19,19 +19,20 @@ use Rattle.implib.specs.Object.{ASymbol, Object}
 use Rattle.implib.specs.Placement.{Bases, Placed, placed_from}
 use Rattle.implib.specs.Resolution.{SymbolDefinition, address_or_zero, definitions_of, first_address, target_address}
 use Rattle.implib.proofs.Linked.{address_found, aligned_block, ends_of_block}
-use Rattle.implib.proofs.LinkedBlocks.{blocks_objects, ends, even, starts}
-use Rattle.implib.proofs.LinkedMembers.{among_contains}
-use Rattle.implib.proofs.LinkedParts.{block_of}
+use Rattle.implib.proofs.LinkedBlocks.{Block, blocks_objects, ends, even, linked_symbols as block_symbols, starts}
+use Rattle.implib.proofs.LinkedMembers.{among_contains, among_map}
+use Rattle.implib.proofs.LinkedParts.{block_of, parts_symbols}
 use Rattle.implib.proofs.Placement.{AreAligned, after_head, aligned_after, aligned_head, ends_of_all, ends_of_export, ends_of_exports, ends_of_head, placed-export, placed-head, placed-tail, placed_export}
-use Rattle.implib.proofs.Ranges.{Among, address_bounds, among_first, among_later}
+use Rattle.implib.proofs.Ranges.{Among, address_bounds, all_among, among_first, among_front, among_later}
 use Rattle.implib_link.specs.Directory.{imported}
 use Rattle.implib_link.specs.Loaded.{Writes}
-use Rattle.implib_link.specs.Program.{IsProgram, has_tables, null_descriptor, thunks_before}
+use Rattle.implib_link.specs.Program.{IsProgram, has_tables, linked_symbols, null_descriptor, thunks_before}
 use Rattle.implib_link.specs.Stub.{CallReaches, CanJump, JumpsThrough, code_relocated, jump_reads}
 use Rattle.implib_link.proofs.Blocks.{addresses_after, table_sum}
 use Rattle.implib_link.proofs.Jumps.{amd64_jumps, arm64_jumps, i386_jumps}
 use Rattle.implib_link.proofs.Loaded.{entry_once, program_loads, times_next, times_none}
 use Rattle.implib_link.proofs.Program.{kept_placed, program_links}
+use Rattle.implib_link.proofs.SearchLists.{among_at, flat_map_among}
 
 -- Each export's object is placed, with its entry where the addresses have come to.
 
@@ -192,6 +193,17 @@ jump_by AMD64 image_base bases n m place linked p can near small target = amd64_
 jump_by ARM64 image_base bases n m place linked p can near small target =
     arm64_jumps image_base place _ linked p near small can.0 (eights bases.addresses n m can.1) target
 
+-- the name of code is one that its member is listed for
+name_listed : (machine : MachineType) (inputs : List LinkInput) (i j : ℕ) (p : LinkInput) (e : ExportView) → AllByRecursion (IsMade machine) inputs →
+    slice_get inputs i ≡ Some p → slice_get (chosen_exports p.definition p.chosen) j ≡ Some e → e.is_data ≡ false → Among e.name (linked_symbols machine inputs)
+unfolding Among
+name_listed machine inputs i j p e made input chosen is =
+    let exports : List ExportView = chosen_exports p.definition p.chosen in
+    let own : Among e.name (export_listed e) = rw is (inl refl) in
+    subst (Among e.name) (sym (parts_symbols machine inputs made))
+    (flat_map_among (λ (k : Block). block_symbols machine k.dll k.exports) e.name (map block_of inputs) (block_of p) (among_map block_of p inputs (among_at p inputs i input))
+    (among_later _ _ _ (among_front e.name (flat_map export_listed exports) _ (flat_map_among export_listed e.name exports e (among_at e exports j chosen) own))))
+
 pub stubs_jump : (machine : MachineType) (image_base : ℕ) (bases : Bases) (inputs : List LinkInput) (objects : List Object) (i j : ℕ) (p : LinkInput) (e : ExportView) →
     AllByRecursion (IsMade machine) inputs → IsProgram machine bases inputs objects → CanJump machine image_base bases → slice_get inputs i ≡ Some p →
     slice_get (chosen_exports p.definition p.chosen) j ≡ Some e → e.is_data ≡ false →
@@ -209,6 +221,8 @@ stubs_jump machine image_base bases inputs objects i j p e made program can inpu
     (subst (λ n. TableAt (image_of machine bases linked) (thunk_width machine) n (map (expected_ask machine) (chosen_exports p.definition p.chosen))) links.table_stands links.strictly.loads.plain.address_table)
     (slice_get-map (expected_ask machine) (chosen_exports p.definition p.chosen) j ∙ ap (option_map (expected_ask machine)) chosen) in
     record {
+      once = all_among (IsDefinedOnce linked) e.name (linked_symbols machine inputs) (name_listed machine inputs i j p e made input chosen is)
+          (program_links machine bases inputs objects made program).listed;
       from = own;
       held = among_contains own linked (among_filter (λ (q : Placed). has_tables q.object) own linked kept);
       symbol = record { name = e.name; value = 0; section = 1; kind = 0; class = class_external };

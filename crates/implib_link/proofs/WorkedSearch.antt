@@ -32,7 +32,7 @@ all_settled P (n ∷ names) name all (inl e) = subst (λ t. P t ≡ true) (sym e
 all_settled P (n ∷ names) name all (inr held) = all_settled P names name (and_parts (P n) (list_all P names) all).1 held
 
 -- a search is at its end where each name is settled
-settled_ends : (archive : List MemberView) (names : List (List ℕ)) (taken : List MemberView) → list_all (is_settled archive taken) (names ++ names_left taken) ≡ true →
+pub settled_ends : (archive : List MemberView) (names : List (List ℕ)) (taken : List MemberView) → list_all (is_settled archive taken) (names ++ names_left taken) ≡ true →
     (name : List ℕ) (m : MemberView) → Asks archive names taken name m → ⊥
 settled_ends archive names taken all name m asks =
     let settled : is_settled archive taken name ≡ true =
@@ -41,7 +41,7 @@ settled_ends archive names taken all name m asks =
     true≢false (sym is)
 
 -- a name asks for a member by what is computed
-asks_now : (archive : List MemberView) (names : List (List ℕ)) (taken : List MemberView) (name : List ℕ) (m : MemberView) →
+pub asks_now : (archive : List MemberView) (names : List (List ℕ)) (taken : List MemberView) (name : List ℕ) (m : MemberView) →
     list_any (bytes_eq name) (names ++ names_left taken) ≡ true → list_any (bytes_eq name) (names_claimed taken) ≡ false → first_listed archive name ≡ Some m →
     list_any (bytes_eq m.name) (map (λ (x : MemberView). x.name) taken) ≡ false → Asks archive names taken name m
 asks_now archive names taken name m named undefined listed new = record {
@@ -52,7 +52,7 @@ asks_now archive names taken name m named undefined listed new = record {
 }
 
 -- what the computing has to open
-abbrev opened : Unit {0}
+unfoldable pub opened : Unit {0}
 unfolding digits u16_bytes u32_bytes export_object five_digits head_name head_object head_symbol hint_name name_symbol numbered_name relocations_of_stub relocations_of_thunk stem stub tail_name tail_object thunk export_spec head_spec tail_spec before_nul bytes_at data_at each_at entries_at name_of object_in object_of_header relocation_at relocation_of section_at section_of strings_at symbol_of u16_at u32_at up_to_nul auxiliary_bytes auxiliary_count contents contents_offset contents_size header_bytes encoded name_field offsets_from pointer_or_zero record_count records relocation_bytes section_header section_headers string_bytes_of string_offsets string_size string_table strings_size symbol_bytes symbol_table_offset long_names name_location layout_of symbol_written with_long_name with_name
 opened = tt
 

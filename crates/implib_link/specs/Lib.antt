@@ -1,5 +1,6 @@
 pub mod Directory
 pub mod Program
+pub mod FullNames
 pub mod Texts
 pub mod Loaded
 pub mod Packed
@@ -7,4 +8,6 @@ pub mod Stub
 pub mod WorkedPrograms
 pub mod RefusedLinks
 pub mod Search
+pub mod Archives
 pub mod WorkedSearch
+pub mod WorkedArchives

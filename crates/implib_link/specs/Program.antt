@@ -62,7 +62,8 @@ ClaimsNone names o = AllByRecursion (λ name. list_any (bytes_eq name) (claimed_
 abbrev pub linked_symbols : MachineType → List LinkInput → List (List ℕ)
 linked_symbols machine inputs = flat_map (λ m. m.symbols) (all_linked machine inputs)
 
--- What may be linked with the members of these parts: the objects with import tables are the members and,
+-- What may be linked with the members of these parts, objects with the full names of their sections, as
+-- `object_by_full_names` reads them: the objects with import tables are the members and,
 -- behind them, the null descriptor; the others may stand anywhere before, between and behind, and claim
 -- none of the members' symbols; no two members are listed for one symbol; the bases are admissible.
 pub record IsProgram (machine : MachineType) (bases : Bases) (inputs : List LinkInput) (objects : List Object)
@@ -99,11 +100,16 @@ pub record ImportsBy (machine : MachineType) (image : List Range) (linked : List
 abbrev pub thunks_before : ℕ → List LinkInput → ℕ
 thunks_before zero inputs = 0
 thunks_before (suc i) [] = 0
-thunks_before (suc i) (p ∷ inputs) = length (chosen_exports p.definition p.chosen) + 1 + thunks_before i inputs
+thunks_before (suc i) (p ∷ inputs) =
+    length (chosen_exports p.definition p.chosen) + 1 + thunks_before i inputs
 
 -- the objects of a link that hold import tables
 abbrev pub with_tables : List Placed → List Placed
 with_tables linked = filter (λ p. has_tables p.object) linked
+
+-- the names that placed objects claim
+abbrev pub names_claimed_in : List Placed → List (List ℕ)
+names_claimed_in linked = flat_map (λ p. claimed_names p.object) linked
 
 -- What a link of a program gives, of objects placed at bases:
 -- `linked`: what is linked of each definition are its members;
@@ -112,9 +118,10 @@ with_tables linked = filter (λ p. has_tables p.object) linked
 -- `directory`: at the base stands a directory of just these imports;
 -- `targets`: every relocation of a member finds its target;
 -- `defined`: every symbol that a member leaves to others is defined once, at an address;
--- `listed`: every symbol that a member is listed for is defined once.
-pub record LinksAmong (machine : MachineType) (bases : Bases) (inputs : List LinkInput) (objects : List Object)
-    : Type 0 where
+-- `listed`: every symbol that a member is listed for is defined once;
+-- `claimed`: the names that the members claim are those that they are listed for, and no others.
+pub record LinksAmong (machine : MachineType) (bases : Bases) (inputs : List LinkInput)
+    (objects : List Object) : Type 0 where
   pub linked : AllByRecursion (IsLinked machine) inputs
   pub imports : (i : ℕ) (p : LinkInput) → slice_get inputs i ≡ Some p →
       ImportsBy machine (image_of machine bases (placed_from bases objects)) (placed_from bases objects)
@@ -126,3 +133,4 @@ pub record LinksAmong (machine : MachineType) (bases : Bases) (inputs : List Lin
   pub defined : AllByRecursion (IsDefinedAt (placed_from bases objects))
       (undefined_names (with_tables (placed_from bases objects)))
   pub listed : AllByRecursion (IsDefinedOnce (placed_from bases objects)) (linked_symbols machine inputs)
+  pub claimed : names_claimed_in (with_tables (placed_from bases objects)) ≡ linked_symbols machine inputs

@@ -38,10 +38,10 @@ names_left members = flat_map left_by (objects_in members)
 unfoldable pub names_claimed : List MemberView → List (List ℕ)
 names_claimed members = flat_map claimed_names (objects_in members)
 
--- An undefined name asks for a member: the name is wanted or left by a member that is taken, no member that is
--- taken defines it, and the first member that it is listed for is this one, which is not taken.
-pub record Asks (archive : List MemberView) (wanted : List (List ℕ)) (taken : List MemberView) (name : List ℕ) (m : MemberView)
-    : Type 0 where
+-- An undefined name asks for a member: the name is wanted or left by a member that is taken, no member that
+-- is taken defines it, and the first member that it is listed for is this one, which is not taken.
+pub record Asks (archive : List MemberView) (wanted : List (List ℕ)) (taken : List MemberView)
+    (name : List ℕ) (m : MemberView) : Type 0 where
   pub named : Contains (wanted ++ names_left taken) name
   pub undefined : list_any (bytes_eq name) (names_claimed taken) ≡ false
   pub listed : first_listed archive name ≡ Some m
@@ -54,8 +54,8 @@ IsTakenInTurn archive wanted [] = Unit {0}
 IsTakenInTurn archive wanted (m ∷ earlier) =
     ((name : List ℕ) × Asks archive wanted earlier name m) × IsTakenInTurn archive wanted earlier
 
--- What a linker takes of an archive for wanted names: it takes members in turn until no undefined name asks for
--- another.
+-- What a linker takes of an archive for wanted names: it takes members in turn until no undefined name asks
+-- for another.
 pub record Takes (archive : List MemberView) (wanted : List (List ℕ)) (taken : List MemberView) : Type 0 where
   pub in_turn : IsTakenInTurn archive wanted taken
   pub ended : (name : List ℕ) (m : MemberView) → Asks archive wanted taken name m → ⊥
@@ -87,35 +87,40 @@ pub record NamesNoLinkage (machine : MachineType) (dll : List ℕ) (wanted : Lis
 
 -- two lists have the same elements
 abbrev pub HaveSame : {X : Type 0} → List X → List X → Type 0
-HaveSame {X} first second = (x : X) → (Contains first x → Contains second x) × (Contains second x → Contains first x)
+HaveSame {X} first second =
+    (x : X) → (Contains first x → Contains second x) × (Contains second x → Contains first x)
 
--- what is taken, each member once, in an order in which the head stands first and the tail last, as linkers have
--- it that sort by member name
+-- what is taken, each member once, in an order in which the head stands first and the tail last, as linkers
+-- have it that sort by member name
 pub record IsArranged (machine : MachineType) (dll : List ℕ) (taken arranged : List MemberView) : Type 0 where
   pub between : List MemberView
-  pub order : arranged ≡ member_of (head_spec machine dll) ∷ (between ++ member_of (tail_spec machine dll) ∷ [])
+  pub order : arranged
+      ≡ member_of (head_spec machine dll) ∷ (between ++ member_of (tail_spec machine dll) ∷ [])
   pub same : HaveSame taken arranged
   pub once : IsDistinct bytes_eq (map (λ m. m.name) arranged)
 
 -- members are what is linked of just the wanted exports, in some order
-pub record IsLinkedOfWanted (machine : MachineType) (d : DefinitionView) (wanted : List (List ℕ)) (arranged : List MemberView) : Type 0 where
+pub record IsLinkedOfWanted (machine : MachineType) (d : DefinitionView) (wanted : List (List ℕ))
+    (arranged : List MemberView) : Type 0 where
   pub chosen : List ℕ
   pub same : HaveSame chosen (exports_wanted d wanted)
   pub linked : arranged ≡ linked_members d machine chosen
 
--- A program of what a linker took of an archive, in such an order, and of other objects: the objects with import
--- tables are those members and, behind them, the null descriptor; the others claim no symbol of theirs.
-pub record IsLinkedWith (machine : MachineType) (dll : List ℕ) (bases : Bases) (taken : List MemberView) (objects : List Object)
-    : Type 0 where
+-- A program of what a linker took of an archive, in such an order, and of other objects: the objects with
+-- import tables are those members and, behind them, the null descriptor; the others claim no symbol of theirs.
+pub record IsLinkedWith (machine : MachineType) (dll : List ℕ) (bases : Bases) (taken : List MemberView)
+    (objects : List Object) : Type 0 where
   pub arranged : List MemberView
   pub is_arranged : IsArranged machine dll taken arranged
   pub tables : filter has_tables objects ≡ objects_in arranged ++ null_descriptor ∷ []
-  pub others : AllByRecursion (ClaimsNone (flat_map (λ m. m.symbols) arranged)) (filter (λ o. not (has_tables o)) objects)
+  pub others : AllByRecursion (ClaimsNone (flat_map (λ m. m.symbols) arranged))
+      (filter (λ o. not (has_tables o)) objects)
   pub admissible : IsAdmissible machine bases objects
 
 -- the objects link to a program that imports just the wanted exports, in some order
-pub record ImportsWanted (machine : MachineType) (d : DefinitionView) (members : List MemberView) (wanted : List (List ℕ)) (bases : Bases)
-    (objects : List Object) : Type 0 where
+pub record ImportsWanted (machine : MachineType) (d : DefinitionView) (members : List MemberView)
+    (wanted : List (List ℕ)) (bases : Bases) (objects : List Object) : Type 0 where
   pub chosen : List ℕ
   pub same : HaveSame chosen (exports_wanted d wanted)
-  pub links : LinksAmong machine bases (record { definition = d; members = members; chosen = chosen } ∷ []) objects
+  pub links : LinksAmong machine bases
+      (record { definition = d; members = members; chosen = chosen } ∷ []) objects

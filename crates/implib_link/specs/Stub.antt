@@ -10,6 +10,7 @@ use Rattle.implib.specs.Bytes.{u32_bytes}
 use Rattle.implib.specs.Constants.{amd64_rel32, arm64_pagebase_rel21, arm64_pageoffset_12l, class_external, i386_dir32}
 use Rattle.implib.specs.Image.{Range}
 use Rattle.implib.specs.Import.{address_symbol}
+use Rattle.implib.specs.Linked.{IsDefinedOnce}
 use Rattle.implib.specs.Load.{BytesAt, number_in}
 use Rattle.implib.specs.Object.{ASymbol, ObjectSection, ObjectSymbol}
 use Rattle.implib.specs.Placement.{Bases, Placed}
@@ -106,10 +107,12 @@ CanJump ARMNT image_base bases = ⊥
 CanJump AMD64 image_base bases = Unit {0}
 CanJump ARM64 image_base bases = (image_base % 8 ≡ 0) × (bases.addresses % 8 ≡ 0)
 
--- A name is that of code which jumps through an entry: an object defines it at the beginning of its first
--- section, and wherever this section is placed below 2^31, the jump that it begins with reads the entry.
+-- A name is that of code which jumps through an entry: just one object defines it, once, at the beginning of
+-- its first section, and wherever this section is placed below 2^31, the jump that it begins with reads the
+-- entry.
 pub record JumpsThrough (machine : MachineType) (image_base : ℕ) (linked : List Placed) (name : List ℕ)
     (entry : ℕ) : Type 0 where
+  pub once : IsDefinedOnce linked name
   pub from : Placed
   pub held : Contains linked from
   pub symbol : ObjectSymbol

@@ -7,9 +7,10 @@ ghost use Rattle.implib.specs.Object.{Object};
 ghost use Rattle.implib.specs.Placement.{Bases};
 ghost use Rattle.implib.specs.declared.machine.MachineType.{MachineType};
 ghost use Rattle.implib_link.specs.Directory.{DirectoryAt, Imported, WalkFinds};
+ghost use Rattle.implib_link.specs.FullNames.{WorkedFullNames, object_by_full_names};
 ghost use Rattle.implib_link.specs.Program.{IsProgram, LinksAmong, linked_symbols, null_descriptor};
 ghost use Rattle.std.specs.List.{AllByRecursion, IsDistinct};
-ghost use Rattle.std.specs.Prelude.{◌≡◌, ◌++◌, ◌∷◌, ℕ, List, [], bytes_eq};
+ghost use Rattle.std.specs.Prelude.{◌≡◌, ◌++◌, ◌∷◌, ℕ, List, Some, [], bytes_eq, map};
 
 /// The head, the chosen exports' members and the tail of each DLL, DLLs and exports in any order, link at
 /// any admissible bases, for each DLL to an import of just the chosen exports from it.
@@ -46,4 +47,14 @@ pub fn directory_once()
         DirectoryAt image width address imports → WalkFinds image width address imports }
     ensures once { (image : List Range) (width address : ℕ) (imports others : List Imported) →
         DirectoryAt image width address imports → WalkFinds image width address others → imports ≡ others }
+{}
+
+/// The members read the same with the full names of their sections, by which other objects are to be read:
+/// a section with a name of more than 8 bytes may belong to the import tables, too.
+pub fn members_have_full_names()
+    ensures members { (machine : MachineType) (inputs : List LinkInput) →
+        AllByRecursion (IsMade machine) inputs →
+        map (λ m. object_by_full_names m.bytes) (all_linked machine inputs)
+        ≡ map Some (objects_in (all_linked machine inputs)) }
+    ensures worked { WorkedFullNames }
 {}

@@ -8,25 +8,25 @@ ghost use Rattle.implib.specs.Object.{Object};
 ghost use Rattle.implib.specs.Placement.{Bases};
 ghost use Rattle.implib.specs.declared.members.Flavor.TheVariants.{Gnu};
 ghost use Rattle.implib.specs.declared.machine.MachineType.{MachineType};
+ghost use Rattle.implib_link.specs.WorkedArchives.{WorkedArchives};
 ghost use Rattle.implib_link.specs.WorkedSearch.{WorkedSearch};
+ghost use Rattle.implib_link.specs.Archives.{IsArchive, Library, NamesNoLinkageOf, TakesOfLibraries, archive_of, inputs_wanted, wanted_with};
+ghost use Rattle.implib_link.specs.Program.{IsProgram, LinksAmong};
 ghost use Rattle.implib_link.specs.Search.{HaveSame, ImportsWanted, IsArranged, IsLinkedOfWanted, IsLinkedWith, NamesNoLinkage, Takes, exports_wanted, linked_if_any};
 ghost use Rattle.std.specs.List.{Contains, IsDistinct, flat_map};
 ghost use Rattle.std.specs.Prelude.{ℕ, List, bytes_eq, map};
 
 /// A linker takes of an archive of the members just the head, the members of the exports that are wanted and
-/// the tail, whichever undefined name it takes up first; nothing, where no export is wanted. It comes to an end.
+/// the tail, whichever undefined name it takes up first; nothing, where no export is wanted.
 ///
-/// Names that no member is listed for may be wanted, too. All listed symbols differ, so no export has an alias.
+/// Names that no member is listed for may be wanted, too. All listed symbols differ, so no export has an
+/// alias.
 pub fn search_takes_wanted()
-    ensures takes { (machine : MachineType) (d : DefinitionView) (members taken : List MemberView) (wanted : List (List ℕ)) →
+    ensures takes { (machine : MachineType) (d : DefinitionView) (members taken : List MemberView)
+        (wanted : List (List ℕ)) →
         AreMembersOf d machine Gnu members → IsDistinct bytes_eq (flat_map (λ m. m.symbols) members) →
         NamesNoLinkage machine d.import_name wanted → Takes members wanted taken →
         HaveSame taken (linked_if_any d machine (exports_wanted d wanted)) }
-    ensures ends { (machine : MachineType) (d : DefinitionView) (members : List MemberView) (wanted : List (List ℕ)) →
-        AreMembersOf d machine Gnu members →
-        IsDistinct bytes_eq (flat_map (λ m. m.symbols) members) →
-        NamesNoLinkage machine d.import_name wanted →
-        (taken : List MemberView) × Takes members wanted taken }
 {}
 
 /// What a linker takes of the archive for wanted names is, in its order, what is linked of just the wanted
@@ -51,8 +51,8 @@ pub fn searched_program_links()
         HaveSame taken arranged →
         AllRise (map (λ m. m.name) arranged) →
         IsArranged machine d.import_name taken arranged }
-    ensures imports { (machine : MachineType) (d : DefinitionView) (members taken : List MemberView) (wanted : List (List ℕ))
-        (bases : Bases) (objects : List Object) →
+    ensures imports { (machine : MachineType) (d : DefinitionView) (members taken : List MemberView)
+        (wanted : List (List ℕ)) (bases : Bases) (objects : List Object) →
         AreMembersOf d machine Gnu members →
         IsDistinct bytes_eq (flat_map (λ m. m.symbols) members) →
         NamesNoLinkage machine d.import_name wanted →
@@ -61,7 +61,34 @@ pub fn searched_program_links()
         ImportsWanted machine d members wanted bases objects }
 {}
 
-/// A search by hand of the members of three exports.
+/// Of an archive of several libraries, whose exports may have aliases, a linker takes just what is linked of
+/// the wanted exports of each library, and weak externals, whose targets are then wanted, too; and a program
+/// of it and of any other objects imports just these exports from these DLLs.
+///
+/// The weak externals are those of data whose bare name is undefined. In a program they are among the other
+/// objects.
+pub fn libraries_are_searched()
+    ensures takes { (machine : MachineType) (libraries : List Library) (taken : List MemberView)
+        (wanted : List (List ℕ)) →
+        IsArchive machine libraries →
+        NamesNoLinkageOf machine libraries (wanted_with wanted taken) →
+        Takes (archive_of libraries) wanted taken →
+        TakesOfLibraries machine libraries wanted taken }
+    ensures links { (machine : MachineType) (libraries : List Library) (wanted : List (List ℕ))
+        (bases : Bases) (objects : List Object) →
+        IsArchive machine libraries →
+        IsProgram machine bases (inputs_wanted libraries wanted) objects →
+        LinksAmong machine bases (inputs_wanted libraries wanted) objects }
+{}
+
+/// A search of any archive for any names comes to an end.
+pub fn search_ends()
+    ensures { (archive : List MemberView) (wanted : List (List ℕ)) →
+        (taken : List MemberView) × Takes archive wanted taken }
+{}
+
+/// Searches by hand: of the members of three exports, and of two libraries with an alias.
 pub fn worked_search()
-    ensures { WorkedSearch }
+    ensures one { WorkedSearch }
+    ensures two { WorkedArchives }
 {}

@@ -1,6 +1,5 @@
-use Rattle.implib_link.proofs.Search.{takes_wanted}
-use Rattle.implib_link.proofs.SearchExists.{search_ends}
+use Rattle.implib_link.proofs.SearchOne.{takes_wanted}
 use Rattle.implib_link.proofs.laws.search.search_takes_wanted.Goals as goal
 
 pub returns : goal.returns
-returns c = record { takes = takes_wanted; ends = search_ends }
+returns c = record { takes = takes_wanted }

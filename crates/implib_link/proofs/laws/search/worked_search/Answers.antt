@@ -1,5 +1,6 @@
+use Rattle.implib_link.proofs.WorkedArchives.{worked_archives}
 use Rattle.implib_link.proofs.WorkedSearch.{worked_search}
 use Rattle.implib_link.proofs.laws.search.worked_search.Goals as goal
 
 pub returns : goal.returns
-returns c = worked_search
+returns c = record { one = worked_search; two = worked_archives }
