@@ -1,6 +1,7 @@
 //! Members of definitions: what they are called, how long they are, which symbols they are listed for
 //! and what they ask for.
 
+mod fronts;
 mod hand_made;
 mod stored;
 

@@ -1,4 +1,4 @@
-//! Objects whose bytes are known from outside this program.
+//! Objects of the writer, whose bytes are known from outside.
 
 ghost use Rattle.implib.specs.Writer.{section_view};
 ghost use Rattle.implib.specs.Writer.{added_view};
