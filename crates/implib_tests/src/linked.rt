@@ -1,22 +1,33 @@
-//! A linker for tests: it knows of members their names and bytes alone, reads the objects in them,
-//! places their sections of import tables and relocates them, and says what a loader finds. The
-//! rules are those of the PE/COFF specification and, for the places, of `docs/FORMATS.md`.
+//! A linker and a loader for tests: of objects they know the names and the bytes alone. The linker reads the
+//! objects, places their sections, resolves their symbols and relocates them; the loader reads the image.
+//! The rules are those of the PE/COFF specification and, for the placement, of `docs/FORMATS.md`.
 
+mod bound;
+mod code;
+mod directory;
 mod file;
 mod image;
 mod object;
 mod record;
+mod search;
 
+use bound::bound;
+pub use bound::given;
+use code::{ARMNT, I386, jump_reads, relocated};
+use directory::{Import, thunk_size};
 pub use file::{File, Purpose, file_in};
-use image::Image;
-use object::{Object, Section, Symbol, object_in, u32_at};
+pub use image::{Bases, Image, Misplaced};
+pub use object::Flaw;
+use object::{Object, Relocation, Section, Symbol, object_in, u32_at};
 pub use record::Ask;
+pub use search::Archive;
 use std::alloc::{AllocError, Global};
 use std::test::Fail;
 
-/// An object, with the address of each of its sections that has one.
+/// An object of a file, with the address of each of its sections that is placed.
 #[derive(Drop)]
 struct Placed<'a> {
+    name: &'a str,
     object: Object<'a>,
     addresses: Vec<Option<usize>>,
 }
@@ -24,33 +35,19 @@ struct Placed<'a> {
 /// Objects that are linked.
 #[derive(Drop)]
 pub struct Linked<'a> {
+    machine: u16,
+    directory: usize,
     objects: Vec<Placed<'a>>,
-    image: Image,
+    pub image: Image,
 }
 
 impl Placed<'_> {
-    /// The address of a symbol of its own sections.
+    /// The address of a symbol of its own sections, if it has one.
     fn own_address(&self, symbol: &Symbol) -> Option<usize> {
         let index = usize::from(symbol.section).checked_sub(1)?;
         let address = *self.addresses.get(index)?;
         address?.checked_add(symbol.value)
     }
-}
-
-/// The type of relocation that adds an address in the image.
-fn image_relative(machine: u16) -> Result<u16, Fail> {
-    match machine {
-        0x14C => Ok(7),
-        0x1C4 => Ok(2),
-        0x8664 => Ok(3),
-        0xAA64 => Ok(2),
-        _ => Err(Fail::new(format_args!("machine {machine:#x}"))),
-    }
-}
-
-/// Whether the thunks of a machine have 4 bytes, and not 8.
-fn is_32bit(machine: u16) -> bool {
-    machine == 0x14C || machine == 0x1C4
 }
 
 /// Why objects do not link.
@@ -60,102 +57,121 @@ pub enum Unlinked<'a> {
     Undefined(&'a str),
     /// The symbol is defined twice.
     Ambiguous(&'a str),
-    /// An address is in two ranges of the image.
-    Overlapping,
+    /// The bases do not serve.
+    Misplaced(Misplaced),
 }
 
-/// Links the objects in files of these names and bytes. The sections stand in the order of the
-/// names; the bases are those of `.idata$2`, `$4`, `$5`, `$6` and `$7`.
+/// Links the objects in files of these names and bytes, in this order. The bases are those of `.idata$2`,
+/// `$4`, `$5`, `$6`, `$7` and `.text`.
 pub fn link<'a>(
     alloc: Global,
-    files: Vec<(&'a str, &'a [u8])>,
-    bases: [usize; 5],
+    files: &[(&'a str, &'a [u8])],
+    bases: Bases,
 ) -> Result<Linked<'a>, Fail> {
-    let linked = place(alloc, files, bases)?;
+    let mut linked = place(alloc, files, bases)?;
     if let Some(unlinked) = linked.refusal() {
         return Err(Fail::from(unlinked));
     }
-    let Linked { objects, mut image } = linked;
-    for placed in objects.iter() {
-        relocate(&objects, placed, &mut image)?;
-    }
-    Ok(Linked { objects, image })
+    linked.relocate()?;
+    Ok(linked)
+}
+
+/// What is wrong with the relocations of the objects in such files.
+pub fn flaw(alloc: Global, files: &[(&str, &[u8])], bases: Bases) -> Result<Option<Flaw>, Fail> {
+    Ok(place(alloc, files, bases)?.relocate().err())
 }
 
 /// Why the objects in such files do not link, if they do not.
 pub fn refusal<'a>(
     alloc: Global,
-    files: Vec<(&'a str, &'a [u8])>,
-    bases: [usize; 5],
+    files: &[(&'a str, &'a [u8])],
+    bases: Bases,
 ) -> Result<Option<Unlinked<'a>>, Fail> {
     Ok(place(alloc, files, bases)?.refusal())
 }
 
-/// Places the sections of the objects in such files, and relocates none.
+/// Places the sections of the objects in such files, and relocates none. The null descriptor comes last.
 fn place<'a>(
     alloc: Global,
-    mut files: Vec<(&'a str, &'a [u8])>,
-    bases: [usize; 5],
+    files: &[(&'a str, &'a [u8])],
+    bases: Bases,
 ) -> Result<Linked<'a>, Fail> {
-    files.sort()?;
     let mut image = Image::new(alloc, bases)?;
     let mut objects = Vec::new(alloc);
-    for (_, bytes) in files {
-        let object = object_in(alloc, bytes)?;
+    let mut machine = 0;
+    for (name, bytes) in files {
+        let object = object_in(alloc, *bytes)?;
+        if machine != 0 && machine != object.machine {
+            return Err(Fail::new("objects are for two machines"));
+        }
+        machine = object.machine;
         let mut addresses = Vec::new(alloc);
         for section in object.sections.iter() {
             addresses.push(image.place(section)?)?;
         }
-        objects.push(Placed { object, addresses })?;
+        objects.push(Placed {
+            name: *name,
+            object,
+            addresses,
+        })?;
     }
-    Ok(Linked { objects, image })
+    image.end_directory()?;
+    Ok(Linked {
+        machine,
+        directory: bases[0],
+        objects,
+        image,
+    })
 }
 
-/// Adds the symbols' addresses in all sections of an object that have a place.
-fn relocate(objects: &[Placed], placed: &Placed, image: &mut Image) -> Result<(), Fail> {
+/// Relocates all sections of an object that are placed.
+fn relocate(objects: &[Placed], placed: &Placed, image: &mut Image) -> Result<(), Flaw> {
     for (section, address) in placed.object.sections.iter().zip(placed.addresses.iter()) {
         if let Some(address) = address {
-            relocate_section(objects, placed, section, *address, image)?;
+            for relocation in section.relocations.iter() {
+                relocate_field(objects, placed, section, relocation, *address, image)?;
+            }
         }
     }
     Ok(())
 }
 
-/// Adds the symbols' addresses in the section at an address.
-fn relocate_section(
+/// Relocates a field of the section at an address.
+fn relocate_field(
     objects: &[Placed],
     placed: &Placed,
     section: &Section,
+    relocation: &Relocation,
     address: usize,
     image: &mut Image,
-) -> Result<(), Fail> {
-    for relocation in section.relocations.iter() {
-        if relocation.kind == image_relative(placed.object.machine)? {
-            let symbol = placed.object.symbol(relocation.symbol)?;
-            let target = if symbol.is_undefined() {
-                defined_address(objects, symbol.name)?
-            } else {
-                placed.own_address(&symbol)
-            };
-            let target = target.ok_or("a symbol has no address")?;
-            // The field stands in the section.
-            u32_at(section.data, relocation.offset)?;
-            let field = address.saturating_add(relocation.offset);
-            image.add(field, u32::try_from(target)?)?;
-        }
-    }
-    Ok(())
+) -> Result<(), Flaw> {
+    // The field is in the section.
+    u32_at(section.data, relocation.offset)?;
+    let symbol = placed.object.symbol(relocation.symbol)?;
+    let target = if symbol.is_undefined() {
+        defined_address(objects, symbol.name).ok().flatten()
+    } else {
+        placed.own_address(&symbol)
+    };
+    let target = address_of(target.ok_or("a symbol has no address")?)?;
+    let field = address.saturating_add(relocation.offset);
+    let word = u32_at(image.bytes_from(field)?, 0)?;
+    let machine = placed.object.machine;
+    let word = relocated(machine, relocation.kind, word, address_of(field)?, target)?;
+    image.write(field, &word.to_le_bytes())
+}
+
+/// An address in 32 bits.
+fn address_of(address: usize) -> Result<u32, Flaw> {
+    u32::try_from(address).map_err(|_| "an address has more than 32 bits")
 }
 
 /// The address, if there is one, of the one symbol of a name that objects define for one another.
 fn defined_address<'a>(objects: &[Placed], name: &'a str) -> Result<Option<usize>, Unlinked<'a>> {
     let mut found = None;
     for placed in objects {
-        for symbol in placed.object.symbols.iter() {
-            if let Some(symbol) = symbol
-                && symbol.is_defined()
-                && symbol.name == name
-            {
+        for symbol in placed.object.symbols.iter().flatten() {
+            if (symbol.is_defined() || symbol.is_absolute()) && symbol.name == name {
                 if found.is_some() {
                     return Err(Unlinked::Ambiguous(name));
                 }
@@ -167,16 +183,14 @@ fn defined_address<'a>(objects: &[Placed], name: &'a str) -> Result<Option<usize
 }
 
 impl<'a> Linked<'a> {
-    /// Why the objects do not link: where ranges overlap, or a symbol stays undefined or is
-    /// defined twice.
+    /// Why the objects do not link: bases do not serve, or a symbol stays undefined or is defined twice.
     fn refusal(&self) -> Option<Unlinked<'a>> {
-        if !self.image.is_apart() {
-            return Some(Unlinked::Overlapping);
+        if let Some(misplaced) = self.image.misplaced() {
+            return Some(Unlinked::Misplaced(misplaced));
         }
         for placed in self.objects.iter() {
-            for symbol in placed.object.symbols.iter() {
-                if let Some(symbol) = symbol
-                    && symbol.is_external()
+            for symbol in placed.object.symbols.iter().flatten() {
+                if symbol.is_external()
                     && let Err(unlinked) = defined_address(&self.objects, symbol.name)
                 {
                     return Some(unlinked);
@@ -188,30 +202,100 @@ impl<'a> Linked<'a> {
 }
 
 impl Linked<'_> {
+    /// Relocates all sections that are placed.
+    fn relocate(&mut self) -> Result<(), Flaw> {
+        for placed in self.objects.iter() {
+            relocate(&self.objects, placed, &mut self.image)?;
+        }
+        Ok(())
+    }
+
+    /// Whether addresses have 4 bytes, and not 8.
+    fn is_32bit(&self) -> bool {
+        self.machine == I386 || self.machine == ARMNT
+    }
+
+    /// The size in bytes of an entry of an address table.
+    pub fn entry_size(&self) -> usize {
+        thunk_size(self.is_32bit())
+    }
+
+    /// How many DLLs the import directory lists, and that a strict loader takes it.
+    pub fn check_directory(&self) -> Result<usize, Flaw> {
+        self.image.check_directory(self.directory, self.is_32bit())
+    }
+
+    /// What the import directory lists.
+    fn imports(&self, alloc: Global) -> Result<Vec<Import<'_>>, Fail> {
+        self.image.directory(alloc, self.directory, self.is_32bit())
+    }
+
     /// The bytes of the image.
-    pub fn image(&self, alloc: Global) -> Result<String, AllocError> {
+    pub fn image_text(&self, alloc: Global) -> Result<String, AllocError> {
         let mut text = String::new(alloc);
         self.image.show(&mut text)?;
         Ok(text)
     }
 
-    /// What a loader finds by each import descriptor, and the address of each `__imp_` symbol.
-    pub fn loaded(&self, alloc: Global) -> Result<String, Fail> {
-        let mut text = String::new(alloc);
+    /// The image that a loader makes of this one.
+    pub fn bound(&self, alloc: Global) -> Result<Image, Fail> {
+        let imports = self.imports(alloc)?;
+        bound(alloc, &self.image, imports.as_slice(), self.entry_size())
+    }
+
+    /// The address of a symbol that an object defines for the others.
+    pub fn address_of(&self, name: &str) -> Result<usize, Fail> {
+        match defined_address(&self.objects, name) {
+            Ok(address) => Ok(address.ok_or("a symbol has no address")?),
+            Err(unlinked) => Err(Fail::new(format_args!("{unlinked:?}"))),
+        }
+    }
+
+    /// The addresses of all symbols of the address tables, those that begin with `__imp_`.
+    pub fn entries(&self, alloc: Global) -> Result<Vec<usize>, Fail> {
+        let mut addresses = Vec::new(alloc);
         for placed in self.objects.iter() {
-            let is_32bit = is_32bit(placed.object.machine);
-            for (section, address) in placed.object.sections.iter().zip(placed.addresses.iter()) {
-                if let Some(address) = address
-                    && section.name == ".idata$2"
-                {
-                    self.image.load(*address, is_32bit, &mut text)?;
+            for symbol in placed.object.symbols.iter().flatten() {
+                if symbol.is_defined() && symbol.name.starts_with("__imp_") {
+                    addresses.push(placed.own_address(symbol).ok_or("no address")?)?;
                 }
             }
-            for symbol in placed.object.symbols.iter() {
-                if let Some(symbol) = symbol
-                    && symbol.is_defined()
-                    && symbol.name.starts_with("__imp_")
-                {
+        }
+        Ok(addresses)
+    }
+
+    /// The addresses of the code of the objects in files of this name.
+    pub fn code_of(&self, alloc: Global, name: &str) -> Result<Vec<usize>, Fail> {
+        let mut addresses = Vec::new(alloc);
+        for placed in self.objects.iter() {
+            if placed.name == name {
+                let address = placed.addresses.first().copied().flatten();
+                addresses.push(address.ok_or("a file has no code")?)?;
+            }
+        }
+        Ok(addresses)
+    }
+
+    /// The word at an address.
+    pub fn word_at(&self, address: usize) -> Result<usize, Flaw> {
+        Ok(u32_at(self.image.bytes_from(address)?, 0)? as usize)
+    }
+
+    /// The address from which the code at an address reads where it jumps.
+    pub fn jump_at(&self, address: usize) -> Result<usize, Flaw> {
+        let code = self.image.bytes_from(address)?;
+        Ok(jump_reads(self.machine, address_of(address)?, code)? as usize)
+    }
+
+    /// What a loader finds in the import directory, and the address of each `__imp_` symbol.
+    pub fn loaded(&self, alloc: Global) -> Result<String, Fail> {
+        let mut text = String::new(alloc);
+        for import in self.imports(alloc)? {
+            show_import(&mut text, &import)?;
+        }
+        for placed in self.objects.iter() {
+            for symbol in placed.object.symbols.iter().flatten() {
+                if symbol.is_defined() && symbol.name.starts_with("__imp_") {
                     let name = symbol.name;
                     let address = placed.own_address(symbol).ok_or("no address")?;
                     writeln!(text, "{name} {address:#x}")?;
@@ -220,4 +304,24 @@ impl Linked<'_> {
         }
         Ok(text)
     }
+}
+
+/// Appends what a DLL is asked for.
+fn show_import(text: &mut String, import: &Import) -> Result<(), AllocError> {
+    let Import { descriptor, thunks } = import;
+    let dll = descriptor.dll;
+    let name = descriptor.name;
+    let lookups = descriptor.lookups;
+    let addresses = descriptor.addresses;
+    writeln!(
+        text,
+        "{dll}: name {name:#x}, lookups {lookups:#x}, addresses {addresses:#x}"
+    )?;
+    for (thunk, ask) in thunks.iter() {
+        match ask {
+            Ask::Name(name, hint) => writeln!(text, "  {thunk:#x}: {name}, hint {hint}")?,
+            Ask::Ordinal(ordinal) => writeln!(text, "  {thunk:#x}: ordinal {ordinal}")?,
+        }
+    }
+    Ok(())
 }

@@ -1,27 +1,43 @@
-//! An image: where sections stand, and what a loader finds there.
+//! An image: the groups of sections, and the bytes at addresses. Addresses count from the image's base.
 
-use super::object::{Section, bytes_from, place_at, text_in, u16_at, u32_at, u64_at};
+use super::object::{Flaw, Section, bytes_from};
 use std::alloc::{AllocError, Global};
 use std::test::Fail;
 
-/// The names of the sections that have a place.
-const PLACED: [&str; 5] = [".idata$2", ".idata$4", ".idata$5", ".idata$6", ".idata$7"];
+/// The bases of the groups, in the order of [`GROUPS`].
+pub type Bases = [usize; 6];
 
-/// The bytes of all sections of one name, from their base on.
+/// The names of the sections that are placed, a group for each: the import tables, and code.
+const GROUPS: [&str; 6] = [
+    ".idata$2", ".idata$4", ".idata$5", ".idata$6", ".idata$7", ".text",
+];
+
+/// The sections of one name, one after another from the group's base on.
 #[derive(Drop)]
-struct Range {
+struct Group {
     name: &'static str,
     base: usize,
     bytes: Vec<u8>,
 }
 
-/// The ranges of the names that have a place.
+/// The bytes of all groups.
 #[derive(Drop)]
 pub struct Image {
-    ranges: Vec<Range>,
+    groups: Vec<Group>,
 }
 
-impl Range {
+/// Why bases do not serve.
+#[derive(Clone, Copy, Debug, PartialEq, Eq)]
+pub enum Misplaced {
+    /// The base of a group is 0 or no multiple of 4.
+    Base(&'static str),
+    /// A group does not end below 2^31.
+    End(&'static str),
+    /// An address is in two groups.
+    Overlap(&'static str, &'static str),
+}
+
+impl Group {
     /// The address after the last byte.
     fn end(&self) -> usize {
         self.base.saturating_add(self.bytes.len())
@@ -35,44 +51,125 @@ impl Range {
             .ok_or("a section has no address")?;
         let offset = address
             .checked_sub(self.base)
-            .ok_or("a section stands below its base")?;
+            .ok_or("a section is below its base")?;
         self.bytes.resize(offset, 0)?;
         self.bytes.extend_from_slice(section.data)?;
         Ok(address)
+    }
+
+    /// Whether an address is in it and in another one. None is in a group without bytes.
+    fn overlaps(&self, other: &Group) -> bool {
+        let is_apart = self.end() <= other.base || other.end() <= self.base;
+        !is_apart && !self.bytes.is_empty() && !other.bytes.is_empty()
+    }
+
+    /// Why its base does not serve.
+    fn misplaced(&self) -> Option<Misplaced> {
+        if self.base == 0 || self.base % 4 != 0 {
+            Some(Misplaced::Base(self.name))
+        } else if self.end() >= 0x8000_0000 {
+            Some(Misplaced::End(self.name))
+        } else {
+            None
+        }
     }
 }
 
 impl Image {
     /// An image without bytes.
-    pub fn new(alloc: Global, bases: [usize; 5]) -> Result<Self, AllocError> {
-        let mut ranges = Vec::new(alloc);
-        for (name, base) in PLACED.iter().zip(bases.iter()) {
-            ranges.push(Range {
+    pub fn new(alloc: Global, bases: Bases) -> Result<Self, AllocError> {
+        let mut groups = Vec::new(alloc);
+        for (name, base) in GROUPS.iter().zip(bases.iter()) {
+            groups.push(Group {
                 name: *name,
                 base: *base,
                 bytes: Vec::new(alloc),
             })?;
         }
-        Ok(Image { ranges })
+        Ok(Image { groups })
     }
 
-    /// Places a section after those of its name, and gives its address, if it is of a name that has
-    /// a place.
+    /// The same image once more.
+    pub fn copy(&self, alloc: Global) -> Result<Self, AllocError> {
+        let mut groups = Vec::new(alloc);
+        for group in self.groups.iter() {
+            groups.push(Group {
+                name: group.name,
+                base: group.base,
+                bytes: Vec::from_slice(alloc, group.bytes.as_slice())?,
+            })?;
+        }
+        Ok(Image { groups })
+    }
+
+    /// Places a section after those of its name, and gives its address, if there is a group of that
+    /// name.
     pub fn place(&mut self, section: &Section) -> Result<Option<usize>, Fail> {
-        for range in self.ranges.iter_mut() {
-            if range.name == section.name {
-                return Ok(Some(range.place(section)?));
+        for group in self.groups.iter_mut() {
+            if group.name == section.name {
+                return Ok(Some(group.place(section)?));
             }
         }
         Ok(None)
     }
 
-    /// Whether no address is in two ranges.
-    pub fn is_apart(&self) -> bool {
-        for first in self.ranges.iter() {
-            for second in self.ranges.iter() {
-                let apart = first.end() <= second.base || second.end() <= first.base;
-                if !apart && first.name != second.name {
+    /// Appends the null descriptor, which ends the import directory: linkers bring it.
+    pub fn end_directory(&mut self) -> Result<(), AllocError> {
+        for group in self.groups.iter_mut() {
+            if group.name == ".idata$2" {
+                group.bytes.extend_from_slice(&[0; 20])?;
+            }
+        }
+        Ok(())
+    }
+
+    /// Why the bases do not serve.
+    pub fn misplaced(&self) -> Option<Misplaced> {
+        for group in self.groups.iter() {
+            if let Some(misplaced) = group.misplaced() {
+                return Some(misplaced);
+            }
+        }
+        for (index, first) in self.groups.iter().enumerate() {
+            for second in self.groups.iter().skip(index.saturating_add(1)) {
+                if first.overlaps(second) {
+                    return Some(Misplaced::Overlap(first.name, second.name));
+                }
+            }
+        }
+        None
+    }
+
+    /// The bytes from an address to the end of its group.
+    pub fn bytes_from(&self, address: usize) -> Result<&[u8], Flaw> {
+        for group in self.groups.iter() {
+            if group.base <= address && address < group.end() {
+                return bytes_from(group.bytes.as_slice(), address - group.base);
+            }
+        }
+        Err("an address leads out of the image")
+    }
+
+    /// Writes bytes at an address. They are in one group.
+    pub fn write(&mut self, address: usize, bytes: &[u8]) -> Result<(), Flaw> {
+        for group in self.groups.iter_mut() {
+            if let Some(offset) = address.checked_sub(group.base)
+                && let Some(rest) = group.bytes.as_mut_slice().get_mut(offset..)
+                && let Some(field) = rest.get_mut(..bytes.len())
+            {
+                field.copy_from_slice(bytes);
+                return Ok(());
+            }
+        }
+        Err("a field leads out of the image")
+    }
+
+    /// Whether another image has the same bytes, but for those of some of these fields.
+    pub fn is_same_but_in(&self, other: &Image, fields: &[usize], width: usize) -> bool {
+        for (group, changed) in self.groups.iter().zip(other.groups.iter()) {
+            for (index, (byte, now)) in group.bytes.iter().zip(changed.bytes.iter()).enumerate() {
+                let address = group.base.saturating_add(index);
+                if byte != now && !is_in(address, fields, width) {
                     return false;
                 }
             }
@@ -80,37 +177,11 @@ impl Image {
         true
     }
 
-    /// Adds a number to the field of four bytes at an address.
-    pub fn add(&mut self, address: usize, number: u32) -> Result<(), Fail> {
-        for range in self.ranges.iter_mut() {
-            if let Some(offset) = address.checked_sub(range.base)
-                && let Some(rest) = range.bytes.as_mut_slice().get_mut(offset..)
-                && let Some(field) = rest.first_chunk_mut()
-            {
-                *field = u32::from_le_bytes(*field)
-                    .wrapping_add(number)
-                    .to_le_bytes();
-                return Ok(());
-            }
-        }
-        Err(Fail::new("a relocation leads out of the image"))
-    }
-
-    /// The bytes from an address to the end of its range.
-    fn bytes_from(&self, address: usize) -> Result<&[u8], Fail> {
-        for range in self.ranges.iter() {
-            if range.base <= address && address < range.end() {
-                return bytes_from(range.bytes.as_slice(), address - range.base);
-            }
-        }
-        Err(Fail::new("an address leads out of the image"))
-    }
-
-    /// Appends the bytes of each range.
+    /// Appends the bytes of each group.
     pub fn show(&self, text: &mut String) -> Result<(), AllocError> {
-        for range in self.ranges.iter() {
-            let Range { name, base, bytes } = range;
-            let end = range.end();
+        for group in self.groups.iter() {
+            let Group { name, base, bytes } = group;
+            let end = group.end();
             write!(text, "{name} {base:#x} to {end:#x}:")?;
             for byte in bytes.iter() {
                 write!(text, " {byte:02x}")?;
@@ -119,68 +190,11 @@ impl Image {
         }
         Ok(())
     }
+}
 
-    /// Appends what a loader finds by the import descriptor at an address.
-    pub fn load(&self, address: usize, is_32bit: bool, text: &mut String) -> Result<(), Fail> {
-        let descriptor = self.bytes_from(address)?;
-        let lookups = place_at(descriptor, 0)?;
-        let name = place_at(descriptor, 12)?;
-        let dll = text_in(self.bytes_from(name)?)?;
-        let addresses = place_at(descriptor, 16)?;
-        writeln!(
-            text,
-            "descriptor {address:#x}: lookups {lookups:#x}, name {name:#x} {dll}, addresses {addresses:#x}"
-        )?;
-        self.load_table("lookup", lookups, is_32bit, text)?;
-        self.load_table("address", addresses, is_32bit, text)
-    }
-
-    /// Appends what the thunks from an address on ask for, up to the zero thunk.
-    fn load_table(
-        &self,
-        table: &str,
-        address: usize,
-        is_32bit: bool,
-        text: &mut String,
-    ) -> Result<(), Fail> {
-        let bytes = self.bytes_from(address)?;
-        let thunks = if is_32bit {
-            bytes.chunks_exact(4)
-        } else {
-            bytes.chunks_exact(8)
-        };
-        for bytes in thunks {
-            let thunk = if is_32bit {
-                u64::from(u32_at(bytes, 0)?)
-            } else {
-                u64_at(bytes, 0)?
-            };
-            if thunk == 0 {
-                return Ok(());
-            }
-            let is_ordinal = bytes.last().is_some_and(|byte| *byte >= 0x80);
-            self.load_thunk(table, thunk, is_ordinal, text)?;
-        }
-        Err(Fail::new("a table has no end"))
-    }
-
-    /// Appends what a thunk asks for: an ordinal, or the name that follows the hint at an address.
-    fn load_thunk(
-        &self,
-        table: &str,
-        thunk: u64,
-        is_ordinal: bool,
-        text: &mut String,
-    ) -> Result<(), Fail> {
-        if is_ordinal {
-            let ordinal = thunk % 0x1_0000;
-            writeln!(text, "{table} {thunk:#x}: ordinal {ordinal}")?;
-        } else {
-            let bytes = self.bytes_from((thunk % 0x8000_0000) as usize)?;
-            let hint = u16_at(bytes, 0)?;
-            let name = text_in(bytes_from(bytes, 2)?)?;
-            writeln!(text, "{table} {thunk:#x}: {name}, hint {hint}")?;
-        }
-        Ok(())
-    }
+/// Whether an address is in a field that begins at one of these.
+fn is_in(address: usize, fields: &[usize], width: usize) -> bool {
+    fields
+        .iter()
+        .any(|field| *field <= address && address - *field < width)
 }
