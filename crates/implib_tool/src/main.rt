@@ -8,19 +8,9 @@ pub mod device;
 mod doubles;
 pub mod host;
 pub mod laws;
-#[cfg(test)]
-mod library_tests;
-#[cfg(test)]
-mod link_tests;
-#[cfg(test)]
-mod linked;
 mod listing;
-#[cfg(test)]
-mod member_tests;
 mod parts;
 pub mod program;
-#[cfg(test)]
-mod readings;
 pub mod run;
 #[cfg(test)]
 mod run_tests;

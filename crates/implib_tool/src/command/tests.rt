@@ -1,6 +1,5 @@
 use super::command;
 use crate::doubles::{MemorySink, MemorySource};
-use implib::def::ShortExport;
 use std::alloc::{AllocError, Global};
 use std::process::Abort;
 use std::test::Fail;
@@ -267,117 +266,136 @@ fn one_function_is_listed_for_gnu(rt: HostRuntime) -> Result<(), Fail> {
     Ok(())
 }
 
+/// Arguments, a text, the lines that name its members and their symbols, and the end of its listing.
+type Listing = (&'static str, &'static str, [&'static str; 4], &'static str);
+
+/// The lines that are expected to name a listing's members and their symbols.
+fn expected_heads(alloc: Global, listing: &Listing) -> Result<String, AllocError> {
+    let mut heads = String::new(alloc);
+    for part in listing.2.iter() {
+        heads.push_str(*part)?;
+    }
+    Ok(heads)
+}
+
+/// Holds what a command lists over devices of a pace: its lines that name members and symbols, and its end.
+fn expect_listing(rt: &impl Abort, got: &Answer, got_heads: &str, want_heads: &str, end: &str) {
+    assert_eq!(rt; got.status, 0, "{want_heads:?}");
+    assert_eq!(rt; got_heads, want_heads);
+    assert!(rt; got.written.ends_with(end), "{want_heads:?}");
+    assert_eq!(rt; got.faults.as_str(), "", "{want_heads:?}");
+}
+
+/// Definitions that are listed.
+const LISTINGS: [Listing; 8] = [
+    ("", BAR, [FOO_HEADS, BAR_HEADS, "", ""], BAR_BYTES),
+    ("AMD64 msvc", BAR, [FOO_HEADS, BAR_HEADS, "", ""], BAR_BYTES),
+    (
+        "",
+        "LIBRARY foo.dll\nEXPORTS\nbar\nqux",
+        [
+            FOO_HEADS,
+            BAR_HEADS,
+            "member foo.dll 32\nsymbol __imp_qux\nsymbol qux\n",
+            "",
+        ],
+        "00 00 04 00 71 75 78 00 66 6f 6f 2e 64 6c 6c 00\n",
+    ),
+    (
+        "I386 msvc",
+        "LIBRARY a.dll\nEXPORTS\nf\n_g@8\n@h@4 @ 7 NONAME",
+        [I386_HEADS, "", "", ""],
+        "00 00 ff ff 00 00 4c 01 00 00 00 00 0b 00 00 00\n\
+        07 00 00 00 40 68 40 34 00 61 2e 64 6c 6c 00\n",
+    ),
+    ("", "LIBRARY foo.dll\nEXPORTS", [FOO_HEADS, "", "", ""], ""),
+    (
+        "",
+        "LIBRARY foo.dll\nEXPORTS\nbar\n---\nLIBRARY zed.dll\nEXPORTS\nqux",
+        [
+            FOO_HEADS,
+            BAR_HEADS,
+            ZED_HEADS,
+            "member zed.dll 32\nsymbol __imp_qux\nsymbol qux\n",
+        ],
+        "00 00 04 00 71 75 78 00 7a 65 64 2e 64 6c 6c 00\n",
+    ),
+    (
+        "",
+        "LIBRARY \"NAME\"",
+        [
+            "member NAME 357\nsymbol __IMPORT_DESCRIPTOR_NAME\n",
+            "member NAME 127\nsymbol __NULL_IMPORT_DESCRIPTOR\n",
+            "member NAME 160\nsymbol \\x7fNAME_NULL_THUNK_DATA\n",
+            "",
+        ],
+        "",
+    ),
+    (
+        "",
+        "; a\0b\nLIBRARY x",
+        [
+            "member x 348\nsymbol __IMPORT_DESCRIPTOR_x\n",
+            "member x 127\nsymbol __NULL_IMPORT_DESCRIPTOR\n",
+            "member x 157\nsymbol \\x7fx_NULL_THUNK_DATA\n",
+            "",
+        ],
+        "",
+    ),
+];
+
 #[test]
 fn definitions_are_listed(rt: HostRuntime) -> Result<(), Fail> {
-    let rows = [
-        ("", BAR, [FOO_HEADS, BAR_HEADS, "", ""], BAR_BYTES),
-        ("AMD64 msvc", BAR, [FOO_HEADS, BAR_HEADS, "", ""], BAR_BYTES),
-        (
-            "",
-            "LIBRARY foo.dll\nEXPORTS\nbar\nqux",
-            [
-                FOO_HEADS,
-                BAR_HEADS,
-                "member foo.dll 32\nsymbol __imp_qux\nsymbol qux\n",
-                "",
-            ],
-            "00 00 04 00 71 75 78 00 66 6f 6f 2e 64 6c 6c 00\n",
-        ),
-        (
-            "I386 msvc",
-            "LIBRARY a.dll\nEXPORTS\nf\n_g@8\n@h@4 @ 7 NONAME",
-            [I386_HEADS, "", "", ""],
-            "00 00 ff ff 00 00 4c 01 00 00 00 00 0b 00 00 00\n\
-            07 00 00 00 40 68 40 34 00 61 2e 64 6c 6c 00\n",
-        ),
-        ("", "LIBRARY foo.dll\nEXPORTS", [FOO_HEADS, "", "", ""], ""),
-        (
-            "",
-            "LIBRARY foo.dll\nEXPORTS\nbar\n---\nLIBRARY zed.dll\nEXPORTS\nqux",
-            [
-                FOO_HEADS,
-                BAR_HEADS,
-                ZED_HEADS,
-                "member zed.dll 32\nsymbol __imp_qux\nsymbol qux\n",
-            ],
-            "00 00 04 00 71 75 78 00 7a 65 64 2e 64 6c 6c 00\n",
-        ),
-        (
-            "",
-            "LIBRARY \"NAME\"",
-            [
-                "member NAME 357\nsymbol __IMPORT_DESCRIPTOR_NAME\n",
-                "member NAME 127\nsymbol __NULL_IMPORT_DESCRIPTOR\n",
-                "member NAME 160\nsymbol \\x7fNAME_NULL_THUNK_DATA\n",
-                "",
-            ],
-            "",
-        ),
-        (
-            "",
-            "; a\0b\nLIBRARY x",
-            [
-                "member x 348\nsymbol __IMPORT_DESCRIPTOR_x\n",
-                "member x 127\nsymbol __NULL_IMPORT_DESCRIPTOR\n",
-                "member x 157\nsymbol \\x7fx_NULL_THUNK_DATA\n",
-                "",
-            ],
-            "",
-        ),
-    ];
-    for (words, text, [first, second, third, fourth], end) in rows {
+    for listing in LISTINGS {
+        let (words, text, _, end) = listing;
+        let want = expected_heads(rt.alloc(), &listing)?;
         for pace in [WHOLE, (1, ANY)] {
             let got = answered(rt.alloc(), words, text.as_bytes(), pace, pace)?;
-            let want = format!(in rt.alloc(); "{first}{second}{third}{fourth}")?;
-            assert_eq!(rt; got.status, 0, "{text:?}");
-            assert_eq!(rt;
-                heads(rt.alloc(), got.written.as_str())?.as_str(),
-                want.as_str(),
-                "{text:?}"
-            );
-            assert!(rt; got.written.ends_with(end), "{text:?}");
-            assert_eq!(rt; got.faults.as_str(), "", "{text:?}");
+            let got_heads = heads(rt.alloc(), got.written.as_str())?;
+            expect_listing(&rt, &got, got_heads.as_str(), want.as_str(), end);
         }
     }
     Ok(())
 }
 
+/// Texts that are refused, and the fault.
+const REFUSED: [(&str, &str); 25] = [
+    (
+        "LIBRARY foo.dll\nEXPORTS\nbar\n---\n",
+        "import name is empty",
+    ),
+    ("---", "import name is empty"),
+    ("", "import name is empty"),
+    ("LIBRARY foo.dll\nEXPORTS\n\"\"", "export name is empty"),
+    ("foo", "unknown directive: foo"),
+    ("a\nb", "unknown directive: a"),
+    (
+        "LIBRARY foo.dll\nEXPORTS\nbar\n---\nfoo\n---\n",
+        "unknown directive: foo",
+    ),
+    ("\"a\nb\"", "unknown directive: a\nb"),
+    ("LIBRARY a\0b", "import name contains null byte"),
+    ("LIBRARY \"a\0b\"", "import name contains null byte"),
+    ("LIBRARY \"a.dll", "import name is empty"),
+    ("HEAPSIZE 18446744073709551615", "import name is empty"),
+    ("HEAPSIZE 18446744073709551616", "expected integer"),
+    ("HEAPSIZE +0007", "import name is empty"),
+    ("HEAPSIZE -1", "expected integer"),
+    ("HEAPSIZE +", "expected integer"),
+    ("VERSION 4294967295.0", "import name is empty"),
+    ("VERSION 4294967296", "expected integer"),
+    ("VERSION .1", "expected integer"),
+    ("VERSION 1.", "expected integer"),
+    ("EXPORTS f @65535", "import name is empty"),
+    ("EXPORTS f @ 65536", "invalid ordinal: 65536"),
+    ("EXPORTS @5", "import name is empty"),
+    ("EXPORTS f @ =", "invalid ordinal: ="),
+    ("EXPORTS\na\x0cb\nc\x0c\n", "import name is empty"),
+];
+
 #[test]
 fn refusals_are_answered(rt: HostRuntime) -> Result<(), Fail> {
-    let rows = [
-        (
-            "LIBRARY foo.dll\nEXPORTS\nbar\n---\n",
-            "import name is empty",
-        ),
-        ("---", "import name is empty"),
-        ("", "import name is empty"),
-        ("LIBRARY foo.dll\nEXPORTS\n\"\"", "export name is empty"),
-        ("foo", "unknown directive: foo"),
-        ("a\nb", "unknown directive: a"),
-        (
-            "LIBRARY foo.dll\nEXPORTS\nbar\n---\nfoo\n---\n",
-            "unknown directive: foo",
-        ),
-        ("\"a\nb\"", "unknown directive: a\nb"),
-        ("LIBRARY a\0b", "import name contains null byte"),
-        ("LIBRARY \"a\0b\"", "import name contains null byte"),
-        ("LIBRARY \"a.dll", "import name is empty"),
-        ("HEAPSIZE 18446744073709551615", "import name is empty"),
-        ("HEAPSIZE 18446744073709551616", "expected integer"),
-        ("HEAPSIZE +0007", "import name is empty"),
-        ("HEAPSIZE -1", "expected integer"),
-        ("HEAPSIZE +", "expected integer"),
-        ("VERSION 4294967295.0", "import name is empty"),
-        ("VERSION 4294967296", "expected integer"),
-        ("VERSION .1", "expected integer"),
-        ("VERSION 1.", "expected integer"),
-        ("EXPORTS f @65535", "import name is empty"),
-        ("EXPORTS f @ 65536", "invalid ordinal: 65536"),
-        ("EXPORTS @5", "import name is empty"),
-        ("EXPORTS f @ =", "invalid ordinal: ="),
-        ("EXPORTS\na\x0cb\nc\x0c\n", "import name is empty"),
-    ];
-    for (text, fault) in rows {
+    for (text, fault) in REFUSED {
         for words in ["AMD64 msvc", "AMD64 gnu"] {
             let got = answered(rt.alloc(), words, text.as_bytes(), WHOLE, (ANY, 0))?;
             let want = format!(in rt.alloc(); "implib: {fault}\n")?;
@@ -484,22 +502,6 @@ fn long_inputs_are_read_whole(rt: HostRuntime) -> Result<(), Fail> {
     let got = answered(rt.alloc(), "", bytes.as_slice(), WHOLE, (ANY, 0))?;
     assert_eq!(rt; got.status, 1);
     assert_eq!(rt; got.faults.as_str(), "implib: input is not UTF-8\n");
-    Ok(())
-}
-
-#[test]
-fn an_export_of_equal_names_is_copied(rt: HostRuntime) -> Result<(), Fail> {
-    let alloc = rt.alloc();
-    let export = ShortExport {
-        name: String::from_str(alloc, "foo")?,
-        ext_name: Some(String::from_str(alloc, "foo")?),
-        symbol_name: String::from_str(alloc, "foo")?,
-        alias_target: String::from_str(alloc, "foo")?,
-        ..ShortExport::empty(alloc)
-    };
-    let copy = export.clone()?;
-    assert_eq!(rt; copy.name.as_str(), "foo");
-    assert_eq!(rt; copy.alias_target.as_str(), "foo");
     Ok(())
 }
 

@@ -135,7 +135,7 @@ fn answers_are_passed_on(rt: HostRuntime) {
 }
 
 #[test]
-fn faults_of_the_system_are_told(rt: HostRuntime) -> Result<(), Fail> {
+fn faults_of_the_system_are_reported(rt: HostRuntime) -> Result<(), Fail> {
     let words = Vec::new(rt.alloc());
     for first in [None, Some(0)] {
         let mut reader = Host::new(TEXT.as_bytes());

@@ -147,7 +147,7 @@ fn outcome(alloc: Global, answer: Result<ModuleDef, Error>) -> Result<String, Al
 }
 
 #[test]
-fn outcomes(rt: HostRuntime) -> Result<(), Fail> {
+fn texts_have_their_meanings_or_faults(rt: HostRuntime) -> Result<(), Fail> {
     let alloc = rt.alloc();
     for (text, expected) in OUTCOMES {
         let answer = outcome(alloc, ModuleDef::parse(alloc, text, MachineType::AMD64))?;
@@ -201,7 +201,7 @@ const FRONTS: [&str; 36] = [
 ];
 
 #[test]
-fn each_front(rt: HostRuntime) -> Result<(), Fail> {
+fn each_front_has_its_meaning_or_fault(rt: HostRuntime) -> Result<(), Fail> {
     let alloc = rt.alloc();
     let text = "EXPORTS\nfoo = bar == baz @ 1 NONAME";
     for (length, expected) in FRONTS.iter().enumerate() {

@@ -1,8 +1,7 @@
 //! Reads short import records, by the PE/COFF specification and, for what is asked for by the name
 //! types, by `docs/FORMATS.md`.
 
-use super::object::{bytes_from, place_at, text_in, text_of, u16_at};
-use std::test::Fail;
+use super::object::{Flaw, bytes_from, text_in, text_of, u16_at, usize_at};
 
 /// A short import record.
 #[derive(Clone, Copy)]
@@ -15,10 +14,10 @@ pub struct Record<'a> {
 }
 
 /// What a DLL is asked for.
-#[derive(Clone, Copy)]
+#[derive(Clone, Copy, Debug, PartialEq, Eq)]
 pub enum Ask<'a> {
     Ordinal(u16),
-    /// A name, with the hint where it may stand.
+    /// A name, with the hint.
     Name(&'a str, u16),
 }
 
@@ -28,16 +27,16 @@ pub fn is_record(bytes: &[u8]) -> bool {
 }
 
 /// The record in a file's bytes: a header, and two texts to the end.
-pub fn record_in(bytes: &[u8]) -> Result<Record<'_>, Fail> {
+pub fn record_in(bytes: &[u8]) -> Result<Record<'_>, Flaw> {
     let texts = bytes_from(bytes, 20)?;
     let symbol = text_in(texts)?;
     let rest = bytes_from(texts, symbol.len().saturating_add(1))?;
     let dll = text_in(rest)?;
-    if place_at(bytes, 12)? != texts.len() || dll.len().saturating_add(1) != rest.len() {
-        return Err(Fail::new("a record has another size"));
+    if usize_at(bytes, 12)? != texts.len() || dll.len().saturating_add(1) != rest.len() {
+        return Err("a record has another size");
     }
     if u16_at(bytes, 4)? != 0 {
-        return Err(Fail::new("a record has another version"));
+        return Err("a record has another version");
     }
     Ok(Record {
         machine: u16_at(bytes, 6)?,
@@ -57,20 +56,20 @@ impl<'a> Record<'a> {
     }
 
     /// What it asks for, by its name type.
-    pub fn ask(&self) -> Result<Ask<'a>, Fail> {
+    pub fn ask(&self) -> Result<Ask<'a>, Flaw> {
         let name = match self.types / 4 {
             0 => return Ok(Ask::Ordinal(self.ordinal)),
             1 => self.symbol,
             2 => without_prefix(self.symbol)?,
             3 => undecorated(without_prefix(self.symbol)?),
-            _ => return Err(Fail::new("a record has another name type")),
+            _ => return Err("a record has another name type"),
         };
         Ok(Ask::Name(name, self.ordinal))
     }
 }
 
 /// A name without its first character, if that is one of three.
-fn without_prefix(name: &str) -> Result<&str, Fail> {
+fn without_prefix(name: &str) -> Result<&str, Flaw> {
     match name.as_bytes() {
         [b'?' | b'@' | b'_', rest @ ..] => text_of(rest),
         _ => Ok(name),

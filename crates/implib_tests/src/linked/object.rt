@@ -1,11 +1,13 @@
-//! Reads COFF objects, by the PE/COFF specification alone: the places and counts in the bytes are
-//! followed.
+//! Reads COFF objects, by the PE/COFF specification alone: it follows the offsets and counts in the bytes.
 
 ghost use Rattle.std.specs.Prelude.{◌<◌, ◌^◌, IfOk};
 
 use std::alloc::Global;
 use std::str;
 use std::test::Fail;
+
+/// What is wrong with bytes.
+pub type Flaw = &'static str;
 
 /// An object.
 #[derive(Drop)]
@@ -49,17 +51,22 @@ impl Symbol<'_> {
         self.class == 2
     }
 
-    /// Whether it is one that a section of its object defines for the others.
+    /// Whether a section of its object defines it for the others.
     pub fn is_defined(&self) -> bool {
         self.is_external() && self.section >= 1 && self.section <= 0x7FFF
     }
 
-    /// Whether another may stand for it.
+    /// Whether its object gives it an absolute value for the others.
+    pub fn is_absolute(&self) -> bool {
+        self.is_external() && self.section == 0xFFFF
+    }
+
+    /// Whether another symbol may replace it.
     pub fn is_weak(&self) -> bool {
         self.class == 105
     }
 
-    /// Whether it is one that another object defines.
+    /// Whether its object leaves it to the others.
     pub fn is_undefined(&self) -> bool {
         self.is_external() && self.section == 0
     }
@@ -67,21 +74,21 @@ impl Symbol<'_> {
 
 impl<'a> Object<'a> {
     /// The symbol of an index.
-    pub fn symbol(&self, index: usize) -> Result<Symbol<'a>, Fail> {
+    pub fn symbol(&self, index: usize) -> Result<Symbol<'a>, Flaw> {
         let symbol = self.symbols.get(index).copied().flatten();
-        Ok(symbol.ok_or("an index has no symbol")?)
+        symbol.ok_or("an index has no symbol")
     }
 
     /// The section that has a symbol.
-    pub fn section_of(&self, symbol: Symbol) -> Result<&Section<'a>, Fail> {
+    pub fn section_of(&self, symbol: Symbol) -> Result<&Section<'a>, Flaw> {
         let index = usize::from(symbol.section).checked_sub(1);
         let section = self.sections.get(index.ok_or("a symbol has no section")?);
-        Ok(section.ok_or("a symbol has a section that is not there")?)
+        section.ok_or("a symbol has a section that is not there")
     }
 
     /// The symbol that it makes weak, if there is one, and the symbol for which. An auxiliary record
     /// says that it is an alias.
-    pub fn weak(&self) -> Result<Option<(Symbol<'a>, Symbol<'a>)>, Fail> {
+    pub fn weak(&self) -> Result<Option<(Symbol<'a>, Symbol<'a>)>, Flaw> {
         for (index, symbol) in self.symbols.iter().enumerate() {
             if let Some(symbol) = symbol
                 && symbol.is_weak()
@@ -91,9 +98,9 @@ impl<'a> Object<'a> {
                     18usize.saturating_mul(index).saturating_add(18),
                 )?;
                 if u32_at(auxiliary, 4)? != 3 {
-                    return Err(Fail::new("a weak symbol is no alias"));
+                    return Err("a weak symbol is no alias");
                 }
-                return Ok(Some((*symbol, self.symbol(place_at(auxiliary, 0)?)?)));
+                return Ok(Some((*symbol, self.symbol(usize_at(auxiliary, 0)?)?)));
             }
         }
         Ok(None)
@@ -110,58 +117,60 @@ impl Section<'_> {
     }
 }
 
-/// The bytes from a place on.
-pub fn bytes_from(bytes: &[u8], place: usize) -> Result<&[u8], Fail> {
-    Ok(bytes.get(place..).ok_or("a place leads out of its bytes")?)
+/// The bytes from an offset on.
+pub fn bytes_from(bytes: &[u8], offset: usize) -> Result<&[u8], Flaw> {
+    bytes
+        .get(offset..)
+        .ok_or("an offset leads out of its bytes")
 }
 
-/// So many bytes from a place on.
-fn bytes_at(bytes: &[u8], place: usize, count: usize) -> Result<&[u8], Fail> {
-    let rest = bytes_from(bytes, place)?;
-    Ok(rest.get(..count).ok_or("a count leads out of its bytes")?)
+/// This many bytes from an offset on.
+fn bytes_at(bytes: &[u8], offset: usize, count: usize) -> Result<&[u8], Flaw> {
+    let rest = bytes_from(bytes, offset)?;
+    rest.get(..count).ok_or("a count leads out of its bytes")
 }
 
-/// The array at a place.
-fn array_at<const N: usize>(bytes: &[u8], place: usize) -> Result<[u8; N], Fail> {
-    let rest = bytes_from(bytes, place)?;
+/// The array at an offset.
+fn array_at<const N: usize>(bytes: &[u8], offset: usize) -> Result<[u8; N], Flaw> {
+    let rest = bytes_from(bytes, offset)?;
     Ok(*rest.first_chunk().ok_or("a field leads out of its bytes")?)
 }
 
 /// The number in two bytes.
-pub fn u16_at(bytes: &[u8], place: usize) -> Result<u16, Fail> {
-    Ok(u16::from_le_bytes(array_at(bytes, place)?))
+pub fn u16_at(bytes: &[u8], offset: usize) -> Result<u16, Flaw> {
+    Ok(u16::from_le_bytes(array_at(bytes, offset)?))
 }
 
 /// The number in four bytes.
-pub fn u32_at(bytes: &[u8], place: usize) -> Result<u32, Fail> {
-    Ok(u32::from_le_bytes(array_at(bytes, place)?))
+pub fn u32_at(bytes: &[u8], offset: usize) -> Result<u32, Flaw> {
+    Ok(u32::from_le_bytes(array_at(bytes, offset)?))
 }
 
 /// The number in eight bytes.
-pub fn u64_at(bytes: &[u8], place: usize) -> Result<u64, Fail> {
-    Ok(u64::from_le_bytes(array_at(bytes, place)?))
+pub fn u64_at(bytes: &[u8], offset: usize) -> Result<u64, Flaw> {
+    Ok(u64::from_le_bytes(array_at(bytes, offset)?))
 }
 
-/// A place or a count of four bytes.
-pub fn place_at(bytes: &[u8], place: usize) -> Result<usize, Fail>
+/// The address, the offset or the count in four bytes.
+pub fn usize_at(bytes: &[u8], offset: usize) -> Result<usize, Flaw>
     ensures { IfOk result (λ value. value < 2 ^ 32) }
 {
-    Ok(u32_at(bytes, place)? as usize)
+    Ok(u32_at(bytes, offset)? as usize)
 }
 
 /// The text that a NUL ends.
-pub fn text_in(bytes: &[u8]) -> Result<&str, Fail> {
+pub fn text_in(bytes: &[u8]) -> Result<&str, Flaw> {
     let end = bytes.iter().position(|byte| *byte == 0);
     text_of(bytes_at(bytes, 0, end.ok_or("a text has no end")?)?)
 }
 
 /// The text that bytes are.
-pub fn text_of(bytes: &[u8]) -> Result<&str, Fail> {
-    Ok(str::from_utf8(bytes)?)
+pub fn text_of(bytes: &[u8]) -> Result<&str, Flaw> {
+    str::from_utf8(bytes).map_err(|_| "a text is not UTF-8")
 }
 
 /// The text in a field of eight bytes, which NULs fill.
-fn filled_text(record: &[u8]) -> Result<&str, Fail> {
+fn filled_text(record: &[u8]) -> Result<&str, Flaw> {
     let field = bytes_at(record, 0, 8)?;
     let end = field.iter().position(|byte| *byte == 0).unwrap_or(8);
     text_of(bytes_at(field, 0, end)?)
@@ -169,17 +178,17 @@ fn filled_text(record: &[u8]) -> Result<&str, Fail> {
 
 /// The object in a file's bytes.
 pub fn object_in(alloc: Global, bytes: &[u8]) -> Result<Object<'_>, Fail> {
-    let headers_place = 20 + usize::from(u16_at(bytes, 16)?);
+    let headers_offset = 20 + usize::from(u16_at(bytes, 16)?);
     let headers_count = usize::from(u16_at(bytes, 2)?);
     let mut sections = Vec::new(alloc);
-    for header in bytes_at(bytes, headers_place, 40 * headers_count)?.chunks_exact(40) {
+    for header in bytes_at(bytes, headers_offset, 40 * headers_count)?.chunks_exact(40) {
         sections.push(section_of(alloc, bytes, header)?)?;
     }
-    let symbols_size = 18 * place_at(bytes, 12)?;
-    let (records, strings) = bytes_from(bytes, place_at(bytes, 8)?)?
+    let symbols_size = 18 * usize_at(bytes, 12)?;
+    let (records, strings) = bytes_from(bytes, usize_at(bytes, 8)?)?
         .split_at_checked(symbols_size)
         .ok_or("symbols lead out of their object")?;
-    let strings = bytes_at(strings, 0, place_at(strings, 0)?)?;
+    let strings = bytes_at(strings, 0, usize_at(strings, 0)?)?;
     Ok(Object {
         machine: u16_at(bytes, 0)?,
         sections,
@@ -188,28 +197,28 @@ pub fn object_in(alloc: Global, bytes: &[u8]) -> Result<Object<'_>, Fail> {
     })
 }
 
-/// The section that a header describes. Without a place for its data it has none.
+/// The section that a header describes. Where the offset of its data is 0 it has none.
 fn section_of<'a>(alloc: Global, bytes: &'a [u8], header: &'a [u8]) -> Result<Section<'a>, Fail> {
-    let data_place = place_at(header, 20)?;
-    let data_size = if data_place == 0 {
+    let data_offset = usize_at(header, 20)?;
+    let data_size = if data_offset == 0 {
         0
     } else {
-        place_at(header, 16)?
+        usize_at(header, 16)?
     };
     let records_count = usize::from(u16_at(header, 32)?);
-    let records = bytes_at(bytes, place_at(header, 24)?, 10 * records_count)?;
+    let records = bytes_at(bytes, usize_at(header, 24)?, 10 * records_count)?;
     let mut relocations = Vec::new(alloc);
     for record in records.chunks_exact(10) {
         relocations.push(Relocation {
-            offset: place_at(record, 0)?,
-            symbol: place_at(record, 4)?,
+            offset: usize_at(record, 0)?,
+            symbol: usize_at(record, 4)?,
             kind: u16_at(record, 8)?,
         })?;
     }
     Ok(Section {
         name: filled_text(header)?,
         flags: u32_at(header, 36)?,
-        data: bytes_at(bytes, data_place, data_size)?,
+        data: bytes_at(bytes, data_offset, data_size)?,
         relocations,
     })
 }
@@ -230,7 +239,7 @@ fn symbols_in<'a>(
             let [class, count] = array_at::<2>(record, 16)?;
             symbols.push(Some(Symbol {
                 name: name_of(record, strings)?,
-                value: place_at(record, 8)?,
+                value: usize_at(record, 8)?,
                 section: u16_at(record, 12)?,
                 class,
             }))?;
@@ -243,10 +252,10 @@ fn symbols_in<'a>(
     Ok(symbols)
 }
 
-/// The name of a symbol: after four zero bytes it stands in the string table.
-fn name_of<'a>(record: &'a [u8], strings: &'a [u8]) -> Result<&'a str, Fail> {
+/// The name of a symbol: after four zero bytes it is in the string table.
+fn name_of<'a>(record: &'a [u8], strings: &'a [u8]) -> Result<&'a str, Flaw> {
     if u32_at(record, 0)? == 0 {
-        text_in(bytes_from(strings, place_at(record, 4)?)?)
+        text_in(bytes_from(strings, usize_at(record, 4)?)?)
     } else {
         filled_text(record)
     }

@@ -1,11 +1,11 @@
-//! Objects whose bytes are known from outside this program.
+//! Objects of the writer, whose bytes are known from outside.
 
 ghost use Rattle.implib.specs.Writer.{section_view};
 ghost use Rattle.implib.specs.Writer.{added_view};
 ghost use Rattle.std.specs.Prelude.{◌≡◌, None, [], IfOk};
 
-use implib::MachineType;
 use implib::coff::{ObjectWriter, Place, Relocation, Section, Symbol, class, relocation};
+use implib::{Error, MachineType};
 use std::alloc::{AllocError, Global};
 use std::test::Fail;
 
@@ -48,7 +48,7 @@ pub fn section(
 }
 
 #[test]
-fn long_name_stands_in_the_string_table(rt: HostRuntime) -> Result<(), Fail> {
+fn a_name_of_nine_bytes_is_in_the_string_table(rt: HostRuntime) -> Result<(), Fail> {
     let alloc = rt.alloc();
     let mut writer = ObjectWriter::new(alloc, MachineType::AMD64);
     let short = symbol(alloc, "abcdefgh", Place::Undefined, class::EXTERNAL, None)?;
@@ -69,7 +69,7 @@ fn long_name_stands_in_the_string_table(rt: HostRuntime) -> Result<(), Fail> {
 }
 
 #[test]
-fn object_of_one_section(rt: HostRuntime) -> Result<(), Fail> {
+fn an_object_of_one_section_has_its_bytes(rt: HostRuntime) -> Result<(), Fail> {
     let alloc = rt.alloc();
     let mut writer = ObjectWriter::new(alloc, MachineType::ARM64);
     let number = writer.add_section(section(alloc, *b".idata$2", 0xC030_0040, &[0; 20])?)?;
@@ -100,7 +100,7 @@ fn object_of_one_section(rt: HostRuntime) -> Result<(), Fail> {
 }
 
 #[test]
-fn long_name_stands_once(rt: HostRuntime) -> Result<(), Fail> {
+fn a_long_name_is_stored_once(rt: HostRuntime) -> Result<(), Fail> {
     let alloc = rt.alloc();
     let mut writer = ObjectWriter::new(alloc, MachineType::AMD64);
     let first = symbol(alloc, "abcdefghi", Place::Undefined, class::EXTERNAL, None)?;
@@ -115,7 +115,7 @@ fn long_name_stands_once(rt: HostRuntime) -> Result<(), Fail> {
 }
 
 #[test]
-fn auxiliary_record_has_an_index(rt: HostRuntime) -> Result<(), Fail> {
+fn an_auxiliary_record_takes_an_index(rt: HostRuntime) -> Result<(), Fail> {
     let alloc = rt.alloc();
     let mut writer = ObjectWriter::new(alloc, MachineType::AMD64);
     let file = symbol(
@@ -142,12 +142,11 @@ fn auxiliary_record_has_an_index(rt: HostRuntime) -> Result<(), Fail> {
     Ok(())
 }
 
-// The sections of the export member of `bar` of `foo.dll` for AMD64.
+// The code of the export `bar` for AMD64.
 const STUB: [u8; 8] = [0xFF, 0x25, 0, 0, 0, 0, 0x90, 0x90];
 
-#[test]
-fn export_member_has_its_places(rt: HostRuntime) -> Result<(), Fail> {
-    let alloc = rt.alloc();
+// The object of the export `bar` of `foo.dll` for AMD64.
+fn export_object(alloc: Global) -> Result<Vec<u8>, Error> {
     let mut writer = ObjectWriter::new(alloc, MachineType::AMD64);
     writer.add_section(section(alloc, *b".text\0\0\0", 0x6030_0020, STUB.as_slice())?)?;
     writer.add_section(section(alloc, *b".data\0\0\0", 0xC030_0040, &[])?)?;
@@ -198,22 +197,29 @@ fn export_member_has_its_places(rt: HostRuntime) -> Result<(), Fail> {
             kind: relocation::AMD64_ADDR32NB,
         },
     )?;
-    let bytes = writer.write()?;
+    writer.write()
+}
+
+// Offsets in it, and the bytes there.
+const EXPORT_BYTES: [(usize, &[u8]); 9] = [
+    (0, b"\x64\x86\x07\0\0\0\0\0\x76\x01\0\0\x04\0\0\0\0\0\0\0"),
+    (300, b"\xff\x25\0\0\0\0\x90\x90"),
+    (308, b"\x02\0\0\0\x02\0\0\0\x04\0"),
+    (318, b"\0\0\0\0\0\0\0\0\0\0\0\0\x03\0"),
+    (340, b"\0\0\0\0\x03\0\0\0\x03\0"),
+    (358, b"\0\0\0\0\x03\0\0\0\x03\0"),
+    (368, b"\0\0bar\0"),
+    (374, b"\0\0\0\0\x04\0\0\0"),
+    (446, b"\x1c\0\0\0_head_foo_dll\0__imp_bar\0"),
+];
+
+#[test]
+fn an_export_object_has_its_bytes_at_offsets(rt: HostRuntime) -> Result<(), Fail> {
+    let bytes = export_object(rt.alloc())?;
     assert_eq!(rt; bytes.len(), 474);
-    let pieces: [(usize, &[u8]); 9] = [
-        (0, b"\x64\x86\x07\0\0\0\0\0\x76\x01\0\0\x04\0\0\0\0\0\0\0"),
-        (300, b"\xff\x25\0\0\0\0\x90\x90"),
-        (308, b"\x02\0\0\0\x02\0\0\0\x04\0"),
-        (318, b"\0\0\0\0\0\0\0\0\0\0\0\0\x03\0"),
-        (340, b"\0\0\0\0\x03\0\0\0\x03\0"),
-        (358, b"\0\0\0\0\x03\0\0\0\x03\0"),
-        (368, b"\0\0bar\0"),
-        (374, b"\0\0\0\0\x04\0\0\0"),
-        (446, b"\x1c\0\0\0_head_foo_dll\0__imp_bar\0"),
-    ];
-    for (place, piece) in pieces {
-        let rest = bytes.get(place..).ok_or("past the end")?;
-        assert!(rt; rest.starts_with(piece), "at {place}");
+    for (offset, piece) in EXPORT_BYTES {
+        let rest = bytes.get(offset..).ok_or("past the end")?;
+        assert!(rt; rest.starts_with(piece), "at {offset}");
     }
     Ok(())
 }

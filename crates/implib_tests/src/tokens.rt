@@ -2,9 +2,9 @@
 
 use implib::def::lexer::{Lexer, Token, TokenKind, word_end};
 use std::process::Abort;
-use std::test::Fail;
 
-type Row<'a> = (TokenKind, &'a str, usize);
+// A token: its kind, its value and its offset.
+type Row = (TokenKind, &'static str, usize);
 
 // The lexer gives these tokens, and then None for ever.
 fn expect_tokens(rt: &impl Abort, text: &str, rows: &[Row]) {
@@ -21,10 +21,9 @@ fn expect_tokens(rt: &impl Abort, text: &str, rows: &[Row]) {
     assert_eq!(rt; lexer.next(), None, "in {text:?}");
 }
 
-#[test]
-fn signs(rt: HostRuntime) {
-    expect_tokens(
-        &rt,
+// Texts of signs, and their tokens.
+const SIGNS: [(&str, &[Row]); 2] = [
+    (
         "=,==\"CODE\"BASE;",
         &[
             (TokenKind::Equal, "=", 0),
@@ -34,43 +33,53 @@ fn signs(rt: HostRuntime) {
             (TokenKind::KwBase, "BASE", 10),
             (TokenKind::Eof, "", 15),
         ],
-    );
-    expect_tokens(
-        &rt,
+    ),
+    (
         "===",
         &[
             (TokenKind::EqualEqual, "==", 0),
             (TokenKind::Equal, "=", 2),
             (TokenKind::Eof, "", 3),
         ],
-    );
-}
+    ),
+];
 
 #[test]
-fn ends(rt: HostRuntime) {
-    expect_tokens(&rt, "", &[(TokenKind::Eof, "", 0)]);
-    expect_tokens(&rt, "\0", &[(TokenKind::Eof, "", 0)]);
-    expect_tokens(&rt, " \0EXPORTS", &[(TokenKind::Eof, "", 1)]);
-    expect_tokens(
-        &rt,
+fn each_sign_is_a_token(rt: HostRuntime) {
+    for (text, rows) in SIGNS {
+        expect_tokens(&rt, text, rows);
+    }
+}
+
+// Texts that end early, and their tokens.
+const ENDS: [(&str, &[Row]); 4] = [
+    ("", &[(TokenKind::Eof, "", 0)]),
+    ("\0", &[(TokenKind::Eof, "", 0)]),
+    (" \0EXPORTS", &[(TokenKind::Eof, "", 1)]),
+    (
         "; a\0b\n=",
         &[(TokenKind::Equal, "=", 6), (TokenKind::Eof, "", 7)],
-    );
-}
+    ),
+];
 
 #[test]
-fn words(rt: HostRuntime) {
-    expect_tokens(
-        &rt,
+fn tokens_end_at_a_nul_outside_comments(rt: HostRuntime) {
+    for (text, rows) in ENDS {
+        expect_tokens(&rt, text, rows);
+    }
+}
+
+// Texts of words, and their tokens.
+const WORDS: [(&str, &[Row]); 4] = [
+    (
         "NAME foo.dll",
         &[
             (TokenKind::KwName, "NAME", 0),
             (TokenKind::Identifier, "foo.dll", 5),
             (TokenKind::Eof, "", 12),
         ],
-    );
-    expect_tokens(
-        &rt,
+    ),
+    (
         "a=b;c\n\"d e\" f",
         &[
             (TokenKind::Identifier, "a", 0),
@@ -80,66 +89,69 @@ fn words(rt: HostRuntime) {
             (TokenKind::Identifier, "f", 12),
             (TokenKind::Eof, "", 13),
         ],
-    );
-    expect_tokens(
-        &rt,
+    ),
+    (
         "x\"y\"",
         &[
             (TokenKind::Identifier, "x\"y\"", 0),
             (TokenKind::Eof, "", 4),
         ],
-    );
-    expect_tokens(
-        &rt,
+    ),
+    (
         "\u{a0}NAME\u{2003}x\u{3000}",
         &[
             (TokenKind::Identifier, "NAME\u{2003}x", 2),
             (TokenKind::Eof, "", 13),
         ],
-    );
-}
+    ),
+];
 
 #[test]
-fn quoted_names(rt: HostRuntime) {
-    expect_tokens(
-        &rt,
+fn words_end_at_delimiters(rt: HostRuntime) {
+    for (text, rows) in WORDS {
+        expect_tokens(&rt, text, rows);
+    }
+}
+
+// Texts with quotes, and their tokens.
+const QUOTED: [(&str, &[Row]); 3] = [
+    (
         "\" \"",
         &[(TokenKind::Identifier, "", 1), (TokenKind::Eof, "", 3)],
-    );
-    expect_tokens(
-        &rt,
+    ),
+    (
         "\" a b\u{a0}\"DATA",
         &[
             (TokenKind::Identifier, "a b", 2),
             (TokenKind::KwData, "DATA", 8),
             (TokenKind::Eof, "", 12),
         ],
-    );
-    expect_tokens(
-        &rt,
+    ),
+    (
         "LIBRARY \"a.dll",
         &[
             (TokenKind::KwLibrary, "LIBRARY", 0),
             (TokenKind::Identifier, "", 9),
             (TokenKind::Eof, "", 14),
         ],
-    );
+    ),
+];
+
+#[test]
+fn quoted_names_are_trimmed(rt: HostRuntime) {
+    for (text, rows) in QUOTED {
+        expect_tokens(&rt, text, rows);
+    }
 }
 
 #[test]
-fn word_ends(rt: HostRuntime) {
+fn a_word_ends_at_a_delimiter_or_with_its_bytes(rt: HostRuntime) {
     let bytes = [0x61, 0xFF, 0x3B, 0x62];
     assert_eq!(&rt; word_end(&bytes, 0), 2);
     assert_eq!(&rt; word_end(&bytes, 3), 4);
 }
 
 #[test]
-fn displays(rt: HostRuntime) -> Result<(), Fail> {
-    let alloc = rt.alloc();
-    let first = format!(in alloc; "{} {}", TokenKind::Unknown, TokenKind::Eof)?;
-    assert_eq!(&rt; first.as_str(), "Unknown Eof");
-    let second = format!(in alloc; "{} {}", TokenKind::EqualEqual, TokenKind::KwStacksize)?;
-    assert_eq!(&rt; second.as_str(), "EqualEqual KwStacksize");
+fn the_default_token_kind_is_unknown(rt: HostRuntime) {
     assert_eq!(&rt; TokenKind::default(), TokenKind::Unknown);
-    Ok(())
 }

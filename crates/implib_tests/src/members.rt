@@ -1,6 +1,7 @@
 //! Members of definitions: what they are called, how long they are, which symbols they are listed for
 //! and what they ask for.
 
+mod fronts;
 mod hand_made;
 mod stored;
 
@@ -283,10 +284,10 @@ fn exports_are_listed_and_asked_for(rt: HostRuntime) -> Result<(), Fail> {
     Ok(())
 }
 
-/// Bytes in members: a text, its machine and its flavour, the index of a member, a place in its file,
-/// and what stands there.
+/// Bytes in members: a text, its machine and its flavour, the index of a member, an offset in its file, and
+/// the bytes there.
 const PIECES: [(&str, MachineType, Flavor, usize, usize, &[u8]); 20] = [
-    // The descriptor: its header, where its own names stand, and the size of its string table.
+    // The descriptor: its header, the offsets of its names, and the size of its string table.
     (
         "LIBRARY foo.dll\nEXPORTS\nbar",
         MachineType::AMD64,
@@ -345,7 +346,7 @@ const PIECES: [(&str, MachineType, Flavor, usize, usize, &[u8]); 20] = [
         308,
         b"\x02\0\0\0\x02\0\0\0\x06\0",
     ),
-    // The thunks of ordinal 0 stand right before the symbols.
+    // The thunks of ordinal 0, right before the symbols.
     (
         "LIBRARY foo.dll\nEXPORTS\nfoo @0 NONAME",
         MachineType::I386,
@@ -457,18 +458,18 @@ const PIECES: [(&str, MachineType, Flavor, usize, usize, &[u8]); 20] = [
 ];
 
 #[test]
-fn members_have_bytes_at_places(rt: HostRuntime) -> Result<(), Fail> {
-    for (text, machine, flavor, index, place, piece) in PIECES {
+fn members_have_their_bytes_at_offsets(rt: HostRuntime) -> Result<(), Fail> {
+    for (text, machine, flavor, index, offset, piece) in PIECES {
         let members = ImportLibrary::new(rt.alloc(), text, machine, flavor)?.members()?;
         let member = members.as_slice().get(index).ok_or("a member is missing")?;
         let rest = member
             .bytes
             .as_slice()
-            .get(place..)
+            .get(offset..)
             .ok_or("a member is short")?;
         assert!(rt;
             rest.starts_with(piece),
-            "{text:?}, {machine:?}, at {place}"
+            "{text:?}, {machine:?}, at {offset}"
         );
     }
     Ok(())

@@ -1,10 +1,10 @@
-//! Growths that are refused. With each growth of a test refused in turn (`bench/memory`) the first
-//! test still passes, and the other two fail equally often.
+//! A writer whose allocations fail. With each allocation of a test failed in turn (`bench/memory`) the
+//! first test still passes, and the other two fail equally often.
 
 ghost use Rattle.implib.specs.Writer.{with_section, with_symbol};
 ghost use Rattle.std.specs.Prelude.{◌≡◌, None, [], OnErr, OnOk, codes};
 
-use super::writer::{section, symbol};
+use crate::objects::{section, symbol};
 use implib::coff::{ObjectWriter, Place, Relocation, Section, class};
 use implib::{Error, MachineType};
 use std::alloc::Global;
@@ -81,7 +81,7 @@ fn expect_object(rt: &impl Abort, writer: &ObjectWriter, want: &[u8]) -> Result<
 }
 
 #[test]
-fn refused_growth_changes_nothing(rt: HostRuntime) -> Result<(), Fail> {
+fn a_writer_is_unchanged_by_refused_memory(rt: HostRuntime) -> Result<(), Fail> {
     let alloc = rt.alloc();
     let mut writer = ObjectWriter::new(alloc, MachineType::ARM64);
     if let Err(refused) = add_data(alloc, &mut writer) {
@@ -110,7 +110,7 @@ fn refused_growth_changes_nothing(rt: HostRuntime) -> Result<(), Fail> {
     Ok(())
 }
 
-// Writes an object of one section with so many bytes.
+// Writes an object of one section with this many bytes, and gives its length.
 fn written(alloc: Global, size: usize) -> Result<usize, Error> {
     let mut writer = ObjectWriter::new(alloc, MachineType::AMD64);
     let data = Section {
@@ -125,13 +125,13 @@ fn written(alloc: Global, size: usize) -> Result<usize, Error> {
 }
 
 #[test]
-fn eight_bytes(rt: HostRuntime) -> Result<(), Fail> {
+fn an_object_of_eight_bytes_is_written(rt: HostRuntime) -> Result<(), Fail> {
     assert_eq!(rt; written(rt.alloc(), 8)?, 72);
     Ok(())
 }
 
 #[test]
-fn fifty_thousand_bytes(rt: HostRuntime) -> Result<(), Fail> {
+fn an_object_of_fifty_thousand_bytes_is_written(rt: HostRuntime) -> Result<(), Fail> {
     assert_eq!(rt; written(rt.alloc(), 50_000)?, 50_064);
     Ok(())
 }

@@ -1,6 +1,6 @@
 //! What the members of a library are for, read from their bytes alone.
 
-use super::object::{Object, Section, Symbol, bytes_from, object_in, text_in, u16_at};
+use super::object::{Flaw, Object, Section, Symbol, bytes_from, object_in, text_in, u16_at};
 use super::record::{Ask, Record, is_record, record_in};
 use std::alloc::Global;
 use std::test::Fail;
@@ -104,7 +104,7 @@ fn dll_of<'a>(head: Symbol, files: &[File<'a>]) -> Result<&'a str, Fail> {
         if relocation.offset == 12 {
             let symbol = object.symbol(relocation.symbol)?;
             let (_, section) = defining(symbol.name, files)?;
-            return text_in(section.data);
+            return Ok(text_in(section.data)?);
         }
     }
     Err(Fail::new("a descriptor has no name"))
@@ -112,7 +112,7 @@ fn dll_of<'a>(head: Symbol, files: &[File<'a>]) -> Result<&'a str, Fail> {
 
 /// What the entry of an export in the address table asks for: by a relocation a hint and a name, by
 /// its own bits an ordinal.
-fn ask_of<'a>(object: &Object<'a>) -> Result<Ask<'a>, Fail> {
+fn ask_of<'a>(object: &Object<'a>) -> Result<Ask<'a>, Flaw> {
     for section in object.sections.iter() {
         if section.name == ".idata$5" {
             let Some(relocation) = section.relocations.first() else {
@@ -123,15 +123,15 @@ fn ask_of<'a>(object: &Object<'a>) -> Result<Ask<'a>, Fail> {
             return Ok(Ask::Name(text_in(bytes_from(text, 2)?)?, u16_at(text, 0)?));
         }
     }
-    Err(Fail::new("an export has no entry"))
+    Err("an export has no entry")
 }
 
 /// The ordinal in a thunk whose first bit is set.
-fn ordinal_in<'a>(thunk: &[u8]) -> Result<Ask<'a>, Fail> {
+fn ordinal_in<'a>(thunk: &[u8]) -> Result<Ask<'a>, Flaw> {
     match thunk {
         [first, second, middle @ .., 0x80] if middle.iter().all(|byte| *byte == 0) => {
             Ok(Ask::Ordinal(u16::from_le_bytes([*first, *second])))
         }
-        _ => Err(Fail::new("a thunk has no ordinal")),
+        _ => Err("a thunk has no ordinal"),
     }
 }

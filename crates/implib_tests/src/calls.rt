@@ -1,11 +1,5 @@
-//! The calls of the library, from outside: they succeed where there is memory. With each growth of
-//! the last five tests refused in turn (`bench/memory`) they still pass.
-
-mod lexer;
-mod memory;
-mod parser;
-mod pass;
-mod writer;
+//! The calls of the library: they succeed where there is memory. With each allocation failed in turn
+//! (`bench/memory`) the tests of refused memory still pass.
 
 use implib::def::{ModuleDef, ShortExport};
 use implib::gnu::GnuImportLibrary;
@@ -83,7 +77,7 @@ fn is_refused_for(library: &ImportLibrary, part: &str) -> bool {
 }
 
 // Whether a text's libraries are refused, once and again, because this is empty. They are made
-// first, so that every growth after them can be refused.
+// first, so that every allocation after them can fail.
 fn are_refused_for(
     alloc: Global,
     text: &str,
@@ -296,5 +290,21 @@ fn definitions_are_unchanged_by_refused_memory(rt: HostRuntime) -> Result<(), Fa
         }
         assert!(rt; has_expected(&def, import_name, rows), "{text:?}");
     }
+    Ok(())
+}
+
+#[test]
+fn an_export_of_equal_names_is_copied(rt: HostRuntime) -> Result<(), Fail> {
+    let alloc = rt.alloc();
+    let export = ShortExport {
+        name: String::from_str(alloc, "foo")?,
+        ext_name: Some(String::from_str(alloc, "foo")?),
+        symbol_name: String::from_str(alloc, "foo")?,
+        alias_target: String::from_str(alloc, "foo")?,
+        ..ShortExport::empty(alloc)
+    };
+    let copy = export.clone()?;
+    assert_eq!(rt; copy.name.as_str(), "foo");
+    assert_eq!(rt; copy.alias_target.as_str(), "foo");
     Ok(())
 }

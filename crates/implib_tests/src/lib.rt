@@ -1,0 +1,27 @@
+//! Tests of the library `implib` by its public calls, with a reader of objects and short imports, a
+//! linker and a loader of their own. The library has no tests of its own, since a crate with tests is
+//! proved twice.
+#![tactic(auto)]
+
+#[cfg(test)]
+mod calls;
+#[cfg(test)]
+mod displayed;
+#[cfg(test)]
+mod linked;
+#[cfg(test)]
+mod links;
+#[cfg(test)]
+mod members;
+#[cfg(test)]
+mod memory;
+#[cfg(test)]
+mod objects;
+#[cfg(test)]
+mod pass;
+#[cfg(test)]
+mod readings;
+#[cfg(test)]
+mod statements;
+#[cfg(test)]
+mod tokens;

@@ -1,0 +1,327 @@
+//! A linker and a loader for tests: of objects they know the names and the bytes alone. The linker reads the
+//! objects, places their sections, resolves their symbols and relocates them; the loader reads the image.
+//! The rules are those of the PE/COFF specification and, for the placement, of `docs/FORMATS.md`.
+
+mod bound;
+mod code;
+mod directory;
+mod file;
+mod image;
+mod object;
+mod record;
+mod search;
+
+use bound::bound;
+pub use bound::given;
+use code::{ARMNT, I386, jump_reads, relocated};
+use directory::{Import, thunk_size};
+pub use file::{File, Purpose, file_in};
+pub use image::{Bases, Image, Misplaced};
+pub use object::Flaw;
+use object::{Object, Relocation, Section, Symbol, object_in, u32_at};
+pub use record::Ask;
+pub use search::Archive;
+use std::alloc::{AllocError, Global};
+use std::test::Fail;
+
+/// An object of a file, with the address of each of its sections that is placed.
+#[derive(Drop)]
+struct Placed<'a> {
+    name: &'a str,
+    object: Object<'a>,
+    addresses: Vec<Option<usize>>,
+}
+
+/// Objects that are linked.
+#[derive(Drop)]
+pub struct Linked<'a> {
+    machine: u16,
+    directory: usize,
+    objects: Vec<Placed<'a>>,
+    pub image: Image,
+}
+
+impl Placed<'_> {
+    /// The address of a symbol of its own sections, if it has one.
+    fn own_address(&self, symbol: &Symbol) -> Option<usize> {
+        let index = usize::from(symbol.section).checked_sub(1)?;
+        let address = *self.addresses.get(index)?;
+        address?.checked_add(symbol.value)
+    }
+}
+
+/// Why objects do not link.
+#[derive(Clone, Copy, Debug, PartialEq, Eq)]
+pub enum Unlinked<'a> {
+    /// No object defines the symbol.
+    Undefined(&'a str),
+    /// The symbol is defined twice.
+    Ambiguous(&'a str),
+    /// The bases do not serve.
+    Misplaced(Misplaced),
+}
+
+/// Links the objects in files of these names and bytes, in this order. The bases are those of `.idata$2`,
+/// `$4`, `$5`, `$6`, `$7` and `.text`.
+pub fn link<'a>(
+    alloc: Global,
+    files: &[(&'a str, &'a [u8])],
+    bases: Bases,
+) -> Result<Linked<'a>, Fail> {
+    let mut linked = place(alloc, files, bases)?;
+    if let Some(unlinked) = linked.refusal() {
+        return Err(Fail::from(unlinked));
+    }
+    linked.relocate()?;
+    Ok(linked)
+}
+
+/// What is wrong with the relocations of the objects in such files.
+pub fn flaw(alloc: Global, files: &[(&str, &[u8])], bases: Bases) -> Result<Option<Flaw>, Fail> {
+    Ok(place(alloc, files, bases)?.relocate().err())
+}
+
+/// Why the objects in such files do not link, if they do not.
+pub fn refusal<'a>(
+    alloc: Global,
+    files: &[(&'a str, &'a [u8])],
+    bases: Bases,
+) -> Result<Option<Unlinked<'a>>, Fail> {
+    Ok(place(alloc, files, bases)?.refusal())
+}
+
+/// Places the sections of the objects in such files, and relocates none. The null descriptor comes last.
+fn place<'a>(
+    alloc: Global,
+    files: &[(&'a str, &'a [u8])],
+    bases: Bases,
+) -> Result<Linked<'a>, Fail> {
+    let mut image = Image::new(alloc, bases)?;
+    let mut objects = Vec::new(alloc);
+    let mut machine = 0;
+    for (name, bytes) in files {
+        let object = object_in(alloc, *bytes)?;
+        if machine != 0 && machine != object.machine {
+            return Err(Fail::new("objects are for two machines"));
+        }
+        machine = object.machine;
+        let mut addresses = Vec::new(alloc);
+        for section in object.sections.iter() {
+            addresses.push(image.place(section)?)?;
+        }
+        objects.push(Placed {
+            name: *name,
+            object,
+            addresses,
+        })?;
+    }
+    image.end_directory()?;
+    Ok(Linked {
+        machine,
+        directory: bases[0],
+        objects,
+        image,
+    })
+}
+
+/// Relocates all sections of an object that are placed.
+fn relocate(objects: &[Placed], placed: &Placed, image: &mut Image) -> Result<(), Flaw> {
+    for (section, address) in placed.object.sections.iter().zip(placed.addresses.iter()) {
+        if let Some(address) = address {
+            for relocation in section.relocations.iter() {
+                relocate_field(objects, placed, section, relocation, *address, image)?;
+            }
+        }
+    }
+    Ok(())
+}
+
+/// Relocates a field of the section at an address.
+fn relocate_field(
+    objects: &[Placed],
+    placed: &Placed,
+    section: &Section,
+    relocation: &Relocation,
+    address: usize,
+    image: &mut Image,
+) -> Result<(), Flaw> {
+    // The field is in the section.
+    u32_at(section.data, relocation.offset)?;
+    let symbol = placed.object.symbol(relocation.symbol)?;
+    let target = if symbol.is_undefined() {
+        defined_address(objects, symbol.name).ok().flatten()
+    } else {
+        placed.own_address(&symbol)
+    };
+    let target = address_of(target.ok_or("a symbol has no address")?)?;
+    let field = address.saturating_add(relocation.offset);
+    let word = u32_at(image.bytes_from(field)?, 0)?;
+    let machine = placed.object.machine;
+    let word = relocated(machine, relocation.kind, word, address_of(field)?, target)?;
+    image.write(field, &word.to_le_bytes())
+}
+
+/// An address in 32 bits.
+fn address_of(address: usize) -> Result<u32, Flaw> {
+    u32::try_from(address).map_err(|_| "an address has more than 32 bits")
+}
+
+/// The address, if there is one, of the one symbol of a name that objects define for one another.
+fn defined_address<'a>(objects: &[Placed], name: &'a str) -> Result<Option<usize>, Unlinked<'a>> {
+    let mut found = None;
+    for placed in objects {
+        for symbol in placed.object.symbols.iter().flatten() {
+            if (symbol.is_defined() || symbol.is_absolute()) && symbol.name == name {
+                if found.is_some() {
+                    return Err(Unlinked::Ambiguous(name));
+                }
+                found = Some(placed.own_address(symbol));
+            }
+        }
+    }
+    found.ok_or(Unlinked::Undefined(name))
+}
+
+impl<'a> Linked<'a> {
+    /// Why the objects do not link: bases do not serve, or a symbol stays undefined or is defined twice.
+    fn refusal(&self) -> Option<Unlinked<'a>> {
+        if let Some(misplaced) = self.image.misplaced() {
+            return Some(Unlinked::Misplaced(misplaced));
+        }
+        for placed in self.objects.iter() {
+            for symbol in placed.object.symbols.iter().flatten() {
+                if symbol.is_external()
+                    && let Err(unlinked) = defined_address(&self.objects, symbol.name)
+                {
+                    return Some(unlinked);
+                }
+            }
+        }
+        None
+    }
+}
+
+impl Linked<'_> {
+    /// Relocates all sections that are placed.
+    fn relocate(&mut self) -> Result<(), Flaw> {
+        for placed in self.objects.iter() {
+            relocate(&self.objects, placed, &mut self.image)?;
+        }
+        Ok(())
+    }
+
+    /// Whether addresses have 4 bytes, and not 8.
+    fn is_32bit(&self) -> bool {
+        self.machine == I386 || self.machine == ARMNT
+    }
+
+    /// The size in bytes of an entry of an address table.
+    pub fn entry_size(&self) -> usize {
+        thunk_size(self.is_32bit())
+    }
+
+    /// How many DLLs the import directory lists, and that a strict loader takes it.
+    pub fn check_directory(&self) -> Result<usize, Flaw> {
+        self.image.check_directory(self.directory, self.is_32bit())
+    }
+
+    /// What the import directory lists.
+    fn imports(&self, alloc: Global) -> Result<Vec<Import<'_>>, Fail> {
+        self.image.directory(alloc, self.directory, self.is_32bit())
+    }
+
+    /// The bytes of the image.
+    pub fn image_text(&self, alloc: Global) -> Result<String, AllocError> {
+        let mut text = String::new(alloc);
+        self.image.show(&mut text)?;
+        Ok(text)
+    }
+
+    /// The image that a loader makes of this one.
+    pub fn bound(&self, alloc: Global) -> Result<Image, Fail> {
+        let imports = self.imports(alloc)?;
+        bound(alloc, &self.image, imports.as_slice(), self.entry_size())
+    }
+
+    /// The address of a symbol that an object defines for the others.
+    pub fn address_of(&self, name: &str) -> Result<usize, Fail> {
+        match defined_address(&self.objects, name) {
+            Ok(address) => Ok(address.ok_or("a symbol has no address")?),
+            Err(unlinked) => Err(Fail::new(format_args!("{unlinked:?}"))),
+        }
+    }
+
+    /// The addresses of all symbols of the address tables, those that begin with `__imp_`.
+    pub fn entries(&self, alloc: Global) -> Result<Vec<usize>, Fail> {
+        let mut addresses = Vec::new(alloc);
+        for placed in self.objects.iter() {
+            for symbol in placed.object.symbols.iter().flatten() {
+                if symbol.is_defined() && symbol.name.starts_with("__imp_") {
+                    addresses.push(placed.own_address(symbol).ok_or("no address")?)?;
+                }
+            }
+        }
+        Ok(addresses)
+    }
+
+    /// The addresses of the code of the objects in files of this name.
+    pub fn code_of(&self, alloc: Global, name: &str) -> Result<Vec<usize>, Fail> {
+        let mut addresses = Vec::new(alloc);
+        for placed in self.objects.iter() {
+            if placed.name == name {
+                let address = placed.addresses.first().copied().flatten();
+                addresses.push(address.ok_or("a file has no code")?)?;
+            }
+        }
+        Ok(addresses)
+    }
+
+    /// The word at an address.
+    pub fn word_at(&self, address: usize) -> Result<usize, Flaw> {
+        Ok(u32_at(self.image.bytes_from(address)?, 0)? as usize)
+    }
+
+    /// The address from which the code at an address reads where it jumps.
+    pub fn jump_at(&self, address: usize) -> Result<usize, Flaw> {
+        let code = self.image.bytes_from(address)?;
+        Ok(jump_reads(self.machine, address_of(address)?, code)? as usize)
+    }
+
+    /// What a loader finds in the import directory, and the address of each `__imp_` symbol.
+    pub fn loaded(&self, alloc: Global) -> Result<String, Fail> {
+        let mut text = String::new(alloc);
+        for import in self.imports(alloc)? {
+            show_import(&mut text, &import)?;
+        }
+        for placed in self.objects.iter() {
+            for symbol in placed.object.symbols.iter().flatten() {
+                if symbol.is_defined() && symbol.name.starts_with("__imp_") {
+                    let name = symbol.name;
+                    let address = placed.own_address(symbol).ok_or("no address")?;
+                    writeln!(text, "{name} {address:#x}")?;
+                }
+            }
+        }
+        Ok(text)
+    }
+}
+
+/// Appends what a DLL is asked for.
+fn show_import(text: &mut String, import: &Import) -> Result<(), AllocError> {
+    let Import { descriptor, thunks } = import;
+    let dll = descriptor.dll;
+    let name = descriptor.name;
+    let lookups = descriptor.lookups;
+    let addresses = descriptor.addresses;
+    writeln!(
+        text,
+        "{dll}: name {name:#x}, lookups {lookups:#x}, addresses {addresses:#x}"
+    )?;
+    for (thunk, ask) in thunks.iter() {
+        match ask {
+            Ask::Name(name, hint) => writeln!(text, "  {thunk:#x}: {name}, hint {hint}")?,
+            Ask::Ordinal(ordinal) => writeln!(text, "  {thunk:#x}: ordinal {ordinal}")?,
+        }
+    }
+    Ok(())
+}

@@ -1,0 +1,50 @@
+//! Binding: what a loader writes into the address tables.
+
+use super::directory::Import;
+use super::image::Image;
+use super::record::Ask;
+use std::alloc::Global;
+use std::test::Fail;
+
+/// What a DLL gives for what it is asked for, here a number made of both: texts byte by byte, and the hint or
+/// the ordinal. A loader writes as many bytes of it as an entry has, and none of them is 0.
+pub fn given(dll: &str, ask: Ask) -> [u8; 8] {
+    let (name, number) = match ask {
+        Ask::Name(name, hint) => (name, u64::from(hint)),
+        Ask::Ordinal(ordinal) => ("#", u64::from(ordinal)),
+    };
+    let hash = hashed(
+        hashed(0xCBF2_9CE4_8422_2325, dll.as_bytes()),
+        name.as_bytes(),
+    );
+    let mixed = (hash ^ number).wrapping_mul(0x100_0000_01B3);
+    (mixed | 0x8080_8080_8080_8080).to_le_bytes()
+}
+
+/// A hash of bytes behind others (FNV-1a, 64 bits).
+fn hashed(start: u64, bytes: &[u8]) -> u64 {
+    let mut hash = start;
+    for byte in bytes {
+        hash = (hash ^ u64::from(*byte)).wrapping_mul(0x100_0000_01B3);
+    }
+    hash
+}
+
+/// The image with what a loader writes that has read its directory.
+pub fn bound(
+    alloc: Global,
+    image: &Image,
+    imports: &[Import],
+    width: usize,
+) -> Result<Image, Fail> {
+    let mut bound = image.copy(alloc)?;
+    for import in imports {
+        let mut address = import.descriptor.addresses;
+        for (_, ask) in import.thunks.iter() {
+            let bytes = given(import.descriptor.dll, *ask);
+            bound.write(address, bytes.get(..width).ok_or("an entry is too wide")?)?;
+            address = address.saturating_add(width);
+        }
+    }
+    Ok(bound)
+}

@@ -1,0 +1,200 @@
+//! An image: the groups of sections, and the bytes at addresses. Addresses count from the image's base.
+
+use super::object::{Flaw, Section, bytes_from};
+use std::alloc::{AllocError, Global};
+use std::test::Fail;
+
+/// The bases of the groups, in the order of [`GROUPS`].
+pub type Bases = [usize; 6];
+
+/// The names of the sections that are placed, a group for each: the import tables, and code.
+const GROUPS: [&str; 6] = [
+    ".idata$2", ".idata$4", ".idata$5", ".idata$6", ".idata$7", ".text",
+];
+
+/// The sections of one name, one after another from the group's base on.
+#[derive(Drop)]
+struct Group {
+    name: &'static str,
+    base: usize,
+    bytes: Vec<u8>,
+}
+
+/// The bytes of all groups.
+#[derive(Drop)]
+pub struct Image {
+    groups: Vec<Group>,
+}
+
+/// Why bases do not serve.
+#[derive(Clone, Copy, Debug, PartialEq, Eq)]
+pub enum Misplaced {
+    /// The base of a group is 0 or no multiple of 4.
+    Base(&'static str),
+    /// A group does not end below 2^31.
+    End(&'static str),
+    /// An address is in two groups.
+    Overlap(&'static str, &'static str),
+}
+
+impl Group {
+    /// The address after the last byte.
+    fn end(&self) -> usize {
+        self.base.saturating_add(self.bytes.len())
+    }
+
+    /// Appends a section's data at the next multiple of its alignment, and gives its address.
+    fn place(&mut self, section: &Section) -> Result<usize, Fail> {
+        let address = self
+            .end()
+            .checked_next_multiple_of(section.alignment())
+            .ok_or("a section has no address")?;
+        let offset = address
+            .checked_sub(self.base)
+            .ok_or("a section is below its base")?;
+        self.bytes.resize(offset, 0)?;
+        self.bytes.extend_from_slice(section.data)?;
+        Ok(address)
+    }
+
+    /// Whether an address is in it and in another one. None is in a group without bytes.
+    fn overlaps(&self, other: &Group) -> bool {
+        let is_apart = self.end() <= other.base || other.end() <= self.base;
+        !is_apart && !self.bytes.is_empty() && !other.bytes.is_empty()
+    }
+
+    /// Why its base does not serve.
+    fn misplaced(&self) -> Option<Misplaced> {
+        if self.base == 0 || self.base % 4 != 0 {
+            Some(Misplaced::Base(self.name))
+        } else if self.end() >= 0x8000_0000 {
+            Some(Misplaced::End(self.name))
+        } else {
+            None
+        }
+    }
+}
+
+impl Image {
+    /// An image without bytes.
+    pub fn new(alloc: Global, bases: Bases) -> Result<Self, AllocError> {
+        let mut groups = Vec::new(alloc);
+        for (name, base) in GROUPS.iter().zip(bases.iter()) {
+            groups.push(Group {
+                name: *name,
+                base: *base,
+                bytes: Vec::new(alloc),
+            })?;
+        }
+        Ok(Image { groups })
+    }
+
+    /// The same image once more.
+    pub fn copy(&self, alloc: Global) -> Result<Self, AllocError> {
+        let mut groups = Vec::new(alloc);
+        for group in self.groups.iter() {
+            groups.push(Group {
+                name: group.name,
+                base: group.base,
+                bytes: Vec::from_slice(alloc, group.bytes.as_slice())?,
+            })?;
+        }
+        Ok(Image { groups })
+    }
+
+    /// Places a section after those of its name, and gives its address, if there is a group of that
+    /// name.
+    pub fn place(&mut self, section: &Section) -> Result<Option<usize>, Fail> {
+        for group in self.groups.iter_mut() {
+            if group.name == section.name {
+                return Ok(Some(group.place(section)?));
+            }
+        }
+        Ok(None)
+    }
+
+    /// Appends the null descriptor, which ends the import directory: linkers bring it.
+    pub fn end_directory(&mut self) -> Result<(), AllocError> {
+        for group in self.groups.iter_mut() {
+            if group.name == ".idata$2" {
+                group.bytes.extend_from_slice(&[0; 20])?;
+            }
+        }
+        Ok(())
+    }
+
+    /// Why the bases do not serve.
+    pub fn misplaced(&self) -> Option<Misplaced> {
+        for group in self.groups.iter() {
+            if let Some(misplaced) = group.misplaced() {
+                return Some(misplaced);
+            }
+        }
+        for (index, first) in self.groups.iter().enumerate() {
+            for second in self.groups.iter().skip(index.saturating_add(1)) {
+                if first.overlaps(second) {
+                    return Some(Misplaced::Overlap(first.name, second.name));
+                }
+            }
+        }
+        None
+    }
+
+    /// The bytes from an address to the end of its group.
+    pub fn bytes_from(&self, address: usize) -> Result<&[u8], Flaw> {
+        for group in self.groups.iter() {
+            if group.base <= address && address < group.end() {
+                return bytes_from(group.bytes.as_slice(), address - group.base);
+            }
+        }
+        Err("an address leads out of the image")
+    }
+
+    /// Writes bytes at an address. They are in one group.
+    pub fn write(&mut self, address: usize, bytes: &[u8]) -> Result<(), Flaw> {
+        for group in self.groups.iter_mut() {
+            if let Some(offset) = address.checked_sub(group.base)
+                && let Some(rest) = group.bytes.as_mut_slice().get_mut(offset..)
+                && let Some(field) = rest.get_mut(..bytes.len())
+            {
+                field.copy_from_slice(bytes);
+                return Ok(());
+            }
+        }
+        Err("a field leads out of the image")
+    }
+
+    /// Whether another image has the same bytes, but for those of some of these fields.
+    pub fn is_same_but_in(&self, other: &Image, fields: &[usize], width: usize) -> bool {
+        for (group, changed) in self.groups.iter().zip(other.groups.iter()) {
+            for (index, (byte, now)) in group.bytes.iter().zip(changed.bytes.iter()).enumerate() {
+                let address = group.base.saturating_add(index);
+                if byte != now && !is_in(address, fields, width) {
+                    return false;
+                }
+            }
+        }
+        true
+    }
+
+    /// Appends the bytes of each group.
+    pub fn show(&self, text: &mut String) -> Result<(), AllocError> {
+        for group in self.groups.iter() {
+            let Group { name, base, bytes } = group;
+            let end = group.end();
+            write!(text, "{name} {base:#x} to {end:#x}:")?;
+            for byte in bytes.iter() {
+                write!(text, " {byte:02x}")?;
+            }
+            text.push('\n')?;
+        }
+        Ok(())
+    }
+}
+
+/// Whether an address is in a field that begins at one of these.
+fn is_in(address: usize, fields: &[usize], width: usize) -> bool {
+    fields
+        .iter()
+        .any(|field| *field <= address && address - *field < width)
+}
