@@ -88,14 +88,14 @@ list_any-reverse p (x ∷ xs) =
 pub turned : {X : Type 0} (built : List X) (head tail : X) → reverse (built ++ head ∷ tail ∷ []) ≡ tail ∷ head ∷ reverse built
 turned built head tail = reverse-append built (head ∷ tail ∷ [])
 
--- what is made, turned round, is the members of the plans turned round
+-- what is made, turned round, is the members of the specifications turned round
 pub made_turned : (members : List MemberView) (built : List MemberSpec) (head tail : MemberSpec) → members ≡ map member_of built ++ map member_of (head ∷ tail ∷ []) →
     reverse members ≡ map member_of (tail ∷ head ∷ reverse built)
 made_turned members built head tail made =
     ap reverse (made ∙ sym (map-append member_of built (head ∷ tail ∷ [])))
     ∙ (sym (map-reverse member_of (built ++ head ∷ tail ∷ [])) ∙ ap (map member_of) (turned built head tail))
 
--- a plan is too long among them where one is among those that were built
+-- a specification is too long among them where one is among those that were built
 pub long_turned : (built : List MemberSpec) (head tail : MemberSpec) →
     list_any is_too_long (tail ∷ head ∷ reverse built) ≡ list_any is_too_long built || list_any is_too_long (head ∷ tail ∷ [])
 long_turned built head tail =

@@ -10,7 +10,7 @@ use Rattle.implib.specs.declared.machine.MachineType.{MachineType}
 use Rattle.implib.specs.declared.machine.MachineType.TheVariants.{I386, ARMNT, AMD64, ARM64}
 use Rattle.implib.specs.Constants.{class_external, class_static}
 use Rattle.implib.specs.Definition.{ExportView}
-use Rattle.implib.specs.Gnu.{added, empty_sections, export_object, export_symbols, file_symbol, full_stop, head_object, head_symbol, head_symbols, hint_name, linkage_symbol, name_symbol, relocations_of_stub, relocations_of_thunk, section, stem, stub, stub_relocations, tail_object, tail_symbols, thunk, without_full_stop, stub_bytes}
+use Rattle.implib.specs.Gnu.{added, empty_sections, export_object, export_symbols, file_symbol, full_stop, head_object, head_symbol, head_symbols, hint_name, prefixed_symbol, name_symbol, relocations_of_stub, relocations_of_thunk, section, stem, stub, stub_relocations, tail_object, tail_symbols, thunk, without_full_stop, stub_bytes}
 use Rattle.implib.specs.Import.{address_symbol, holds, is_empty_text, underscore}
 use Rattle.implib.specs.ImportTables.{relocation, thunk_width, zeros}
 use Rattle.implib.specs.Object.{ObjectSection}
@@ -35,35 +35,35 @@ holds-stem (b ∷ dll) free =
     let parts = or_parts (nat_eq b 0) (holds 0 dll) free in
     or_from (nat_eq (without_full_stop b) 0) (holds 0 (stem dll)) (stem_byte (b == full_stop) b parts.0) (holds-stem dll parts.1)
 
-holds-linkage_symbol : (machine : MachineType) (name : List ℕ) → holds 0 name ≡ false → holds 0 (linkage_symbol machine name) ≡ false
-holds-linkage_symbol I386 name free = free
-holds-linkage_symbol ARMNT name free = free
-holds-linkage_symbol AMD64 name free = free
-holds-linkage_symbol ARM64 name free = free
+holds-prefixed_symbol : (machine : MachineType) (name : List ℕ) → holds 0 name ≡ false → holds 0 (prefixed_symbol machine name) ≡ false
+holds-prefixed_symbol I386 name free = free
+holds-prefixed_symbol ARMNT name free = free
+holds-prefixed_symbol AMD64 name free = free
+holds-prefixed_symbol ARM64 name free = free
 
-filled-linkage_symbol : (machine : MachineType) (name : List ℕ) → 0 < length name → 0 < length (linkage_symbol machine name)
-filled-linkage_symbol I386 name filled = omega arith
-filled-linkage_symbol ARMNT name filled = filled
-filled-linkage_symbol AMD64 name filled = filled
-filled-linkage_symbol ARM64 name filled = filled
+filled-prefixed_symbol : (machine : MachineType) (name : List ℕ) → 0 < length name → 0 < length (prefixed_symbol machine name)
+filled-prefixed_symbol I386 name filled = omega arith
+filled-prefixed_symbol ARMNT name filled = filled
+filled-prefixed_symbol AMD64 name filled = filled
+filled-prefixed_symbol ARM64 name filled = filled
 
 pub holds-head_symbol : (machine : MachineType) (dll : List ℕ) → holds 0 dll ≡ false → holds 0 (head_symbol machine dll) ≡ false
 unfolding head_symbol
-holds-head_symbol machine dll free = holds-linkage_symbol machine _ (holds-stem dll free)
+holds-head_symbol machine dll free = holds-prefixed_symbol machine _ (holds-stem dll free)
 
 pub filled-head_symbol : (machine : MachineType) (dll : List ℕ) → 0 < length (head_symbol machine dll)
 unfolding head_symbol
-filled-head_symbol machine dll = filled-linkage_symbol machine _ (omega arith)
+filled-head_symbol machine dll = filled-prefixed_symbol machine _ (omega arith)
 
 pub holds-name_symbol : (machine : MachineType) (dll : List ℕ) → holds 0 dll ≡ false → holds 0 (name_symbol machine dll) ≡ false
 unfolding name_symbol
 holds-name_symbol machine dll free =
-    holds-linkage_symbol machine (stem dll ++ codes "_iname")
+    holds-prefixed_symbol machine (stem dll ++ codes "_iname")
     (list_any-append (λ b. nat_eq b 0) (stem dll) (codes "_iname") ∙ or_from (holds 0 (stem dll)) false (holds-stem dll free) refl)
 
 pub filled-name_symbol : (machine : MachineType) (dll : List ℕ) → 0 < length (name_symbol machine dll)
 unfolding name_symbol
-filled-name_symbol machine dll = filled-linkage_symbol machine (stem dll ++ codes "_iname") (omega (arith, length-append (stem dll) (codes "_iname")))
+filled-name_symbol machine dll = filled-prefixed_symbol machine (stem dll ++ codes "_iname") (omega (arith, length-append (stem dll) (codes "_iname")))
 
 pub filled_text : (text : List ℕ) → is_empty_text text ≡ false → 0 < length text
 filled_text [] filled = cc
@@ -82,10 +82,10 @@ symbol_sound count name place class filled free among =
 file_symbol_sound : (count : ℕ) → IsSoundSymbol count file_symbol
 file_symbol_sound count = record { named = omega arith; no_nul = refl; value = omega arith; place = tt; aux = refl }
 
--- the linkage's sections, where the last three are sound
-linkage_sound : (symbols : List AddedSymbol) (first second third : ObjectSection) → IsSoundSection symbols first → IsSoundSection symbols second → IsSoundSection symbols third →
+-- the head and tail's sections, where the last three are sound
+head_and_tail_sound : (symbols : List AddedSymbol) (first second third : ObjectSection) → IsSoundSection symbols first → IsSoundSection symbols second → IsSoundSection symbols third →
     AllByRecursion (IsSoundSection symbols) (empty_sections ++ first ∷ second ∷ third ∷ [])
-linkage_sound symbols first second third one two three = (
+head_and_tail_sound symbols first second third one two three = (
   plain_sound symbols _ [] _ refl (omega arith),
   (plain_sound symbols _ [] _ refl (omega arith), (plain_sound symbols _ [] _ refl (omega arith), (one, (two, (three, tt))))),
 )
@@ -101,7 +101,7 @@ IsSound-head_object machine dll free =
     record {
       few = omega arith;
       records = refl;
-      sections = linkage_sound symbols _ _ _
+      sections = head_and_tail_sound symbols _ _ _
           (record {
             fits = record {
               name = refl;
@@ -153,7 +153,7 @@ IsSound-tail_object machine dll free =
     record {
       few = omega arith;
       records = refl;
-      sections = linkage_sound symbols _ _ _
+      sections = head_and_tail_sound symbols _ _ _
           (plain_sound symbols (codes ".idata$4") _ _ refl (omega arith))
           (plain_sound symbols (codes ".idata$5") _ _ refl (omega arith))
           (plain_sound symbols (codes ".idata$7") _ _ refl (omega arith));

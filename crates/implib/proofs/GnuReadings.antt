@@ -36,7 +36,7 @@ use Rattle.implib.proofs.NotRefused.{Sound, exports_sound, import_name_is_free, 
 use Rattle.implib.proofs.Symbols.{before_nul-ended}
 use Rattle.implib.proofs.WriterLayout.{object_of-layout_of}
 
--- The plans read back.
+-- The specifications read back.
 
 held_reads : (h : WriterState) → Fits (layout_of h) → encoded_size (layout_of h) ≤ 0xFFFF_FFFF → ReadsBack (AnObject (layout_of h))
 unfolding layout_of
@@ -170,7 +170,7 @@ code_by ARMNT dll e false = refl
 code_by AMD64 dll e false = refl
 code_by ARM64 dll e false = refl
 
--- What the plans mean.
+-- What the specifications mean.
 
 module _ (machine : MachineType) (dll : List ℕ) (dll_free : holds 0 dll ≡ false) where
   abbrev head_file : File
@@ -179,9 +179,9 @@ module _ (machine : MachineType) (dll : List ℕ) (dll_free : holds 0 dll ≡ fa
   abbrev tail_file : File
   tail_file = ObjectFile (object_of (layout_of (tail_object machine dll)))
 
-  -- what a plan's file means
-  abbrev planned : MemberSpec → Option Meaning
-  planned p = meaning_with head_file tail_file (file_of p.contents)
+  -- what a specification's file means
+  abbrev specified : MemberSpec → Option Meaning
+  specified p = meaning_with head_file tail_file (file_of p.contents)
 
   import_found : (e : ExportView) → Sound e →
       import_of (written_object (export_object machine dll e)) (written_object (head_object machine dll)) (written_object (tail_object machine dll)) ≡ Some (expected_import machine dll e)
@@ -198,9 +198,9 @@ module _ (machine : MachineType) (dll : List ℕ) (dll_free : holds 0 dll ≡ fa
       ∙ (ap (λ found. option_map (λ ask. record { dll = dll; declared = externals_in o (codes ".idata$5") ++ externals_in o text_section; ask = ask }) found) asks
       ∙ ap (λ symbols. Some (record { dll = dll; declared = symbols; ask = expected_ask machine e })) declared)
 
-  export_planned : (number : ℕ) (e : ExportView) → Sound e → planned (export_spec machine dll number e) ≡ Some (AnImport (expected_import machine dll e))
+  export_specified : (number : ℕ) (e : ExportView) → Sound e → specified (export_spec machine dll number e) ≡ Some (AnImport (expected_import machine dll e))
   unfolding export_spec
-  export_planned number e sound =
+  export_specified number e sound =
       let export = written_object (export_object machine dll e) in
       let head = written_object (head_object machine dll) in
       let tail = written_object (tail_object machine dll) in
@@ -210,52 +210,52 @@ module _ (machine : MachineType) (dll : List ℕ) (dll_free : holds 0 dll ≡ fa
       ∙ (ap (λ a. alias_or_import a (import_of export head tail)) (no_alias machine dll e e.is_data)
       ∙ ap (option_map AnImport) (import_found e sound))))
 
-  weak_planned : (weak target : List ℕ) → meaning_with head_file tail_file (ObjectFile (object_of (weak_object machine weak target))) ≡ Some (AnAlias (record { weak = weak; target = target }))
+  weak_specified : (weak target : List ℕ) → meaning_with head_file tail_file (ObjectFile (object_of (weak_object machine weak target))) ≡ Some (AnAlias (record { weak = weak; target = target }))
   unfolding weak_object object_of entries_of name_text u32_at u32_bytes
-  weak_planned weak target = refl
+  weak_specified weak target = refl
 
-  chosen_planned : (e : ExportView) (test : Bool) (first second : List ℕ) →
-      map planned (if test then weak_spec machine first e.name e.alias_target ∷ weak_spec machine second (address_symbol e.name) (address_symbol e.alias_target) ∷ [] else [])
+  chosen_specified : (e : ExportView) (test : Bool) (first second : List ℕ) →
+      map specified (if test then weak_spec machine first e.name e.alias_target ∷ weak_spec machine second (address_symbol e.name) (address_symbol e.alias_target) ∷ [] else [])
       ≡ map (λ a. Some (AnAlias a)) (if test then record { weak = e.name; target = e.alias_target } ∷ record { weak = address_symbol e.name; target = address_symbol e.alias_target } ∷ [] else [])
-  chosen_planned e false first second = refl
-  chosen_planned e true first second =
-      let one = weak_planned e.name e.alias_target in
-      let two = weak_planned (address_symbol e.name) (address_symbol e.alias_target) in
+  chosen_specified e false first second = refl
+  chosen_specified e true first second =
+      let one = weak_specified e.name e.alias_target in
+      let two = weak_specified (address_symbol e.name) (address_symbol e.alias_target) in
       ap (λ x. x ∷ meaning_with head_file tail_file (ObjectFile (object_of (weak_object machine (address_symbol e.name) (address_symbol e.alias_target)))) ∷ []) one
       ∙ ap (λ x. Some (AnAlias (record { weak = e.name; target = e.alias_target })) ∷ x ∷ []) two
 
-  of_export_planned : (number : ℕ) (e : ExportView) → Sound e → map planned (numbered_specs_of machine dll number e) ≡ map (λ m. Some m) (expected_meanings machine dll e)
+  of_export_specified : (number : ℕ) (e : ExportView) → Sound e → map specified (numbered_specs_of machine dll number e) ≡ map (λ m. Some m) (expected_meanings machine dll e)
   unfolding alias_specs
-  of_export_planned number e sound =
-      map-append planned (alias_specs machine dll number e) (export_spec machine dll number e ∷ [])
-      ∙ (ap (λ x. x ++ planned (export_spec machine dll number e) ∷ []) (chosen_planned e (is_alias e.alias_target e.name) _ _)
-      ∙ (ap (λ x. map (λ a. Some (AnAlias a)) (aliases_for e.name e.alias_target) ++ x ∷ []) (export_planned number e sound)
+  of_export_specified number e sound =
+      map-append specified (alias_specs machine dll number e) (export_spec machine dll number e ∷ [])
+      ∙ (ap (λ x. x ++ specified (export_spec machine dll number e) ∷ []) (chosen_specified e (is_alias e.alias_target e.name) _ _)
+      ∙ (ap (λ x. map (λ a. Some (AnAlias a)) (aliases_for e.name e.alias_target) ++ x ∷ []) (export_specified number e sound)
       ∙ sym (map-append (λ m. Some m) (map AnAlias (aliases_for e.name e.alias_target)) (AnImport (expected_import machine dll e) ∷ [])
       ∙ ap (λ x. x ++ Some (AnImport (expected_import machine dll e)) ∷ []) (map_after (λ m. Some m) AnAlias (aliases_for e.name e.alias_target)))))
 
-  numbered_planned : (number : ℕ) (exports : List ExportView) → AllByRecursion Sound exports →
-      map planned (numbered_specs machine dll number exports) ≡ map (λ m. Some m) (flat_map (expected_meanings machine dll) exports)
-  numbered_planned number [] sound = refl
-  numbered_planned number (e ∷ exports) sound =
-      map-append planned (numbered_specs_of machine dll number e) (numbered_specs machine dll (number + 1) exports)
-      ∙ (ap (λ x. x ++ map planned (numbered_specs machine dll (number + 1) exports)) (of_export_planned number e sound.0)
-      ∙ (ap (λ x. map (λ m. Some m) (expected_meanings machine dll e) ++ x) (numbered_planned (number + 1) exports sound.1)
+  numbered_specified : (number : ℕ) (exports : List ExportView) → AllByRecursion Sound exports →
+      map specified (numbered_specs machine dll number exports) ≡ map (λ m. Some m) (flat_map (expected_meanings machine dll) exports)
+  numbered_specified number [] sound = refl
+  numbered_specified number (e ∷ exports) sound =
+      map-append specified (numbered_specs_of machine dll number e) (numbered_specs machine dll (number + 1) exports)
+      ∙ (ap (λ x. x ++ map specified (numbered_specs machine dll (number + 1) exports)) (of_export_specified number e sound.0)
+      ∙ (ap (λ x. map (λ m. Some m) (expected_meanings machine dll e) ++ x) (numbered_specified (number + 1) exports sound.1)
       ∙ sym (map-append (λ m. Some m) (expected_meanings machine dll e) (flat_map (expected_meanings machine dll) exports))))
 
-  -- the code of a plan's file
-  abbrev planned_code : MemberSpec → Option (List CodeRelocation)
-  planned_code p = code_of_export (file_of p.contents)
+  -- the code of a specification's file
+  abbrev specified_code : MemberSpec → Option (List CodeRelocation)
+  specified_code p = code_of_export (file_of p.contents)
 
   weak_code : (weak target : List ℕ) → code_of_export (ObjectFile (object_of (weak_object machine weak target))) ≡ None
   unfolding weak_object object_of entries_of name_text u32_at u32_bytes
   weak_code weak target = refl
 
   chosen_code : (e : ExportView) (test : Bool) (first second : List ℕ) →
-      filter_map planned_code (if test then weak_spec machine first e.name e.alias_target ∷ weak_spec machine second (address_symbol e.name) (address_symbol e.alias_target) ∷ [] else []) ≡ []
+      filter_map specified_code (if test then weak_spec machine first e.name e.alias_target ∷ weak_spec machine second (address_symbol e.name) (address_symbol e.alias_target) ∷ [] else []) ≡ []
   chosen_code e false first second = refl
   chosen_code e true first second = rw (weak_code e.name e.alias_target, weak_code (address_symbol e.name) (address_symbol e.alias_target)) refl
 
-  export_code : (number : ℕ) (e : ExportView) → planned_code (export_spec machine dll number e) ≡ Some (expected_code machine e)
+  export_code : (number : ℕ) (e : ExportView) → specified_code (export_spec machine dll number e) ≡ Some (expected_code machine e)
   unfolding export_spec
   export_code number e =
       let export = written_object (export_object machine dll e) in
@@ -265,18 +265,18 @@ module _ (machine : MachineType) (dll : List ℕ) (dll_free : holds 0 dll ≡ fa
   one_kept : {X Y : Type 0} (f : X → Option Y) (x : X) (y : Y) → f x ≡ Some y → filter_map f (x ∷ []) ≡ y ∷ []
   one_kept f x y same = rw same refl
 
-  of_export_code : (number : ℕ) (e : ExportView) → filter_map planned_code (numbered_specs_of machine dll number e) ≡ expected_code machine e ∷ []
+  of_export_code : (number : ℕ) (e : ExportView) → filter_map specified_code (numbered_specs_of machine dll number e) ≡ expected_code machine e ∷ []
   unfolding alias_specs
   of_export_code number e =
-      filter_map-append planned_code (alias_specs machine dll number e) (export_spec machine dll number e ∷ [])
-      ∙ (ap (λ x. x ++ filter_map planned_code (export_spec machine dll number e ∷ [])) (chosen_code e (is_alias e.alias_target e.name) _ _)
-      ∙ one_kept planned_code (export_spec machine dll number e) (expected_code machine e) (export_code number e))
+      filter_map-append specified_code (alias_specs machine dll number e) (export_spec machine dll number e ∷ [])
+      ∙ (ap (λ x. x ++ filter_map specified_code (export_spec machine dll number e ∷ [])) (chosen_code e (is_alias e.alias_target e.name) _ _)
+      ∙ one_kept specified_code (export_spec machine dll number e) (expected_code machine e) (export_code number e))
 
-  numbered_code : (number : ℕ) (exports : List ExportView) → filter_map planned_code (numbered_specs machine dll number exports) ≡ map (expected_code machine) exports
+  numbered_code : (number : ℕ) (exports : List ExportView) → filter_map specified_code (numbered_specs machine dll number exports) ≡ map (expected_code machine) exports
   numbered_code number [] = refl
   numbered_code number (e ∷ exports) =
-      filter_map-append planned_code (numbered_specs_of machine dll number e) (numbered_specs machine dll (number + 1) exports)
-      ∙ (ap (λ x. x ++ filter_map planned_code (numbered_specs machine dll (number + 1) exports)) (of_export_code number e)
+      filter_map-append specified_code (numbered_specs_of machine dll number e) (numbered_specs machine dll (number + 1) exports)
+      ∙ (ap (λ x. x ++ filter_map specified_code (numbered_specs machine dll (number + 1) exports)) (of_export_code number e)
       ∙ ap (λ x. expected_code machine e ∷ x) (numbered_code (number + 1) exports))
 
   -- the imports and the aliases among what is meant
@@ -350,9 +350,9 @@ module _ (d : DefinitionView) (machine : MachineType) (members : List MemberView
   unfolding head_spec
   head_back = held_reads (head_object machine d.import_name) (Fits-head_object machine d.import_name free) (short_enough (head_spec machine d.import_name) head_short.0)
 
-  plans_read : AllByRecursion (λ p. ReadsBack p.contents) (member_specs (renamed d) machine Gnu)
+  member_specs_read : AllByRecursion (λ p. ReadsBack p.contents) (member_specs (renamed d) machine Gnu)
   unfolding tail_spec head_spec
-  plans_read = (tail_back, (head_back, reversed_all (λ (p : MemberSpec). ReadsBack p.contents) built built_read))
+  member_specs_read = (tail_back, (head_back, reversed_all (λ (p : MemberSpec). ReadsBack p.contents) built built_read))
 
   of_members : {Y : Type 0} (f : MemberView → Y) → map f members ≡ map (λ p. f (member_of p)) (member_specs (renamed d) machine Gnu)
   of_members f = ap (map f) made.made ∙ map_after f member_of (member_specs (renamed d) machine Gnu)
@@ -375,14 +375,14 @@ module _ (d : DefinitionView) (machine : MachineType) (members : List MemberView
   reads_for_gnu = record {
     files = of_members (λ m. file_in m.bytes)
         ∙ map_same (λ p. file_in (file_bytes p.contents)) (λ p. Some (file_of p.contents)) (member_specs (renamed d) machine Gnu)
-        (each_read (member_specs (renamed d) machine Gnu) plans_read);
+        (each_read (member_specs (renamed d) machine Gnu) member_specs_read);
     lengths = of_members (λ m. length m.bytes)
         ∙ map_same (λ p. length (file_bytes p.contents)) (λ p. file_size p.contents) (member_specs (renamed d) machine Gnu)
-        (each_length (member_specs (renamed d) machine Gnu) plans_read);
+        (each_length (member_specs (renamed d) machine Gnu) member_specs_read);
     declared =
         of_members (λ m. option_map declared_by (file_in m.bytes))
         ∙ (map_same (λ (p : MemberSpec). option_map declared_by (file_in (file_bytes p.contents))) (λ (p : MemberSpec). Some p.listed) (member_specs (renamed d) machine Gnu)
-        (read_declares (member_specs (renamed d) machine Gnu) plans_read
+        (read_declares (member_specs (renamed d) machine Gnu) member_specs_read
         (tail_declares machine d.import_name, (head_declares machine d.import_name, reversed_all DeclaresListed built (numbered_declare machine d.import_name 0 exports))))
         ∙ sym (of_members (λ m. Some m.symbols)));
     tail = tail_file machine d.import_name free;
@@ -393,7 +393,7 @@ module _ (d : DefinitionView) (machine : MachineType) (members : List MemberView
     meanings_read =
         ap (map (λ (m : MemberView). option_and_then (meaning_with (head_file machine d.import_name free) (tail_file machine d.import_name free)) (file_in m.bytes))) behind
         ∙ (read_meaning (head_file machine d.import_name free) (tail_file machine d.import_name free) built built_read
-        ∙ numbered_planned machine d.import_name free 0 exports (exports_sound d machine Gnu members made));
+        ∙ numbered_specified machine d.import_name free 0 exports (exports_sound d machine Gnu members made));
     by_export = refl;
     imports = all_imports machine d.import_name free exports;
     aliases = aliases_among machine d.import_name free exports;

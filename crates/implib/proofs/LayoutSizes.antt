@@ -1,4 +1,4 @@
--- The sizes of the parts of a borrowed picture, and what its symbols are.
+-- The sizes of the parts of a borrowed layout, and what its symbols are.
 use Rattle.std.proofs.Common.{All, ◌≡◌, ℕ, suc, ◌+◌, ◌*◌, ◌<◌, ◌^◌, List, [], ◌∷◌, length, flat_map, map, sum_by, sym, ◌∙◌, ap, arith, refl}
 use Rattle.std.specs.List.{AllByRecursion}
 use Rattle.std.proofs.lemmas.List.{length-map}
@@ -15,7 +15,7 @@ use Rattle.implib.proofs.ObjectReading.{headers_long, length-all_symbols}
 use Rattle.implib.proofs.Sums.{flat_map-map}
 use Rattle.implib.proofs.Symbols.{length-string_table}
 
--- the bytes of a picture are those of its five parts
+-- the bytes of a layout are those of its five parts
 pub record Sizes (p : Borrowed) : Type 0 where
   pub header : length (header_bytes (layout_view p)) ≡ 20
   pub headers : length (section_headers (20 + 40 * length p.sections.now) (map section_view p.sections.now)) ≡ 40 * length p.sections.now
@@ -42,7 +42,7 @@ sizes p fits short = record {
   total = encoded_size-parts p;
 }
 
--- what each section and each symbol of a picture that fits is known for
+-- what each section and each symbol of a layout that fits is known for
 
 few_relocations_each : (ss : List Section) → AllByRecursion FitsSection (map section_view ss) → AllByRecursion (λ s. length s.relocations.items < 2 ^ 16) ss
 few_relocations_each [] all = tt

@@ -1,4 +1,4 @@
--- The lengths of what is laid out for a borrowed picture.
+-- The lengths of what is laid out for a borrowed layout.
 use Rattle.std.proofs.Common.{◌≡◌, ℕ, ◌+◌, ◌-◌, ◌<◌, List, [], ◌∷◌, ◌++◌, length, map, flat_map, sum_by, take, get_or, replicate, add-zero, append_assoc, length-append, ap, sym, ◌∙◌, arith, refl}
 use Rattle.implib.specs.declared.coff.object.Section.{Section}
 use Rattle.implib.specs.Layout.{InRecord, InStringTable, LayoutSymbol, SymbolName, auxiliary_bytes, contents, contents_size, name_field, section_header, section_headers, string_bytes_of, string_size, symbol_bytes}

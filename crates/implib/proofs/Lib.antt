@@ -55,7 +55,7 @@ pub mod Written
 pub mod WriterSound
 pub mod WorkedObjects
 pub mod WorkedTables
-pub mod WorkedPlans
+pub mod WorkedMemberSpecs
 pub mod WorkedLayouts
 pub mod Asked
 pub mod SymbolNames

@@ -154,8 +154,8 @@ module _ (machine : MachineType) (dll : List ℕ) (exports : List ExportView) (d
       }
 
   -- what is linked after the head
-  abbrev plans_after : List ℕ → List MemberSpec
-  plans_after ns = filter_map (numbered_spec machine dll exports) ns ++ tail_spec machine dll ∷ []
+  abbrev member_specs_after : List ℕ → List MemberSpec
+  member_specs_after ns = filter_map (numbered_spec machine dll exports) ns ++ tail_spec machine dll ∷ []
 
   abbrev chosen_of : List ℕ → List ExportView
   chosen_of ns = filter_map (slice_get exports) ns
@@ -172,15 +172,15 @@ module _ (machine : MachineType) (dll : List ℕ) (exports : List ExportView) (d
       by_place (λ o. AllByRecursion (CanBeAsked machine) (cons_option o (chosen_of ns))) n (slice_get exports n) refl
       (λ is. chosen_fit ns) (λ e is. (export_asks n e is, chosen_fit ns))
 
-  chosen_read : (ns : List ℕ) → map (λ (p : MemberSpec). object_in (member_of p).bytes) (plans_after ns) ≡ map Some (map (export machine dll) (chosen_of ns) ++ tail machine dll ∷ [])
+  chosen_read : (ns : List ℕ) → map (λ (p : MemberSpec). object_in (member_of p).bytes) (member_specs_after ns) ≡ map Some (map (export machine dll) (chosen_of ns) ++ tail machine dll ∷ [])
   chosen_read [] = ap (λ o. o ∷ []) tail_reads
   chosen_read (n ∷ ns) =
       by_place (λ o. map (λ (p : MemberSpec). object_in (member_of p).bytes) (cons_option (option_map (export_spec machine dll n) o) (filter_map (numbered_spec machine dll exports) ns) ++ tail_spec machine dll ∷ [])
       ≡ map Some (map (export machine dll) (cons_option o (chosen_of ns)) ++ tail machine dll ∷ [])) n (slice_get exports n) refl
       (λ is. chosen_read ns)
-      (λ e is. ap (λ o. o ∷ map (λ (p : MemberSpec). object_in (member_of p).bytes) (plans_after ns)) (export_reads n e is) ∙ ap (λ rest. Some (export machine dll e) ∷ rest) (chosen_read ns))
+      (λ e is. ap (λ o. o ∷ map (λ (p : MemberSpec). object_in (member_of p).bytes) (member_specs_after ns)) (export_reads n e is) ∙ ap (λ rest. Some (export machine dll e) ∷ rest) (chosen_read ns))
 
-  chosen_listed : (ns : List ℕ) → flat_map (λ (p : MemberSpec). p.listed) (plans_after ns) ≡ flat_map export_listed (chosen_of ns) ++ name_symbol machine dll ∷ []
+  chosen_listed : (ns : List ℕ) → flat_map (λ (p : MemberSpec). p.listed) (member_specs_after ns) ≡ flat_map export_listed (chosen_of ns) ++ name_symbol machine dll ∷ []
   unfolding tail_spec export_spec
   chosen_listed [] = refl
   chosen_listed (n ∷ ns) =
@@ -189,7 +189,7 @@ module _ (machine : MachineType) (dll : List ℕ) (exports : List ExportView) (d
       (λ is. chosen_listed ns)
       (λ e is. ap (λ rest. export_listed e ++ rest) (chosen_listed ns) ∙ sym (append_assoc (export_listed e) (flat_map export_listed (chosen_of ns)) (name_symbol machine dll ∷ [])))
 
-  chosen_names : (ns : List ℕ) → AllByRecursion (λ n. n < length exports) ns → map (λ (p : MemberSpec). p.name) (plans_after ns) ≡ map (export_name dll) ns ++ tail_name dll ∷ []
+  chosen_names : (ns : List ℕ) → AllByRecursion (λ n. n < length exports) ns → map (λ (p : MemberSpec). p.name) (member_specs_after ns) ≡ map (export_name dll) ns ++ tail_name dll ∷ []
   unfolding tail_spec export_spec
   chosen_names [] within = refl
   chosen_names (n ∷ ns) within =
@@ -199,7 +199,7 @@ module _ (machine : MachineType) (dll : List ℕ) (exports : List ExportView) (d
       (λ is. let past : length exports ≤ n = past_end exports n is in absurd (omega arith))
       (λ e is. ap (λ rest. export_name dll n ∷ rest) (chosen_names ns within.1))
 
-  chosen_among : (ns : List ℕ) → AllByRecursion (λ p. Among p (gnu_specs machine dll exports)) (plans_after ns)
+  chosen_among : (ns : List ℕ) → AllByRecursion (λ p. Among p (gnu_specs machine dll exports)) (member_specs_after ns)
   chosen_among [] = (tail_among, tt)
   chosen_among (n ∷ ns) =
       by_place (λ o. AllByRecursion (λ p. Among p (gnu_specs machine dll exports)) (cons_option (option_map (export_spec machine dll n) o) (filter_map (numbered_spec machine dll exports) ns) ++ tail_spec machine dll ∷ [])) n (slice_get exports n) refl
@@ -280,7 +280,7 @@ module _ (d : DefinitionView) (machine : MachineType) (members : List MemberView
   read_as : map (λ (m : MemberView). object_in m.bytes) (linked_members d machine chosen) ≡ map Some (linked_objects machine d.import_name (chosen_exports d chosen))
   read_as =
       map_after (λ (m : MemberView). object_in m.bytes) member_of (linked_specs d machine chosen)
-      ∙ ap (λ o. o ∷ map (λ (p : MemberSpec). object_in (member_of p).bytes) (plans_after machine d.import_name public dll_free sound not_long chosen))
+      ∙ ap (λ o. o ∷ map (λ (p : MemberSpec). object_in (member_of p).bytes) (member_specs_after machine d.import_name public dll_free sound not_long chosen))
       (head_reads machine d.import_name public dll_free sound not_long)
       ∙ ap (λ rest. Some (head machine d.import_name) ∷ rest) (chosen_read machine d.import_name public dll_free sound not_long chosen)
 

@@ -25,20 +25,20 @@ use Rattle.implib.specs.Layout.{entries_of, encoded, encoded_size, name_text, ob
 use Rattle.implib.specs.ReadBack.{MsvcReadBack, MatchesDefinition, MsvcReadings, file_of, has_no_symbol_names, import_among, alias_among, import_written, meanings_written}
 use Rattle.implib.specs.Renaming.{renamed, renamed_export}
 use Rattle.implib.proofs.Import.{import_of_short_import-short_import_of, import_written-meant, kind_is_data}
-use Rattle.implib.proofs.MemberReadings.{ReadsBack, machine_number_nonzero, object_reads, all_append, files_read, lengths_read, map_after, map_same, of_members, plans_read_back}
+use Rattle.implib.proofs.MemberReadings.{ReadsBack, machine_number_nonzero, object_reads, all_append, files_read, lengths_read, map_after, map_same, of_members, member_specs_read_back}
 use Rattle.implib.proofs.MsvcObjects.{Fits-weak_object}
 use Rattle.implib.proofs.NotRefused.{import_name_is_free}
 use Rattle.implib.proofs.Symbols.{before_nul-ended}
 
 -- What is declared.
 
--- the file of the plan declares what the plan lists
+-- the file of the specification declares what the specification lists
 abbrev pub DeclaresListed : MemberSpec → Type 0
 DeclaresListed p = declared_by (file_of p.contents) ≡ p.listed
 
-heading_declares : (machine : MachineType) (dll : List ℕ) → AllByRecursion DeclaresListed (header_specs machine dll)
+header_declares : (machine : MachineType) (dll : List ℕ) → AllByRecursion DeclaresListed (header_specs machine dll)
 unfolding header_specs descriptor_spec null_descriptor_spec null_thunk_spec descriptor null_descriptor null_thunk object_of entries_of name_text
-heading_declares machine dll = (refl, (refl, (refl, tt)))
+header_declares machine dll = (refl, (refl, (refl, tt)))
 
 pub weak_declares : (machine : MachineType) (dll weak target : List ℕ) → DeclaresListed (weak_spec machine dll weak target)
 unfolding weak_object object_of entries_of name_text
@@ -186,27 +186,27 @@ dll_of_descriptor : (machine : MachineType) (dll : List ℕ) → holds 0 dll ≡
 unfolding descriptor object_of
 dll_of_descriptor machine dll free = before_nul-ended dll [] free
 
--- what all plans after the first three mean
-after_heading : (machine : MachineType) (dll : List ℕ) (specs : List MemberSpec) → AllByRecursion (λ p. ReadsBack p.contents) (header_specs machine dll ++ specs) →
+-- what all specifications after the first three mean
+after_header : (machine : MachineType) (dll : List ℕ) (specs : List MemberSpec) → AllByRecursion (λ p. ReadsBack p.contents) (header_specs machine dll ++ specs) →
     AllByRecursion (λ p. ReadsBack p.contents) specs
 unfolding header_specs descriptor_spec null_descriptor_spec null_thunk_spec
-after_heading machine dll specs reads = reads.1.1.1
+after_header machine dll specs reads = reads.1.1.1
 
-drop_heading : (machine : MachineType) (dll : List ℕ) (specs : List MemberSpec) → drop 3 (map member_of (header_specs machine dll ++ specs)) ≡ map member_of specs
+drop_header : (machine : MachineType) (dll : List ℕ) (specs : List MemberSpec) → drop 3 (map member_of (header_specs machine dll ++ specs)) ≡ map member_of specs
 unfolding header_specs descriptor_spec null_descriptor_spec null_thunk_spec
-drop_heading machine dll specs = refl
+drop_header machine dll specs = refl
 
 first_reads : (machine : MachineType) (dll : List ℕ) (specs : List MemberSpec) → AllByRecursion (λ p. ReadsBack p.contents) (header_specs machine dll ++ specs) →
     option_and_then (λ (m : MemberView). dll_in m.bytes) (slice_get (map member_of (header_specs machine dll ++ specs)) 0) ≡ dll_of (ObjectFile (object_of (descriptor machine dll)))
 unfolding header_specs descriptor_spec null_descriptor_spec null_thunk_spec
 first_reads machine dll specs reads = ap (option_and_then dll_of) reads.0.read
 
-plans_mean : (specs : List MemberSpec) → AllByRecursion (λ p. ReadsBack p.contents) specs →
+member_specs_mean : (specs : List MemberSpec) → AllByRecursion (λ p. ReadsBack p.contents) specs →
     map (λ (m : MemberView). meaning_in m.bytes) (map member_of specs) ≡ map (λ (p : MemberSpec). meaning_of (file_of p.contents)) specs
-plans_mean [] reads = refl
-plans_mean (p ∷ specs) reads =
+member_specs_mean [] reads = refl
+member_specs_mean (p ∷ specs) reads =
     let first : meaning_in (file_bytes p.contents) ≡ meaning_of (file_of p.contents) = ap (option_and_then meaning_of) reads.0.read in
-    let rest = plans_mean specs reads.1 in
+    let rest = member_specs_mean specs reads.1 in
     rw (first, rest) refl
 
 -- the members of a definition that is not refused are read as the definition means
@@ -215,8 +215,8 @@ module _ (d : DefinitionView) (machine : MachineType) (members : List MemberView
   meanings_read =
       let exports = flat_map (export_specs machine d.import_name) (public_exports (renamed d)) in
       ap (λ x. map (λ (m : MemberView). meaning_in m.bytes) (drop 3 x)) made.made
-      ∙ (ap (map (λ (m : MemberView). meaning_in m.bytes)) (drop_heading machine d.import_name exports)
-      ∙ (plans_mean exports (after_heading machine d.import_name exports (plans_read_back d machine members made))
+      ∙ (ap (map (λ (m : MemberView). meaning_in m.bytes)) (drop_header machine d.import_name exports)
+      ∙ (member_specs_mean exports (after_header machine d.import_name exports (member_specs_read_back d machine members made))
       ∙ exports_mean machine d.import_name (public_exports (renamed d))))
 
   pub reads_for_msvc : MsvcReadBack d machine members
@@ -226,13 +226,13 @@ module _ (d : DefinitionView) (machine : MachineType) (members : List MemberView
     declared =
         of_members d machine members made (λ m. option_map declared_by (file_in m.bytes))
         ∙ (map_same (λ (p : MemberSpec). option_map declared_by (file_in (file_bytes p.contents))) (λ (p : MemberSpec). Some p.listed) (member_specs (renamed d) machine Msvc)
-        (read_declares (member_specs (renamed d) machine Msvc) (plans_read_back d machine members made)
+        (read_declares (member_specs (renamed d) machine Msvc) (member_specs_read_back d machine members made)
         (all_append DeclaresListed (header_specs machine d.import_name) (flat_map (export_specs machine d.import_name) (public_exports (renamed d)))
-        (heading_declares machine d.import_name) (exports_declare machine d.import_name (public_exports (renamed d)))))
+        (header_declares machine d.import_name) (exports_declare machine d.import_name (public_exports (renamed d)))))
         ∙ sym (of_members d machine members made (λ m. Some m.symbols)));
     dll =
         ap (λ (x : List MemberView). option_and_then (λ (m : MemberView). dll_in m.bytes) (slice_get x 0)) made.made
-        ∙ (first_reads machine d.import_name (flat_map (export_specs machine d.import_name) (public_exports (renamed d))) (plans_read_back d machine members made)
+        ∙ (first_reads machine d.import_name (flat_map (export_specs machine d.import_name) (public_exports (renamed d))) (member_specs_read_back d machine members made)
         ∙ dll_of_descriptor machine d.import_name (import_name_is_free d machine Msvc members made));
     meanings = meanings_read;
   }

@@ -32,7 +32,7 @@ use Rattle.implib.proofs.NotRefused.{Sound, exports_sound, import_name_is_free, 
 use Rattle.implib.proofs.ObjectReading.{length-encoded, object_in-encoded}
 use Rattle.implib.proofs.ShortImport.{length-short_import_bytes, short_import_in-short_import_bytes}
 
--- the file of a plan reads as what was planned
+-- the file of a specification reads as what was specified
 pub record ReadsBack (contents : Contents) : Type 0 where
   pub read : file_in (file_bytes contents) ≡ Some (file_of contents)
   pub length : length (file_bytes contents) ≡ file_size contents
@@ -85,7 +85,7 @@ unfolding weak_object
 weak_reads machine weak target weak_free target_free short =
     object_reads (weak_object machine weak target) (Fits-weak_object machine weak target weak_free target_free) (machine_number_nonzero machine) short
 
--- what the plans of a list of exports are read as, one after another
+-- what the specifications of a list of exports are read as, one after another
 module _ (machine : MachineType) (dll : List ℕ) (dll_free : holds 0 dll ≡ false) where
   weak_plans_read : (e : ExportView) → Sound e → (test : Bool) →
       list_any is_too_long (if test then weak_spec machine dll (short_import_symbol e) e.alias_target ∷ weak_spec machine dll (address_symbol (short_import_symbol e)) (address_symbol e.alias_target) ∷ [] else []) ≡ false →
@@ -118,9 +118,9 @@ module _ (machine : MachineType) (dll : List ℕ) (dll_free : holds 0 dll ≡ fa
       all_append (λ p. ReadsBack p.contents) (export_specs machine dll e) (flat_map (export_specs machine dll) exports)
       (export_plans_read e sound.0 parts.0) (exports_plans_read exports sound.1 parts.1)
 
-  heading_plans_read : list_any is_too_long (header_specs machine dll) ≡ false → AllByRecursion (λ p. ReadsBack p.contents) (header_specs machine dll)
+  header_plans_read : list_any is_too_long (header_specs machine dll) ≡ false → AllByRecursion (λ p. ReadsBack p.contents) (header_specs machine dll)
   unfolding header_specs descriptor_spec null_descriptor_spec null_thunk_spec descriptor null_descriptor null_thunk
-  heading_plans_read short =
+  header_plans_read short =
       let first = or_parts (nat_lt 0xFFFF_FFFF (encoded_size (descriptor machine dll))) _ short in
       let second = or_parts (nat_lt 0xFFFF_FFFF (encoded_size (null_descriptor machine))) _ first.1 in
       let third = or_parts (nat_lt 0xFFFF_FFFF (encoded_size (null_thunk machine dll))) false second.1 in (
@@ -131,15 +131,15 @@ module _ (machine : MachineType) (dll : List ℕ) (dll_free : holds 0 dll ≡ fa
         ),
       )
 
-  -- all plans read back, where none is too long and no text has a NUL
-  plans_read : (exports : List ExportView) → AllByRecursion Sound exports →
+  -- all specifications read back, where none is too long and no text has a NUL
+  member_specs_read : (exports : List ExportView) → AllByRecursion Sound exports →
       list_any is_too_long (header_specs machine dll ++ flat_map (export_specs machine dll) exports) ≡ false →
       AllByRecursion (λ p. ReadsBack p.contents) (header_specs machine dll ++ flat_map (export_specs machine dll) exports)
-  plans_read exports sound short =
+  member_specs_read exports sound short =
       let parts = or_parts (list_any is_too_long (header_specs machine dll)) (list_any is_too_long (flat_map (export_specs machine dll) exports))
       (sym (list_any-append is_too_long (header_specs machine dll) (flat_map (export_specs machine dll) exports)) ∙ short) in
       all_append (λ p. ReadsBack p.contents) (header_specs machine dll) (flat_map (export_specs machine dll) exports)
-      (heading_plans_read parts.0) (exports_plans_read exports sound parts.1)
+      (header_plans_read parts.0) (exports_plans_read exports sound parts.1)
 
 pub map_same : {X Y : Type 0} (f g : X → Y) (xs : List X) → AllByRecursion (λ x. f x ≡ g x) xs → map f xs ≡ map g xs
 map_same f g [] same = refl
@@ -159,23 +159,23 @@ pub each_length : (specs : List MemberSpec) → AllByRecursion (λ p. ReadsBack 
 each_length [] reads = tt
 each_length (p ∷ specs) reads = (reads.0.length, each_length specs reads.1)
 
--- the files of the members of a definition that is not refused are read as what was planned
+-- the files of the members of a definition that is not refused are read as what was specified
 module _ (d : DefinitionView) (machine : MachineType) (members : List MemberView) (made : AreMembersOf d machine Msvc members) where
-  pub plans_read_back : AllByRecursion (λ p. ReadsBack p.contents) (member_specs (renamed d) machine Msvc)
-  plans_read_back =
-      plans_read machine d.import_name (import_name_is_free d machine Msvc members made) (public_exports (renamed d))
+  pub member_specs_read_back : AllByRecursion (λ p. ReadsBack p.contents) (member_specs (renamed d) machine Msvc)
+  member_specs_read_back =
+      member_specs_read machine d.import_name (import_name_is_free d machine Msvc members made) (public_exports (renamed d))
       (exports_sound d machine Msvc members made) (none_long d machine Msvc members made)
 
-  -- a fact of each member's file is a fact of what was planned
+  -- a fact of each member's file is a fact of what was specified
   pub of_members : {Y : Type 0} (f : MemberView → Y) → map f members ≡ map (λ p. f (member_of p)) (member_specs (renamed d) machine Msvc)
   of_members f = ap (map f) made.made ∙ map_after f member_of (member_specs (renamed d) machine Msvc)
 
   pub files_read : map (λ m. file_in m.bytes) members ≡ map (λ p. Some (file_of p.contents)) (member_specs (renamed d) machine Msvc)
   files_read = of_members (λ m. file_in m.bytes)
       ∙ map_same (λ p. file_in (file_bytes p.contents)) (λ p. Some (file_of p.contents)) (member_specs (renamed d) machine Msvc)
-      (each_read (member_specs (renamed d) machine Msvc) plans_read_back)
+      (each_read (member_specs (renamed d) machine Msvc) member_specs_read_back)
 
   pub lengths_read : map (λ m. length m.bytes) members ≡ map (λ p. file_size p.contents) (member_specs (renamed d) machine Msvc)
   lengths_read = of_members (λ m. length m.bytes)
       ∙ map_same (λ p. length (file_bytes p.contents)) (λ p. file_size p.contents) (member_specs (renamed d) machine Msvc)
-      (each_length (member_specs (renamed d) machine Msvc) plans_read_back)
+      (each_length (member_specs (renamed d) machine Msvc) member_specs_read_back)

@@ -192,10 +192,10 @@ Fits-weak_object machine weak target weak_free target_free =
       strings = (target_free, (weak_free, tt));
     }
 
--- A picture of the program is a table where its parts are.
+-- A layout of the program is a table where its parts are.
 
-pub same_picture : (q : ObjectLayout) (machine characteristics : ℕ) (sections : List ObjectSection) (symbols : List LayoutSymbol) (strings : List (List ℕ)) →
+pub same_layout : (q : ObjectLayout) (machine characteristics : ℕ) (sections : List ObjectSection) (symbols : List LayoutSymbol) (strings : List (List ℕ)) →
     machine ≡ q.machine → characteristics ≡ q.characteristics → sections ≡ q.sections → symbols ≡ q.symbols → strings ≡ q.strings →
     q ≡ record { machine = machine; characteristics = characteristics; sections = sections; symbols = symbols; strings = strings }
-same_picture q machine characteristics sections symbols strings same_machine same_characteristics same_sections same_symbols same_strings =
+same_layout q machine characteristics sections symbols strings same_machine same_characteristics same_sections same_symbols same_strings =
     rw (same_machine, same_characteristics, same_sections, same_symbols, same_strings) refl

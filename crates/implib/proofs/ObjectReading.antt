@@ -1,4 +1,4 @@
--- A picture that fits reads back from its bytes.
+-- A layout that fits reads back from its bytes.
 use Rattle.std.proofs.Common.{◌≡◌, ℕ, suc, ◌+◌, ◌*◌, ◌<◌, ◌^◌, List, [], ◌∷◌, ◌++◌, Option, None, Some, length, refl, ◌∙◌, ap, arith, length-append, one-add}
 use Rattle.std.specs.List.{AllByRecursion, flat_map, sum_by}
 use Rattle.std.proofs.lemmas.List.Sums.{sum_by-cons}
@@ -94,7 +94,7 @@ entries_read bytes place strings (s ∷ ss) all texts below stands =
     (entries_read bytes (place + 18 * record_count s) strings ss all.1 texts below
     (stands_next (symbol_bytes (string_offsets strings) s) (flat_map (symbol_bytes (string_offsets strings)) ss) (18 * record_count s) (length-symbol_bytes strings s all.0) stands)))
 
--- the picture
+-- the layout
 
 module _ (p : ObjectLayout) (fits : Fits p) (short : encoded_size p < 2 ^ 32) where
   places_below : (20 + 40 * length p.sections) + sum_by contents_size p.sections + 18 * sum_by record_count p.symbols + strings_size p.strings < 2 ^ 32
@@ -170,7 +170,7 @@ module _ (p : ObjectLayout) (fits : Fits p) (short : encoded_size p < 2 ^ 32) wh
       )
       refl
 
-  -- a picture that fits reads back as itself
+  -- a layout that fits reads back as itself
   pub object_in-encoded : object_in (encoded p) ≡ Some (object_of p)
   unfolding object_in
   object_in-encoded = rw (bytes_at-stands 20 (length-header_bytes p) header_stands) object_of_header-encoded

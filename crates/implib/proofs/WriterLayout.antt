@@ -1,4 +1,4 @@
--- The picture of a writer: it fits, and shows what was added.
+-- The layout of a writer: it fits, and shows what was added.
 use Rattle.std.proofs.Common.{◌≡◌, ℕ, ◌+◌, ◌<◌, ◌≤◌, ◌^◌, Bool, true, false, not, ◌||◌, cond, List, [], ◌∷◌, ◌++◌, length, map, flat_map, get_or, bytes_eq, refl, sym, arith, inl, inr, one-add}
 use Rattle.std.specs.List.{AllByRecursion, fold, list_any, position_or_len}
 use Rattle.std.proofs.lemmas.Bool.{cases_Bool, false≢true, ltb-false}
@@ -98,7 +98,7 @@ sections_fit : (symbols : List AddedSymbol) (ss : List ObjectSection) → AllByR
 sections_fit symbols [] sound = tt
 sections_fit symbols (s ∷ ss) sound = (sound.0.fits, sections_fit symbols ss sound.1)
 
--- the picture
+-- the layout
 
 pub layout_of-fits : (h : WriterState) (count : ℕ) → IsSound h count → Fits (layout_of h)
 unfolding layout_of

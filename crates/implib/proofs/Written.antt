@@ -1,4 +1,4 @@
--- What is known of a picture that was written.
+-- What is known of a layout that was written.
 use Rattle.std.proofs.Common.{◌≡◌, ℕ, ◌<◌, ◌^◌, List, Result, Ok, Err, IfOk, OnOk, Some, length, map, refl}
 use Rattle.std.specs.Borrow.{Bor}
 use Rattle.implib.specs.declared.coff.object.Section.{Section}
@@ -14,8 +14,8 @@ use Rattle.implib.specs.Writer.{added_view, section_view}
 use Rattle.implib.specs.Writer.{AddedSymbol, WriterState, long_names, layout_of, symbol_written}
 use Rattle.implib.proofs.ObjectReading.{length-encoded, object_in-encoded}
 
--- the picture that is borrowed of a writer is the writer's
-pub picture_same : (h : WriterState) (machine : ℕ) (sections : Bor (List Section)) (symbols : Bor (List LayoutSymbol)) (strings : Bor (List (Bor (List ℕ)))) (added : List AddedSymbol)
+-- the layout that is borrowed of a writer is the writer's
+pub layout_same : (h : WriterState) (machine : ℕ) (sections : Bor (List Section)) (symbols : Bor (List LayoutSymbol)) (strings : Bor (List (Bor (List ℕ)))) (added : List AddedSymbol)
     → machine ≡ machine_number h.machine
     → map section_view sections.now ≡ h.sections
     → added ≡ h.symbols
@@ -23,7 +23,7 @@ pub picture_same : (h : WriterState) (machine : ℕ) (sections : Bor (List Secti
     → map (λ t. t.now) strings.now ≡ long_names added
     → layout_view (record { machine = machine; characteristics = 0; sections = sections; symbols = symbols; strings = strings }) ≡ layout_of h
 unfolding layout_of
-picture_same h machine sections symbols strings added m s a y n = rw (m, s, y, n, a) refl
+layout_same h machine sections symbols strings added m s a y n = rw (m, s, y, n, a) refl
 
 -- parts of the program are a writer's where they show the same
 pub same_holding : (h : WriterState) (machine : MachineType) (sections : List Section) (symbols : List Symbol) →
@@ -31,7 +31,7 @@ pub same_holding : (h : WriterState) (machine : MachineType) (sections : List Se
 same_holding h machine sections symbols m s y = rw (m, s, y) refl
 
 module _ {V E : Type 0} (items : V → List ℕ) (r : Result V E) (p : ObjectLayout) (fits : Fits p) where
-  -- the bytes of a picture read back as what it shows
+  -- the bytes of a layout read back as what it shows
   pub read_if_ok : IfOk r (λ v. items v ≡ encoded p) → OnOk r (encoded_size p < 2 ^ 32) → IfOk r (λ v. object_in (items v) ≡ Some (object_of p))
   read_if_ok = by r
     where

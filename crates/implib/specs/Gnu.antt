@@ -35,17 +35,17 @@ abbrev pub leading_underscore : MachineType → List ℕ
 leading_underscore machine = if has_leading_underscore machine then underscore ∷ [] else []
 
 -- a symbol of the head or the tail: on I386 with one more `_` in front
-abbrev pub linkage_symbol : MachineType → List ℕ → List ℕ
-linkage_symbol machine name = leading_underscore machine ++ name
+abbrev pub prefixed_symbol : MachineType → List ℕ → List ℕ
+prefixed_symbol machine name = leading_underscore machine ++ name
 
 -- The symbol of the import descriptor. For example, `_head_foo_dll` of foo.dll, and on I386
 -- `__head_foo_dll`.
 unfoldable pub head_symbol : MachineType → List ℕ → List ℕ
-head_symbol machine dll = linkage_symbol machine (codes "_head_" ++ stem dll)
+head_symbol machine dll = prefixed_symbol machine (codes "_head_" ++ stem dll)
 
 -- The symbol of the DLL's name. For example, `foo_dll_iname` of foo.dll, and on I386 `_foo_dll_iname`.
 unfoldable pub name_symbol : MachineType → List ℕ → List ℕ
-name_symbol machine dll = linkage_symbol machine (stem dll ++ codes "_iname")
+name_symbol machine dll = prefixed_symbol machine (stem dll ++ codes "_iname")
 
 -- A number with at least five digits. For example, 0 is `00000`, and 100000 is `100000`.
 unfoldable pub five_digits : ℕ → List ℕ

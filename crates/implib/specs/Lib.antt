@@ -61,7 +61,7 @@ pub mod WorkedLinks
 pub mod WorkedDigits
 pub mod WorkedMachines
 pub mod WorkedTables
-pub mod WorkedPlans
+pub mod WorkedMemberSpecs
 pub mod WorkedLayouts
 -- views: no promise cites them
 pub mod Scanner

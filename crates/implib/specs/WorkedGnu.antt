@@ -14,13 +14,13 @@ use Rattle.implib.specs.WorkedMembers.{Means, Outline, bar_text, baz_text, nul, 
 use Rattle.implib.specs.WorkedStatements.{plain_export}
 
 -- the specifications of a definition's members for GNU's linker
-abbrev pub gnu_plans_of : DefinitionView → MachineType → List MemberSpec
-gnu_plans_of d machine = member_specs (renamed d) machine Gnu
+abbrev pub gnu_specs_of : DefinitionView → MachineType → List MemberSpec
+gnu_specs_of d machine = member_specs (renamed d) machine Gnu
 
 -- the definition is accepted, and these are its members, their bytes aside
 pub record HasGnuMembers (d : DefinitionView) (machine : MachineType) (members : List Outline) : Type 0 where
   pub accepted : refusal d machine Gnu ≡ None
-  pub outlines : map outline (gnu_plans_of d machine) ≡ members
+  pub outlines : map outline (gnu_specs_of d machine) ≡ members
 
 -- the text's members are these, their bytes aside
 abbrev pub TextHasGnuMembers : List ℕ → MachineType → List Outline → Type 0
@@ -35,8 +35,8 @@ abbrev pub shown : List ℕ → ℕ → List (List ℕ) → Outline
 shown name size listed = record { name = name; size = size; listed = listed }
 
 -- the tail and the head of foo.dll on a machine of 64 bits
-abbrev pub foo_linkage : List Outline
-foo_linkage =
+abbrev pub foo_head_and_tail : List Outline
+foo_head_and_tail =
     shown (codes "foo_dll_a_t.o") 356 (codes "foo_dll_iname" ∷ [])
     ∷ shown (codes "foo_dll_a_h.o") 450 (codes "_head_foo_dll" ∷ [])
     ∷ []
@@ -48,7 +48,7 @@ bar_member size = shown (codes "foo_dll_a_s00000.o") size (codes "bar" ∷ codes
 -- the bytes of the member of an index
 abbrev pub gnu_bytes_at : DefinitionView → MachineType → ℕ → Option (List ℕ)
 gnu_bytes_at d machine index =
-    option_map (λ p. file_bytes p.contents) (slice_get (gnu_plans_of d machine) index)
+    option_map (λ p. file_bytes p.contents) (slice_get (gnu_specs_of d machine) index)
 
 -- `count` bytes from an offset on of the member of the only export, which has no alias
 abbrev pub part_of_export : ℕ → ℕ → DefinitionView → MachineType → Option (List ℕ)
@@ -57,18 +57,18 @@ part_of_export offset count d machine =
 
 -- members by name, length and archive symbols
 pub record WorkedGnuOutlines : Type 0 where
-  pub one_function : TextHasGnuMembers bar_text AMD64 (foo_linkage ++ bar_member 474 ∷ [])
+  pub one_function : TextHasGnuMembers bar_text AMD64 (foo_head_and_tail ++ bar_member 474 ∷ [])
   pub one_function_i386 : TextHasGnuMembers bar_text I386
       (shown (codes "foo_dll_a_t.o") 349 (codes "_foo_dll_iname" ∷ [])
       ∷ shown (codes "foo_dll_a_h.o") 452 (codes "__head_foo_dll" ∷ [])
       ∷ shown (codes "foo_dll_a_s00000.o") 468 (codes "_bar" ∷ codes "__imp__bar" ∷ [])
       ∷ [])
   pub one_function_arm : Means bar_text ARMNT
-      (λ d. map (λ p. (outline p).size) (gnu_plans_of d ARMNT) ≡ 348 ∷ 450 ∷ 470 ∷ [])
-  pub one_function_arm64 : TextHasGnuMembers bar_text ARM64 (foo_linkage ++ bar_member 488 ∷ [])
+      (λ d. map (λ p. (outline p).size) (gnu_specs_of d ARMNT) ≡ 348 ∷ 450 ∷ 470 ∷ [])
+  pub one_function_arm64 : TextHasGnuMembers bar_text ARM64 (foo_head_and_tail ++ bar_member 488 ∷ [])
   -- private exports have no number, and the last export comes first
   pub numbered : TextHasGnuMembers (codes "LIBRARY foo.dll\nEXPORTS\nbar\nbaz PRIVATE\nqux") AMD64
-      (foo_linkage
+      (foo_head_and_tail
       ++ shown (codes "foo_dll_a_s00001.o") 474 (codes "qux" ∷ codes "__imp_qux" ∷ [])
       ∷ bar_member 474
       ∷ [])
@@ -76,18 +76,18 @@ pub record WorkedGnuOutlines : Type 0 where
       (of_dll (codes "foo.dll")
       (record empty_export { name = codes "b" ++ nul; private = true } ∷ plain_export (codes "bar") ∷ []))
       AMD64
-      (foo_linkage ++ bar_member 474 ∷ [])
+      (foo_head_and_tail ++ bar_member 474 ∷ [])
   pub data_alone : TextHasGnuMembers (codes "LIBRARY foo.dll\nEXPORTS\nbar DATA") AMD64
-      (foo_linkage ++ shown (codes "foo_dll_a_s00000.o") 438 (codes "__imp_bar" ∷ []) ∷ [])
+      (foo_head_and_tail ++ shown (codes "foo_dll_a_s00000.o") 438 (codes "__imp_bar" ∷ []) ∷ [])
   pub alias : TextHasGnuMembers baz_text AMD64
-      (foo_linkage
+      (foo_head_and_tail
       ++ shown (codes "foo_dll_a_s00000.o") 474 (codes "foo" ∷ codes "__imp_foo" ∷ [])
       ∷ shown (codes "foo_dll_a_x00000.o") 174 (codes "__imp_foo" ∷ [])
       ∷ shown (codes "foo_dll_a_w00000.o") 162 (codes "foo" ∷ [])
       ∷ [])
   -- the head's symbol is exported too: its name is once in the string table
   pub head_exported : TextHasGnuMembers (codes "LIBRARY foo.dll\nEXPORTS\n_head_foo_dll") AMD64
-      (foo_linkage
+      (foo_head_and_tail
       ++ shown (codes "foo_dll_a_s00000.o") 494 (codes "_head_foo_dll" ∷ codes "__imp__head_foo_dll" ∷ [])
       ∷ [])
   pub underscore_by_ordinal : HasGnuMembers
@@ -136,4 +136,4 @@ pub record WorkedGnuBytes : Type 0 where
       (λ d. part_of_export 332 8 d I386 ≡ Some
       (0 ∷ 0 ∷ 0 ∷ 0x80 ∷ 0 ∷ 0 ∷ 0 ∷ 0x80 ∷ []))
   pub ordinal_size_on_i386 : Means (codes "LIBRARY foo.dll\nEXPORTS\nfoo @0 NONAME") I386
-      (λ d. map (λ p. (outline p).size) (gnu_plans_of d I386) ≡ 349 ∷ 452 ∷ 442 ∷ [])
+      (λ d. map (λ p. (outline p).size) (gnu_specs_of d I386) ≡ 349 ∷ 452 ∷ 442 ∷ [])

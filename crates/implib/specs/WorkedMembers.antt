@@ -77,8 +77,8 @@ abbrev pub nul : List ℕ
 nul = 0 ∷ []
 
 -- the first three members of a DLL, by its name without the extension and their lengths
-abbrev pub heading : List ℕ → List ℕ → ℕ → ℕ → List Outline
-heading base extension descriptor thunk =
+abbrev pub header : List ℕ → List ℕ → ℕ → ℕ → List Outline
+header base extension descriptor thunk =
     record {
       name = base ++ extension;
       size = descriptor;
@@ -93,11 +93,11 @@ heading base extension descriptor thunk =
     ∷ []
 
 -- the first three members of foo.dll on a machine of 64 bits, and of 32 bits
-abbrev pub foo_heading : List Outline
-foo_heading = heading (codes "foo") (codes ".dll") 358 159
+abbrev pub foo_header : List Outline
+foo_header = header (codes "foo") (codes ".dll") 358 159
 
 abbrev pub foo_heading_32 : List Outline
-foo_heading_32 = heading (codes "foo") (codes ".dll") 358 151
+foo_heading_32 = header (codes "foo") (codes ".dll") 358 151
 
 -- a member of foo.dll
 abbrev pub of_foo : ℕ → List (List ℕ) → Outline
@@ -124,22 +124,22 @@ self_text = codes "LIBRARY foo.dll\nEXPORTS\nfoo == foo"
 
 -- members by name, length and archive symbols
 pub record WorkedOutlines : Type 0 where
-  pub one_function : TextHasMembers bar_text AMD64 (foo_heading ++ foo_record (codes "bar") ∷ [])
+  pub one_function : TextHasMembers bar_text AMD64 (foo_header ++ foo_record (codes "bar") ∷ [])
   pub one_function_32 : TextHasMembers bar_text ARMNT (foo_heading_32 ++ foo_record (codes "bar") ∷ [])
-  pub one_function_arm64 : TextHasMembers bar_text ARM64 (foo_heading ++ foo_record (codes "bar") ∷ [])
+  pub one_function_arm64 : TextHasMembers bar_text ARM64 (foo_header ++ foo_record (codes "bar") ∷ [])
   pub with_underscore : TextHasMembers bar_text I386
       (foo_heading_32 ++ of_foo 33 (codes "__imp__bar" ∷ codes "_bar" ∷ []) ∷ [])
   pub no_export : TextHasMembers (codes "LIBRARY a.dll " ++ nul ++ codes "EXPORTS x") AMD64
-      (heading (codes "a") (codes ".dll") 352 157)
+      (header (codes "a") (codes ".dll") 352 157)
   pub data_alone : TextHasMembers (codes "LIBRARY foo.dll\nEXPORTS\nbar DATA") AMD64
-      (foo_heading ++ of_foo 32 (codes "__imp_bar" ∷ []) ∷ [])
+      (foo_header ++ of_foo 32 (codes "__imp_bar" ∷ []) ∷ [])
   pub alias : TextHasMembers baz_text AMD64
-      (foo_heading
+      (foo_header
       ++ of_foo 162 (codes "foo" ∷ [])
       ∷ of_foo 174 (codes "__imp_foo" ∷ [])
       ∷ foo_record (codes "foo")
       ∷ [])
-  pub own_alias : TextHasMembers self_text AMD64 (foo_heading ++ foo_record (codes "foo") ∷ [])
+  pub own_alias : TextHasMembers self_text AMD64 (foo_header ++ foo_record (codes "foo") ∷ [])
   pub own_alias_with_underscore : TextHasMembers self_text I386
       (foo_heading_32
       ++ of_foo 163 (codes "_foo" ∷ [])
@@ -147,7 +147,7 @@ pub record WorkedOutlines : Type 0 where
       ∷ of_foo 33 (codes "__imp__foo" ∷ codes "_foo" ∷ [])
       ∷ [])
   pub decorated : TextHasMembers a_text I386
-      (heading (codes "a") (codes ".dll") 352 149
+      (header (codes "a") (codes ".dll") 352 149
       ++ record { name = codes "a.dll"; size = 29; listed = codes "__imp__f" ∷ codes "_f" ∷ [] }
       ∷ record { name = codes "a.dll"; size = 31; listed = codes "__imp__g@8" ∷ codes "_g@8" ∷ [] }
       ∷ record { name = codes "a.dll"; size = 31; listed = codes "__imp_@h@4" ∷ codes "@h@4" ∷ [] }
@@ -157,23 +157,23 @@ pub record WorkedOutlines : Type 0 where
       (of_dll (codes "foo.dll")
       (record empty_export { name = codes "b" ++ nul; private = true } ∷ plain_export (codes "bar") ∷ []))
       AMD64
-      (foo_heading ++ foo_record (codes "bar") ∷ [])
+      (foo_header ++ foo_record (codes "bar") ∷ [])
   pub private_empty : HasMembers
       (of_dll (codes "foo.dll") (record empty_export { private = true } ∷ plain_export (codes "bar") ∷ []))
       AMD64
-      (foo_heading ++ foo_record (codes "bar") ∷ [])
+      (foo_header ++ foo_record (codes "bar") ∷ [])
   pub symbol_name : HasMembers
       (of_dll (codes "foo.dll")
       (record empty_export { name = codes "foo"; symbol_name = codes "_foo@8" } ∷ [])) AMD64
-      (foo_heading ++ of_foo 35 (codes "__imp__foo@8" ∷ codes "_foo@8" ∷ []) ∷ [])
+      (foo_header ++ of_foo 35 (codes "__imp__foo@8" ∷ codes "_foo@8" ∷ []) ∷ [])
   pub underscore_by_ordinal : HasMembers
       (of_dll (codes "foo.dll") (record empty_export { name = codes "_"; no_name = true; ordinal = 3 } ∷ []))
       I386
       (foo_heading_32 ++ of_foo 30 (codes "__imp__" ∷ codes "_" ∷ []) ∷ [])
   -- only a last extension in lower case is cut off a library's name
-  pub upper_case : HasMembers (of_dll (codes "foo.DLL") []) AMD64 (heading (codes "foo.DLL") [] 366 163)
+  pub upper_case : HasMembers (of_dll (codes "foo.DLL") []) AMD64 (header (codes "foo.DLL") [] 366 163)
   pub two_extensions : HasMembers (of_dll (codes "a.dll.exe") []) AMD64
-      (heading (codes "a.dll") (codes ".exe") 364 161)
+      (header (codes "a.dll") (codes ".exe") 364 161)
 
 -- definitions that are refused
 pub record WorkedRefusals : Type 0 where

@@ -23,9 +23,9 @@ use Rattle.implib.proofs.Ranges.{Among, among_back, among_first, among_front, am
 use Rattle.implib_link.specs.Search.{is_wanted, left_by, linked_if_any, numbers_wanted}
 use Rattle.implib_link.proofs.SearchLists.{all_listed, among_any, among_either, among_mapped, among_reversed, any_among, one_member}
 
--- What plans there are.
+-- What specifications there are.
 
--- one export's plans are among those of all
+-- one export's specifications are among those of all
 pub numbered_in : (machine : MachineType) (dll : List ℕ) (exports : List ExportView) (start n : ℕ) (e : ExportView) (p : MemberSpec) → slice_get exports n ≡ Some e →
     Among p (numbered_specs_of machine dll (start + n) e) → Among p (numbered_specs machine dll start exports)
 numbered_in machine dll [] start n e p is held = cc
@@ -39,7 +39,7 @@ numbered_in machine dll (x ∷ exports) start (suc n) e p is held =
     among_back p (numbered_specs_of machine dll start x) (numbered_specs machine dll (start + 1) exports)
     (numbered_in machine dll exports (start + 1) n e p is (subst (λ n. Among p (numbered_specs_of machine dll n e)) place held))
 
--- a plan of an export: of its member, or it has an alias
+-- a specification of an export: of its member, or it has an alias
 abbrev pub OfExport : MachineType → List ℕ → List ExportView → ℕ → MemberSpec → Type 0
 OfExport machine dll exports start p =
     (n : ℕ) × (e : ExportView) × (slice_get exports n ≡ Some e) × ((p ≡ export_spec machine dll (start + n) e) ⊎ (is_alias e.alias_target e.name ≡ true))
@@ -128,25 +128,25 @@ wanted_name wanted (n ∷ names) is =
       | inr none ↦ let later = wanted_name wanted names (rw none at is) in (later.0, inr later.1, later.2)
     ]
 
--- The plans of chosen exports.
+-- The specifications of chosen exports.
 
 among_option : {X : Type 0} (x : X) (o : Option X) (xs : List X) → Among x xs → Among x (cons_option o xs)
 unfolding Among
 among_option x None xs held = held
 among_option x (Some y) xs held = inr held
 
-pub plan_chosen : (machine : MachineType) (dll : List ℕ) (exports : List ExportView) (chosen : List ℕ) (n : ℕ) (e : ExportView) → Among n chosen →
+pub member_spec_chosen : (machine : MachineType) (dll : List ℕ) (exports : List ExportView) (chosen : List ℕ) (n : ℕ) (e : ExportView) → Among n chosen →
     slice_get exports n ≡ Some e → Among (export_spec machine dll n e) (filter_map (numbered_spec machine dll exports) chosen)
 unfolding Among
-plan_chosen machine dll exports [] n e held is = absurd held
-plan_chosen machine dll exports (k ∷ chosen) n e (inl same) is =
+member_spec_chosen machine dll exports [] n e held is = absurd held
+member_spec_chosen machine dll exports (k ∷ chosen) n e (inl same) is =
     let here : slice_get exports k ≡ Some e = subst (λ m. slice_get exports m ≡ Some e) same is in
     rw here (inl (ap (λ m. export_spec machine dll m e) same))
-plan_chosen machine dll exports (k ∷ chosen) n e (inr held) is =
+member_spec_chosen machine dll exports (k ∷ chosen) n e (inr held) is =
     among_option (export_spec machine dll n e) (numbered_spec machine dll exports k) (filter_map (numbered_spec machine dll exports) chosen)
-    (plan_chosen machine dll exports chosen n e held is)
+    (member_spec_chosen machine dll exports chosen n e held is)
 
--- a plan of a chosen export
+-- a specification of a chosen export
 abbrev pub Chosen : MachineType → List ℕ → List ExportView → List ℕ → MemberSpec → Type 0
 Chosen machine dll exports chosen p =
     (n : ℕ) × (e : ExportView) × Among n chosen × (slice_get exports n ≡ Some e) × (p ≡ export_spec machine dll n e)
@@ -159,12 +159,12 @@ first_chosen machine dll exports k chosen p None is next held = let later = next
 first_chosen machine dll exports k chosen p (Some e) is next (inl same) = (k, e, inl refl, is, same)
 first_chosen machine dll exports k chosen p (Some e) is next (inr held) = let later = next held in (later.0, later.1, inr later.2, later.3, later.4)
 
-pub chosen_plan : (machine : MachineType) (dll : List ℕ) (exports : List ExportView) (chosen : List ℕ) (p : MemberSpec) →
+pub chosen_member_spec : (machine : MachineType) (dll : List ℕ) (exports : List ExportView) (chosen : List ℕ) (p : MemberSpec) →
     Among p (filter_map (numbered_spec machine dll exports) chosen) → Chosen machine dll exports chosen p
 unfolding Among
-chosen_plan machine dll exports [] p held = absurd held
-chosen_plan machine dll exports (k ∷ chosen) p held =
-    first_chosen machine dll exports k chosen p (slice_get exports k) refl (chosen_plan machine dll exports chosen p) held
+chosen_member_spec machine dll exports [] p held = absurd held
+chosen_member_spec machine dll exports (k ∷ chosen) p held =
+    first_chosen machine dll exports k chosen p (slice_get exports k) refl (chosen_member_spec machine dll exports chosen p) held
 
 -- What the members leave to others, claim, and are listed for.
 
@@ -259,18 +259,18 @@ module _ (d : DefinitionView) (machine : MachineType) (members : List MemberView
   abbrev pub the_export : ℕ → ExportView → MemberView
   the_export n e = member_of (export_spec machine d.import_name n e)
 
-  planned : (p : MemberSpec) → Among p (gnu_specs machine d.import_name public) → Among (member_of p) members
-  planned p held = subst (Among (member_of p)) (sym made.made) (among_map member_of p (gnu_specs machine d.import_name public) held)
+  specified : (p : MemberSpec) → Among p (gnu_specs machine d.import_name public) → Among (member_of p) members
+  specified p held = subst (Among (member_of p)) (sym made.made) (among_map member_of p (gnu_specs machine d.import_name public) held)
 
-  plan_held : (n : ℕ) (e : ExportView) (p : MemberSpec) → slice_get public n ≡ Some e → Among p (numbered_specs_of machine d.import_name n e) → Among (member_of p) members
-  plan_held n e p is held =
+  member_spec_held : (n : ℕ) (e : ExportView) (p : MemberSpec) → slice_get public n ≡ Some e → Among p (numbered_specs_of machine d.import_name n e) → Among (member_of p) members
+  member_spec_held n e p is held =
       let place : n ≡ 0 + n = omega arith in
-      planned p (among_later _ _ _ (among_later _ _ _ (among_reverse p (numbered_specs machine d.import_name 0 public)
+      specified p (among_later _ _ _ (among_later _ _ _ (among_reverse p (numbered_specs machine d.import_name 0 public)
       (numbered_in machine d.import_name public 0 n e p is (subst (λ k. Among p (numbered_specs_of machine d.import_name k e)) place held)))))
 
   pub export_held : (n : ℕ) (e : ExportView) → slice_get public n ≡ Some e → Among (the_export n e) members
   export_held n e is =
-      plan_held n e (export_spec machine d.import_name n e) is
+      member_spec_held n e (export_spec machine d.import_name n e) is
       (among_back (export_spec machine d.import_name n e) (alias_specs machine d.import_name n e) (export_spec machine d.import_name n e ∷ []) (among_first _ _))
 
   abbrev alias_of : ℕ → ExportView → MemberSpec
@@ -286,14 +286,14 @@ module _ (d : DefinitionView) (machine : MachineType) (members : List MemberView
   no_alias n e is alias =
       names_apart d.import_name n (ap (λ (m : MemberView). m.name)
       (one_member members (address_symbol e.name) (member_of (alias_of n e)) (the_export n e) distinct
-      (plan_held n e (alias_of n e) is (among_front (alias_of n e) (alias_specs machine d.import_name n e) (export_spec machine d.import_name n e ∷ []) (alias_there n e alias)))
+      (member_spec_held n e (alias_of n e) is (among_front (alias_of n e) (alias_specs machine d.import_name n e) (export_spec machine d.import_name n e ∷ []) (alias_there n e alias)))
       (export_held n e is) (among_first _ _) (address_listed e)))
 
-  kind_planned : (m : MemberView) (p : MemberSpec) → m ≡ member_of p → Among p (gnu_specs machine d.import_name public) → Kind machine d.import_name public m
+  kind_specified : (m : MemberView) (p : MemberSpec) → m ≡ member_of p → Among p (gnu_specs machine d.import_name public) → Kind machine d.import_name public m
   unfolding Among
-  kind_planned m p same (inl e) = IsTail (same ∙ ap member_of e)
-  kind_planned m p same (inr (inl e)) = IsHead (same ∙ ap member_of e)
-  kind_planned m p same (inr (inr held)) =
+  kind_specified m p same (inl e) = IsTail (same ∙ ap member_of e)
+  kind_specified m p same (inr (inl e)) = IsHead (same ∙ ap member_of e)
+  kind_specified m p same (inr (inr held)) =
       let own = numbered_is machine d.import_name public 0 p (among_reversed p (numbered_specs machine d.import_name 0 public) held) in
       let place : 0 + own.0 ≡ own.0 = omega arith in
       elim own.3 [
@@ -304,7 +304,7 @@ module _ (d : DefinitionView) (machine : MachineType) (members : List MemberView
   pub kind : (m : MemberView) → Among m members → Kind machine d.import_name public m
   kind m held =
       let p = among_mapped member_of m (gnu_specs machine d.import_name public) (subst (Among m) made.made held) in
-      kind_planned m p.0 p.2 p.1
+      kind_specified m p.0 p.2 p.1
 
 -- What is linked of chosen exports.
 
@@ -324,16 +324,16 @@ numbers_are_wanted exports wanted = record {
       subst (λ n. Among n (numbers_wanted wanted 0 exports)) same (number_wanted wanted exports 0 k e is want);
 }
 
-abbrev plans_linked : MachineType → List ℕ → List ExportView → List ℕ → List MemberSpec
-plans_linked machine dll exports chosen = head_spec machine dll ∷ (filter_map (numbered_spec machine dll exports) chosen ++ tail_spec machine dll ∷ [])
+abbrev member_specs_linked : MachineType → List ℕ → List ExportView → List ℕ → List MemberSpec
+member_specs_linked machine dll exports chosen = head_spec machine dll ∷ (filter_map (numbered_spec machine dll exports) chosen ++ tail_spec machine dll ∷ [])
 
-plan_linked : (machine : MachineType) (dll : List ℕ) (exports : List ExportView) (chosen : List ℕ) (p : MemberSpec) → Among p (plans_linked machine dll exports chosen) →
+member_spec_linked : (machine : MachineType) (dll : List ℕ) (exports : List ExportView) (chosen : List ℕ) (p : MemberSpec) → Among p (member_specs_linked machine dll exports chosen) →
     (p ≡ head_spec machine dll) ⊎ ((p ≡ tail_spec machine dll) ⊎ Chosen machine dll exports chosen p)
 unfolding Among
-plan_linked machine dll exports chosen p (inl e) = inl e
-plan_linked machine dll exports chosen p (inr held) =
+member_spec_linked machine dll exports chosen p (inl e) = inl e
+member_spec_linked machine dll exports chosen p (inr held) =
     elim (among_either p (filter_map (numbered_spec machine dll exports) chosen) (tail_spec machine dll ∷ []) held) [
-      | inl own ↦ inr (inr (chosen_plan machine dll exports chosen p own))
+      | inl own ↦ inr (inr (chosen_member_spec machine dll exports chosen p own))
       | inr last ↦ inr (inl (only_one p (tail_spec machine dll) last))
     ]
 
@@ -349,32 +349,32 @@ linked_some d machine [] m held = absurd (in_nothing m held)
 linked_some d machine (n ∷ chosen) m held = (n, among_first n chosen, held)
 
 module _ (d : DefinitionView) (machine : MachineType) (wanted : List (List ℕ)) (chosen : List ℕ) (are : AreWanted (public_exports (renamed d)) wanted chosen) where
-  pub plan_in : (p : MemberSpec) → Among p (plans_linked machine d.import_name (public_exports (renamed d)) chosen) → Among (member_of p) (linked_members d machine chosen)
-  plan_in p held = among_map member_of p (plans_linked machine d.import_name (public_exports (renamed d)) chosen) held
+  pub member_spec_in : (p : MemberSpec) → Among p (member_specs_linked machine d.import_name (public_exports (renamed d)) chosen) → Among (member_of p) (linked_members d machine chosen)
+  member_spec_in p held = among_map member_of p (member_specs_linked machine d.import_name (public_exports (renamed d)) chosen) held
 
   pub linked_if_needed : (m : MemberView) → Needed machine d.import_name (public_exports (renamed d)) wanted m → Among m (linked_if_any d machine chosen)
   linked_if_needed m (TheTail same any) =
       some_chosen d machine chosen any.number m (are.all any.number any.export any.is any.want) (subst (λ x. Among x (linked_members d machine chosen)) (sym same)
-      (plan_in (tail_spec machine d.import_name) (among_later _ _ _
+      (member_spec_in (tail_spec machine d.import_name) (among_later _ _ _
       (among_back _ (filter_map (numbered_spec machine d.import_name (public_exports (renamed d))) chosen) (tail_spec machine d.import_name ∷ []) (among_first _ _)))))
   linked_if_needed m (TheHead same any) =
       some_chosen d machine chosen any.number m (are.all any.number any.export any.is any.want) (subst (λ x. Among x (linked_members d machine chosen)) (sym same)
-      (plan_in (head_spec machine d.import_name) (among_first _ _)))
+      (member_spec_in (head_spec machine d.import_name) (among_first _ _)))
   linked_if_needed m (AnExport x want) =
       some_chosen d machine chosen x.number m (are.all x.number x.export x.is want) (subst (λ y. Among y (linked_members d machine chosen)) (sym x.same)
-      (plan_in (export_spec machine d.import_name x.number x.export) (among_later _ _ _
+      (member_spec_in (export_spec machine d.import_name x.number x.export) (among_later _ _ _
       (among_front _ (filter_map (numbered_spec machine d.import_name (public_exports (renamed d))) chosen) (tail_spec machine d.import_name ∷ [])
-      (plan_chosen machine d.import_name (public_exports (renamed d)) chosen x.number x.export (are.all x.number x.export x.is want) x.is)))))
+      (member_spec_chosen machine d.import_name (public_exports (renamed d)) chosen x.number x.export (are.all x.number x.export x.is want) x.is)))))
 
   any_of : (k : ℕ) → Among k chosen → AnyWanted (public_exports (renamed d)) wanted
   any_of k held = let found = are.only k held in record { number = k; export = found.0; is = found.1; want = found.2 }
 
-  needed_plan : (m : MemberView) (p : MemberSpec) → m ≡ member_of p → AnyWanted (public_exports (renamed d)) wanted →
+  needed_member_spec : (m : MemberView) (p : MemberSpec) → m ≡ member_of p → AnyWanted (public_exports (renamed d)) wanted →
       (p ≡ head_spec machine d.import_name) ⊎ ((p ≡ tail_spec machine d.import_name) ⊎ Chosen machine d.import_name (public_exports (renamed d)) chosen p) →
       Needed machine d.import_name (public_exports (renamed d)) wanted m
-  needed_plan m p same any (inl e) = TheHead (same ∙ ap member_of e) any
-  needed_plan m p same any (inr (inl e)) = TheTail (same ∙ ap member_of e) any
-  needed_plan m p same any (inr (inr c)) =
+  needed_member_spec m p same any (inl e) = TheHead (same ∙ ap member_of e) any
+  needed_member_spec m p same any (inr (inl e)) = TheTail (same ∙ ap member_of e) any
+  needed_member_spec m p same any (inr (inr c)) =
       let found = are.only c.0 c.2 in
       let own : c.1 ≡ found.0 = same_export c.1 found.0 (sym c.3 ∙ found.1) in
       AnExport (record { number = c.0; export = c.1; is = c.3; same = same ∙ ap member_of c.4 }) (subst (λ e. is_wanted wanted e ≡ true) (sym own) found.2)
@@ -382,5 +382,5 @@ module _ (d : DefinitionView) (machine : MachineType) (wanted : List (List ℕ))
   pub needed_if_linked : (m : MemberView) → Among m (linked_if_any d machine chosen) → Needed machine d.import_name (public_exports (renamed d)) wanted m
   needed_if_linked m held =
       let some = linked_some d machine chosen m held in
-      let p = among_mapped member_of m (plans_linked machine d.import_name (public_exports (renamed d)) chosen) some.2 in
-      needed_plan m p.0 p.2 (any_of some.0 some.1) (plan_linked machine d.import_name (public_exports (renamed d)) chosen p.0 p.1)
+      let p = among_mapped member_of m (member_specs_linked machine d.import_name (public_exports (renamed d)) chosen) some.2 in
+      needed_member_spec m p.0 p.2 (any_of some.0 some.1) (member_spec_linked machine d.import_name (public_exports (renamed d)) chosen p.0 p.1)

@@ -260,7 +260,7 @@ some_distinct archive (x ∷ some) distinct held once =
     apart_none x.name (map (λ (m : MemberView). m.name) some)
     (subst (λ (y : MemberView). Among y.name (map (λ (m : MemberView). m.name) some)) (sym same) (among_map (λ (m : MemberView). m.name) from.0 some from.1)) once.0)
 
--- what plans list is what their members are listed for
+-- what specifications list is what their members are listed for
 pub listed_mapped : (ps : List MemberSpec) → all_listed (map member_of ps) ≡ flat_map (λ (p : MemberSpec). p.listed) ps
 listed_mapped [] = refl
 listed_mapped (p ∷ ps) = ap (λ names. p.listed ++ names) (listed_mapped ps)

@@ -50,11 +50,11 @@ listed_later machine dll exports start k e name is listed =
     (numbered_in machine dll exports start k e (export_spec machine dll (start + k) e) is
     (among_back (export_spec machine dll (start + k) e) (alias_specs machine dll (start + k) e) (export_spec machine dll (start + k) e ∷ []) (among_first _ _))) listed
 
--- the names of one export's plans and of those behind
-plans_apart : (machine : MachineType) (dll : List ℕ) (x : ExportView) (exports : List ExportView) (start k : ℕ) (e : ExportView) (name : List ℕ) →
+-- the names of one export's specifications and of those behind
+member_specs_apart : (machine : MachineType) (dll : List ℕ) (x : ExportView) (exports : List ExportView) (start k : ℕ) (e : ExportView) (name : List ℕ) →
     IsDistinct bytes_eq (flat_map (λ (p : MemberSpec). p.listed) (numbered_specs machine dll start (x ∷ exports))) → slice_get exports k ≡ Some e →
     Among name (export_listed x) → Among name (export_listed e) → ⊥
-plans_apart machine dll x exports start k e name distinct is here there =
+member_specs_apart machine dll x exports start k e name distinct is here there =
     distinct_apart (flat_map (λ (p : MemberSpec). p.listed) (numbered_specs_of machine dll start x)) (flat_map (λ (p : MemberSpec). p.listed) (numbered_specs machine dll (start + 1) exports)) name
     (subst (IsDistinct bytes_eq) (flat_map-append (λ (p : MemberSpec). p.listed) (numbered_specs_of machine dll start x) (numbered_specs machine dll (start + 1) exports)) distinct)
     (listed_own machine dll start x name here) (listed_later machine dll exports (start + 1) k e name is there)
@@ -68,9 +68,9 @@ one_place : (machine : MachineType) (dll : List ℕ) (exports : List ExportView)
 one_place machine dll [] start n k e other name distinct is is_too listed listed_too = cc
 one_place machine dll (x ∷ exports) start zero zero e other name distinct is is_too listed listed_too = refl
 one_place machine dll (x ∷ exports) start zero (suc k) e other name distinct is is_too listed listed_too =
-    absurd (plans_apart machine dll x exports start k other name distinct is_too (same_listed name x e is listed) listed_too)
+    absurd (member_specs_apart machine dll x exports start k other name distinct is_too (same_listed name x e is listed) listed_too)
 one_place machine dll (x ∷ exports) start (suc n) zero e other name distinct is is_too listed listed_too =
-    absurd (plans_apart machine dll x exports start n e name distinct is (same_listed name x other is_too listed_too) listed)
+    absurd (member_specs_apart machine dll x exports start n e name distinct is (same_listed name x other is_too listed_too) listed)
 one_place machine dll (x ∷ exports) start (suc n) (suc k) e other name distinct is is_too listed listed_too =
     ap suc (one_place machine dll exports (start + 1) n k e other name
     (distinct_later (flat_map (λ (p : MemberSpec). p.listed) (numbered_specs_of machine dll start x)) (flat_map (λ (p : MemberSpec). p.listed) (numbered_specs machine dll (start + 1) exports))

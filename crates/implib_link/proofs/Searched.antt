@@ -22,7 +22,7 @@ use Rattle.implib_link.specs.Search.{HaveSame, ImportsWanted, IsArranged, IsLink
 use Rattle.implib_link.proofs.Program.{program_links}
 use Rattle.implib_link.proofs.SearchOne.{needed, taken_held, taken_if_needed}
 use Rattle.implib_link.proofs.SearchLists.{all_listed, among_either, among_mapped, apart_none, contains_among, distinct_apart, some_distinct}
-use Rattle.implib_link.proofs.Search.{AnExport, IsExport, Needed, TheHead, TheTail, chosen_plan, in_nothing, numbers_are_wanted, only_one}
+use Rattle.implib_link.proofs.Search.{AnExport, IsExport, Needed, TheHead, TheTail, chosen_member_spec, in_nothing, numbers_are_wanted, only_one}
 use Rattle.implib_link.proofs.SearchNumbers.{head_no_export, same_number, tail_no_export}
 
 -- a member of a wanted export
@@ -116,7 +116,7 @@ module _ (machine : MachineType) (d : DefinitionView) (members taken arranged : 
         | inr behind ↦ elim (among_either m between (tail_member ∷ []) behind) [
           | inl own ↦
               let p = among_mapped member_of m (filter_map (numbered_spec machine d.import_name exports) numbers.0) (subst (Among m) numbers.1 own) in
-              let c = chosen_plan machine d.import_name exports numbers.0 p.0 p.1 in
+              let c = chosen_member_spec machine d.import_name exports numbers.0 p.0 p.1 in
               subst (λ n. Among n numbers.0) (sym (same_number d machine members made distinct k c.0 e c.1 is c.3 (p.2 ∙ ap member_of c.4))) c.2
           | inr last ↦ absurd (tail_no_export machine d.import_name k e (sym (only_one m tail_member last)))
         ]

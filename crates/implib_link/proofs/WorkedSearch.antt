@@ -95,9 +95,9 @@ takes_nothing : MayTake three (codes "printf" ∷ []) []
 unfolding opened alias_specs encoded_size names_left names_claimed left_by IsTakenInTurn
 takes_nothing = ([], record { in_turn = tt; ended = settled_ends (members_of three) (codes "printf" ∷ []) [] refl }, refl)
 
-takes_linkage : MayTake three (codes "_head_foo_dll" ∷ []) (codes "foo_dll_a_t.o" ∷ codes "foo_dll_a_h.o" ∷ [])
+takes_head_and_tail : MayTake three (codes "_head_foo_dll" ∷ []) (codes "foo_dll_a_t.o" ∷ codes "foo_dll_a_h.o" ∷ [])
 unfolding opened alias_specs encoded_size names_left names_claimed left_by IsTakenInTurn
-takes_linkage = (
+takes_head_and_tail = (
   the_tail ∷ the_head ∷ [],
   record {
     in_turn = (
@@ -122,6 +122,6 @@ worked_search = record {
   firsts = refl;
   takes = takes_three;
   nothing = takes_nothing;
-  linkage = takes_linkage;
+  head_and_tail = takes_head_and_tail;
   alias_first = refl;
 }

@@ -63,6 +63,6 @@ pub record WorkedSearch : Type 0 where
       (codes "foo_dll_a_s00002.o" ∷ codes "foo_dll_a_t.o" ∷ codes "foo_dll_a_h.o"
       ∷ codes "foo_dll_a_s00000.o" ∷ [])
   pub nothing : MayTake three (codes "printf" ∷ []) []
-  pub linkage : MayTake three (codes "_head_foo_dll" ∷ [])
+  pub head_and_tail : MayTake three (codes "_head_foo_dll" ∷ [])
       (codes "foo_dll_a_t.o" ∷ codes "foo_dll_a_h.o" ∷ [])
   pub alias_first : found aliased (codes "bar") ≡ Some (codes "foo_dll_a_w00000.o")

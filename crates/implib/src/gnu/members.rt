@@ -28,7 +28,7 @@ use crate::weak_external::{MEMBERS_OF_ALIAS, is_alias, weak_member};
 use std::alloc::{AllocError, Global};
 
 // The head and the tail.
-const LINKAGE_MEMBERS: usize = 2;
+const HEAD_AND_TAIL: usize = 2;
 
 /// The members, in order, of a definition whose exports are under their names to link by.
 pub(crate) fn members(def: &ModuleDef, machine: MachineType) -> Result<Vec<Member>, Error>
@@ -57,7 +57,7 @@ fn named_members(def: &ModuleDef, machine: MachineType) -> Result<Vec<Member>, E
     let dll = def.import_name.as_str();
     let head = head_symbol(*def.exports.allocator(), machine, dll)?;
     let mut members = build(def, machine, head.as_str())?;
-    push_linkage(&mut members, machine, dll)?;
+    push_head_and_tail(&mut members, machine, dll)?;
     members.reverse();
     Ok(members)
 }
@@ -91,7 +91,7 @@ fn build(def: &ModuleDef, machine: MachineType, head: &str) -> Result<Vec<Member
 fn member_count(def: &ModuleDef) -> usize
     ensures { result ≡ min u64.MAX (2 + sum_by gnu_member_count (public_exports (definition_view def.now))) }
 {
-    let mut count = LINKAGE_MEMBERS;
+    let mut count = HEAD_AND_TAIL;
     for export in def.exports.iter() {
         if !export.private {
             count = count.saturating_add(if has_aliases(export) {
@@ -112,7 +112,11 @@ fn has_aliases(export: &ShortExport) -> bool
 }
 
 // Pushes the head and the tail.
-fn push_linkage(members: &mut Vec<Member>, machine: MachineType, dll: &str) -> Result<(), Error>
+fn push_head_and_tail(
+    members: &mut Vec<Member>,
+    machine: MachineType,
+    dll: &str,
+) -> Result<(), Error>
     requires { holds 0 dll.now ≡ false }
     ensures ok { OnOk result (map member_view members.new.items
         ≡ map member_view members.old.items ++ map member_of (head_spec machine dll.now ∷ tail_spec machine dll.now ∷ [])) }

@@ -74,7 +74,7 @@ fn empty_section(name: [u8; 8], flags: u32) -> SectionRow<'static>
 }
 
 // The sections of the head or of the tail: the empty ones, and then these.
-fn linkage_sections<'a>(
+fn head_or_tail_sections<'a>(
     first: SectionRow<'a>,
     second: SectionRow<'a>,
     third: SectionRow<'a>,
@@ -137,7 +137,7 @@ pub(crate) fn head_object(
         image_relocation(machine, descriptor::ADDRESS_TABLE, 2),
         image_relocation(machine, descriptor::NAME, 5),
     ];
-    let sections = linkage_sections(
+    let sections = head_or_tail_sections(
         section(
             *b".idata$2",
             TABLE_FLAGS,
@@ -173,7 +173,7 @@ pub(crate) fn tail_object(
 {
     let thunk = zeros(alloc, thunk_width(machine))?;
     let text = ended_by_nul(alloc, dll)?;
-    let sections = linkage_sections(
+    let sections = head_or_tail_sections(
         section(*b".idata$4", TABLE_FLAGS, &thunk, &[]),
         section(*b".idata$5", TABLE_FLAGS, &thunk, &[]),
         section(*b".idata$7", TABLE_FLAGS, &text, &[]),

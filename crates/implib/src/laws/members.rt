@@ -2,7 +2,7 @@
 
 ghost use Rattle.implib.specs.WorkedMembers.{WorkedBytes, WorkedFields, WorkedMeanings, WorkedOutlines, WorkedRefusals};
 ghost use Rattle.implib.specs.WorkedGnu.{WorkedGnuBytes, WorkedGnuOutlines, WorkedGnuRefusals};
-ghost use Rattle.implib.specs.WorkedPlans.{WorkedPlans};
+ghost use Rattle.implib.specs.WorkedMemberSpecs.{WorkedMemberSpecs};
 
 use crate::machine::MachineType;
 
@@ -25,6 +25,6 @@ pub fn worked_gnu_members()
 {}
 
 /// A definition that was worked by hand has these members on each machine, for either linker.
-pub fn worked_plans()
-    ensures { (machine : MachineType) → WorkedPlans machine }
+pub fn worked_member_specs()
+    ensures { (machine : MachineType) → WorkedMemberSpecs machine }
 {}

@@ -14,18 +14,18 @@ returns-clause-ok c =
     let machine = c.args.machine in
     let dll = string_bytes c.args.def.now.import_name in
     let built = numbered_specs machine dll 0 (public_exports (definition_view c.args.def.now)) in
-    let pushed : map member_view c.push_linkage.new.members.items ≡ map member_of built ++ map member_of (head_spec machine dll ∷ tail_spec machine dll ∷ []) =
-    rw (c.in_ok-members.ensures.ok, c.as_str-dll.ensures.value) at c.in_ok-push_linkage.ensures.ok in
+    let pushed : map member_view c.push_head_and_tail.new.members.items ≡ map member_of built ++ map member_of (head_spec machine dll ∷ tail_spec machine dll ∷ []) =
+    rw (c.in_ok-members.ensures.ok, c.as_str-dll.ensures.value) at c.in_ok-push_head_and_tail.ensures.ok in
     ap (map member_view) c.reverse.ensures.items
-    ∙ (map-reverse member_view c.push_linkage.new.members.items
-    ∙ made_turned (map member_view c.push_linkage.new.members.items) built (head_spec machine dll) (tail_spec machine dll) pushed)
+    ∙ (map-reverse member_view c.push_head_and_tail.new.members.items
+    ∙ made_turned (map member_view c.push_head_and_tail.new.members.items) built (head_spec machine dll) (tail_spec machine dll) pushed)
 
 pub returns-clause-fit : goal.returns-clause-fit
 returns-clause-fit c =
     let machine = c.args.machine in
     let dll = string_bytes c.args.def.now.import_name in
     let built = numbered_specs machine dll 0 (public_exports (definition_view c.args.def.now)) in
-    let linkage : list_any is_too_long (head_spec machine dll ∷ tail_spec machine dll ∷ []) ≡ false =
-    rw c.as_str-dll.ensures.value at c.in_ok-push_linkage.ensures.fit in
+    let head_and_tail : list_any is_too_long (head_spec machine dll ∷ tail_spec machine dll ∷ []) ≡ false =
+    rw c.as_str-dll.ensures.value at c.in_ok-push_head_and_tail.ensures.fit in
     long_turned built (head_spec machine dll) (tail_spec machine dll)
-    ∙ (ap (λ b. b || list_any is_too_long (head_spec machine dll ∷ tail_spec machine dll ∷ [])) c.in_ok-members.ensures.fit ∙ linkage)
+    ∙ (ap (λ b. b || list_any is_too_long (head_spec machine dll ∷ tail_spec machine dll ∷ [])) c.in_ok-members.ensures.fit ∙ head_and_tail)

@@ -9,7 +9,7 @@ pub write_table-requires : goal.write_table-requires
 unfolding head_object
 write_table-requires c =
     rw (
-      c.linkage_sections-sections.ensures,
+      c.head_or_tail_sections-sections.ensures,
       c.section.ensures,
       c.empty_section.ensures,
       c.empty_section-2.ensures,
@@ -27,11 +27,11 @@ write_table-requires c =
     (CanBeHeld-head_object c.args.machine c.args.dll.now c.requires.dll_text)
 
 -- the table that is written is the one that is meant
-same : (c : After-write_table) → table_view c.args.machine c.linkage_sections-sections.result (c.file_symbol.result ∷ c.symbol.result ∷ c.symbol-2.result ∷ c.symbol-3.result ∷ c.symbol-4.result ∷ []) ≡ head_object c.args.machine c.args.dll.now
+same : (c : After-write_table) → table_view c.args.machine c.head_or_tail_sections-sections.result (c.file_symbol.result ∷ c.symbol.result ∷ c.symbol-2.result ∷ c.symbol-3.result ∷ c.symbol-4.result ∷ []) ≡ head_object c.args.machine c.args.dll.now
 unfolding head_object
 same c =
     rw (
-      c.linkage_sections-sections.ensures,
+      c.head_or_tail_sections-sections.ensures,
       c.section.ensures,
       c.empty_section.ensures,
       c.empty_section-2.ensures,

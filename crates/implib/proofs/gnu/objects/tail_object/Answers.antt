@@ -9,7 +9,7 @@ pub write_table-requires : goal.write_table-requires
 unfolding tail_object
 write_table-requires c =
     rw (
-      c.linkage_sections-sections.ensures,
+      c.head_or_tail_sections-sections.ensures,
       c.section.ensures,
       c.section-2.ensures,
       c.section-3.ensures,
@@ -26,11 +26,11 @@ write_table-requires c =
     (CanBeHeld-tail_object c.args.machine c.args.dll.now c.requires.dll_text)
 
 -- the table that is written is the one that is meant
-same : (c : After-drop-thunk-2) → table_view c.args.machine c.linkage_sections-sections.result (c.file_symbol.result ∷ c.symbol.result ∷ []) ≡ tail_object c.args.machine c.args.dll.now
+same : (c : After-drop-thunk-2) → table_view c.args.machine c.head_or_tail_sections-sections.result (c.file_symbol.result ∷ c.symbol.result ∷ []) ≡ tail_object c.args.machine c.args.dll.now
 unfolding tail_object
 same c =
     rw (
-      c.linkage_sections-sections.ensures,
+      c.head_or_tail_sections-sections.ensures,
       c.section.ensures,
       c.section-2.ensures,
       c.section-3.ensures,

@@ -43,8 +43,8 @@ abbrev pub weak_address : Numbers → Contents
 weak_address n = AnObject (weak n (codes "__imp_baz") (codes "__imp_bar"))
 
 -- the members for Microsoft's linker
-abbrev pub msvc_plans : Numbers → List MemberSpec
-msvc_plans n =
+abbrev pub msvc_member_specs : Numbers → List MemberSpec
+msvc_member_specs n =
     member foo_dll (AnObject (descriptor n)) (codes "__IMPORT_DESCRIPTOR_foo")
     ∷ member foo_dll (AnObject (null_descriptor n)) (codes "__NULL_IMPORT_DESCRIPTOR")
     ∷ member foo_dll (AnObject (null_thunk n)) (0x7F ∷ codes "foo_NULL_THUNK_DATA")
@@ -54,8 +54,8 @@ msvc_plans n =
     ∷ []
 
 -- the members for GNU's linker
-abbrev pub gnu_plans : Numbers → List MemberSpec
-gnu_plans n =
+abbrev pub gnu_member_specs : Numbers → List MemberSpec
+gnu_member_specs n =
     member (codes "foo_dll_a_t.o") (AnObject (tail n)) n.iname
     ∷ member (codes "foo_dll_a_h.o") (AnObject (head n)) n.head
     ∷ record {
@@ -68,6 +68,6 @@ gnu_plans n =
     ∷ []
 
 -- The members of the definition on a machine.
-pub record WorkedPlans (machine : MachineType) : Type 0 where
-  pub for_microsoft : member_specs (renamed definition) machine Msvc ≡ msvc_plans (numbers machine)
-  pub for_gnu : member_specs (renamed definition) machine Gnu ≡ gnu_plans (numbers machine)
+pub record WorkedMemberSpecs (machine : MachineType) : Type 0 where
+  pub for_microsoft : member_specs (renamed definition) machine Msvc ≡ msvc_member_specs (numbers machine)
+  pub for_gnu : member_specs (renamed definition) machine Gnu ≡ gnu_member_specs (numbers machine)
