@@ -58,6 +58,7 @@ worked_refusals = record {
   nul_in_symbol_name = refl;
   nul_in_alias_target = refl;
   empty_external_name = refl;
+  empty_name_and_nul = refl;
   counted = refl;
   nothing_asked = refl;
 }

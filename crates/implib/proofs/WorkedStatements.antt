@@ -36,6 +36,7 @@ worked_settings = record {
   greatest_size = parses _ _ _ refl refl;
   plus_and_zeros = parses _ _ _ refl refl;
   version = parses _ _ _ refl refl;
+  lone_major = parses _ _ _ refl refl;
   greatest_version = parses _ _ _ refl refl;
   name = parses _ _ _ refl refl;
   comment_before = parses _ _ _ refl refl;

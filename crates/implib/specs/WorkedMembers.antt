@@ -197,6 +197,10 @@ pub record WorkedRefusals : Type 0 where
       (of_dll (codes "foo.dll")
       (plain_export (codes "bar") ∷ record empty_export { name = codes "foo"; ext_name = Some [] } ∷ []))
       AMD64 (EmptyName 1)
+  -- an empty name comes before a NUL in the other names
+  pub empty_name_and_nul : IsRefused
+      (of_dll (codes "foo.dll") (record empty_export { symbol_name = nul; alias_target = nul } ∷ [])) AMD64
+      (EmptyName 0)
   -- a private export is counted
   pub counted : IsRefused
       (of_dll (codes "foo.dll") (record empty_export { private = true } ∷ plain_export [] ∷ [])) AMD64

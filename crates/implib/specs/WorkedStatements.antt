@@ -37,6 +37,7 @@ pub record WorkedSettings : Type 0 where
   pub plus_and_zeros : Parses (codes "HEAPSIZE +0007") AMD64 (record empty_definition { heap_reserve = 7 })
   pub version : Parses (codes "VERSION 1.2") AMD64
       (record empty_definition { major_image_version = 1; minor_image_version = 2 })
+  pub lone_major : Parses (codes "VERSION 1") AMD64 (record empty_definition { major_image_version = 1 })
   pub greatest_version : Parses (codes "VERSION 4294967295.0") AMD64
       (record empty_definition { major_image_version = 4294967295 })
   pub name : Parses (codes "NAME foo") AMD64 (of_name (codes "foo"))
