@@ -183,12 +183,22 @@ const LISTED: [(&str, bool); 9] = [
     ("EXPORTS f @ =", false),
 ];
 
-#[test]
-fn statements_are_listed_or_refused(rt: HostRuntime) -> Result<(), Fail> {
-    for (statements, is_listed) in LISTED {
-        expect_statements(&rt, rt.alloc(), statements, is_listed)?;
+/// Holds the same of several statements.
+fn expect_all_statements(
+    rt: &impl Abort,
+    alloc: Global,
+    rows: &[(&str, bool)],
+) -> Result<(), Fail> {
+    for row in rows {
+        let (statements, is_listed) = *row;
+        expect_statements(rt, alloc, statements, is_listed)?;
     }
     Ok(())
+}
+
+#[test]
+fn statements_are_listed_or_refused(rt: HostRuntime) -> Result<(), Fail> {
+    expect_all_statements(&rt, rt.alloc(), &LISTED)
 }
 
 /// Inputs, and their documents.
@@ -204,10 +214,16 @@ const INPUTS: [(&str, &[&str]); 3] = [
     ),
 ];
 
-#[test]
-fn documents_are_listed_one_after_another(rt: HostRuntime) -> Result<(), Fail> {
-    for (input, documents) in INPUTS {
-        expect_run(&rt, rt.alloc(), input, documents, true)?;
+/// Holds that runs list the members of the documents of inputs.
+fn expect_inputs(rt: &impl Abort, alloc: Global, rows: &[(&str, &[&str])]) -> Result<(), Fail> {
+    for row in rows {
+        let (input, documents) = *row;
+        expect_run(rt, alloc, input, documents, true)?;
     }
     Ok(())
+}
+
+#[test]
+fn documents_are_listed_one_after_another(rt: HostRuntime) -> Result<(), Fail> {
+    expect_inputs(&rt, rt.alloc(), &INPUTS)
 }

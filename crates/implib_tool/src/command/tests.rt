@@ -344,18 +344,24 @@ const LISTINGS: [Listing; 8] = [
     ),
 ];
 
-#[test]
-fn definitions_are_listed(rt: HostRuntime) -> Result<(), Fail> {
-    for listing in LISTINGS {
+/// Holds what commands list, over devices that move all bytes at once or one a call.
+fn expect_listings(rt: &impl Abort, alloc: Global, rows: &[Listing]) -> Result<(), Fail> {
+    for row in rows {
+        let listing = *row;
         let (words, text, _, end) = listing;
-        let want = expected_heads(rt.alloc(), &listing)?;
+        let want = expected_heads(alloc, &listing)?;
         for pace in [WHOLE, (1, ANY)] {
-            let got = answered(rt.alloc(), words, text.as_bytes(), pace, pace)?;
-            let got_heads = heads(rt.alloc(), got.written.as_str())?;
-            expect_listing(&rt, &got, got_heads.as_str(), want.as_str(), end);
+            let got = answered(alloc, words, text.as_bytes(), pace, pace)?;
+            let got_heads = heads(alloc, got.written.as_str())?;
+            expect_listing(rt, &got, got_heads.as_str(), want.as_str(), end);
         }
     }
     Ok(())
+}
+
+#[test]
+fn definitions_are_listed(rt: HostRuntime) -> Result<(), Fail> {
+    expect_listings(&rt, rt.alloc(), &LISTINGS)
 }
 
 /// Texts that are refused, and the fault.
@@ -393,18 +399,24 @@ const REFUSED: [(&str, &str); 25] = [
     ("EXPORTS\na\x0cb\nc\x0c\n", "import name is empty"),
 ];
 
-#[test]
-fn refusals_are_answered(rt: HostRuntime) -> Result<(), Fail> {
-    for (text, fault) in REFUSED {
+/// Holds that commands refuse texts.
+fn expect_refused(rt: &impl Abort, alloc: Global, rows: &[(&str, &str)]) -> Result<(), Fail> {
+    for row in rows {
+        let (text, fault) = *row;
         for words in ["AMD64 msvc", "AMD64 gnu"] {
-            let got = answered(rt.alloc(), words, text.as_bytes(), WHOLE, (ANY, 0))?;
-            let want = format!(in rt.alloc(); "implib: {fault}\n")?;
+            let got = answered(alloc, words, text.as_bytes(), WHOLE, (ANY, 0))?;
+            let want = format!(in alloc; "implib: {fault}\n")?;
             assert_eq!(rt; got.status, 1, "{text:?}");
             assert_eq!(rt; got.written.as_str(), "", "{text:?}");
             assert_eq!(rt; got.faults.as_str(), want.as_str(), "{text:?}");
         }
     }
     Ok(())
+}
+
+#[test]
+fn refusals_are_answered(rt: HostRuntime) -> Result<(), Fail> {
+    expect_refused(&rt, rt.alloc(), &REFUSED)
 }
 
 #[test]

@@ -4,7 +4,8 @@ use super::command;
 use crate::doubles::{MemorySink, MemorySource};
 use crate::run::RunError;
 use implib::{Error, Fault};
-use std::alloc::AllocError;
+use std::alloc::{AllocError, Global};
+use std::process::Abort;
 use std::test::Fail;
 
 const ANY: usize = 1_000_000;
@@ -135,19 +136,19 @@ const COMMANDS: [Row; 16] = [
     ("", b"LIBRARY foo.dll", ANY, 0, 3, "implib: write failed\n"),
 ];
 
-// The sink of faults takes one byte a call.
-#[test]
-fn each_line_has_its_status(rt: HostRuntime) -> Result<(), Fail> {
-    for (words, input, reads, writes, status, line) in COMMANDS {
-        let mut list = Vec::new(rt.alloc());
+/// Holds what commands answer. The sink of faults takes one byte a call.
+fn expect_lines(rt: &impl Abort, alloc: Global, rows: &[Row]) -> Result<(), Fail> {
+    for row in rows {
+        let (words, input, reads, writes, status, line) = *row;
+        let mut list = Vec::new(alloc);
         for word in words.split_whitespace() {
-            list.push(String::from_str(rt.alloc(), word)?)?;
+            list.push(String::from_str(alloc, word)?)?;
         }
         let mut reader = MemorySource::new(input, ANY, reads);
-        let mut writer = MemorySink::new(rt.alloc(), ANY, writes)?;
-        let mut faults = MemorySink::new(rt.alloc(), 1, ANY)?;
+        let mut writer = MemorySink::new(alloc, ANY, writes)?;
+        let mut faults = MemorySink::new(alloc, 1, ANY)?;
         let got = command(
-            rt.alloc(),
+            alloc,
             list.as_slice(),
             &mut reader,
             &mut writer,
@@ -157,4 +158,9 @@ fn each_line_has_its_status(rt: HostRuntime) -> Result<(), Fail> {
         assert_eq!(rt; faults.bytes(), line.as_bytes());
     }
     Ok(())
+}
+
+#[test]
+fn each_line_has_its_status(rt: HostRuntime) -> Result<(), Fail> {
+    expect_lines(&rt, rt.alloc(), &COMMANDS)
 }
