@@ -1,7 +1,6 @@
 //! Prints the members of the import libraries of module definitions.
 #![tactic(auto)]
 
-mod blocks;
 pub mod command;
 pub mod device;
 #[cfg(test)]
@@ -17,6 +16,7 @@ mod linked;
 mod listing;
 #[cfg(test)]
 mod member_tests;
+mod output;
 mod parts;
 pub mod program;
 #[cfg(test)]
