@@ -7,7 +7,7 @@ use Rattle.std.proofs.lemmas.Bool.{and_parts, cases_lt, eq-eqb, ne_eqb}
 use Rattle.std.proofs.lemmas.Grind.{flat_map-append}
 use Rattle.std.proofs.lemmas.List.{map-append, take_more, take_more_set, take-append-le, length-take-le}
 use Rattle.std.specs.List.{enumerate_from, list_all}
-use Rattle.implib_tool.specs.Listing.{after_byte, byte_listing, escaped, escaped_byte, hex_byte, hex_digit, is_plain}
+use Rattle.implib_tool.specs.Listing.{after_byte, byte_listing, bytes_listing, escaped, escaped_byte, hex_byte, hex_digit, is_plain}
 
 -- a name of plain bytes stands as it is
 pub plain_name : (name : List ℕ) → list_all is_plain name ≡ true → escaped name ≡ name
@@ -140,6 +140,33 @@ line_end_after : (count index : ℕ) → (index % 16 ≡ 15) ⊎ (index + 1 ≡ 
 line_end_after count index (inl fifteen) = rw (eq-eqb (index % 16) 15 fifteen) refl
 line_end_after count index (inr last) =
     ap (λ test. cond (index % 16 == 15 || test) 10 32) (eq-eqb (index + 1) count last) ∙ ap (λ test. cond test 10 32) (or-true (index % 16 == 15))
+
+-- the same stands after a byte of a whole line, whatever stands before the line
+same_after : (count start index : ℕ) → start % 16 ≡ 0 → index < 16 → start + 16 ≤ count → after_byte 16 index ≡ after_byte count (start + index)
+same_after count start index first few room = elim (cases_lt index 15) [
+  | inl below ↦ space_after 16 index (omega arith) (omega arith) ∙ sym (space_after count (start + index) (omega arith) (omega arith))
+  | inr above ↦ line_end_after 16 index (inr (omega arith)) ∙ sym (line_end_after count (start + index) (inl (omega arith)))
+]
+
+same_line : (count start index : ℕ) (bytes : List ℕ) → start % 16 ≡ 0 → index + length bytes ≡ 16 → start + 16 ≤ count
+    → flat_map (byte_listing 16) (enumerate_from index bytes) ≡ flat_map (byte_listing count) (enumerate_from (start + index) bytes)
+same_line count start index [] first size room = refl
+same_line count start index (byte ∷ bytes) first size room =
+    let next : start + (index + 1) ≡ start + index + 1 = omega arith in
+    ap (λ c. (hex_byte byte ++ c ∷ []) ++ flat_map (byte_listing 16) (enumerate_from (index + 1) bytes)) (same_after count start index first (omega arith) room)
+    ∙ ap (λ t. (hex_byte byte ++ after_byte count (start + index) ∷ []) ++ t)
+    (same_line count start (index + 1) bytes first (omega arith) room ∙ ap (λ n. flat_map (byte_listing count) (enumerate_from n bytes)) next)
+
+-- a whole line shows its bytes
+pub whole_line : (bytes : List ℕ) (start : ℕ) → start % 16 ≡ 0 → start + 16 ≤ length bytes
+    → bytes_listing (slice_range bytes start (start + 16)) ≡ flat_map (byte_listing (length bytes)) (enumerate_from start (slice_range bytes start (start + 16)))
+whole_line bytes start first room =
+    let line = slice_range bytes start (start + 16) in
+    let size : length line ≡ 16 = omega (arith, length-take-le (start + 16 - start) (drop start bytes) (omega (arith, length-drop start bytes))) in
+    let none : start + 0 ≡ start = omega arith in
+    ap (λ n. flat_map (byte_listing n) (enumerate_from 0 line)) size
+    ∙ same_line (length bytes) start 0 line first (omega (arith, size)) room
+    ∙ ap (λ n. flat_map (byte_listing (length bytes)) (enumerate_from n line)) none
 
 last_of_line : (start n count : ℕ) → start % 16 ≡ 0 → (n ≡ 15) ⊎ (start + n + 1 ≡ count) → ((start + n) % 16 ≡ 15) ⊎ (start + n + 1 ≡ count)
 last_of_line start n count first (inl fifteen) = inl (omega arith)

@@ -8,8 +8,11 @@ ghost use Rattle.std.specs.Prelude.{◌≡◌, ◌%◌, ◌+◌, ◌<◌, ◌≤
 ghost use Rattle.std.specs.String.{string_bytes};
 
 use crate::device::Sink;
+use crate::listing::line::line_of;
 use crate::output::Buffer;
 use implib::Member;
+
+mod line;
 
 /// A hexadecimal digit, in lower case.
 fn hex_digit_of(value: u8) -> u8
@@ -120,6 +123,17 @@ fn list_line<W: Sink>(buffer: &mut Buffer, writer: &mut W, bytes: &[u8], start: 
     buffer.put(writer, &line[..3 * (end - start)]);
 }
 
+/// Lists 16 bytes, which make a line.
+fn list_whole_line<W: Sink>(buffer: &mut Buffer, writer: &mut W, bytes: &[u8])
+    requires { length bytes.now ≡ 16 }
+    ensures { Passes
+        (buffered (W.contents writer.old) (W.failed writer.old) buffer.old)
+        (buffered (W.contents writer.new) (W.failed writer.new) buffer.new)
+        (bytes_listing bytes.now) }
+{
+    buffer.put(writer, line_of(bytes).as_flattened());
+}
+
 /// Lists bytes, a line for each 16 and one for those left over.
 fn list_bytes<W: Sink>(buffer: &mut Buffer, writer: &mut W, bytes: &[u8])
     ensures { Passes
@@ -128,10 +142,12 @@ fn list_bytes<W: Sink>(buffer: &mut Buffer, writer: &mut W, bytes: &[u8])
         (bytes_listing bytes.now) }
 {
     let mut start = 0;
-    while start < bytes.len() {
-        let end = start + (bytes.len() - start).min(16);
-        list_line(buffer, writer, bytes, start, end);
-        start = end;
+    while bytes.len() - start >= 16 {
+        list_whole_line(buffer, writer, &bytes[start..start + 16]);
+        start += 16;
+    }
+    if start < bytes.len() {
+        list_line(buffer, writer, bytes, start, bytes.len());
     }
 }
 

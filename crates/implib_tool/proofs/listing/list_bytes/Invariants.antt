@@ -1,4 +1,4 @@
-use Rattle.std.proofs.Common.{◌≡◌, ◌-◌, ◌%◌, ◌<◌, ◌≤◌, length, flat_map, take}
+use Rattle.std.proofs.Common.{◌≡◌, ◌-◌, ◌%◌, ◌≤◌, length, flat_map, take}
 use Rattle.std.specs.List.{enumerate_from}
 use Rattle.implib_tool.specs.Listing.{byte_listing}
 use Rattle.implib_tool.specs.Views.{Passes, buffered}
@@ -8,7 +8,7 @@ use Rattle.implib_tool.proofs.listing.list_bytes.Given as goal
 abbrev pub invariant-loop-start : goal.invariant-loop-start
 invariant-loop-start g l = record {
   within : l.start ≤ length l.bytes;
-  first : l.start < length l.bytes → l.start % 16 ≡ 0;
+  first : l.start % 16 ≡ 0;
   listed : Passes
       (buffered (g.W.Sink.contents l.fn.writer) (g.W.Sink.failed l.fn.writer) l.fn.buffer)
       (buffered (g.W.Sink.contents l.writer) (g.W.Sink.failed l.writer) l.buffer)
