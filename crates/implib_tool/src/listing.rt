@@ -131,7 +131,10 @@ fn list_whole_line<W: Sink>(buffer: &mut Buffer, writer: &mut W, bytes: &[u8])
         (buffered (W.contents writer.new) (W.failed writer.new) buffer.new)
         (bytes_listing bytes.now) }
 {
-    buffer.put(writer, line_of(bytes).as_flattened());
+    let (first, middle, last) = line_of(bytes);
+    buffer.put(writer, &first);
+    buffer.put(writer, &middle);
+    buffer.put(writer, &last);
 }
 
 /// Lists bytes, a line for each 16 and one for those left over.

@@ -1,7 +1,7 @@
 //! The line of 16 bytes, made with many lanes at a time.
 
 ghost use Rattle.implib_tool.specs.Listing.{bytes_listing, hex_digit};
-ghost use Rattle.std.specs.Prelude.{◌≡◌, ◌%◌, ◌/◌, ◌<◌, flat_map, length, map};
+ghost use Rattle.std.specs.Prelude.{◌≡◌, ◌%◌, ◌++◌, ◌/◌, ◌<◌, length, map};
 ghost use Rattle.std.specs.Simd.Lanes.{Each1};
 
 use std::simd::prelude::*;
@@ -32,9 +32,9 @@ fn low_of(bytes: u8x16) -> u8x16
 }
 
 /// The line of 16 bytes, in three pieces of 16.
-pub(super) fn line_of(bytes: &[u8]) -> [[u8; 16]; 3]
+pub(super) fn line_of(bytes: &[u8]) -> ([u8; 16], [u8; 16], [u8; 16])
     requires { length bytes.now ≡ 16 }
-    ensures { flat_map (λ piece. piece) result ≡ bytes_listing bytes.now }
+    ensures { result.0 ++ (result.1 ++ result.2) ≡ bytes_listing bytes.now }
 {
     let bytes = u8x16::from_slice(bytes);
     let high = digits_of(high_of(bytes));
@@ -68,5 +68,5 @@ pub(super) fn line_of(bytes: &[u8]) -> [[u8; 16]; 3]
         spaces,
         [16, 1, 2, 16, 4, 5, 16, 7, 8, 16, 10, 11, 16, 13, 14, 15],
     );
-    [first.to_array(), middle.to_array(), last.to_array()]
+    (first.to_array(), middle.to_array(), last.to_array())
 }
