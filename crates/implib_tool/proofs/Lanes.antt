@@ -5,9 +5,11 @@ use Rattle.std.proofs.lemmas.Simd.{swz_l}
 use Rattle.std.proofs.lemmas.Bool.Decides.{nat_tests}
 use Rattle.implib_tool.specs.Listing.{bytes_listing, hex_digit}
 
+-- the hexadecimal digits
 abbrev pub hex_digits : List ℕ
 hex_digits = 48 ∷ 49 ∷ 50 ∷ 51 ∷ 52 ∷ 53 ∷ 54 ∷ 55 ∷ 56 ∷ 57 ∷ 97 ∷ 98 ∷ 99 ∷ 100 ∷ 101 ∷ 102 ∷ []
 
+-- the digit at a place
 digit_at : (n : ℕ) → n < 16 → get_or hex_digits n 0 ≡ hex_digit n
 digit_at zero below = refl
 digit_at (suc zero) below = refl
@@ -27,6 +29,7 @@ digit_at (suc (suc (suc (suc (suc (suc (suc (suc (suc (suc (suc (suc (suc (suc z
 digit_at (suc (suc (suc (suc (suc (suc (suc (suc (suc (suc (suc (suc (suc (suc (suc zero))))))))))))))) below = refl
 digit_at (suc (suc (suc (suc (suc (suc (suc (suc (suc (suc (suc (suc (suc (suc (suc (suc n)))))))))))))))) below = absurd (omega (arith, below))
 
+-- no lane is made 0
 not_zeroed : (n a : ℕ) → n < 16 → cond (leb 128 n) 0 a ≡ a
 not_zeroed n a below = grind (arith, nat_tests)
 
@@ -38,18 +41,16 @@ looked_up (n ∷ values) i room below =
     let lane = not_zeroed n (get_or hex_digits (16 * (i / 16) + n) 0) below.0 ∙ ap (λ k. get_or hex_digits k 0) place ∙ digit_at n below.0 in
     ap (λ t. t ∷ swz_l w8 16 hex_digits (suc i) values) lane ∙ ap (λ t. hex_digit n ∷ t) (looked_up values (suc i) (omega (arith, room)) below.1)
 
+-- the high half of a byte is below 16
 pub highs_below : (values : List ℕ) → Each1 (Fits w8) values → Each1 (λ n. n < 16) (map (λ b. b / 16) values)
 highs_below [] fits = tt
 highs_below (n ∷ values) fits = (omega (arith, fits.0.fits), highs_below values fits.1)
-
-pub lows_below : (values : List ℕ) → Each1 (λ n. n < 16) (map (λ b. b % 16) values)
-lows_below [] = tt
-lows_below (n ∷ values) = (omega arith, lows_below values)
 
 -- a line of 16 bytes, by the higher digits and then the lower ones
 abbrev pub line_of_digits : List ℕ → List ℕ
 line_of_digits digits = get_or digits 0 0 ∷ get_or digits 16 0 ∷ 32 ∷ get_or digits 1 0 ∷ get_or digits 17 0 ∷ 32 ∷ get_or digits 2 0 ∷ get_or digits 18 0 ∷ 32 ∷ get_or digits 3 0 ∷ get_or digits 19 0 ∷ 32 ∷ get_or digits 4 0 ∷ get_or digits 20 0 ∷ 32 ∷ get_or digits 5 0 ∷ get_or digits 21 0 ∷ 32 ∷ get_or digits 6 0 ∷ get_or digits 22 0 ∷ 32 ∷ get_or digits 7 0 ∷ get_or digits 23 0 ∷ 32 ∷ get_or digits 8 0 ∷ get_or digits 24 0 ∷ 32 ∷ get_or digits 9 0 ∷ get_or digits 25 0 ∷ 32 ∷ get_or digits 10 0 ∷ get_or digits 26 0 ∷ 32 ∷ get_or digits 11 0 ∷ get_or digits 27 0 ∷ 32 ∷ get_or digits 12 0 ∷ get_or digits 28 0 ∷ 32 ∷ get_or digits 13 0 ∷ get_or digits 29 0 ∷ 32 ∷ get_or digits 14 0 ∷ get_or digits 30 0 ∷ 32 ∷ get_or digits 15 0 ∷ get_or digits 31 0 ∷ 10 ∷ []
 
+-- it is the listing of these bytes
 pub line_spelled : (bytes : List ℕ) → length bytes ≡ 16 → line_of_digits (map hex_digit (map (λ b. b / 16) bytes) ++ map hex_digit (map (λ b. b % 16) bytes)) ≡ bytes_listing bytes
 line_spelled [] size = absurd (omega (arith, size))
 line_spelled (a0 ∷ []) size = absurd (omega (arith, size))

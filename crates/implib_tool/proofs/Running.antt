@@ -66,31 +66,6 @@ passes_nothing old = record {
   stopped = λ h. Keeps-refl old.contents;
 }
 
--- bytes follow and wait
-pub passes_waiting : (contents : Option (List ℕ)) (failed : Bool) (waiting bytes : List ℕ) → Passes (buffered contents failed waiting) (buffered contents failed (waiting ++ bytes)) bytes
-passes_waiting contents failed waiting bytes = record {
-  taken = [];
-  left = waiting ++ bytes;
-  whole = refl;
-  written = Appends-nil contents;
-  waits = λ h. refl;
-  sound = λ h. h;
-  stopped = λ h. Keeps-refl contents;
-}
-
--- what waited is written
-pub passes_flushed : (before after : Option (List ℕ)) (failed failed' : Bool) (waiting : List ℕ) → Passes (buffered before failed []) (buffered after failed' []) waiting
-    → Passes (buffered before failed waiting) (buffered after failed' []) []
-passes_flushed before after failed failed' waiting p = record {
-  taken = p.taken;
-  left = p.left;
-  whole = append-nil waiting ∙ p.whole;
-  written = p.written;
-  waits = p.waits;
-  sound = p.sound;
-  stopped = p.stopped;
-}
-
 -- a writer that has failed takes no more
 pub passes_failed : (old new : Buffered) (bytes more : List ℕ) → Passes old new bytes → new.failed ≡ true → Passes old new (bytes ++ more)
 passes_failed old new bytes more p failed = record {
@@ -102,42 +77,6 @@ passes_failed old new bytes more p failed = record {
   sound = λ h. both_ways (old.failed ≡ false) new.failed h failed;
   stopped = p.stopped;
 }
-
--- a writer that had failed takes nothing
-pub passes_stopped : (contents : Option (List ℕ)) (failed : Bool) (waiting bytes : List ℕ) → failed ≡ true → Passes (buffered contents failed waiting) (buffered contents failed waiting) bytes
-passes_stopped contents failed waiting bytes is = passes_failed _ _ [] bytes (passes_nothing (buffered contents failed waiting)) is
-
--- all is written
-pub passes_written : (before after : Option (List ℕ)) (failed failed' : Bool) (bytes : List ℕ) → failed ≡ false → failed' ≡ failed → Appends before after bytes
-    → Passes (buffered before failed []) (buffered after failed' []) bytes
-passes_written before after failed failed' bytes sound kept written = record {
-  taken = bytes;
-  left = [];
-  whole = sym (append-nil bytes);
-  written = written;
-  waits = λ h. refl;
-  sound = λ h. sound;
-  stopped = λ h. both_ways (Keeps before after) failed sound h;
-}
-
--- a beginning is written, and the writer fails
-pub passes_broken : (before after : Option (List ℕ)) (failed failed' : Bool) (bytes : List ℕ) → failed ≡ false → failed' ≡ true → AppendsBeginning before after bytes
-    → Passes (buffered before failed []) (buffered after failed' []) bytes
-passes_broken before after failed failed' bytes sound broken b = record {
-  taken = b.taken;
-  left = b.left;
-  whole = b.whole;
-  written = b.written;
-  waits = λ h. both_ways (b.left ≡ []) failed' h broken;
-  sound = λ h. sound;
-  stopped = λ h. both_ways (Keeps before after) failed sound h;
-}
-
--- nothing waits any more: all is written
-pub all_written : (before after : Option (List ℕ)) (failed failed' : Bool) (bytes : List ℕ) → Passes (buffered before failed []) (buffered after failed' []) bytes → failed' ≡ false
-    → Appends before after bytes
-all_written before after failed failed' bytes p sound =
-    subst (Appends before after) (sym (p.whole ∙ ap (λ t. p.taken ++ t) (p.waits sound) ∙ append-nil p.taken)) p.written
 
 -- in any case a beginning is written
 pub beginning_written : (before after : Option (List ℕ)) (failed failed' : Bool) (waiting waiting' bytes : List ℕ) → waiting ≡ [] → Passes (buffered before failed waiting) (buffered after failed' waiting') bytes
