@@ -1,11 +1,9 @@
 -- Lemmas on the runs of the program.
-use Rattle.std.proofs.Common.{◌≡◌, ℕ, suc, ◌-◌, ◌<◌, List, [], ◌∷◌, ◌++◌, Option, None, Some, IfSome, IsNone, MatchOption, Err, false, ◌↔◌, inl, inr, flat_map, get_or, length, take, drop, refl, sym, ap, subst, ◌∙◌, append_assoc, append-nil, take-append-drop}
-use Rattle.std.proofs.KnownBytes.{Appends-trans, Keeps-refl}
-use Rattle.std.proofs.lemmas.Grind.{flat_map-append}
+use Rattle.std.proofs.Common.{◌≡◌, ℕ, ◌-◌, Bool, true, List, [], ◌∷◌, ◌++◌, Option, None, Some, IfSome, IsNone, MatchOption, Err, false, ◌↔◌, inl, inr, length, take, drop, refl, sym, ap, subst, ◌∙◌, append_assoc, append-nil, take-append-drop}
+use Rattle.std.proofs.KnownBytes.{Appends-kept, Appends-nil, Appends-trans, Keeps-refl, Keeps-trans}
 use Rattle.std.proofs.lemmas.List.{take_rest}
-use Rattle.std.proofs.Math.Seq.{split_at}
 use Rattle.std.specs.Borrow.{Bor}
-use Rattle.std.specs.Io.KnownBytes.{Appends}
+use Rattle.std.specs.Io.KnownBytes.{Appends, Keeps}
 use Rattle.implib.specs.declared.members.Flavor.{Flavor}
 use Rattle.implib.specs.declared.machine.MachineType.{MachineType}
 use Rattle.implib.specs.Fault.{Cause, cause_of}
@@ -13,31 +11,82 @@ use Rattle.implib.specs.MemberSpec.{MemberView}
 use Rattle.implib_tool.specs.declared.run.RunError.{RunError}
 use Rattle.implib_tool.specs.declared.run.RunError.TheVariants.{Refused, NotUtf8, Read, Write, OutOfMemory}
 use Rattle.implib_tool.specs.Device.{AppendsBeginning}
-use Rattle.implib_tool.specs.Listing.{listing_of}
 use Rattle.implib_tool.specs.Parts.{Divides, IsUndivided}
-use Rattle.implib_tool.specs.Run.{Devices, FirstRefused, IsRefused, Lists, MembersOf}
-use Rattle.implib_tool.specs.Views.{ListsOnto, OnPartFault, OnTextFault, PartsLeft, WrittenSoFar}
+use Rattle.implib_tool.specs.Run.{Devices, FirstRefused, IsRefused, MembersOf}
+use Rattle.implib_tool.specs.Views.{Buffered, MembersOfParts, OnPartFault, OnTextFault, PartsLeft, Passes, WrittenSoFar, buffered}
 use Rattle.implib_tool.specs.Words.{Answers, Performs, TurnsDown, asked}
 use Rattle.implib_tool.proofs.Dividing.{parting, parts_more}
 
--- a beginning of what follows, after what was written
-pub beginning_more : (before middle after : Option (List ℕ)) (written block rest : List ℕ) → Appends before middle written → AppendsBeginning middle after block → AppendsBeginning before after (written ++ (block ++ rest))
-beginning_more before middle after written block rest moved b = record {
-  taken = written ++ b.taken;
-  left = b.left ++ rest;
-  whole = ap (λ t. written ++ (t ++ rest)) b.whole ∙ ap (λ t. written ++ t) (append_assoc b.taken b.left rest)
-      ∙ sym (append_assoc written b.taken (b.left ++ rest));
-  written = Appends-trans before middle after written b.taken moved b.written;
+by_bool : (P : Type 0) (b : Bool) → (b ≡ false → P) → (b ≡ true → P) → P
+by_bool P false low high = low refl
+by_bool P true low high = high refl
+
+never_both : (b : Bool) → b ≡ false → b ≡ true → ⊥
+never_both b low high = cc (sym low ∙ high)
+
+both_ways : (P : Type 0) (b : Bool) → b ≡ false → b ≡ true → P
+both_ways P b low high = absurd (never_both b low high)
+
+-- more bytes, after some
+pub passes_more : (old middle new : Buffered) (bytes more : List ℕ) → Passes old middle bytes → Passes middle new more → Passes old new (bytes ++ more)
+passes_more old middle new bytes more p q = by_bool (Passes old new (bytes ++ more)) middle.failed
+    (λ sound. record {
+      taken = p.taken ++ q.taken;
+      left = q.left;
+      whole = sym (append_assoc old.waiting bytes more) ∙ ap (λ t. t ++ more) p.whole ∙ append_assoc p.taken p.left more
+          ∙ ap (λ t. p.taken ++ (t ++ more)) (p.waits sound) ∙ ap (λ t. p.taken ++ t) q.whole ∙ sym (append_assoc p.taken q.taken q.left);
+      written = Appends-trans old.contents middle.contents new.contents p.taken q.taken p.written q.written;
+      waits = q.waits;
+      sound = λ h. p.sound (q.sound h);
+      stopped = λ h. both_ways (Keeps old.contents new.contents) old.failed (p.sound sound) h;
+    })
+    (λ failed. record {
+      taken = p.taken;
+      left = p.left ++ more;
+      whole = sym (append_assoc old.waiting bytes more) ∙ ap (λ t. t ++ more) p.whole ∙ append_assoc p.taken p.left more;
+      written = Appends-kept old.contents middle.contents new.contents p.taken p.written (q.stopped failed);
+      waits = λ h. both_ways (p.left ++ more ≡ new.waiting) middle.failed (q.sound h) failed;
+      sound = λ h. p.sound (q.sound h);
+      stopped = λ h. Keeps-trans old.contents middle.contents new.contents (p.stopped h) (q.stopped failed);
+    })
+
+-- the same bytes
+pub passes_as : (old new : Buffered) (bytes same : List ℕ) → bytes ≡ same → Passes old new bytes → Passes old new same
+passes_as old new bytes same e p = subst (Passes old new) e p
+
+-- nothing follows
+pub passes_nothing : (old : Buffered) → Passes old old []
+passes_nothing old = record {
+  taken = [];
+  left = old.waiting;
+  whole = append-nil old.waiting;
+  written = Appends-nil old.contents;
+  waits = λ h. refl;
+  sound = λ h. h;
+  stopped = λ h. Keeps-refl old.contents;
 }
 
--- blocks up to an index, the block there, and the rest
-pub block_between : {T : Type 0} (bytes : T → List ℕ) (blocks : List T) (last : List ℕ) (index : ℕ) (block : T) → index < length blocks → block ≡ get_or blocks index block
-    → flat_map bytes blocks ++ last ≡ flat_map bytes (take index blocks) ++ (bytes block ++ (flat_map bytes (drop (suc index) blocks) ++ last))
-block_between bytes blocks last index block within is =
-    ap (λ t. flat_map bytes t ++ last) (split_at blocks index block within ∙ ap (λ t. take index blocks ++ t ∷ drop (suc index) blocks) (sym is))
-    ∙ ap (λ t. t ++ last) (flat_map-append bytes (take index blocks) (block ∷ drop (suc index) blocks))
-    ∙ append_assoc (flat_map bytes (take index blocks)) (bytes block ++ flat_map bytes (drop (suc index) blocks)) last
-    ∙ ap (λ t. flat_map bytes (take index blocks) ++ t) (append_assoc (bytes block) (flat_map bytes (drop (suc index) blocks)) last)
+-- a writer that has failed takes no more
+pub passes_failed : (old new : Buffered) (bytes more : List ℕ) → Passes old new bytes → new.failed ≡ true → Passes old new (bytes ++ more)
+passes_failed old new bytes more p failed = record {
+  taken = p.taken;
+  left = p.left ++ more;
+  whole = sym (append_assoc old.waiting bytes more) ∙ ap (λ t. t ++ more) p.whole ∙ append_assoc p.taken p.left more;
+  written = p.written;
+  waits = λ h. both_ways (p.left ++ more ≡ new.waiting) new.failed h failed;
+  sound = λ h. both_ways (old.failed ≡ false) new.failed h failed;
+  stopped = p.stopped;
+}
+
+-- in any case a beginning is written
+pub beginning_written : (before after : Option (List ℕ)) (failed failed' : Bool) (waiting waiting' bytes : List ℕ) → waiting ≡ [] → Passes (buffered before failed waiting) (buffered after failed' waiting') bytes
+    → AppendsBeginning before after bytes
+beginning_written before after failed failed' waiting waiting' bytes none p = record {
+  taken = p.taken;
+  left = p.left;
+  whole = ap (λ t. t ++ bytes) (sym none) ∙ p.whole;
+  written = p.written;
+}
 
 -- one more write
 pub written_more : (before middle after : Option (List ℕ)) (bytes rest : List ℕ) (count : ℕ) → WrittenSoFar before middle bytes rest → Appends middle after (take count rest)
@@ -50,23 +99,19 @@ written_more before middle after bytes rest count w moved = record {
 }
 
 module _ (machine : MachineType) (flavor : Flavor) where
-  lists_last : (text : List ℕ) (members : List MemberView) → IsUndivided text → MembersOf text machine flavor members → Lists text machine flavor (listing_of members)
-  lists_last text members whole made = record {
+  made_last : (text : List ℕ) (members : List MemberView) → IsUndivided text → MembersOf text machine flavor members → MembersOfParts text machine flavor (members ∷ [])
+  made_last text members whole made = record {
     parts = text ∷ [];
-    lists = members ∷ [];
     parted = (refl, whole);
     made = (made, tt);
-    listed = sym (append-nil (listing_of members));
   }
 
-  lists_more : (text part rest : List ℕ) (members : List MemberView) (listing : List ℕ) → Divides text part rest → MembersOf part machine flavor members → Lists rest machine flavor listing
-      → Lists text machine flavor (listing_of members ++ listing)
-  lists_more text part rest members listing d made l = record {
+  made_more : (text part rest : List ℕ) (members : List MemberView) (lists : List (List MemberView)) → Divides text part rest → MembersOf part machine flavor members
+      → MembersOfParts rest machine flavor lists → MembersOfParts text machine flavor (members ∷ lists)
+  made_more text part rest members lists d made l = record {
     parts = part ∷ l.parts;
-    lists = members ∷ l.lists;
     parted = parts_more text part rest l.parts d l.parted;
     made = (made, l.made);
-    listed = ap (λ t. listing_of members ++ t) l.listed;
   }
 
   refused_last : (text : List ℕ) (cause : Cause) → IsUndivided text → IsRefused text machine flavor cause → FirstRefused text machine flavor cause
@@ -107,37 +152,36 @@ module _ (machine : MachineType) (flavor : Flavor) where
   abbrev pub Divided : List ℕ → List ℕ → Option (Bor (List ℕ)) → Type 0
   Divided text part after = MatchOption after ((part ≡ text) × IsUndivided text) (λ rest. Divides text part rest.now)
 
-  pub part_listed : (text : List ℕ) (listed new : List ℕ) (left : Bor (List ℕ)) (part : List ℕ) (after : Option (Bor (List ℕ))) → PartsLeft text machine flavor listed (Some left) → Divided left.now part after
-      → ListsOnto part machine flavor listed new → PartsLeft text machine flavor new after
-  part_listed text listed new left part None l d onto = record {
+  pub part_made : (text : List ℕ) (lists : List (List MemberView)) (members : List MemberView) (left : Bor (List ℕ)) (part : List ℕ) (after : Option (Bor (List ℕ))) → PartsLeft text machine flavor lists (Some left)
+      → Divided left.now part after → MembersOf part machine flavor members → PartsLeft text machine flavor (lists ++ members ∷ []) after
+  part_made text lists members left part None l d made = record {
     lists = λ more none.
-        let made : MembersOf left.now machine flavor onto.members = subst (λ t. MembersOf t machine flavor onto.members) d.0 onto.made in
-        subst (Lists text machine flavor) (sym onto.listed ∙ sym (append-nil new) ∙ ap (λ t. new ++ t) (sym none))
-        (l.lists (listing_of onto.members) (lists_last left.now onto.members d.1 made));
+        subst (λ t. MembersOfParts text machine flavor t) (sym (append-nil (lists ++ members ∷ [])) ∙ ap (λ t. (lists ++ members ∷ []) ++ t) (sym none))
+        (l.lists (members ∷ []) (made_last left.now members d.1 (subst (λ t. MembersOf t machine flavor members) d.0 made)));
     refused = λ cause no. absurd no;
   }
-  part_listed text listed new left part (Some rest) l d onto = record {
+  part_made text lists members left part (Some rest) l d made = record {
     lists = λ more given.
-        subst (Lists text machine flavor) (sym (append_assoc listed (listing_of onto.members) more) ∙ ap (λ t. t ++ more) (sym onto.listed))
-        (l.lists (listing_of onto.members ++ more) (lists_more left.now part rest.now onto.members more d onto.made given));
-    refused = λ cause given. l.refused cause (refused_more left.now part rest.now onto.members cause d onto.made given);
+        subst (λ t. MembersOfParts text machine flavor t) (sym (append_assoc lists (members ∷ []) more))
+        (l.lists (members ∷ more) (made_more left.now part rest.now members more d made given));
+    refused = λ cause given. l.refused cause (refused_more left.now part rest.now members cause d made given);
   }
 
-  part_refused : (text : List ℕ) (listed : List ℕ) (left : Bor (List ℕ)) (part : List ℕ) (after : Option (Bor (List ℕ))) (cause : Cause) → PartsLeft text machine flavor listed (Some left) → Divided left.now part after
+  part_refused : (text : List ℕ) (lists : List (List MemberView)) (left : Bor (List ℕ)) (part : List ℕ) (after : Option (Bor (List ℕ))) (cause : Cause) → PartsLeft text machine flavor lists (Some left) → Divided left.now part after
       → IsRefused part machine flavor cause → FirstRefused text machine flavor cause
-  part_refused text listed left part None cause l d refused =
+  part_refused text lists left part None cause l d refused =
       l.refused cause (refused_last left.now cause d.1 (subst (λ t. IsRefused t machine flavor cause) d.0 refused))
-  part_refused text listed left part (Some rest) cause l d refused =
+  part_refused text lists left part (Some rest) cause l d refused =
       l.refused cause (refused_first left.now part rest.now cause d refused)
 
-  -- what `list_part` answers, as an answer of `list_parts`
-  pub part_fault : (text : List ℕ) (listed : List ℕ) (left : Bor (List ℕ)) (part : List ℕ) (after : Option (Bor (List ℕ))) (error : RunError) → PartsLeft text machine flavor listed (Some left)
+  -- what `members_of` answers, as an answer of `members_of_parts`
+  pub part_fault : (text : List ℕ) (lists : List (List MemberView)) (left : Bor (List ℕ)) (part : List ℕ) (after : Option (Bor (List ℕ))) (error : RunError) → PartsLeft text machine flavor lists (Some left)
       → Divided left.now part after → OnPartFault part machine flavor error → OnTextFault text machine flavor error
-  part_fault text listed left part after (Refused fault) l d h = part_refused text listed left part after (cause_of fault) l d h
-  part_fault text listed left part after NotUtf8 l d h = h
-  part_fault text listed left part after Read l d h = h
-  part_fault text listed left part after Write l d h = h
-  part_fault text listed left part after OutOfMemory l d h = h
+  part_fault text lists left part after (Refused fault) l d h = part_refused text lists left part after (cause_of fault) l d h
+  part_fault text lists left part after NotUtf8 l d h = h
+  part_fault text lists left part after Read l d h = h
+  part_fault text lists left part after Write l d h = h
+  part_fault text lists left part after OutOfMemory l d h = h
 
 -- what `command` answers, as what the program does with words that ask for this
 answered : (wanted : Option (MachineType × Flavor)) (before after : Devices) (status : ℕ) → ((status ≡ 2) ↔ IsNone wanted) → (IsNone wanted → after ≡ before)

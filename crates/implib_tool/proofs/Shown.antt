@@ -1,13 +1,13 @@
 -- Lemmas on the listing.
-use Rattle.std.proofs.Common.{◌≡◌, ℕ, ◌+◌, ◌-◌, ◌*◌, ◌/◌, ◌%◌, ◌<◌, ◌≤◌, true, cond, List, [], ◌∷◌, ◌++◌, length, take, drop, set, get_or, flat_map, refl, sym, ap, subst, ◌∙◌, append_assoc, append-nil, take-append-drop, arith, length-set, length-drop, slice_range, get_or-drop, inl, inr, min}
+use Rattle.std.proofs.Common.{◌≡◌, ℕ, ◌+◌, ◌-◌, ◌*◌, ◌/◌, ◌%◌, ◌<◌, ◌≤◌, true, cond, List, [], ◌∷◌, ◌++◌, length, take, drop, set, get_or, flat_map, map, take-add, codes, refl, sym, ap, subst, ◌∙◌, append_assoc, append-nil, take-append-drop, arith, length-set, length-drop, slice_range, get_or-drop, inl, inr, min}
 use Rattle.std.specs.Prelude.{◌==◌, ◌⊎◌, ◌||◌}
 use Rattle.std.proofs.Math.Bool.{or-true}
 use Rattle.std.proofs.Math.Seq.{take-append-add}
 use Rattle.std.proofs.lemmas.Bool.{and_parts, cases_lt, eq-eqb, ne_eqb}
 use Rattle.std.proofs.lemmas.Grind.{flat_map-append}
-use Rattle.std.proofs.lemmas.List.{take_more, take_more_set, take-append-le, length-take-le, drop-drop}
+use Rattle.std.proofs.lemmas.List.{map-append, take_more, take_more_set, take-append-le, length-take-le}
 use Rattle.std.specs.List.{enumerate_from, list_all}
-use Rattle.implib_tool.specs.Listing.{after_byte, byte_listing, escaped, escaped_byte, hex_byte, hex_digit, is_plain}
+use Rattle.implib_tool.specs.Listing.{after_byte, byte_listing, bytes_listing, escaped, escaped_byte, hex_byte, hex_digit, is_plain}
 
 -- a name of plain bytes stands as it is
 pub plain_name : (name : List ℕ) → list_all is_plain name ≡ true → escaped name ≡ name
@@ -56,18 +56,44 @@ line_more f start n part line a b c h room shown before =
 
 -- one more line
 pub lines_more : (f : ℕ × ℕ → List ℕ) (start end : ℕ) (bytes : List ℕ) → start ≤ end → end ≤ length bytes
-    → flat_map f (enumerate_from start (drop start bytes)) ≡ flat_map f (enumerate_from start (slice_range bytes start end)) ++ flat_map f (enumerate_from end (drop end bytes))
+    → flat_map f (enumerate_from 0 (take start bytes)) ++ flat_map f (enumerate_from start (slice_range bytes start end)) ≡ flat_map f (enumerate_from 0 (take end bytes))
 lines_more f start end bytes order within =
     let line = take (end - start) (drop start bytes) in
+    let size : 0 + length (take start bytes) ≡ start = omega (arith, length-take-le start bytes (omega arith)) in
     let place : start + (end - start) ≡ end = omega arith in
-    let size : length line ≡ end - start = length-take-le (end - start) (drop start bytes) (omega (arith, length-drop start bytes)) in
-    let count : start + length line ≡ end = omega arith in
-    let rest : drop start bytes ≡ line ++ drop end bytes =
-    sym (take-append-drop (end - start) (drop start bytes)) ∙ ap (λ t. line ++ t) (drop-drop (end - start) start bytes ∙ ap (λ n. drop n bytes) place)
-    in
-    ap (λ t. flat_map f (enumerate_from start t)) rest ∙ ap (flat_map f) (enumerate_from-append start line (drop end bytes))
-    ∙ flat_map-append f (enumerate_from start line) (enumerate_from (start + length line) (drop end bytes))
-    ∙ ap (λ n. flat_map f (enumerate_from start line) ++ flat_map f (enumerate_from n (drop end bytes))) count
+    let parted : take end bytes ≡ take start bytes ++ line = ap (λ n. take n bytes) (sym place) ∙ take-add start (end - start) bytes in
+    sym (flat_map-append f (enumerate_from 0 (take start bytes)) (enumerate_from start line))
+    ∙ ap (λ n. flat_map f (enumerate_from 0 (take start bytes) ++ enumerate_from n line)) (sym size)
+    ∙ ap (flat_map f) (sym (enumerate_from-append 0 (take start bytes) line) ∙ ap (enumerate_from 0) (sym parted))
+
+-- one more item
+pub flat_more : (f : ℕ → List ℕ) (items : List ℕ) (index : ℕ) → index < length items
+    → flat_map f (take index items) ++ f (get_or items index 0) ≡ flat_map f (take (index + 1) items)
+flat_more f items index within =
+    ap (λ t. flat_map f (take index items) ++ t) (sym (append-nil (f (get_or items index 0))))
+    ∙ sym (flat_map-append f (take index items) (get_or items index 0 ∷ []))
+    ∙ ap (flat_map f) (sym (take_more items index 0 within))
+
+-- one more item of which a view is shown
+pub mapped_more : {T V : Type 0} (f : V → List ℕ) (view : T → V) (items : List T) (index : ℕ) (item : T) → index < length items → item ≡ get_or items index item
+    → flat_map f (map view (take index items)) ++ f (view item) ≡ flat_map f (map view (take (index + 1) items))
+mapped_more f view items index item within is =
+    let more : take (index + 1) items ≡ take index items ++ item ∷ [] = take_more items index item within ∙ ap (λ t. take index items ++ t ∷ []) (sym is) in
+    ap (λ t. flat_map f (map view (take index items)) ++ t) (sym (append-nil (f (view item))))
+    ∙ sym (flat_map-append f (map view (take index items)) (view item ∷ []))
+    ∙ ap (flat_map f) (sym (map-append view (take index items) (item ∷ [])) ∙ ap (map view) (sym more))
+
+-- some items, and the others
+pub mapped_whole : {T V : Type 0} (f : V → List ℕ) (view : T → V) (items : List T) (index : ℕ)
+    → flat_map f (map view (take index items)) ++ flat_map f (map view (drop index items)) ≡ flat_map f (map view items)
+mapped_whole f view items index =
+    sym (flat_map-append f (map view (take index items)) (map view (drop index items)))
+    ∙ ap (flat_map f) (sym (map-append view (take index items) (drop index items)) ∙ ap (map view) (take-append-drop index items))
+
+-- the first line of a member, and what follows it
+pub head_joined : (name number rest : List ℕ) → (codes "member " ++ (name ++ (32 ∷ (number ++ 10 ∷ [])))) ++ rest ≡ codes "member " ++ (name ++ (32 ∷ (number ++ (10 ∷ rest))))
+head_joined name number rest =
+    ap (λ t. codes "member " ++ t) (append_assoc name (32 ∷ (number ++ 10 ∷ [])) rest ∙ ap (λ t. name ++ 32 ∷ t) (append_assoc number (10 ∷ []) rest))
 
 -- a byte and a space
 abbrev pub spaced_byte : ℕ × ℕ → List ℕ
@@ -114,6 +140,33 @@ line_end_after : (count index : ℕ) → (index % 16 ≡ 15) ⊎ (index + 1 ≡ 
 line_end_after count index (inl fifteen) = rw (eq-eqb (index % 16) 15 fifteen) refl
 line_end_after count index (inr last) =
     ap (λ test. cond (index % 16 == 15 || test) 10 32) (eq-eqb (index + 1) count last) ∙ ap (λ test. cond test 10 32) (or-true (index % 16 == 15))
+
+-- the same stands after a byte of a whole line, whatever stands before the line
+same_after : (count start index : ℕ) → start % 16 ≡ 0 → index < 16 → start + 16 ≤ count → after_byte 16 index ≡ after_byte count (start + index)
+same_after count start index first few room = elim (cases_lt index 15) [
+  | inl below ↦ space_after 16 index (omega arith) (omega arith) ∙ sym (space_after count (start + index) (omega arith) (omega arith))
+  | inr above ↦ line_end_after 16 index (inr (omega arith)) ∙ sym (line_end_after count (start + index) (inl (omega arith)))
+]
+
+same_line : (count start index : ℕ) (bytes : List ℕ) → start % 16 ≡ 0 → index + length bytes ≡ 16 → start + 16 ≤ count
+    → flat_map (byte_listing 16) (enumerate_from index bytes) ≡ flat_map (byte_listing count) (enumerate_from (start + index) bytes)
+same_line count start index [] first size room = refl
+same_line count start index (byte ∷ bytes) first size room =
+    let next : start + (index + 1) ≡ start + index + 1 = omega arith in
+    ap (λ c. (hex_byte byte ++ c ∷ []) ++ flat_map (byte_listing 16) (enumerate_from (index + 1) bytes)) (same_after count start index first (omega arith) room)
+    ∙ ap (λ t. (hex_byte byte ++ after_byte count (start + index) ∷ []) ++ t)
+    (same_line count start (index + 1) bytes first (omega arith) room ∙ ap (λ n. flat_map (byte_listing count) (enumerate_from n bytes)) next)
+
+-- a whole line shows its bytes
+pub whole_line : (bytes : List ℕ) (start : ℕ) → start % 16 ≡ 0 → start + 16 ≤ length bytes
+    → bytes_listing (slice_range bytes start (start + 16)) ≡ flat_map (byte_listing (length bytes)) (enumerate_from start (slice_range bytes start (start + 16)))
+whole_line bytes start first room =
+    let line = slice_range bytes start (start + 16) in
+    let size : length line ≡ 16 = omega (arith, length-take-le (start + 16 - start) (drop start bytes) (omega (arith, length-drop start bytes))) in
+    let none : start + 0 ≡ start = omega arith in
+    ap (λ n. flat_map (byte_listing n) (enumerate_from 0 line)) size
+    ∙ same_line (length bytes) start 0 line first (omega (arith, size)) room
+    ∙ ap (λ n. flat_map (byte_listing (length bytes)) (enumerate_from n line)) none
 
 last_of_line : (start n count : ℕ) → start % 16 ≡ 0 → (n ≡ 15) ⊎ (start + n + 1 ≡ count) → ((start + n) % 16 ≡ 15) ⊎ (start + n + 1 ≡ count)
 last_of_line start n count first (inl fifteen) = inl (omega arith)

@@ -1,15 +1,20 @@
 -- Views of the code's state: what its own functions promise each other. No promise cites them.
-use Rattle.std.specs.Prelude.{◌≡◌, ◌≢◌, ◌⊎◌, ℕ, ◌+◌, ◌<◌, ◌≤◌, Bool, true, List, [], ◌++◌, Option, None, Some, length, slice_index}
+use Rattle.std.specs.Prelude.{◌≡◌, ◌≢◌, ◌⊎◌, ℕ, ◌+◌, ◌<◌, ◌≤◌, Bool, false, true, List, [], ◌++◌, map, Option, None, Some, IfSome, length, slice_index}
+use Rattle.std.specs.declared.vec.Vec.{Vec}
 use Rattle.std.specs.Borrow.{Bor}
-use Rattle.std.specs.Io.KnownBytes.{Appends}
+use Rattle.std.specs.Io.KnownBytes.{Appends, Keeps}
+use Rattle.std.specs.Str.{IsUtf8}
 use Rattle.implib.specs.declared.members.Flavor.{Flavor}
 use Rattle.implib.specs.declared.machine.MachineType.{MachineType}
 use Rattle.implib.specs.Fault.{Cause, cause_of}
 use Rattle.implib.specs.MemberSpec.{MemberView}
 use Rattle.implib_tool.specs.declared.run.RunError.{RunError}
 use Rattle.implib_tool.specs.declared.run.RunError.TheVariants.{Refused, NotUtf8, Read, Write, OutOfMemory}
-use Rattle.implib_tool.specs.Listing.{listing_of}
-use Rattle.implib_tool.specs.Run.{FirstRefused, IsRefused, Lists, MembersOf}
+use Rattle.implib.specs.Library.{member_view}
+use Rattle.implib.specs.declared.members.Member.{Member}
+use Rattle.implib_tool.specs.Device.{AppendsBeginning}
+use Rattle.implib_tool.specs.Parts.{Parts}
+use Rattle.implib_tool.specs.Run.{EachMade, FirstRefused, IsRefused}
 
 -- from start to end a line stands in the text, and next is where the next one begins: past the line end, or at the text's end
 pub record IsLineAt (text : List ℕ) (start end next : ℕ) : Type 0 where
@@ -18,11 +23,36 @@ pub record IsLineAt (text : List ℕ) (start end next : ℕ) : Type 0 where
   pub line : (k : ℕ) → start ≤ k → k < end → slice_index text k ≢ 10
   pub ends : ((end ≡ length text) × (next ≡ end)) ⊎ ((end < length text) × (slice_index text end ≡ 10) × (next ≡ end + 1))
 
--- the members of what the text means are listed at the end
-pub record ListsOnto (text : List ℕ) (machine : MachineType) (flavor : Flavor) (old new : List ℕ) : Type 0 where
-  pub members : List MemberView
-  pub made : MembersOf text machine flavor members
-  pub listed : new ≡ old ++ listing_of members
+-- a writer with the bytes that wait for it: what it has, where it tells that, and whether it has failed
+pub record Buffered : Type 0 where
+  pub contents : Option (List ℕ)
+  pub failed : Bool
+  pub waiting : List ℕ
+
+abbrev pub buffered : Option (List ℕ) → Bool → List ℕ → Buffered
+buffered contents failed waiting = record { contents = contents; failed = failed; waiting = waiting }
+
+-- bytes follow those that waited: the writer takes a beginning of both, and unless it has failed the
+-- rest waits; a writer that had failed takes none
+pub record Passes (old new : Buffered) (bytes : List ℕ) : Type 0 where
+  pub taken : List ℕ
+  pub left : List ℕ
+  pub whole : old.waiting ++ bytes ≡ taken ++ left
+  pub written : Appends old.contents new.contents taken
+  pub waits : new.failed ≡ false → left ≡ new.waiting
+  pub sound : new.failed ≡ false → old.failed ≡ false
+  pub stopped : old.failed ≡ true → Keeps old.contents new.contents
+
+-- the members of each part
+abbrev pub member_views : {A : Type 0} → List (Vec Member A) → List (List MemberView)
+member_views lists = map (λ members. map member_view members.items) lists
+
+-- the members of each part of the text, in order
+pub record MembersOfParts (text : List ℕ) (machine : MachineType) (flavor : Flavor)
+    (lists : List (List MemberView)) : Type 0 where
+  pub parts : List (List ℕ)
+  pub parted : Parts text parts
+  pub made : EachMade machine flavor parts lists
 
 -- the reader failed, or memory was refused and it has not
 abbrev pub OnReadFault : Bool → Bool → RunError → Type 0
@@ -48,10 +78,29 @@ OnTextFault text machine flavor Read = ⊥
 OnTextFault text machine flavor Write = ⊥
 OnTextFault text machine flavor OutOfMemory = Unit {0}
 
--- the listing of what is left of a text, if anything is
-abbrev pub ListsLeft : Option (Bor (List ℕ)) → MachineType → Flavor → List ℕ → Type 0
-ListsLeft None machine flavor listing = listing ≡ []
-ListsLeft (Some rest) machine flavor listing = Lists rest.now machine flavor listing
+-- what the reader had is no UTF-8, or is refused; or the reader failed, or memory was refused
+abbrev pub OnInputFault : Option (List ℕ) → Bool → MachineType → Flavor → RunError → Type 0
+OnInputFault remaining failed machine flavor (Refused fault) =
+    (failed ≡ false) × IfSome remaining IsUtf8
+    × IfSome remaining (λ text. FirstRefused text machine flavor (cause_of fault))
+OnInputFault remaining failed machine flavor NotUtf8 =
+    (failed ≡ false) × IfSome remaining (λ text. ¬ (IsUtf8 text))
+OnInputFault remaining failed machine flavor Read = failed ≡ true
+OnInputFault remaining failed machine flavor Write = ⊥
+OnInputFault remaining failed machine flavor OutOfMemory = failed ≡ false
+
+-- the writer failed and has a beginning of the listing, or memory was refused before it was used
+abbrev pub OnWriteFault : Option (List ℕ) → Option (List ℕ) → Bool → List ℕ → RunError → Type 0
+OnWriteFault before after failed listing (Refused fault) = ⊥
+OnWriteFault before after failed listing NotUtf8 = ⊥
+OnWriteFault before after failed listing Read = ⊥
+OnWriteFault before after failed listing Write = (failed ≡ true) × AppendsBeginning before after listing
+OnWriteFault before after failed listing OutOfMemory = (failed ≡ false) × Keeps before after
+
+-- the members of what is left of a text, if anything is
+abbrev pub MadeLeft : Option (Bor (List ℕ)) → MachineType → Flavor → List (List MemberView) → Type 0
+MadeLeft None machine flavor lists = lists ≡ []
+MadeLeft (Some rest) machine flavor lists = MembersOfParts rest.now machine flavor lists
 
 -- the refusal of what is left of a text, if anything is
 abbrev pub RefusedLeft : Option (Bor (List ℕ)) → MachineType → Flavor → Cause → Type 0
@@ -63,9 +112,9 @@ abbrev pub size_left : Option (Bor (List ℕ)) → ℕ
 size_left None = 0
 size_left (Some rest) = length rest.now + 1
 
--- what is listed, and then the listing of what is left, is that of the text; what is left is refused only as the text is
-pub record PartsLeft (text : List ℕ) (machine : MachineType) (flavor : Flavor) (listed : List ℕ) (rest : Option (Bor (List ℕ))) : Type 0 where
-  pub lists : (more : List ℕ) → ListsLeft rest machine flavor more → Lists text machine flavor (listed ++ more)
+-- what is made, and then the members of what is left, are those of the text; what is left is refused only as the text is
+pub record PartsLeft (text : List ℕ) (machine : MachineType) (flavor : Flavor) (made : List (List MemberView)) (rest : Option (Bor (List ℕ))) : Type 0 where
+  pub lists : (more : List (List MemberView)) → MadeLeft rest machine flavor more → MembersOfParts text machine flavor (made ++ more)
   pub refused : (cause : Cause) → RefusedLeft rest machine flavor cause → FirstRefused text machine flavor cause
 
 -- the bytes are some that the writer took, and those that are left

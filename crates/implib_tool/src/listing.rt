@@ -2,14 +2,17 @@
 
 ghost use Rattle.implib.specs.Library.{member_view};
 ghost use Rattle.implib_tool.specs.Listing.{bytes_listing, byte_listing, escaped, escaped_byte, hex_digit, is_plain, listing_of, member_listing, symbol_listing};
+ghost use Rattle.implib_tool.specs.Views.{Passes, buffered};
 ghost use Rattle.std.specs.List.{enumerate_from, list_all};
-ghost use Rattle.std.specs.Prelude.{◌≡◌, ◌%◌, ◌+◌, ◌<◌, ◌≤◌, [], ◌∷◌, ◌++◌, OnOk, decimal, flat_map, length, map, min, slice_range};
+ghost use Rattle.std.specs.Prelude.{◌≡◌, ◌%◌, ◌+◌, ◌<◌, ◌≤◌, [], ◌∷◌, ◌++◌, codes, decimal, flat_map, length, map, min, slice_range};
 ghost use Rattle.std.specs.String.{string_bytes};
 
-use crate::blocks::TextBlocks;
+use crate::device::Sink;
+use crate::listing::line::line_of;
+use crate::output::Buffer;
 use implib::Member;
-use itoa::Buffer;
-use std::alloc::AllocError;
+
+mod line;
 
 /// A hexadecimal digit, in lower case.
 fn hex_digit_of(value: u8) -> u8
@@ -41,13 +44,15 @@ fn stand_plain(name: &[u8]) -> bool
     plain
 }
 
-/// Appends a byte of a name.
-fn list_name_byte(listing: &mut TextBlocks, byte: u8) -> Result<(), AllocError>
-    ensures { OnOk result (listing.new ≡ listing.old ++ escaped_byte byte) }
+/// Lists a byte of a name.
+fn list_name_byte<W: Sink>(buffer: &mut Buffer, writer: &mut W, byte: u8)
+    ensures { Passes
+        (buffered (W.contents writer.old) (W.failed writer.old) buffer.old)
+        (buffered (W.contents writer.new) (W.failed writer.new) buffer.new)
+        (escaped_byte byte) }
 {
     if stands_plain(byte) {
-        listing.push(&[byte])?;
-        return Ok(());
+        return buffer.put(writer, &[byte]);
     }
     let escape = [
         b'\\',
@@ -55,54 +60,57 @@ fn list_name_byte(listing: &mut TextBlocks, byte: u8) -> Result<(), AllocError>
         hex_digit_of(byte / 16),
         hex_digit_of(byte % 16),
     ];
-    listing.push(&escape)
+    buffer.put(writer, &escape);
 }
 
-/// Appends a name.
-fn list_name(listing: &mut TextBlocks, name: &str) -> Result<(), AllocError>
-    ensures { OnOk result (listing.new ≡ listing.old ++ escaped name.now) }
+/// Lists a name.
+fn list_name<W: Sink>(buffer: &mut Buffer, writer: &mut W, name: &str)
+    ensures { Passes
+        (buffered (W.contents writer.old) (W.failed writer.old) buffer.old)
+        (buffered (W.contents writer.new) (W.failed writer.new) buffer.new)
+        (escaped name.now) }
 {
     if stand_plain(name.as_bytes()) {
-        return listing.push(name.as_bytes());
+        return buffer.put(writer, name.as_bytes());
     }
     for byte in name.as_bytes() {
-        list_name_byte(listing, *byte)?;
+        list_name_byte(buffer, writer, *byte);
     }
-    Ok(())
 }
 
-/// Appends the line of a listed symbol.
-fn list_symbol(listing: &mut TextBlocks, symbol: &str) -> Result<(), AllocError>
-    ensures { OnOk result (listing.new ≡ listing.old ++ symbol_listing symbol.now) }
+/// Lists the line of a listed symbol.
+fn list_symbol<W: Sink>(buffer: &mut Buffer, writer: &mut W, symbol: &str)
+    ensures { Passes
+        (buffered (W.contents writer.old) (W.failed writer.old) buffer.old)
+        (buffered (W.contents writer.new) (W.failed writer.new) buffer.new)
+        (symbol_listing symbol.now) }
 {
-    listing.push(b"symbol ")?;
-    list_name(listing, symbol)?;
-    listing.push(b"\n")?;
-    Ok(())
+    buffer.put(writer, b"symbol ");
+    list_name(buffer, writer, symbol);
+    buffer.put(writer, b"\n");
 }
 
-/// Appends the lines of listed symbols.
-fn list_symbols(listing: &mut TextBlocks, symbols: &[String]) -> Result<(), AllocError>
-    ensures { OnOk result (listing.new ≡ listing.old ++ flat_map symbol_listing (map string_bytes symbols.now)) }
+/// Lists the lines of listed symbols.
+fn list_symbols<W: Sink>(buffer: &mut Buffer, writer: &mut W, symbols: &[String])
+    ensures { Passes
+        (buffered (W.contents writer.old) (W.failed writer.old) buffer.old)
+        (buffered (W.contents writer.new) (W.failed writer.new) buffer.new)
+        (flat_map symbol_listing (map string_bytes symbols.now)) }
 {
     for symbol in symbols {
-        list_symbol(listing, symbol.as_str())?;
+        list_symbol(buffer, writer, symbol.as_str());
     }
-    Ok(())
 }
 
-/// Appends the bytes from `start` to `end`, which make a line.
-fn list_line(
-    listing: &mut TextBlocks,
-    bytes: &[u8],
-    start: usize,
-    end: usize,
-) -> Result<(), AllocError>
+/// Lists the bytes from `start` to `end`, which make a line.
+fn list_line<W: Sink>(buffer: &mut Buffer, writer: &mut W, bytes: &[u8], start: usize, end: usize)
     requires some { start < end }
     requires whole { end ≡ min (start + 16) (length bytes.now) }
     requires first { start % 16 ≡ 0 }
-    ensures { OnOk result (listing.new ≡ listing.old
-        ++ flat_map (byte_listing (length bytes.now)) (enumerate_from start (slice_range bytes.now start end))) }
+    ensures { Passes
+        (buffered (W.contents writer.old) (W.failed writer.old) buffer.old)
+        (buffered (W.contents writer.new) (W.failed writer.new) buffer.new)
+        (flat_map (byte_listing (length bytes.now)) (enumerate_from start (slice_range bytes.now start end))) }
 {
     let mut line = [b' '; 48];
     for index in start..end {
@@ -112,46 +120,80 @@ fn list_line(
         line[at + 2] = b' ';
     }
     line[3 * (end - start) - 1] = b'\n';
-    listing.push(&line[..3 * (end - start)])
+    buffer.put(writer, &line[..3 * (end - start)]);
 }
 
-/// Appends bytes, a line for each 16 and one for those left over.
-fn list_bytes(listing: &mut TextBlocks, bytes: &[u8]) -> Result<(), AllocError>
-    ensures { OnOk result (listing.new ≡ listing.old ++ bytes_listing bytes.now) }
+/// Lists 16 bytes, which make a line.
+fn list_whole_line<W: Sink>(buffer: &mut Buffer, writer: &mut W, bytes: &[u8])
+    requires { length bytes.now ≡ 16 }
+    ensures { Passes
+        (buffered (W.contents writer.old) (W.failed writer.old) buffer.old)
+        (buffered (W.contents writer.new) (W.failed writer.new) buffer.new)
+        (bytes_listing bytes.now) }
+{
+    let (first, middle, last) = line_of(bytes);
+    buffer.put(writer, &first);
+    buffer.put(writer, &middle);
+    buffer.put(writer, &last);
+}
+
+/// Lists bytes, a line for each 16 and one for those left over.
+fn list_bytes<W: Sink>(buffer: &mut Buffer, writer: &mut W, bytes: &[u8])
+    ensures { Passes
+        (buffered (W.contents writer.old) (W.failed writer.old) buffer.old)
+        (buffered (W.contents writer.new) (W.failed writer.new) buffer.new)
+        (bytes_listing bytes.now) }
 {
     let mut start = 0;
-    while start < bytes.len() {
-        let end = start + (bytes.len() - start).min(16);
-        list_line(listing, bytes, start, end)?;
-        start = end;
+    while bytes.len() - start >= 16 {
+        list_whole_line(buffer, writer, &bytes[start..start + 16]);
+        start += 16;
     }
-    Ok(())
+    if start < bytes.len() {
+        list_line(buffer, writer, bytes, start, bytes.len());
+    }
 }
 
-/// Appends the text that shows a member.
-fn list_member(listing: &mut TextBlocks, member: &Member) -> Result<(), AllocError>
-    ensures { OnOk result (listing.new ≡ listing.old ++ member_listing (member_view member.now)) }
+/// Lists the first line of a member: its name, and its length in bytes.
+fn list_head<W: Sink>(buffer: &mut Buffer, writer: &mut W, name: &str, length: usize)
+    ensures { Passes
+        (buffered (W.contents writer.old) (W.failed writer.old) buffer.old)
+        (buffered (W.contents writer.new) (W.failed writer.new) buffer.new)
+        (codes "member " ++ (escaped name.now ++ (32 ∷ (decimal length ++ 10 ∷ [])))) }
 {
-    let mut number = Buffer::new();
-    listing.push(b"member ")?;
-    list_name(listing, member.name.as_str())?;
-    listing.push(b" ")?;
-    listing.push(number.format(member.bytes.len()).as_bytes())?;
-    listing.push(b"\n")?;
-    list_symbols(listing, member.symbols.as_slice())?;
-    list_bytes(listing, member.bytes.as_slice())
+    let mut number = itoa::Buffer::new();
+    buffer.put(writer, b"member ");
+    list_name(buffer, writer, name);
+    buffer.put(writer, b" ");
+    buffer.put(writer, number.format(length).as_bytes());
+    buffer.put(writer, b"\n");
 }
 
-/// Appends the text that shows members, and frees each as soon as it is shown.
-pub fn list_members(listing: &mut TextBlocks, members: Vec<Member>) -> Result<(), AllocError>
-    ensures { OnOk result (listing.new ≡ listing.old ++ listing_of (map member_view members.items)) }
+/// Lists a member.
+fn list_member<W: Sink>(buffer: &mut Buffer, writer: &mut W, member: &Member)
+    ensures { Passes
+        (buffered (W.contents writer.old) (W.failed writer.old) buffer.old)
+        (buffered (W.contents writer.new) (W.failed writer.new) buffer.new)
+        (member_listing (member_view member.now)) }
 {
-    let mut left = members;
-    left.reverse();
-    while let Some(member) = left.pop() {
-        list_member(listing, &member)?;
+    list_head(buffer, writer, member.name.as_str(), member.bytes.len());
+    list_symbols(buffer, writer, member.symbols.as_slice());
+    list_bytes(buffer, writer, member.bytes.as_slice());
+}
+
+/// Lists members, in order. It ends with the member at which the writer fails.
+pub fn list_members<W: Sink>(buffer: &mut Buffer, writer: &mut W, members: &[Member])
+    ensures { Passes
+        (buffered (W.contents writer.old) (W.failed writer.old) buffer.old)
+        (buffered (W.contents writer.new) (W.failed writer.new) buffer.new)
+        (listing_of (map member_view members.now)) }
+{
+    for member in members {
+        list_member(buffer, writer, member);
+        if writer.has_failed() {
+            return;
+        }
     }
-    Ok(())
 }
 
 #[cfg(test)]

@@ -1,7 +1,6 @@
 //! Prints the members of the import libraries of module definitions.
 #![tactic(auto)]
 
-mod blocks;
 pub mod command;
 pub mod device;
 #[cfg(test)]
@@ -9,6 +8,7 @@ mod doubles;
 pub mod host;
 pub mod laws;
 mod listing;
+mod output;
 mod parts;
 pub mod program;
 pub mod run;

@@ -1,15 +1,17 @@
 //! From the bytes that are read to the bytes that are written.
 
 ghost use Rattle.implib.specs.Library.{member_view};
-ghost use Rattle.implib_tool.specs.Run.{Lists, MembersOf, Runs};
-ghost use Rattle.implib_tool.specs.Views.{ListsOnto, OnPartFault, OnReadFault, OnTextFault};
+ghost use Rattle.implib_tool.specs.Listing.{listing_of};
+ghost use Rattle.implib_tool.specs.Run.{MembersOf, Runs};
+ghost use Rattle.implib_tool.specs.Views.{MembersOfParts, OnInputFault, OnPartFault, OnReadFault, OnTextFault, OnWriteFault, Passes, buffered, member_views};
 ghost use Rattle.implib_tool.specs.declared.run.RunError.TheVariants.{OutOfMemory};
-ghost use Rattle.std.specs.Io.KnownBytes.{Consumes, IsAtEnd};
-ghost use Rattle.std.specs.Prelude.{◌≡◌, IfErr, IfOk, OnOk, false, map};
+ghost use Rattle.std.specs.Io.KnownBytes.{Appends, Consumes, IsAtEnd};
+ghost use Rattle.std.specs.Prelude.{◌≡◌, IfErr, IfOk, IfSome, OnOk, false, flat_map, map};
+ghost use Rattle.std.specs.Str.{IsUtf8};
 
-use crate::blocks::TextBlocks;
 use crate::device::{Sink, Source};
 use crate::listing::list_members;
+use crate::output::Buffer;
 use crate::parts::divide;
 use implib::{Error, Fault, Flavor, ImportLibrary, MachineType, Member};
 use std::alloc::{AllocError, AllocFailed, Global};
@@ -38,6 +40,14 @@ impl From<AllocError> for RunError {
     ghost from_gives = { λ _ error. error ≡ OutOfMemory };
 
     fn from(_refused: AllocError) -> RunError {
+        RunError::OutOfMemory
+    }
+}
+
+impl<T: Drop> From<AllocFailed<T>> for RunError {
+    ghost from_gives = { λ _ error. error ≡ OutOfMemory };
+
+    fn from(_refused: AllocFailed<T>) -> RunError {
         RunError::OutOfMemory
     }
 }
@@ -91,40 +101,81 @@ fn members_of(
     Ok(members)
 }
 
-/// Appends the listing of the definition that a text means.
-fn list_part(
-    alloc: Global,
-    listing: &mut TextBlocks,
-    part: &str,
-    machine: MachineType,
-    flavor: Flavor,
-) -> Result<(), RunError>
-    ensures ok { OnOk result (ListsOnto part.now machine flavor listing.old listing.new) }
-    ensures fault { IfErr result (OnPartFault part.now machine flavor) }
-{
-    let members = members_of(alloc, part, machine, flavor)?;
-    list_members(listing, members)?;
-    Ok(())
-}
-
-/// The listing of the parts of a text.
-fn list_parts(
+/// The members of the definition of each part of a text, part after part.
+fn members_of_parts(
     alloc: Global,
     text: &str,
     machine: MachineType,
     flavor: Flavor,
-) -> Result<TextBlocks, RunError>
-    ensures ok { IfOk result (λ listing. Lists text.now machine flavor listing) }
+) -> Result<Vec<Vec<Member>>, RunError>
+    ensures ok { IfOk result (λ lists. MembersOfParts text.now machine flavor (member_views lists.items)) }
     ensures fault { IfErr result (OnTextFault text.now machine flavor) }
 {
-    let mut listing = TextBlocks::new(alloc);
+    let mut lists = Vec::new(alloc);
     let mut rest = Some(text);
     while let Some(left) = rest {
         let (part, after) = divide(left);
-        list_part(alloc, &mut listing, part, machine, flavor)?;
+        lists.push(members_of(alloc, part, machine, flavor)?)?;
         rest = after;
     }
-    Ok(listing)
+    Ok(lists)
+}
+
+/// Reads all of the reader, and makes the members of its definitions. What was read is freed.
+fn read_members<R: Source>(
+    alloc: Global,
+    reader: &mut R,
+    machine: MachineType,
+    flavor: Flavor,
+) -> Result<Vec<Vec<Member>>, RunError>
+    requires { R.failed reader.old ≡ false }
+    ensures end { OnOk result (IsAtEnd (R.remaining reader.new)) }
+    ensures sound { OnOk result (R.failed reader.new ≡ false) }
+    ensures utf8 { OnOk result (IfSome (R.remaining reader.old) IsUtf8) }
+    ensures members { IfOk result (λ lists. IfSome (R.remaining reader.old)
+        (λ text. MembersOfParts text machine flavor (member_views lists.items))) }
+    ensures fault { IfErr result (OnInputFault (R.remaining reader.old) (R.failed reader.new) machine flavor) }
+{
+    let input = read_all(alloc, reader)?;
+    let text = match str::from_utf8(input.as_slice()) {
+        Ok(text) => text,
+        Err(_) => return Err(RunError::NotUtf8),
+    };
+    members_of_parts(alloc, text, machine, flavor)
+}
+
+/// Lists the members of each part, part after part.
+fn list_parts<W: Sink>(buffer: &mut Buffer, writer: &mut W, lists: &[Vec<Member>])
+    ensures { Passes
+        (buffered (W.contents writer.old) (W.failed writer.old) buffer.old)
+        (buffered (W.contents writer.new) (W.failed writer.new) buffer.new)
+        (flat_map listing_of (member_views lists.now)) }
+{
+    for members in lists {
+        list_members(buffer, writer, members.as_slice());
+    }
+}
+
+/// Writes the listing of the members of each part, through one buffer that is reserved first.
+fn write_listing<W: Sink>(
+    alloc: Global,
+    writer: &mut W,
+    lists: &[Vec<Member>],
+) -> Result<(), RunError>
+    requires { W.failed writer.old ≡ false }
+    ensures moved { OnOk result (Appends (W.contents writer.old) (W.contents writer.new)
+        (flat_map listing_of (member_views lists.now))) }
+    ensures sound { OnOk result (W.failed writer.new ≡ false) }
+    ensures fault { IfErr result (OnWriteFault (W.contents writer.old) (W.contents writer.new)
+        (W.failed writer.new) (flat_map listing_of (member_views lists.now))) }
+{
+    let mut buffer = Buffer::reserve(alloc)?;
+    list_parts(&mut buffer, writer, lists);
+    buffer.flush(writer);
+    if writer.has_failed() {
+        return Err(RunError::Write);
+    }
+    Ok(())
 }
 
 /// Reads all of the reader, and writes the listing of its definitions once it is whole.
@@ -145,14 +196,6 @@ pub fn run<R: Source, W: Sink>(
         (record { remaining = R.remaining reader.new; contents = W.contents writer.new; reader_failed = R.failed reader.new; writer_failed = W.failed writer.new })
         result }
 {
-    let input = read_all(alloc, reader)?;
-    let text = match str::from_utf8(input.as_slice()) {
-        Ok(text) => text,
-        Err(_) => return Err(RunError::NotUtf8),
-    };
-    let listing = list_parts(alloc, text, machine, flavor)?;
-    if listing.write_to(writer).is_err() {
-        return Err(RunError::Write);
-    }
-    Ok(())
+    let lists = read_members(alloc, reader, machine, flavor)?;
+    write_listing(alloc, writer, lists.as_slice())
 }

@@ -29,8 +29,8 @@ fn push_stem(out: &mut String, dll: &str) -> Result<(), AllocError>
     Ok(())
 }
 
-// Room for what follows the stem in a member's name, which is seldom more.
-const AFTER_STEM: usize = 16;
+// Room for what follows the stem in a member's name, which is seldom more: `_a_s00000.o`.
+const AFTER_STEM: usize = 11;
 
 // The DLL's name with each full stop as an underscore, and then this text; there is room for more.
 fn stem_with(alloc: Global, dll: &str, end: &str) -> Result<String, AllocError>

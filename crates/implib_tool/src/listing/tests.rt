@@ -1,8 +1,47 @@
 use super::list_members;
-use crate::blocks::TextBlocks;
+use crate::device::Sink;
 use crate::doubles::MemorySink;
+use crate::output::Buffer;
 use implib::Member;
+use std::alloc::{AllocError, Global};
+use std::fmt::Write;
 use std::test::Fail;
+
+/// Writes the listing of members.
+fn show(alloc: Global, members: &[Member], writer: &mut MemorySink) -> Result<(), AllocError> {
+    let mut buffer = Buffer::reserve(alloc)?;
+    list_members(&mut buffer, writer, members);
+    buffer.flush(writer);
+    Ok(())
+}
+
+/// A member without symbols, of this many bytes.
+fn member_of(alloc: Global, name: &str, count: usize) -> Result<Member, Fail> {
+    let mut bytes = Vec::new(alloc);
+    for index in 0..count {
+        bytes.push((index % 251) as u8)?;
+    }
+    Ok(Member {
+        name: String::from_str(alloc, name)?,
+        bytes,
+        symbols: Vec::new(alloc),
+    })
+}
+
+/// The listing of such a member.
+fn push_listing(text: &mut String, name: &str, count: usize) -> Result<(), Fail> {
+    write!(text, "member {name} {count}\n")?;
+    for index in 0..count {
+        let byte = index % 251;
+        let end = if index % 16 == 15 || index + 1 == count {
+            "\n"
+        } else {
+            " "
+        };
+        write!(text, "{byte:02x}{end}")?;
+    }
+    Ok(())
+}
 
 #[test]
 fn members_are_shown(rt: HostRuntime) -> Result<(), Fail> {
@@ -24,10 +63,8 @@ fn members_are_shown(rt: HostRuntime) -> Result<(), Fail> {
         bytes: Vec::new(rt.alloc()),
         symbols: Vec::new(rt.alloc()),
     })?;
-    let mut listing = TextBlocks::new(rt.alloc());
-    list_members(&mut listing, members)?;
     let mut shown = MemorySink::new(rt.alloc(), 1000, 1000)?;
-    assert!(rt; listing.write_to(&mut shown).is_ok());
+    show(rt.alloc(), members.as_slice(), &mut shown)?;
     let want = "member a\\x20\\x5c\\xc3\\xa9.dll 18\n\
         symbol \\x7ffoo\n\
         symbol ~!\n\
@@ -35,5 +72,64 @@ fn members_are_shown(rt: HostRuntime) -> Result<(), Fail> {
         f0 ff\n\
         member b 0\n";
     assert_eq!(rt; shown.bytes(), want.as_bytes());
+    Ok(())
+}
+
+// The buffer has 65,536 bytes. The listing of the first member ends a byte before its end, at its end
+// and a byte behind it; that of the second is three buffers long, and the third's name is longer than
+// the buffer.
+#[test]
+fn long_listings_are_written_whole(rt: HostRuntime) -> Result<(), Fail> {
+    let mut long_name = String::new(rt.alloc());
+    for _ in 0..10_000 {
+        long_name.push_str("eight123")?;
+    }
+    for first_name in ["abcd", "abcde", "abcdef"] {
+        let mut members = Vec::new(rt.alloc());
+        let mut want = String::new(rt.alloc());
+        for (name, count) in [
+            (first_name, 21_839),
+            ("second", 65_537),
+            (long_name.as_str(), 17),
+        ] {
+            members.push(member_of(rt.alloc(), name, count)?)?;
+            push_listing(&mut want, name, count)?;
+        }
+        for step in [1, 1000, 1_000_000] {
+            let mut shown = MemorySink::new(rt.alloc(), step, usize::MAX)?;
+            show(rt.alloc(), members.as_slice(), &mut shown)?;
+            assert!(rt; !shown.has_failed());
+            assert!(rt; shown.bytes() == want.as_bytes());
+        }
+    }
+    Ok(())
+}
+
+// What was written is a beginning of the listing, and a writer that has failed is not asked again.
+#[test]
+fn a_writer_fails_at_any_call(rt: HostRuntime) -> Result<(), Fail> {
+    let mut members = Vec::new(rt.alloc());
+    let mut want = String::new(rt.alloc());
+    for (name, count) in [("a", 30_000), ("b", 0), ("c", 70_000), ("d", 1)] {
+        members.push(member_of(rt.alloc(), name, count)?)?;
+        push_listing(&mut want, name, count)?;
+    }
+    for (step, calls) in [(65_536, 5), (60_000, 9), (7, 60)] {
+        for call in 0..calls {
+            let mut shown = MemorySink::new(rt.alloc(), step, call)?;
+            show(rt.alloc(), members.as_slice(), &mut shown)?;
+            assert!(rt; shown.has_failed(), "{step}, {call}");
+            assert_eq!(rt; shown.late_calls(), 0, "{step}, {call}");
+            assert!(rt;
+                want.as_bytes().starts_with(shown.bytes()),
+                "{step}, {call}"
+            );
+        }
+    }
+    let mut shown = MemorySink::new(rt.alloc(), 0, 1000)?;
+    show(rt.alloc(), members.as_slice(), &mut shown)?;
+    assert!(rt; shown.has_failed());
+    assert_eq!(rt; shown.late_calls(), 0);
+    assert!(rt; shown.bytes().is_empty());
     Ok(())
 }

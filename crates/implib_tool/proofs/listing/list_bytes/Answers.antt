@@ -1,20 +1,27 @@
-use Rattle.std.proofs.Common.{arith, rules, ◌+◌, ◌∙◌, ◌++◌, drop, length, flat_map, slice_range, ap, sym, append_assoc}
+use Rattle.std.proofs.Common.{arith, rules, ◌+◌, ◌++◌, ◌∙◌, ap, flat_map, length, take}
+use Rattle.std.proofs.lemmas.List.{take_all}
 use Rattle.std.specs.List.{enumerate_from}
 use Rattle.implib_tool.specs.Listing.{byte_listing}
-use Rattle.implib_tool.proofs.Shown.{lines_more}
+use Rattle.implib_tool.proofs.Running.{passes_as, passes_more}
+use Rattle.implib_tool.proofs.Shown.{lines_more, whole_line}
 use Rattle.implib_tool.proofs.listing.list_bytes.Goals as goal
 
 pub loop-start-preserved : goal.loop-start-preserved
-loop-start-preserved c = record {
+loop-start-preserved g c = record {
   within = search rules;
-  first = λ more. omega (arith, c.loop-start.invariant.first c.loop-start-test.true, c.min.ensures);
+  first = omega (arith, c.loop-start.invariant.first);
   listed =
       let bytes = c.args.bytes.now in
       let start = c.loop-start.start in
-      let end = start + c.min.result in
       let shown = flat_map (byte_listing (length bytes)) in
-      ap (λ t. t ++ shown (enumerate_from end (drop end bytes))) c.in_ok-list_line.ensures
-      ∙ append_assoc c.loop-start.listing (shown (enumerate_from start (slice_range bytes start end))) (shown (enumerate_from end (drop end bytes)))
-      ∙ ap (λ t. c.loop-start.listing ++ t) (sym (lines_more (byte_listing (length bytes)) start end bytes (search rules) (search rules)))
-      ∙ c.loop-start.invariant.listed;
+      let line = ap (λ t. shown (enumerate_from 0 (take start bytes)) ++ t) (whole_line bytes start c.loop-start.invariant.first (search rules)) in
+      passes_as _ _ _ _ (line ∙ lines_more (byte_listing (length bytes)) start (start + 16) bytes (search rules) (search rules))
+      (passes_more _ _ _ _ _ c.loop-start.invariant.listed c.list_whole_line.ensures);
 }
+
+pub returns-then-start-bytes : goal.returns-then-start-bytes
+returns-then-start-bytes g c =
+    let bytes = c.args.bytes.now in
+    let all = ap (λ t. flat_map (byte_listing (length bytes)) (enumerate_from 0 t)) (take_all (length bytes) bytes (omega arith)) in
+    passes_as _ _ _ _ (lines_more (byte_listing (length bytes)) c.loop-start.start (length bytes) bytes (search rules) (search rules) ∙ all)
+    (passes_more _ _ _ _ _ c.loop-start.invariant.listed c.list_line.ensures)

@@ -5,7 +5,7 @@ use Rattle.implib_tool.proofs.listing.list_line.Given as goal
 
 -- the line shows the bytes up to here, a space after each
 abbrev pub invariant-loop-index : goal.invariant-loop-index
-invariant-loop-index l = record {
+invariant-loop-index g l = record {
   size : length l.line ≡ 48;
   shown : take (3 * (l.index - l.start)) l.line
       ≡ flat_map spaced_byte (enumerate_from l.start (take (l.index - l.start) (drop l.start l.bytes)));

@@ -1,12 +1,12 @@
-use Rattle.std.proofs.Common.{◌≡◌, ◌++◌, map, reverse, vec_len}
+use Rattle.std.proofs.Common.{take, map}
 use Rattle.implib.specs.Library.{member_view}
 use Rattle.implib_tool.specs.Listing.{listing_of}
+use Rattle.implib_tool.specs.Views.{Passes, buffered}
 use Rattle.implib_tool.proofs.listing.list_members.Given as goal
 
--- what is listed, and then the listing of the members that are left, last first, is the listing of all
+-- the members are listed up to here
 abbrev pub invariant-loop-member : goal.invariant-loop-member
-invariant-loop-member l =
-    l.listing ++ listing_of (map member_view (reverse l.left.items)) ≡ l.fn.listing ++ listing_of (map member_view l.fn.members.items)
-
-abbrev pub decreases-loop-member : goal.decreases-loop-member
-decreases-loop-member l = vec_len l.left
+invariant-loop-member g l = Passes
+    (buffered (g.W.Sink.contents l.fn.writer) (g.W.Sink.failed l.fn.writer) l.fn.buffer)
+    (buffered (g.W.Sink.contents l.writer) (g.W.Sink.failed l.writer) l.buffer)
+    (listing_of (map member_view (take l.member-index l.members)))

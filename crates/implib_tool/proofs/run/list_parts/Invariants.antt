@@ -1,8 +1,11 @@
-use Rattle.implib_tool.specs.Views.{PartsLeft, size_left}
+use Rattle.std.proofs.Common.{take, flat_map}
+use Rattle.implib_tool.specs.Listing.{listing_of}
+use Rattle.implib_tool.specs.Views.{Passes, buffered, member_views}
 use Rattle.implib_tool.proofs.run.list_parts.Given as goal
 
-abbrev pub invariant-loop-rest : goal.invariant-loop-rest
-invariant-loop-rest l = PartsLeft l.text l.machine l.flavor l.listing l.rest
-
-abbrev pub decreases-loop-rest : goal.decreases-loop-rest
-decreases-loop-rest l = size_left l.rest
+-- the parts are listed up to here
+abbrev pub invariant-loop-members : goal.invariant-loop-members
+invariant-loop-members g l = Passes
+    (buffered (g.W.Sink.contents l.fn.writer) (g.W.Sink.failed l.fn.writer) l.fn.buffer)
+    (buffered (g.W.Sink.contents l.writer) (g.W.Sink.failed l.writer) l.buffer)
+    (flat_map listing_of (member_views (take l.members-index l.lists)))
