@@ -1,5 +1,5 @@
 -- What the law of texts gives, as a loader sees it.
-use Rattle.std.proofs.Common.{◌≡◌, ◌+◌, ℕ, List, map, refl, subst, add-zero}
+use Rattle.std.proofs.Common.{◌+◌, ℕ, List, map, refl, subst, add-zero}
 use Rattle.implib.specs.declared.machine.MachineType.{MachineType}
 use Rattle.implib.specs.Asked.{exports_of_text}
 use Rattle.implib.specs.Image.{image_of}
