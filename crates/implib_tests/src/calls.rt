@@ -1,5 +1,5 @@
 //! The calls of the library: they succeed where there is memory. With each allocation failed in turn
-//! (`bench/memory`) the tests of refused memory still pass.
+//! (`checks/memory`) the tests of refused memory still pass.
 
 use implib::def::{ModuleDef, ShortExport};
 use implib::gnu::GnuImportLibrary;

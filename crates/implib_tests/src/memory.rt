@@ -1,4 +1,4 @@
-//! A writer whose allocations fail. With each allocation of a test failed in turn (`bench/memory`) the
+//! A writer whose allocations fail. With each allocation of a test failed in turn (`checks/memory`) the
 //! first test still passes, and the other two fail equally often.
 
 ghost use Rattle.implib.specs.Writer.{with_section, with_symbol};

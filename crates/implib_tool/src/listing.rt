@@ -14,7 +14,7 @@ use implib::Member;
 
 mod line;
 
-/// A hexadecimal digit, in lower case.
+// A hexadecimal digit, in lower case.
 fn hex_digit_of(value: u8) -> u8
     requires { value < 16 }
     ensures { result ≡ hex_digit value }
@@ -26,14 +26,14 @@ fn hex_digit_of(value: u8) -> u8
     }
 }
 
-/// Whether a byte of a name is shown as it is.
+// Whether a byte of a name is shown as it is.
 fn stands_plain(byte: u8) -> bool
     ensures { result ≡ is_plain byte }
 {
     byte >= 0x21 && byte <= 0x7E && byte != b'\\'
 }
 
-/// Whether each byte of a name is shown as it is. It looks at all of them, many at a time.
+// Whether each byte of a name is shown as it is. It looks at all of them, many at a time.
 fn stand_plain(name: &[u8]) -> bool
     ensures { result ≡ list_all is_plain name.now }
 {
@@ -44,7 +44,7 @@ fn stand_plain(name: &[u8]) -> bool
     plain
 }
 
-/// Lists a byte of a name.
+// Lists a byte of a name.
 fn list_name_byte<W: Sink>(buffer: &mut Buffer, writer: &mut W, byte: u8)
     ensures { Passes
         (buffered (W.contents writer.old) (W.failed writer.old) buffer.old)
@@ -63,7 +63,7 @@ fn list_name_byte<W: Sink>(buffer: &mut Buffer, writer: &mut W, byte: u8)
     buffer.put(writer, &escape);
 }
 
-/// Lists a name.
+// Lists a name.
 fn list_name<W: Sink>(buffer: &mut Buffer, writer: &mut W, name: &str)
     ensures { Passes
         (buffered (W.contents writer.old) (W.failed writer.old) buffer.old)
@@ -78,7 +78,7 @@ fn list_name<W: Sink>(buffer: &mut Buffer, writer: &mut W, name: &str)
     }
 }
 
-/// Lists the line of a listed symbol.
+// Lists the line of a listed symbol.
 fn list_symbol<W: Sink>(buffer: &mut Buffer, writer: &mut W, symbol: &str)
     ensures { Passes
         (buffered (W.contents writer.old) (W.failed writer.old) buffer.old)
@@ -90,7 +90,7 @@ fn list_symbol<W: Sink>(buffer: &mut Buffer, writer: &mut W, symbol: &str)
     buffer.put(writer, b"\n");
 }
 
-/// Lists the lines of listed symbols.
+// Lists the lines of listed symbols.
 fn list_symbols<W: Sink>(buffer: &mut Buffer, writer: &mut W, symbols: &[String])
     ensures { Passes
         (buffered (W.contents writer.old) (W.failed writer.old) buffer.old)
@@ -102,7 +102,7 @@ fn list_symbols<W: Sink>(buffer: &mut Buffer, writer: &mut W, symbols: &[String]
     }
 }
 
-/// Lists the bytes from `start` to `end`, which make a line.
+// Lists the bytes from `start` to `end`, which make a line.
 fn list_line<W: Sink>(buffer: &mut Buffer, writer: &mut W, bytes: &[u8], start: usize, end: usize)
     requires some { start < end }
     requires whole { end ≡ min (start + 16) (length bytes.now) }
@@ -123,7 +123,7 @@ fn list_line<W: Sink>(buffer: &mut Buffer, writer: &mut W, bytes: &[u8], start: 
     buffer.put(writer, &line[..3 * (end - start)]);
 }
 
-/// Lists 16 bytes, which make a line.
+// Lists 16 bytes, which make a line.
 fn list_whole_line<W: Sink>(buffer: &mut Buffer, writer: &mut W, bytes: &[u8])
     requires { length bytes.now ≡ 16 }
     ensures { Passes
@@ -137,7 +137,7 @@ fn list_whole_line<W: Sink>(buffer: &mut Buffer, writer: &mut W, bytes: &[u8])
     buffer.put(writer, &last);
 }
 
-/// Lists bytes, a line for each 16 and one for those left over.
+// Lists bytes, a line for each 16 and one for those left over.
 fn list_bytes<W: Sink>(buffer: &mut Buffer, writer: &mut W, bytes: &[u8])
     ensures { Passes
         (buffered (W.contents writer.old) (W.failed writer.old) buffer.old)
@@ -154,7 +154,7 @@ fn list_bytes<W: Sink>(buffer: &mut Buffer, writer: &mut W, bytes: &[u8])
     }
 }
 
-/// Lists the first line of a member: its name, and its length in bytes.
+// Lists the first line of a member: its name, and its length in bytes.
 fn list_head<W: Sink>(buffer: &mut Buffer, writer: &mut W, name: &str, length: usize)
     ensures { Passes
         (buffered (W.contents writer.old) (W.failed writer.old) buffer.old)
@@ -169,7 +169,7 @@ fn list_head<W: Sink>(buffer: &mut Buffer, writer: &mut W, name: &str, length: u
     buffer.put(writer, b"\n");
 }
 
-/// Lists a member.
+// Lists a member.
 fn list_member<W: Sink>(buffer: &mut Buffer, writer: &mut W, member: &Member)
     ensures { Passes
         (buffered (W.contents writer.old) (W.failed writer.old) buffer.old)

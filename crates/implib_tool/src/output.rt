@@ -8,7 +8,7 @@ use crate::device::{Sink, write_all};
 use std::alloc::{AllocError, Global};
 use std::marker::Model;
 
-/// The room of a buffer, in bytes.
+// The room of a buffer, in bytes.
 const ROOM: usize = 65536;
 
 /// Bytes that wait for a writer, in memory of a fixed size.

@@ -4,14 +4,14 @@ ghost use Rattle.implib_tool.specs.Parts.{Divides, IsSeparator, IsUndivided};
 ghost use Rattle.implib_tool.specs.Views.{IsLineAt};
 ghost use Rattle.std.specs.Prelude.{◌≡◌, ◌≤◌, ◌↔◌, IsTrue, MatchOption, length};
 
-/// Whether a line separates.
+// Whether a line separates.
 fn is_separator(line: &[u8]) -> bool
     ensures { IsTrue result ↔ IsSeparator line.now }
 {
     line == b"---".as_slice() || line == b"---\r".as_slice()
 }
 
-/// The end of the line that begins at `start`, and the begin of the next line, or the text's end.
+// The end of the line that begins at `start`, and the begin of the next line, or the text's end.
 fn line_at(text: &[u8], start: usize) -> (usize, usize)
     requires { start ≤ length text.now }
     ensures { IsLineAt text.now start result.0 result.1 }

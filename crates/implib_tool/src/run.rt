@@ -65,7 +65,7 @@ impl From<Error> for RunError {
     }
 }
 
-/// Reads all that a reader has left.
+// Reads all that a reader has left.
 fn read_all<R: Source>(alloc: Global, reader: &mut R) -> Result<Vec<u8>, RunError>
     ensures bytes { IfOk result (λ input. Consumes (R.remaining reader.old) (R.remaining reader.new) input.items) }
     ensures end { OnOk result (IsAtEnd (R.remaining reader.new)) }
@@ -86,7 +86,7 @@ fn read_all<R: Source>(alloc: Global, reader: &mut R) -> Result<Vec<u8>, RunErro
     }
 }
 
-/// The members of the definition that a text means.
+// The members of the definition that a text means.
 fn members_of(
     alloc: Global,
     part: &str,
@@ -101,7 +101,7 @@ fn members_of(
     Ok(members)
 }
 
-/// The members of the definition of each part of a text, part after part.
+// The members of the definition of each part of a text, part after part.
 fn members_of_parts(
     alloc: Global,
     text: &str,
@@ -121,7 +121,7 @@ fn members_of_parts(
     Ok(lists)
 }
 
-/// Reads all of the reader, and makes the members of its definitions. What was read is freed.
+// Reads all of the reader, and makes the members of its definitions. What was read is freed.
 fn read_members<R: Source>(
     alloc: Global,
     reader: &mut R,
@@ -144,7 +144,7 @@ fn read_members<R: Source>(
     members_of_parts(alloc, text, machine, flavor)
 }
 
-/// Lists the members of each part, part after part.
+// Lists the members of each part, part after part.
 fn list_parts<W: Sink>(buffer: &mut Buffer, writer: &mut W, lists: &[Vec<Member>])
     ensures { Passes
         (buffered (W.contents writer.old) (W.failed writer.old) buffer.old)
@@ -156,7 +156,7 @@ fn list_parts<W: Sink>(buffer: &mut Buffer, writer: &mut W, lists: &[Vec<Member>
     }
 }
 
-/// Writes the listing of the members of each part, through one buffer that is reserved first.
+// Writes the listing of the members of each part, through one buffer that is reserved first.
 fn write_listing<W: Sink>(
     alloc: Global,
     writer: &mut W,
