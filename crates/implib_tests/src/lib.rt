@@ -6,6 +6,8 @@
 #[cfg(test)]
 mod calls;
 #[cfg(test)]
+mod conversions;
+#[cfg(test)]
 mod displayed;
 #[cfg(test)]
 mod linked;
