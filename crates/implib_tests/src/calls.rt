@@ -6,6 +6,7 @@ use implib::gnu::GnuImportLibrary;
 use implib::msvc::MsvcImportLibrary;
 use implib::{Error, Fault, Flavor, ImportLibrary, MachineType, Member};
 use std::alloc::Global;
+use std::process::Abort;
 use std::test::Fail;
 
 // A text for AMD64, with the lengths of its members for Microsoft's linker and for GNU's.
@@ -278,10 +279,15 @@ fn has_expected(def: &ModuleDef, import_name: &str, rows: &[Expected]) -> bool {
     true
 }
 
-#[test]
-fn definitions_are_unchanged_by_refused_memory(rt: HostRuntime) -> Result<(), Fail> {
-    for ((text, _, _), import_name, rows) in DEFINITIONS {
-        let def = parsed(rt.alloc(), text)?;
+/// Holds what texts mean, and that copies are the same.
+fn expect_definitions(
+    rt: &impl Abort,
+    alloc: Global,
+    rows: &[(Text, &str, &[Expected])],
+) -> Result<(), Fail> {
+    for row in rows {
+        let ((text, _, _), import_name, rows) = *row;
+        let def = parsed(alloc, text)?;
         assert!(rt; has_expected(&def, import_name, rows), "{text:?}");
         let copy = definition_copied(&def)?;
         assert!(rt; has_expected(&copy, import_name, rows), "{text:?}");
@@ -291,6 +297,11 @@ fn definitions_are_unchanged_by_refused_memory(rt: HostRuntime) -> Result<(), Fa
         assert!(rt; has_expected(&def, import_name, rows), "{text:?}");
     }
     Ok(())
+}
+
+#[test]
+fn definitions_are_unchanged_by_refused_memory(rt: HostRuntime) -> Result<(), Fail> {
+    expect_definitions(&rt, rt.alloc(), &DEFINITIONS)
 }
 
 #[test]

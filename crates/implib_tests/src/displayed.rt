@@ -2,7 +2,8 @@
 
 use implib::def::lexer::TokenKind;
 use implib::{Error, Fault};
-use std::alloc::AllocError;
+use std::alloc::{AllocError, Global};
+use std::process::Abort;
 use std::test::Fail;
 
 /// Token kinds, and the names that they show.
@@ -26,54 +27,71 @@ const TOKEN_KINDS: [(TokenKind, &str); 17] = [
     (TokenKind::KwVersion, "KwVersion"),
 ];
 
-#[test]
-fn token_kinds_show_their_names(rt: HostRuntime) -> Result<(), Fail> {
-    for (kind, want) in TOKEN_KINDS {
-        let shown = format!(in rt.alloc(); "{kind}")?;
+/// Holds what token kinds show.
+fn expect_names(rt: &impl Abort, alloc: Global, rows: &[(TokenKind, &str)]) -> Result<(), Fail> {
+    for row in rows {
+        let (kind, want) = *row;
+        let shown = format!(in alloc; "{kind}")?;
         assert_eq!(rt; shown.as_str(), want);
     }
     Ok(())
 }
 
-// Each fault by itself, and as an error.
 #[test]
-fn faults_and_errors_show_their_texts(rt: HostRuntime) -> Result<(), Fail> {
+fn token_kinds_show_their_names(rt: HostRuntime) -> Result<(), Fail> {
+    expect_names(&rt, rt.alloc(), &TOKEN_KINDS)
+}
+
+/// Holds what a fault shows, by itself and as an error.
+fn expect_shown(
+    rt: &impl Abort,
+    alloc: Global,
+    fault: Fault,
+    want: &str,
+) -> Result<(), AllocError> {
+    let shown = format!(in alloc; "{fault}")?;
+    assert_eq!(rt; shown.as_str(), want);
+    let shown = format!(in alloc; "{}", Error::Invalid(fault))?;
+    assert_eq!(rt; shown.as_str(), want);
+    Ok(())
+}
+
+#[test]
+fn faults_of_texts_show_what_was_found(rt: HostRuntime) -> Result<(), Fail> {
     let alloc = rt.alloc();
-    let rows = [
-        (
-            Fault::UnknownDirective(String::from_str(alloc, "foo")?),
-            "unknown directive: foo",
-        ),
-        (
-            Fault::ExpectedIdentifier(TokenKind::Eof),
-            "expected identifier, found: Eof",
-        ),
-        (
-            Fault::ExpectedEqual(TokenKind::Comma),
-            "expected equal, found: Comma",
-        ),
-        (Fault::ExpectedInteger, "expected integer"),
-        (
-            Fault::InvalidOrdinal(String::from_str(alloc, "65536")?),
-            "invalid ordinal: 65536",
-        ),
-        (Fault::LoneAt, "lone @ after ="),
-        (Fault::EmptyImportName, "import name is empty"),
-        (Fault::NulInImportName, "import name contains null byte"),
-        (Fault::EmptyName(7), "export name is empty"),
-        (Fault::NulInExport(7), "export name contains null byte"),
-        (Fault::EmptyAskedName(7), "asked name is empty"),
-        (Fault::MemberTooLong, "member too long"),
-    ];
-    for (fault, want) in rows {
-        let shown = format!(in alloc; "{fault}")?;
-        assert_eq!(rt; shown.as_str(), want);
-        let error = Error::Invalid(fault);
-        let shown = format!(in alloc; "{error}")?;
-        assert_eq!(rt; shown.as_str(), want);
-    }
-    let error = Error::OutOfMemory(AllocError);
-    let shown = format!(in alloc; "{error}")?;
+    let fault = Fault::UnknownDirective(String::from_str(alloc, "foo")?);
+    expect_shown(&rt, alloc, fault, "unknown directive: foo")?;
+    let fault = Fault::ExpectedIdentifier(TokenKind::Eof);
+    expect_shown(&rt, alloc, fault, "expected identifier, found: Eof")?;
+    let fault = Fault::ExpectedEqual(TokenKind::Comma);
+    expect_shown(&rt, alloc, fault, "expected equal, found: Comma")?;
+    expect_shown(&rt, alloc, Fault::ExpectedInteger, "expected integer")?;
+    let fault = Fault::InvalidOrdinal(String::from_str(alloc, "65536")?);
+    expect_shown(&rt, alloc, fault, "invalid ordinal: 65536")?;
+    expect_shown(&rt, alloc, Fault::LoneAt, "lone @ after =")?;
+    Ok(())
+}
+
+#[test]
+fn faults_of_names_and_memory_show_their_texts(rt: HostRuntime) -> Result<(), Fail> {
+    let alloc = rt.alloc();
+    expect_shown(&rt, alloc, Fault::EmptyImportName, "import name is empty")?;
+    expect_shown(
+        &rt,
+        alloc,
+        Fault::NulInImportName,
+        "import name contains null byte",
+    )?;
+    expect_shown(&rt, alloc, Fault::EmptyName(7), "export name is empty")?;
+    expect_shown(
+        &rt,
+        alloc,
+        Fault::NulInExport(7),
+        "export name contains null byte",
+    )?;
+    expect_shown(&rt, alloc, Fault::EmptyAskedName(7), "asked name is empty")?;
+    expect_shown(&rt, alloc, Fault::MemberTooLong, "member too long")?;
+    let shown = format!(in alloc; "{}", Error::OutOfMemory(AllocError))?;
     assert_eq!(rt; shown.as_str(), "out of memory");
     Ok(())
 }

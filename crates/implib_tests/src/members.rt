@@ -8,6 +8,7 @@ mod stored;
 use crate::readings::lines;
 use implib::{Error, Fault, Flavor, ImportLibrary, MachineType};
 use std::alloc::{AllocError, Global};
+use std::process::Abort;
 use std::test::Fail;
 
 /// A text, its machine, and what its members are for Microsoft's linker and for GNU's.
@@ -258,30 +259,32 @@ const EXPORTS: [Row; 18] = [
     ),
 ];
 
-#[test]
-fn each_library_begins_with_members_of_its_own(rt: HostRuntime) -> Result<(), Fail> {
-    let alloc = rt.alloc();
-    for (text, machine, microsoft, gnu) in FIXED {
-        for (flavor, want) in [(Flavor::Msvc, microsoft), (Flavor::Gnu, gnu)] {
-            let library = ImportLibrary::new(alloc, text, machine, flavor)?;
-            let got = answer(alloc, &library, machine, 0)?;
-            assert_eq!(rt; got.as_str(), want, "{text:?}, {machine:?}");
-        }
+/// Holds the members of texts, from these indexes on: that for Microsoft's linker, and that for GNU's.
+fn expect_members(
+    rt: &impl Abort,
+    alloc: Global,
+    rows: &[Row],
+    from: [usize; 2],
+) -> Result<(), Fail> {
+    for (text, machine, microsoft, gnu) in rows {
+        let library = ImportLibrary::new(alloc, *text, *machine, Flavor::Msvc)?;
+        let got = answer(alloc, &library, *machine, from[0])?;
+        assert_eq!(rt; got.as_str(), *microsoft, "{text:?}, {machine:?}");
+        let library = ImportLibrary::new(alloc, *text, *machine, Flavor::Gnu)?;
+        let got = answer(alloc, &library, *machine, from[1])?;
+        assert_eq!(rt; got.as_str(), *gnu, "{text:?}, {machine:?}");
     }
     Ok(())
 }
 
 #[test]
+fn each_library_begins_with_members_of_its_own(rt: HostRuntime) -> Result<(), Fail> {
+    expect_members(&rt, rt.alloc(), &FIXED, [0, 0])
+}
+
+#[test]
 fn exports_are_listed_and_asked_for(rt: HostRuntime) -> Result<(), Fail> {
-    let alloc = rt.alloc();
-    for (text, machine, microsoft, gnu) in EXPORTS {
-        for (flavor, from, want) in [(Flavor::Msvc, 3, microsoft), (Flavor::Gnu, 2, gnu)] {
-            let library = ImportLibrary::new(alloc, text, machine, flavor)?;
-            let got = answer(alloc, &library, machine, from)?;
-            assert_eq!(rt; got.as_str(), want, "{text:?}, {machine:?}");
-        }
-    }
-    Ok(())
+    expect_members(&rt, rt.alloc(), &EXPORTS, [3, 2])
 }
 
 /// Bytes in members: a text, its machine and its flavour, the index of a member, an offset in its file, and
@@ -457,10 +460,15 @@ const PIECES: [(&str, MachineType, Flavor, usize, usize, &[u8]); 20] = [
     ),
 ];
 
-#[test]
-fn members_have_their_bytes_at_offsets(rt: HostRuntime) -> Result<(), Fail> {
-    for (text, machine, flavor, index, offset, piece) in PIECES {
-        let members = ImportLibrary::new(rt.alloc(), text, machine, flavor)?.members()?;
+/// Holds what bytes members have.
+fn expect_pieces(
+    rt: &impl Abort,
+    alloc: Global,
+    rows: &[(&str, MachineType, Flavor, usize, usize, &[u8])],
+) -> Result<(), Fail> {
+    for row in rows {
+        let (text, machine, flavor, index, offset, piece) = *row;
+        let members = ImportLibrary::new(alloc, text, machine, flavor)?.members()?;
         let member = members.as_slice().get(index).ok_or("a member is missing")?;
         let rest = member
             .bytes
@@ -473,4 +481,9 @@ fn members_have_their_bytes_at_offsets(rt: HostRuntime) -> Result<(), Fail> {
         );
     }
     Ok(())
+}
+
+#[test]
+fn members_have_their_bytes_at_offsets(rt: HostRuntime) -> Result<(), Fail> {
+    expect_pieces(&rt, rt.alloc(), &PIECES)
 }

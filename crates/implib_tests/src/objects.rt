@@ -142,19 +142,17 @@ fn an_auxiliary_record_takes_an_index(rt: HostRuntime) -> Result<(), Fail> {
     Ok(())
 }
 
-// The code of the export `bar` for AMD64.
-const STUB: [u8; 8] = [0xFF, 0x25, 0, 0, 0, 0, 0x90, 0x90];
-
-// The object of the export `bar` of `foo.dll` for AMD64.
-fn export_object(alloc: Global) -> Result<Vec<u8>, Error> {
+// Code with a field, a section without data, and a field for a section's own symbol.
+fn object_of_three_sections(alloc: Global) -> Result<Vec<u8>, Error> {
     let mut writer = ObjectWriter::new(alloc, MachineType::AMD64);
-    writer.add_section(section(alloc, *b".text\0\0\0", 0x6030_0020, STUB.as_slice())?)?;
-    writer.add_section(section(alloc, *b".data\0\0\0", 0xC030_0040, &[])?)?;
+    writer.add_section(section(
+        alloc,
+        *b".text\0\0\0",
+        0x6030_0020,
+        b"\xff\x25\0\0\0\0\x90\x90",
+    )?)?;
     writer.add_section(section(alloc, *b".bss\0\0\0\0", 0xC030_0080, &[])?)?;
-    writer.add_section(section(alloc, *b".idata$7", 0xC030_0000, &[0; 4])?)?;
     writer.add_section(section(alloc, *b".idata$5", 0xC030_0000, &[0; 8])?)?;
-    writer.add_section(section(alloc, *b".idata$4", 0xC030_0000, &[0; 8])?)?;
-    writer.add_section(section(alloc, *b".idata$6", 0xC020_0000, b"\0\0bar\0")?)?;
     writer.add_symbol(symbol(
         alloc,
         "_head_foo_dll",
@@ -162,64 +160,40 @@ fn export_object(alloc: Global) -> Result<Vec<u8>, Error> {
         class::EXTERNAL,
         None,
     )?)?;
-    writer.add_symbol(symbol(alloc, "bar", Place::Section(1), class::EXTERNAL, None)?)?;
-    writer.add_symbol(symbol(alloc, "__imp_bar", Place::Section(5), class::EXTERNAL, None)?)?;
-    writer.add_symbol(symbol(alloc, ".idata$6", Place::Section(7), class::STATIC, None)?)?;
-    writer.add_relocation(
-        1,
-        Relocation {
-            offset: 2,
-            symbol: 2,
-            kind: relocation::AMD64_REL32,
-        },
-    )?;
-    writer.add_relocation(
-        4,
-        Relocation {
-            offset: 0,
-            symbol: 0,
-            kind: relocation::AMD64_ADDR32NB,
-        },
-    )?;
-    writer.add_relocation(
-        5,
-        Relocation {
-            offset: 0,
-            symbol: 3,
-            kind: relocation::AMD64_ADDR32NB,
-        },
-    )?;
-    writer.add_relocation(
-        6,
-        Relocation {
-            offset: 0,
-            symbol: 3,
-            kind: relocation::AMD64_ADDR32NB,
-        },
-    )?;
+    writer.add_symbol(symbol(alloc, "__imp_bar", Place::Section(3), class::EXTERNAL, None)?)?;
+    writer.add_symbol(symbol(alloc, ".idata$5", Place::Section(3), class::STATIC, None)?)?;
+    let jump = Relocation {
+        offset: 2,
+        symbol: 1,
+        kind: relocation::AMD64_REL32,
+    };
+    writer.add_relocation(1, jump)?;
+    let entry = Relocation {
+        offset: 0,
+        symbol: 2,
+        kind: relocation::AMD64_ADDR32NB,
+    };
+    writer.add_relocation(3, entry)?;
     writer.write()
 }
 
-// Offsets in it, and the bytes there.
-const EXPORT_BYTES: [(usize, &[u8]); 9] = [
-    (0, b"\x64\x86\x07\0\0\0\0\0\x76\x01\0\0\x04\0\0\0\0\0\0\0"),
-    (300, b"\xff\x25\0\0\0\0\x90\x90"),
-    (308, b"\x02\0\0\0\x02\0\0\0\x04\0"),
-    (318, b"\0\0\0\0\0\0\0\0\0\0\0\0\x03\0"),
-    (340, b"\0\0\0\0\x03\0\0\0\x03\0"),
-    (358, b"\0\0\0\0\x03\0\0\0\x03\0"),
-    (368, b"\0\0bar\0"),
-    (374, b"\0\0\0\0\x04\0\0\0"),
-    (446, b"\x1c\0\0\0_head_foo_dll\0__imp_bar\0"),
-];
+const THREE_SECTIONS: &[u8] = b"\x64\x86\x03\0\0\0\0\0\xb0\0\0\0\x03\0\0\0\0\0\0\0\
+    .text\0\0\0\0\0\0\0\0\0\0\0\x08\0\0\0\x8c\0\0\0\x94\0\0\0\0\0\0\0\x01\0\0\0\x20\0\x30\x60\
+    .bss\0\0\0\0\0\0\0\0\0\0\0\0\0\0\0\0\0\0\0\0\0\0\0\0\0\0\0\0\0\0\0\0\x80\0\x30\xc0\
+    .idata$5\0\0\0\0\0\0\0\0\x08\0\0\0\x9e\0\0\0\xa6\0\0\0\0\0\0\0\x01\0\0\0\0\0\x30\xc0\
+    \xff\x25\0\0\0\0\x90\x90\
+    \x02\0\0\0\x01\0\0\0\x04\0\
+    \0\0\0\0\0\0\0\0\
+    \0\0\0\0\x02\0\0\0\x03\0\
+    \0\0\0\0\x04\0\0\0\0\0\0\0\0\0\0\0\x02\0\
+    \0\0\0\0\x12\0\0\0\0\0\0\0\x03\0\0\0\x02\0\
+    .idata$5\0\0\0\0\x03\0\0\0\x03\0\
+    \x1c\0\0\0_head_foo_dll\0__imp_bar\0";
 
 #[test]
-fn an_export_object_has_its_bytes_at_offsets(rt: HostRuntime) -> Result<(), Fail> {
-    let bytes = export_object(rt.alloc())?;
-    assert_eq!(rt; bytes.len(), 474);
-    for (offset, piece) in EXPORT_BYTES {
-        let rest = bytes.get(offset..).ok_or("past the end")?;
-        assert!(rt; rest.starts_with(piece), "at {offset}");
-    }
+fn an_object_of_three_sections_has_its_bytes(rt: HostRuntime) -> Result<(), Fail> {
+    let bytes = object_of_three_sections(rt.alloc())?;
+    assert_eq!(rt; bytes.len(), 258);
+    assert_eq!(rt; bytes.as_slice(), THREE_SECTIONS);
     Ok(())
 }

@@ -5,6 +5,7 @@ use implib::def::{ModuleDef, ShortExport};
 use implib::{Error, MachineType};
 use std::alloc::{AllocError, Global};
 use std::fmt::Write;
+use std::process::Abort;
 use std::test::Fail;
 
 /// Texts for AMD64, each with what it means or why it is refused, in the words of `outcome`.
@@ -146,13 +147,23 @@ fn outcome(alloc: Global, answer: Result<ModuleDef, Error>) -> Result<String, Al
     }
 }
 
+/// Holds what texts for AMD64 mean, or why they are refused.
+fn expect_outcomes(rt: &impl Abort, alloc: Global, rows: &[(&str, &str)]) -> Result<(), Fail> {
+    for (text, expected) in rows {
+        let answer = outcome(alloc, ModuleDef::parse(alloc, *text, MachineType::AMD64))?;
+        assert_eq!(rt; answer.as_str(), *expected, "{text}");
+    }
+    Ok(())
+}
+
 #[test]
 fn texts_have_their_meanings_or_faults(rt: HostRuntime) -> Result<(), Fail> {
+    expect_outcomes(&rt, rt.alloc(), &OUTCOMES)
+}
+
+#[test]
+fn texts_for_i386_have_names_with_an_underscore(rt: HostRuntime) -> Result<(), Fail> {
     let alloc = rt.alloc();
-    for (text, expected) in OUTCOMES {
-        let answer = outcome(alloc, ModuleDef::parse(alloc, text, MachineType::AMD64))?;
-        assert_eq!(rt; answer.as_str(), expected, "{text}");
-    }
     for (text, expected) in OUTCOMES_I386 {
         let answer = outcome(alloc, Parser::new(text, MachineType::I386).parse(alloc))?;
         assert_eq!(rt; answer.as_str(), expected, "{text}");
@@ -200,14 +211,23 @@ const FRONTS: [&str; 36] = [
     "; bar outside foo for baz @1 noname",
 ];
 
-#[test]
-fn each_front_has_its_meaning_or_fault(rt: HostRuntime) -> Result<(), Fail> {
-    let alloc = rt.alloc();
-    let text = "EXPORTS\nfoo = bar == baz @ 1 NONAME";
-    for (length, expected) in FRONTS.iter().enumerate() {
+/// Holds what the fronts of a text mean, or why they are refused, by their lengths.
+fn expect_fronts(
+    rt: &impl Abort,
+    alloc: Global,
+    text: &str,
+    outcomes: &[&str],
+) -> Result<(), Fail> {
+    for (length, expected) in outcomes.iter().enumerate() {
         let front = text.get(..length).ok_or("a front")?;
         let answer = outcome(alloc, ModuleDef::parse(alloc, front, MachineType::AMD64))?;
         assert_eq!(rt; answer.as_str(), *expected, "{front}");
     }
     Ok(())
+}
+
+#[test]
+fn each_front_has_its_meaning_or_fault(rt: HostRuntime) -> Result<(), Fail> {
+    let text = "EXPORTS\nfoo = bar == baz @ 1 NONAME";
+    expect_fronts(&rt, rt.alloc(), text, &FRONTS)
 }

@@ -21,6 +21,13 @@ fn expect_tokens(rt: &impl Abort, text: &str, rows: &[Row]) {
     assert_eq!(rt; lexer.next(), None, "in {text:?}");
 }
 
+// The same of several texts.
+fn expect_all(rt: &impl Abort, texts: &[(&str, &[Row])]) {
+    for (text, rows) in texts {
+        expect_tokens(rt, *text, *rows);
+    }
+}
+
 // Texts of signs, and their tokens.
 const SIGNS: [(&str, &[Row]); 2] = [
     (
@@ -46,9 +53,7 @@ const SIGNS: [(&str, &[Row]); 2] = [
 
 #[test]
 fn each_sign_is_a_token(rt: HostRuntime) {
-    for (text, rows) in SIGNS {
-        expect_tokens(&rt, text, rows);
-    }
+    expect_all(&rt, &SIGNS);
 }
 
 // Texts that end early, and their tokens.
@@ -64,9 +69,7 @@ const ENDS: [(&str, &[Row]); 4] = [
 
 #[test]
 fn tokens_end_at_a_nul_outside_comments(rt: HostRuntime) {
-    for (text, rows) in ENDS {
-        expect_tokens(&rt, text, rows);
-    }
+    expect_all(&rt, &ENDS);
 }
 
 // Texts of words, and their tokens.
@@ -108,9 +111,7 @@ const WORDS: [(&str, &[Row]); 4] = [
 
 #[test]
 fn words_end_at_delimiters(rt: HostRuntime) {
-    for (text, rows) in WORDS {
-        expect_tokens(&rt, text, rows);
-    }
+    expect_all(&rt, &WORDS);
 }
 
 // Texts with quotes, and their tokens.
@@ -139,9 +140,7 @@ const QUOTED: [(&str, &[Row]); 3] = [
 
 #[test]
 fn quoted_names_are_trimmed(rt: HostRuntime) {
-    for (text, rows) in QUOTED {
-        expect_tokens(&rt, text, rows);
-    }
+    expect_all(&rt, &QUOTED);
 }
 
 #[test]

@@ -27,6 +27,14 @@ fn expect_loaded(rt: &impl Abort, alloc: Global, row: &Row) -> Result<(), Fail> 
     Ok(())
 }
 
+// The same of several rows.
+fn expect_all_loaded(rt: &impl Abort, alloc: Global, rows: &[Row]) -> Result<(), Fail> {
+    for row in rows {
+        expect_loaded(rt, alloc, row)?;
+    }
+    Ok(())
+}
+
 const ALL: &[&str] = &[TAIL, HEAD, SECOND, FIRST];
 
 const TWO_ON_64_BITS: &str = "foo.dll: name 0x10a8, lookups 0x1040, addresses 0x1060\n  \
@@ -57,10 +65,7 @@ const TWO_ROWS: [Row; 4] = [
 
 #[test]
 fn a_name_and_a_number_are_loaded(rt: HostRuntime) -> Result<(), Fail> {
-    for row in TWO_ROWS {
-        expect_loaded(&rt, rt.alloc(), &row)?;
-    }
-    Ok(())
+    expect_all_loaded(&rt, rt.alloc(), &TWO_ROWS)
 }
 
 // No export, and the second alone.
@@ -85,10 +90,7 @@ const LEFT_OUT: [Row; 2] = [
 
 #[test]
 fn members_left_out_are_not_loaded(rt: HostRuntime) -> Result<(), Fail> {
-    for row in LEFT_OUT {
-        expect_loaded(&rt, rt.alloc(), &row)?;
-    }
-    Ok(())
+    expect_all_loaded(&rt, rt.alloc(), &LEFT_OUT)
 }
 
 const TWICE: &[&str] = &["LIBRARY foo.dll\nEXPORTS\nbar\nbar"];
@@ -116,10 +118,7 @@ const EITHER: [Row; 2] = [
 
 #[test]
 fn either_export_of_one_name_is_loaded(rt: HostRuntime) -> Result<(), Fail> {
-    for row in EITHER {
-        expect_loaded(&rt, rt.alloc(), &row)?;
-    }
-    Ok(())
+    expect_all_loaded(&rt, rt.alloc(), &EITHER)
 }
 
 // Between the first name, of an even length, and the next hint lies a byte.

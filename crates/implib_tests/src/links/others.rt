@@ -84,7 +84,7 @@ fn an_undefined_address_symbol_is_its_exports_own_entry(rt: HostRuntime) -> Resu
         for address in code.iter() {
             let got = linked.word_at(*address)?;
             assert_eq!(rt; got, linked.address_of(entry.as_str())?, "{machine:?}");
-            let got = linked.word_at(*address + 4)?;
+            let got = linked.word_at(address.saturating_add(4))?;
             assert_eq!(rt; got, linked.address_of(name.as_str())?, "{machine:?}");
         }
     }

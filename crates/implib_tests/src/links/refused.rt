@@ -4,6 +4,8 @@
 use super::{CLOSE, FIRST, HEAD, SECOND, TAIL, TWO, WIDE, chosen, members_of};
 use crate::linked::{Bases, Flaw, Misplaced, Unlinked, link, refusal};
 use implib::MachineType;
+use std::alloc::Global;
+use std::process::Abort;
 use std::test::Fail;
 
 // Members of which each lists or leaves a symbol, and why they do not link.
@@ -96,19 +98,28 @@ const BASES: [(&[&str], Bases, Option<Misplaced>); 12] = [
     ),
 ];
 
-#[test]
-fn bases_that_do_not_serve_are_refused(rt: HostRuntime) -> Result<(), Fail> {
-    let libraries = members_of(rt.alloc(), MachineType::AMD64, &[TWO])?;
-    for (names, bases, misplaced) in BASES {
-        let files = chosen(rt.alloc(), libraries.as_slice(), names)?;
-        let got = refusal(rt.alloc(), files.as_slice(), bases)?;
-        let want = match misplaced {
+// Holds which bases serve.
+fn expect_bases(
+    rt: &impl Abort,
+    alloc: Global,
+    rows: &[(&[&str], Bases, Option<Misplaced>)],
+) -> Result<(), Fail> {
+    let libraries = members_of(alloc, MachineType::AMD64, &[TWO])?;
+    for (names, bases, misplaced) in rows {
+        let files = chosen(alloc, libraries.as_slice(), *names)?;
+        let want = match *misplaced {
             Some(misplaced) => Some(Unlinked::Misplaced(misplaced)),
             None => None,
         };
+        let got = refusal(alloc, files.as_slice(), *bases)?;
         assert_eq!(rt; got, want, "{bases:?}");
     }
     Ok(())
+}
+
+#[test]
+fn bases_that_do_not_serve_are_refused(rt: HostRuntime) -> Result<(), Fail> {
+    expect_bases(&rt, rt.alloc(), &BASES)
 }
 
 // Bytes that are written over an image, each with its address, and what a strict loader says of it.
@@ -173,38 +184,31 @@ const WRONG_ON_I386: [Wrong; 6] = [
     ),
 ];
 
-#[test]
-fn directories_that_are_wrong_in_one_way_are_refused(rt: HostRuntime) -> Result<(), Fail> {
-    let libraries = members_of(rt.alloc(), MachineType::AMD64, &[TWO])?;
-    let files = chosen(
-        rt.alloc(),
-        libraries.as_slice(),
-        &[HEAD, FIRST, SECOND, TAIL],
-    )?;
-    for (writes, want) in WRONG_ON_AMD64 {
-        let mut linked = link(rt.alloc(), files.as_slice(), WIDE)?;
-        for (address, bytes) in writes {
+// Holds what a strict loader says of an image over which bytes are written.
+fn expect_directories(
+    rt: &impl Abort,
+    alloc: Global,
+    machine: MachineType,
+    rows: &[Wrong],
+) -> Result<(), Fail> {
+    let libraries = members_of(alloc, machine, &[TWO])?;
+    let files = chosen(alloc, libraries.as_slice(), &[HEAD, FIRST, SECOND, TAIL])?;
+    for (writes, want) in rows {
+        let mut linked = link(alloc, files.as_slice(), WIDE)?;
+        for (address, bytes) in *writes {
             linked.image.write(*address, *bytes)?;
         }
-        assert_eq!(rt; linked.check_directory(), want, "{writes:?}");
+        assert_eq!(rt; linked.check_directory(), *want, "{writes:?}");
     }
     Ok(())
 }
 
 #[test]
+fn directories_that_are_wrong_in_one_way_are_refused(rt: HostRuntime) -> Result<(), Fail> {
+    expect_directories(&rt, rt.alloc(), MachineType::AMD64, &WRONG_ON_AMD64)
+}
+
+#[test]
 fn directories_of_32_bits_that_are_wrong_are_refused(rt: HostRuntime) -> Result<(), Fail> {
-    let libraries = members_of(rt.alloc(), MachineType::I386, &[TWO])?;
-    let files = chosen(
-        rt.alloc(),
-        libraries.as_slice(),
-        &[HEAD, FIRST, SECOND, TAIL],
-    )?;
-    for (writes, want) in WRONG_ON_I386 {
-        let mut linked = link(rt.alloc(), files.as_slice(), WIDE)?;
-        for (address, bytes) in writes {
-            linked.image.write(*address, *bytes)?;
-        }
-        assert_eq!(rt; linked.check_directory(), want, "{writes:?}");
-    }
-    Ok(())
+    expect_directories(&rt, rt.alloc(), MachineType::I386, &WRONG_ON_I386)
 }

@@ -23,14 +23,15 @@ fn expect_taken(
     alloc: Global,
     machine: MachineType,
     text: &str,
-    wanted: &[&str],
-    want: &str,
+    rows: &[(&[&str], &str)],
 ) -> Result<(), Fail> {
     for members in members_of(alloc, machine, &[text])? {
         let archive = Archive::new(alloc, members.as_slice())?;
-        let taken = archive.search(alloc, wanted)?;
-        let got = names(alloc, taken.as_slice())?;
-        assert_eq!(rt; got.as_str(), want, "{machine:?}: {wanted:?}");
+        for (wanted, want) in rows {
+            let taken = archive.search(alloc, *wanted)?;
+            let got = names(alloc, taken.as_slice())?;
+            assert_eq!(rt; got.as_str(), *want, "{machine:?}: {wanted:?}");
+        }
     }
     Ok(())
 }
@@ -71,9 +72,7 @@ const WANTED: [(&[&str], &str); 11] = [
 #[test]
 fn a_search_takes_the_head_the_tail_and_the_wanted_exports(rt: HostRuntime) -> Result<(), Fail> {
     for machine in [MachineType::ARMNT, MachineType::AMD64, MachineType::ARM64] {
-        for (wanted, want) in WANTED {
-            expect_taken(&rt, rt.alloc(), machine, FOUR, wanted, want)?;
-        }
+        expect_taken(&rt, rt.alloc(), machine, FOUR, &WANTED)?;
     }
     Ok(())
 }
@@ -91,23 +90,19 @@ const WANTED_ON_I386: [(&[&str], &str); 4] = [
 
 #[test]
 fn a_search_on_i386_takes_names_with_an_underscore(rt: HostRuntime) -> Result<(), Fail> {
-    for (wanted, want) in WANTED_ON_I386 {
-        expect_taken(&rt, rt.alloc(), MachineType::I386, FOUR, wanted, want)?;
-    }
-    Ok(())
+    expect_taken(&rt, rt.alloc(), MachineType::I386, FOUR, &WANTED_ON_I386)
 }
 
 // Of two members that list one symbol the first in the archive is taken, which is that of the last export.
+const FIRST_LISTED: [(&[&str], &str); 1] = [(
+    &["bar", "__imp_bar"],
+    "foo_dll_a_t.o foo_dll_a_h.o foo_dll_a_s00001.o ",
+)];
+
 #[test]
 fn a_search_takes_the_first_member_listed(rt: HostRuntime) -> Result<(), Fail> {
-    expect_taken(
-        &rt,
-        rt.alloc(),
-        MachineType::AMD64,
-        "LIBRARY foo.dll\nEXPORTS\nbar\nbar",
-        &["bar", "__imp_bar"],
-        "foo_dll_a_t.o foo_dll_a_h.o foo_dll_a_s00001.o ",
-    )
+    let text = "LIBRARY foo.dll\nEXPORTS\nbar\nbar";
+    expect_taken(&rt, rt.alloc(), MachineType::AMD64, text, &FIRST_LISTED)
 }
 
 // The files of a program: an object, and members in the order of their names.

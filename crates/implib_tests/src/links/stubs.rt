@@ -48,12 +48,22 @@ fn expect_jumps(
     Ok(())
 }
 
-#[test]
-fn each_stub_jumps_by_its_own_entry(rt: HostRuntime) -> Result<(), Fail> {
-    for (machine, bases) in STUBS {
-        expect_jumps(&rt, rt.alloc(), machine, bases)?;
+/// Holds the same of several machines and bases.
+fn expect_all_jumps(
+    rt: &impl Abort,
+    alloc: Global,
+    rows: &[(MachineType, Bases)],
+) -> Result<(), Fail> {
+    for row in rows {
+        let (machine, bases) = *row;
+        expect_jumps(rt, alloc, machine, bases)?;
     }
     Ok(())
+}
+
+#[test]
+fn each_stub_jumps_by_its_own_entry(rt: HostRuntime) -> Result<(), Fail> {
+    expect_all_jumps(&rt, rt.alloc(), &STUBS)
 }
 
 // A machine, bytes that are written over the stub of `baz`, the first one, and where its jump reads then.
@@ -77,17 +87,27 @@ const CHANGED: [(MachineType, usize, &[u8], Result<usize, Flaw>); 11] = [
     ),
 ];
 
-#[test]
-fn stubs_that_are_changed_jump_elsewhere(rt: HostRuntime) -> Result<(), Fail> {
-    for (machine, address, bytes, want) in CHANGED {
-        let libraries = members_of(rt.alloc(), machine, &[TWO])?;
-        let files = chosen(rt.alloc(), libraries.as_slice(), &ALL)?;
-        let mut linked = link(rt.alloc(), files.as_slice(), WIDE)?;
+/// Holds where changed stubs read where they jump.
+fn expect_reads(
+    rt: &impl Abort,
+    alloc: Global,
+    rows: &[(MachineType, usize, &[u8], Result<usize, Flaw>)],
+) -> Result<(), Fail> {
+    for row in rows {
+        let (machine, address, bytes, want) = *row;
+        let libraries = members_of(alloc, machine, &[TWO])?;
+        let files = chosen(alloc, libraries.as_slice(), &ALL)?;
+        let mut linked = link(alloc, files.as_slice(), WIDE)?;
         linked.image.write(address, bytes)?;
         let got = linked.jump_at(0x2000);
         assert_eq!(rt; got, want, "{machine:?}: {bytes:?}");
     }
     Ok(())
+}
+
+#[test]
+fn stubs_that_are_changed_jump_elsewhere(rt: HostRuntime) -> Result<(), Fail> {
+    expect_reads(&rt, rt.alloc(), &CHANGED)
 }
 
 // On ARM64 a load takes entries at multiples of 8 alone.

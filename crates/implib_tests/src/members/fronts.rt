@@ -290,45 +290,82 @@ const WHOLE: [(&str, &str, &str); 3] = [
     ),
 ];
 
+/// Holds the same of fronts, and gives how many they are.
+fn expect_fronts_read(
+    rt: &impl Abort,
+    alloc: Global,
+    rows: &[(usize, usize, &str, &str)],
+) -> Result<u32, Fail> {
+    let mut tried = 0u32;
+    for (first, last, microsoft, gnu) in rows {
+        for length in *first..=*last {
+            let front = STATEMENTS.get(..length).ok_or("a front")?;
+            expect_read(rt, alloc, front, *microsoft, *gnu)?;
+            tried = tried.saturating_add(1);
+        }
+    }
+    Ok(tried)
+}
+
+/// Holds that fronts are refused, and gives how many they are.
+fn expect_fronts_refused(
+    rt: &impl Abort,
+    alloc: Global,
+    rows: &[(usize, usize, &str)],
+) -> Result<u32, Fail> {
+    let mut tried = 0u32;
+    for (first, last, fault) in rows {
+        for length in *first..=*last {
+            let front = STATEMENTS.get(..length).ok_or("a front")?;
+            expect_refused(rt, alloc, front, *fault)?;
+            tried = tried.saturating_add(1);
+        }
+    }
+    Ok(tried)
+}
+
 #[test]
 fn each_front_is_read_or_refused(rt: HostRuntime) -> Result<(), Fail> {
-    let mut tried = 0u32;
-    for (first, last, microsoft, gnu) in FRONTS_READ {
-        for length in first..=last {
-            let front = STATEMENTS.get(..length).ok_or("a front")?;
-            expect_read(&rt, rt.alloc(), front, microsoft, gnu)?;
-            tried = tried.saturating_add(1);
-        }
+    let read = expect_fronts_read(&rt, rt.alloc(), &FRONTS_READ)?;
+    let refused = expect_fronts_refused(&rt, rt.alloc(), &FRONTS_REFUSED)?;
+    assert_eq!(rt; (read, refused), (23, 13));
+    Ok(())
+}
+
+/// Holds the same of several statements.
+fn expect_all_read(
+    rt: &impl Abort,
+    alloc: Global,
+    rows: &[(&str, &str, &str)],
+) -> Result<(), Fail> {
+    for (statements, microsoft, gnu) in rows {
+        expect_read(rt, alloc, *statements, *microsoft, *gnu)?;
     }
-    for (first, last, fault) in FRONTS_REFUSED {
-        for length in first..=last {
-            let front = STATEMENTS.get(..length).ok_or("a front")?;
-            expect_refused(&rt, rt.alloc(), front, fault)?;
-            tried = tried.saturating_add(1);
-        }
-    }
-    assert_eq!(rt; tried, 36);
     Ok(())
 }
 
 #[test]
 fn statements_are_read_or_refused(rt: HostRuntime) -> Result<(), Fail> {
-    for (statements, microsoft, gnu) in READ {
-        expect_read(&rt, rt.alloc(), statements, microsoft, gnu)?;
-    }
+    expect_all_read(&rt, rt.alloc(), &READ)?;
     for (statements, fault) in REFUSED {
         expect_refused(&rt, rt.alloc(), statements, fault)?;
     }
     Ok(())
 }
 
-#[test]
-fn whole_texts_are_read(rt: HostRuntime) -> Result<(), Fail> {
-    for (text, microsoft, gnu) in WHOLE {
+/// Holds what all members of texts are for.
+fn expect_whole(rt: &impl Abort, alloc: Global, rows: &[(&str, &str, &str)]) -> Result<(), Fail> {
+    for row in rows {
+        let (text, microsoft, gnu) = *row;
         for (flavor, want) in [(Flavor::Msvc, microsoft), (Flavor::Gnu, gnu)] {
-            let got = answer(rt.alloc(), text, flavor, 0)?;
+            let got = answer(alloc, text, flavor, 0)?;
             assert_eq!(rt; got.as_str(), want, "{text:?}");
         }
     }
     Ok(())
+}
+
+#[test]
+fn whole_texts_are_read(rt: HostRuntime) -> Result<(), Fail> {
+    expect_whole(&rt, rt.alloc(), &WHOLE)
 }

@@ -6,6 +6,7 @@ use super::answer;
 use implib::def::{ModuleDef, ShortExport};
 use implib::{Flavor, ImportLibrary, MachineType};
 use std::alloc::{AllocError, Global};
+use std::process::Abort;
 use std::test::Fail;
 
 /// What is set in an export.
@@ -369,10 +370,10 @@ fn definition(alloc: Global, import_name: &str, rows: &[Export]) -> Result<Modul
     Ok(def)
 }
 
-#[test]
-fn definitions_made_by_hand_are_answered(rt: HostRuntime) -> Result<(), Fail> {
-    let alloc = rt.alloc();
-    for (import_name, machine, rows, microsoft, gnu) in ROWS {
+/// Holds what definitions are answered.
+fn expect_answers(rt: &impl Abort, alloc: Global, rows: &[Row]) -> Result<(), Fail> {
+    for row in rows {
+        let (import_name, machine, rows, microsoft, gnu) = *row;
         for (flavor, from, want) in [(Flavor::Msvc, 3, microsoft), (Flavor::Gnu, 2, gnu)] {
             let def = definition(alloc, import_name, rows)?;
             let library = ImportLibrary::from_def(def, machine, flavor);
@@ -381,6 +382,11 @@ fn definitions_made_by_hand_are_answered(rt: HostRuntime) -> Result<(), Fail> {
         }
     }
     Ok(())
+}
+
+#[test]
+fn definitions_made_by_hand_are_answered(rt: HostRuntime) -> Result<(), Fail> {
+    expect_answers(&rt, rt.alloc(), &ROWS)
 }
 
 #[test]

@@ -64,22 +64,51 @@ fn expect_stored(
     Ok(())
 }
 
-#[test]
-fn members_are_as_stored(rt: HostRuntime) -> Result<(), Fail> {
-    let rows: [(MachineType, Flavor, &[Stored]); 6] = [
-        (MachineType::I386, Flavor::Msvc, &i386::FOR_MICROSOFT),
-        (MachineType::I386, Flavor::Gnu, &i386::FOR_GNU),
-        (MachineType::ARMNT, Flavor::Msvc, &armnt::FOR_MICROSOFT),
-        (MachineType::ARMNT, Flavor::Gnu, &armnt::FOR_GNU),
-        (MachineType::ARM64, Flavor::Msvc, &arm64::FOR_MICROSOFT),
-        (MachineType::ARM64, Flavor::Gnu, &arm64::FOR_GNU),
-    ];
-    for (machine, flavor, all) in rows {
-        let members = ImportLibrary::new(rt.alloc(), TEXT, machine, flavor)?.members()?;
-        assert_eq!(rt; members.len(), all.len(), "{machine:?}");
-        for (member, stored) in members.iter().zip(all.iter()) {
-            expect_stored(&rt, rt.alloc(), member, *stored)?;
-        }
+/// Holds that the members of a machine are what is stored.
+fn expect_all_stored(
+    rt: &impl Abort,
+    alloc: Global,
+    machine: MachineType,
+    flavor: Flavor,
+    all: &[Stored],
+) -> Result<(), Fail> {
+    let members = ImportLibrary::new(alloc, TEXT, machine, flavor)?.members()?;
+    assert_eq!(rt; members.len(), all.len());
+    for (member, stored) in members.iter().zip(all.iter()) {
+        expect_stored(rt, alloc, member, *stored)?;
     }
     Ok(())
+}
+
+#[test]
+fn members_of_i386_are_as_stored(rt: HostRuntime) -> Result<(), Fail> {
+    let machine = MachineType::I386;
+    expect_all_stored(&rt, rt.alloc(), machine, Flavor::Msvc, &i386::FOR_MICROSOFT)?;
+    expect_all_stored(&rt, rt.alloc(), machine, Flavor::Gnu, &i386::FOR_GNU)
+}
+
+#[test]
+fn members_of_armnt_are_as_stored(rt: HostRuntime) -> Result<(), Fail> {
+    let machine = MachineType::ARMNT;
+    expect_all_stored(
+        &rt,
+        rt.alloc(),
+        machine,
+        Flavor::Msvc,
+        &armnt::FOR_MICROSOFT,
+    )?;
+    expect_all_stored(&rt, rt.alloc(), machine, Flavor::Gnu, &armnt::FOR_GNU)
+}
+
+#[test]
+fn members_of_arm64_are_as_stored(rt: HostRuntime) -> Result<(), Fail> {
+    let machine = MachineType::ARM64;
+    expect_all_stored(
+        &rt,
+        rt.alloc(),
+        machine,
+        Flavor::Msvc,
+        &arm64::FOR_MICROSOFT,
+    )?;
+    expect_all_stored(&rt, rt.alloc(), machine, Flavor::Gnu, &arm64::FOR_GNU)
 }
