@@ -112,10 +112,15 @@ abbrev pub size_left : Option (Bor (List ℕ)) → ℕ
 size_left None = 0
 size_left (Some rest) = length rest.now + 1
 
--- what is made, and then the members of what is left, are those of the text; what is left is refused only as the text is
-pub record PartsLeft (text : List ℕ) (machine : MachineType) (flavor : Flavor) (made : List (List MemberView)) (rest : Option (Bor (List ℕ))) : Type 0 where
-  pub lists : (more : List (List MemberView)) → MadeLeft rest machine flavor more → MembersOfParts text machine flavor (made ++ more)
-  pub refused : (cause : Cause) → RefusedLeft rest machine flavor cause → FirstRefused text machine flavor cause
+-- what is made, and then the members of what is left, are those of the text; what is left is refused only as
+-- the text is
+pub record PartsLeft (text : List ℕ) (machine : MachineType) (flavor : Flavor) (made : List (List MemberView))
+    (rest : Option (Bor (List ℕ)))
+    : Type 0 where
+  pub lists : (more : List (List MemberView)) → MadeLeft rest machine flavor more →
+      MembersOfParts text machine flavor (made ++ more)
+  pub refused : (cause : Cause) → RefusedLeft rest machine flavor cause →
+      FirstRefused text machine flavor cause
 
 -- the bytes are some that the writer took, and those that are left
 pub record WrittenSoFar (before after : Option (List ℕ)) (bytes rest : List ℕ) : Type 0 where
