@@ -14,7 +14,7 @@ pub not_same_turned : (first second : List ℕ) → bytes_eq first second ≡ fa
 not_same_turned first second differ =
     false_from_ne_true (bytes_eq second first) (λ same. true≢false (sym ((bytes_eq-Decides first second).1 (sym ((bytes_eq-Decides second first).0 same))) ∙ differ))
 
-none_of : (name : List ℕ) (ds : List SymbolDefinition) → AllByRecursion (λ other. bytes_eq name other ≡ false) (map (λ (d : SymbolDefinition). d.name) ds) →
+pub none_of : (name : List ℕ) (ds : List SymbolDefinition) → AllByRecursion (λ other. bytes_eq name other ≡ false) (map (λ (d : SymbolDefinition). d.name) ds) →
     filter (λ (d : SymbolDefinition). bytes_eq name d.name) ds ≡ []
 none_of name [] apart = refl
 none_of name (d ∷ ds) apart = rw apart.0 (none_of name ds apart.1)

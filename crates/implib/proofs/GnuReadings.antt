@@ -350,7 +350,7 @@ module _ (d : DefinitionView) (machine : MachineType) (members : List MemberView
   unfolding head_spec
   head_back = held_reads (head_object machine d.import_name) (Fits-head_object machine d.import_name free) (short_enough (head_spec machine d.import_name) head_short.0)
 
-  member_specs_read : AllByRecursion (λ p. ReadsBack p.contents) (member_specs (renamed d) machine Gnu)
+  pub member_specs_read : AllByRecursion (λ p. ReadsBack p.contents) (member_specs (renamed d) machine Gnu)
   unfolding tail_spec head_spec
   member_specs_read = (tail_back, (head_back, reversed_all (λ (p : MemberSpec). ReadsBack p.contents) built built_read))
 

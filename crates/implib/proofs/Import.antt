@@ -22,7 +22,7 @@ machine_number_fits ARM64 = omega arith
 kind_of_fits : (e : ExportView) → kind_of e ≤ import_const
 kind_of_fits e = grind arith
 
-name_type_of_fits : (machine : MachineType) (e : ExportView) → name_type_of machine e ≤ import_name_undecorate
+pub name_type_of_fits : (machine : MachineType) (e : ExportView) → name_type_of machine e ≤ import_name_undecorate
 name_type_of_fits machine e = grind arith
 
 pub symbol_without_nul : (symbol name : List ℕ) → holds 0 symbol ≡ false → holds 0 name ≡ false → holds 0 (symbol_or_name symbol name) ≡ false
@@ -58,7 +58,7 @@ kind_is_data true constant = refl
 kind_is_data false true = refl
 kind_is_data false false = refl
 
-name_type_is_ordinal : (machine : MachineType) (e : ExportView) → (name_type_of machine e == import_ordinal) ≡ e.no_name
+pub name_type_is_ordinal : (machine : MachineType) (e : ExportView) → (name_type_of machine e == import_ordinal) ≡ e.no_name
 name_type_is_ordinal machine e = grind (arith, nat_tests)
 
 -- the import that the record of an export stands for

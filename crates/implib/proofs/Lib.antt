@@ -64,7 +64,9 @@ pub mod WorkedGnu
 pub mod Ranges
 pub mod Placement
 pub mod Definitions
+pub mod Thunks
 pub mod Tables
+pub mod Descriptors
 pub mod Linked
 pub mod LinkedBlocks
 pub mod LinkedMembers

@@ -11,24 +11,26 @@ use Rattle.implib.specs.declared.machine.MachineType.TheVariants.{I386, ARMNT, A
 use Rattle.implib.specs.Bytes.{u32_bytes}
 use Rattle.implib.specs.Definition.{ExportView}
 use Rattle.implib.specs.Gnu.{export_object, head_object, head_symbol, hint_name_symbol, name_symbol, relocations_of_stub, relocations_of_thunk, stub_relocations, tail_object}
-use Rattle.implib.specs.Import.{Ask, address_symbol, expected_ask}
+use Rattle.implib.specs.Import.{address_symbol, expected_ask}
 use Rattle.implib.specs.Image.{Contribution, Range, filled, contributions, range_end, range_of, relocated, with_address}
 use Rattle.implib.specs.Placement.{Addresses, Bases, Descriptors, DllNames, HintNames, Lookups, Placed, next_multiple, placed_from}
 use Rattle.implib.specs.Resolution.{SymbolDefinition, definitions, definitions_of, first_address, symbol_address}
-use Rattle.implib.specs.Load.{BytesAt, LoadsStrictly, NumberAt, TableAt, TextAt, number_in}
+use Rattle.implib.specs.Load.{BytesAt, TextAt}
 use Rattle.implib.specs.ImportTables.{relocation, thunk_width, zeros}
 use Rattle.implib.specs.Object.{Object, u32_at}
 use Rattle.implib.specs.Layout.{HasNoNul}
 use Rattle.implib.specs.Linked.{AllFind, EntriesAt, FindsTarget, IsDefinedAt, LinksStrictlyAt, undefined_names}
-use Rattle.implib.proofs.Ranges.{Among, address_bounds, among_back, among_first, among_later, stands_parts}
+use Rattle.implib.proofs.Ranges.{Among, among_back, among_first, among_later, stands_parts}
+use Rattle.implib.proofs.Descriptors.{LoadsFrom, descriptor_loads, length-u32}
 use Rattle.implib.proofs.Placement.{AreAligned, descriptors_end, address_definition, after_head, aligned_after, aligned_all, aligned_head, at_least, code_definition, defined_after, definitions-after, ends_of_all, ends_of_export, ends_of_exports, ends_of_head, ends_of_tail, head, placed-export, placed-head, placed-tail, placed_export, placed_head}
-use Rattle.implib.proofs.Tables.{CanBeAsked, StrictTableAt, addresses_end, addresses_filled, descriptors_filled, filled_first, hint_bytes, hint_names_end, hint_names_filled, lookups_end, lookups_filled, same_number, table_at, thunk_bytes}
+use Rattle.implib.proofs.Tables.{CanBeAsked, addresses_end, addresses_filled, descriptors_filled, filled_first, hint_bytes, hint_names_end, hint_names_filled, lookups_end, lookups_filled, table_at, thunk_bytes}
+use Rattle.implib.proofs.Thunks.{StrictTableAt, same_number}
 
-same_order : (n : ℕ) → n ≤ n
+pub same_order : (n : ℕ) → n ≤ n
 same_order n = omega arith
 
 -- the first contribution stands at its place, and the others after it
-contribution_stands : (image : List Range) (a : ℕ) (p : Contribution) (rest : List Contribution) → a ≤ p.address → BytesAt image a (filled a (p ∷ rest)) →
+pub contribution_stands : (image : List Range) (a : ℕ) (p : Contribution) (rest : List Contribution) → a ≤ p.address → BytesAt image a (filled a (p ∷ rest)) →
     BytesAt image p.address p.bytes × BytesAt image (p.address + length p.bytes) (filled (p.address + length p.bytes) rest)
 contribution_stands image a p rest low stands =
     let padding : List ℕ = zeros (p.address - a) in
@@ -46,27 +48,8 @@ pub all_append : {X : Type 0} (P : X → Type 0) (xs ys : List X) → AllByRecur
 all_append P [] ys first second = second
 all_append P (x ∷ xs) ys first second = (first.0, all_append P xs ys first.1 second)
 
-length-u32 : (n : ℕ) → length (u32_bytes n) ≡ 4
-unfolding u32_bytes
-length-u32 n = refl
-
-number-u32 : (n : ℕ) → n < 2 ^ 31 → number_in (u32_bytes n) ≡ n
-unfolding u32_bytes
-number-u32 n small = omega arith
-
-small_mod_plus : (n : ℕ) → n < 2 ^ 31 → (0 + (n + 0)) % 2 ^ 32 ≡ n
-small_mod_plus n small = omega arith
-
-field_stands : (image : List Range) (a n : ℕ) → n < 2 ^ 31 → BytesAt image a (u32_bytes ((0 + (n + 0)) % 2 ^ 32)) → NumberAt image 4 a n
-field_stands image a n small stands = record {
-  bytes = u32_bytes n;
-  stands = subst (λ m. BytesAt image a (u32_bytes m)) (small_mod_plus n small) stands;
-  count = length-u32 n;
-  value = number-u32 n small;
-}
-
 -- a name has an address
-abbrev HasAddress : List Placed → List ℕ → Type 0
+abbrev pub HasAddress : List Placed → List ℕ → Type 0
 HasAddress linked name = (address : ℕ) × (first_address (definitions_of name linked) ≡ Some address)
 
 module _ (machine : MachineType) (dll : List ℕ) (linked : List Placed) where
@@ -161,7 +144,7 @@ module _ (machine : MachineType) (dll : List ℕ) (linked : List Placed) where
   unfolding relocations_of_stub
   some_stub e is = rw is refl
 
-  all_of_stub : (m : MachineType) (P : Relocation → Type 0) → ((offset number : ℕ) → P (record { offset = offset; symbol = 2; kind = number })) → AllByRecursion P (stub_relocations m 2)
+  pub all_of_stub : (m : MachineType) (P : Relocation → Type 0) → ((offset number : ℕ) → P (record { offset = offset; symbol = 2; kind = number })) → AllByRecursion P (stub_relocations m 2)
   all_of_stub I386 P each = (each 2 _, tt)
   all_of_stub ARMNT P each = (each 8 _, tt)
   all_of_stub AMD64 P each = (each 2 _, tt)
@@ -350,27 +333,6 @@ module _ (machine : MachineType) (dll : List ℕ) (es : List ExportView) (b : Ba
     dll_names = name_parts.1;
   }
 
-  first_bounds : (a : ℕ) (bytes : List ℕ) → 0 < length bytes → BytesAt image a bytes → (0 < a) × (a < 2 ^ 31)
-  unfolding BytesAt
-  first_bounds a [] long held = absurd (omega arith)
-  first_bounds a (byte ∷ bytes) long held = address_bounds image a byte starts ends held.0
-
-  number_bounds : (a width number : ℕ) → 0 < width → NumberAt image width a number → (0 < a) × (a < 2 ^ 31)
-  number_bounds a width number wide n =
-      let count : length n.bytes ≡ width = n.count in
-      first_bounds a n.bytes (omega arith) n.stands
-
-  wide : (m : MachineType) → 0 < thunk_width m
-  wide I386 = omega arith
-  wide ARMNT = omega arith
-  wide AMD64 = omega arith
-  wide ARM64 = omega arith
-
-  table_bounds : (a : ℕ) (asks : List Ask) → TableAt image (thunk_width machine) a asks → (0 < a) × (a < 2 ^ 31)
-  unfolding TableAt
-  table_bounds a [] table = number_bounds a (thunk_width machine) 0 (wide machine) table
-  table_bounds a (ask ∷ asks) table = number_bounds a (thunk_width machine) table.0.thunk (wide machine) table.0.stands
-
   lookup_table : StrictTableAt image (thunk_width machine) b.lookups (map (expected_ask machine) es)
   lookup_table = table_at machine dll linked image starts ends es later b.lookups fit lookups_parts.0 hints_parts.0
 
@@ -380,74 +342,10 @@ module _ (machine : MachineType) (dll : List ℕ) (es : List ExportView) (b : Ba
   name_text : TextAt image name_place dll
   name_text = record { no_nul = dll_text; stands = name_parts.0 }
 
-  lookups_bounds : (0 < b.lookups) × (b.lookups < 2 ^ 31)
-  lookups_bounds = table_bounds b.lookups (map (expected_ask machine) es) lookup_table.plain
-
-  addresses_bounds : (0 < b.addresses) × (b.addresses < 2 ^ 31)
-  addresses_bounds = table_bounds b.addresses (map (expected_ask machine) es) address_table.plain
-
-  name_bounds : (0 < name_place) × (name_place < 2 ^ 31)
-  name_bounds =
-      let long : 0 < length (dll ++ 0 ∷ []) = rw (length-append dll (0 ∷ [])) (omega arith) in
-      first_bounds name_place (dll ++ 0 ∷ []) long name_parts.0
-
-  -- the descriptor's five fields
-  record Fields : Type 0 where
-    lookups : NumberAt image 4 b.descriptors b.lookups
-    time : NumberAt image 4 (b.descriptors + 4) 0
-    forwarder : NumberAt image 4 (b.descriptors + 8) 0
-    name : NumberAt image 4 (b.descriptors + 12) name_place
-    addresses : NumberAt image 4 (b.descriptors + 16) b.addresses
-
-  four_zeros : (a : ℕ) → BytesAt image a (zeros 4) → NumberAt image 4 a 0
-  four_zeros a stands = record { bytes = zeros 4; stands = stands; count = refl; value = refl }
-
-  fields : Fields
-  fields =
-      let first : List ℕ = u32_bytes ((0 + (b.lookups + 0)) % 2 ^ 32) in
-      let second : List ℕ = u32_bytes ((0 + (name_place + 0)) % 2 ^ 32) in
-      let third : List ℕ = u32_bytes ((0 + (b.addresses + 0)) % 2 ^ 32) in
-      let whole : BytesAt image b.descriptors (first ++ (zeros 4 ++ (zeros 4 ++ (second ++ third)))) =
-      subst (BytesAt image b.descriptors) (descriptor_is machine dll linked b name_place name_address) descriptor_parts.0 in
-      let parts = stands_parts image first (zeros 4 ++ (zeros 4 ++ (second ++ third))) b.descriptors whole in
-      let time = stands_parts image (zeros 4) (zeros 4 ++ (second ++ third)) (b.descriptors + length first) parts.1 in
-      let forwarder = stands_parts image (zeros 4) (second ++ third) (b.descriptors + length first + 4) time.1 in
-      let last = stands_parts image second third (b.descriptors + length first + 4 + 4) forwarder.1 in
-      let first_long : length first ≡ 4 = length-u32 ((0 + (b.lookups + 0)) % 2 ^ 32) in
-      let second_long : length second ≡ 4 = length-u32 ((0 + (name_place + 0)) % 2 ^ 32) in
-      let at_time : b.descriptors + length first ≡ b.descriptors + 4 = rw first_long (omega arith) in
-      let at_forwarder : b.descriptors + length first + 4 ≡ b.descriptors + 8 = rw first_long (omega arith) in
-      let at_name : b.descriptors + length first + 4 + 4 ≡ b.descriptors + 12 = rw first_long (omega arith) in
-      let at_addresses : b.descriptors + length first + 4 + 4 + length second ≡ b.descriptors + 16 = rw (first_long, second_long) (omega arith) in
-      record {
-        lookups = field_stands image b.descriptors b.lookups lookups_bounds.1 parts.0;
-        time = four_zeros (b.descriptors + 4) (subst (λ n. BytesAt image n (zeros 4)) at_time time.0);
-        forwarder = four_zeros (b.descriptors + 8) (subst (λ n. BytesAt image n (zeros 4)) at_forwarder forwarder.0);
-        name = field_stands image (b.descriptors + 12) name_place name_bounds.1 (subst (λ n. BytesAt image n second) at_name last.0);
-        addresses = field_stands image (b.descriptors + 16) b.addresses addresses_bounds.1 (subst (λ n. BytesAt image n third) at_addresses last.1);
-      }
-
-  block_loads : LoadsStrictly image (thunk_width machine) b.descriptors dll (map (expected_ask machine) es)
-  block_loads = record {
-    plain = record {
-      lookups = b.lookups;
-      lookups_field = fields.lookups;
-      lookup_table = lookup_table.plain;
-      name = name_place;
-      name_field = fields.name;
-      name_text = name_text;
-      addresses = b.addresses;
-      addresses_field = fields.addresses;
-      address_table = address_table.plain;
-    };
-    time = fields.time;
-    forwarder = fields.forwarder;
-    has_lookups = lookups_bounds.0;
-    has_name = name_bounds.0;
-    has_addresses = addresses_bounds.0;
-    whole_lookups = lookup_table.whole;
-    whole_addresses = address_table.whole;
-  }
+  block_loads : LoadsFrom image (thunk_width machine) b.descriptors b.addresses dll (map (expected_ask machine) es)
+  block_loads =
+      descriptor_loads machine image starts ends b.descriptors b.lookups b.addresses name_place dll (map (expected_ask machine) es)
+      (subst (BytesAt image b.descriptors) (descriptor_is machine dll linked b name_place name_address) descriptor_parts.0) lookup_table address_table name_text
 
   block_entries : EntriesAt linked (thunk_width machine) b.addresses es
   unfolding block_definitions
@@ -461,10 +359,13 @@ module _ (machine : MachineType) (dll : List ℕ) (es : List ExportView) (b : Ba
 
   -- the block's descriptor is the first, and its address table stands where the addresses begin
   pub block_links : BlockLinks machine linked image b dll es
-  unfolding block_loads
   block_links = record {
-    strictly = record { head = block_head; loads = block_loads; entries = block_entries };
-    addresses = refl;
+    strictly = record {
+      head = block_head;
+      loads = block_loads.loads;
+      entries = subst (λ n. EntriesAt linked (thunk_width machine) n es) (sym block_loads.table_stands) block_entries;
+    };
+    addresses = block_loads.table_stands;
   }
 
   -- what the block needs is defined, if what the others need is

@@ -128,7 +128,7 @@ module _ (machine : MachineType) (b : Bases) (objects : List Object) (admissible
       (bases_of_ranges (base_of k b) (contributions machine placed k placed) low.0) (starts_of ks low.1)
 
   pub starts : AllByRecursion (λ r. 0 < r.start) (image_of machine b (placed_from b objects))
-  starts = starts_of groups (admissible.descriptors.0, (admissible.lookups.0, (admissible.addresses.0, (admissible.hint_names.0, (admissible.dll_names.0, tt)))))
+  starts = starts_of groups (admissible.descriptors.0, (admissible.directory_ends.0, (admissible.lookups.0, (admissible.addresses.0, (admissible.hint_names.0, (admissible.dll_names.0, tt))))))
 
   pub ends : AllByRecursion (λ r. range_end r < 2 ^ 31) (image_of machine b (placed_from b objects))
   ends = admissible.ends
@@ -136,7 +136,7 @@ module _ (machine : MachineType) (b : Bases) (objects : List Object) (admissible
   apart : AllApart (image_of machine b (placed_from b objects))
   apart = admissible.apart
 
-  group_stands : (k : Group) → Among k groups → BytesAt image (base_of k b) (filled (base_of k b) (contributions machine placed k placed))
+  pub group_stands : (k : Group) → Among k groups → BytesAt image (base_of k b) (filled (base_of k b) (contributions machine placed k placed))
   group_stands k m =
       filled_stands (base_of k b) (contributions machine placed k placed) (image_of machine b placed)
       (λ r held. among_flat (λ k. range_of (base_of k b) (contributions machine placed k placed)) k groups r m held) apart
@@ -145,10 +145,10 @@ module _ (machine : MachineType) (b : Bases) (objects : List Object) (admissible
   unfolding Among
   all_stand = record {
     descriptors = group_stands Descriptors (inl refl);
-    lookups = group_stands Lookups (inr (inl refl));
-    addresses = group_stands Addresses (inr (inr (inl refl)));
-    hint_names = group_stands HintNames (inr (inr (inr (inl refl))));
-    dll_names = group_stands DllNames (inr (inr (inr (inr (inl refl)))));
+    lookups = group_stands Lookups (inr (inr (inl refl)));
+    addresses = group_stands Addresses (inr (inr (inr (inl refl))));
+    hint_names = group_stands HintNames (inr (inr (inr (inr (inl refl)))));
+    dll_names = group_stands DllNames (inr (inr (inr (inr (inr (inl refl))))));
   }
 
 -- the objects of DLLs link by themselves

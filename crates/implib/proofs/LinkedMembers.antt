@@ -154,7 +154,7 @@ module _ (machine : MachineType) (dll : List ℕ) (exports : List ExportView) (d
       }
 
   -- what is linked after the head
-  abbrev member_specs_after : List ℕ → List MemberSpec
+  abbrev pub member_specs_after : List ℕ → List MemberSpec
   member_specs_after ns = filter_map (numbered_spec machine dll exports) ns ++ tail_spec machine dll ∷ []
 
   abbrev chosen_of : List ℕ → List ExportView
@@ -199,7 +199,7 @@ module _ (machine : MachineType) (dll : List ℕ) (exports : List ExportView) (d
       (λ is. let past : length exports ≤ n = past_end exports n is in absurd (omega arith))
       (λ e is. ap (λ rest. export_name dll n ∷ rest) (chosen_names ns within.1))
 
-  chosen_among : (ns : List ℕ) → AllByRecursion (λ p. Among p (gnu_specs machine dll exports)) (member_specs_after ns)
+  pub chosen_among : (ns : List ℕ) → AllByRecursion (λ p. Among p (gnu_specs machine dll exports)) (member_specs_after ns)
   chosen_among [] = (tail_among, tt)
   chosen_among (n ∷ ns) =
       by_place (λ o. AllByRecursion (λ p. Among p (gnu_specs machine dll exports)) (cons_option (option_map (export_spec machine dll n) o) (filter_map (numbered_spec machine dll exports) ns) ++ tail_spec machine dll ∷ [])) n (slice_get exports n) refl
@@ -277,7 +277,7 @@ module _ (d : DefinitionView) (machine : MachineType) (members : List MemberView
       AllRise (map (λ (m : MemberView). m.name) (linked_members d machine chosen))
   members_rise within rise = subst AllRise (sym (members_named within)) (names_rise d.import_name chosen rise)
 
-  read_as : map (λ (m : MemberView). object_in m.bytes) (linked_members d machine chosen) ≡ map Some (linked_objects machine d.import_name (chosen_exports d chosen))
+  pub read_as : map (λ (m : MemberView). object_in m.bytes) (linked_members d machine chosen) ≡ map Some (linked_objects machine d.import_name (chosen_exports d chosen))
   read_as =
       map_after (λ (m : MemberView). object_in m.bytes) member_of (linked_specs d machine chosen)
       ∙ ap (λ o. o ∷ map (λ (p : MemberSpec). object_in (member_of p).bytes) (member_specs_after machine d.import_name public dll_free sound not_long chosen))

@@ -83,6 +83,7 @@ module _ (machine : MachineType) (dll : List ℕ) where
   abbrev pub ends_of_export : Bases → ExportView → Bases
   ends_of_export b e = record {
     descriptors = b.descriptors;
+    directory_ends = b.directory_ends;
     lookups = b.lookups + thunk_width machine;
     addresses = b.addresses + thunk_width machine;
     hint_names = next_multiple 2 b.hint_names + length (hint_name machine e);
@@ -98,6 +99,7 @@ module _ (machine : MachineType) (dll : List ℕ) where
   abbrev pub ends_of_tail : Bases → Bases
   ends_of_tail b = record {
     descriptors = b.descriptors;
+    directory_ends = b.directory_ends;
     lookups = b.lookups + thunk_width machine;
     addresses = b.addresses + thunk_width machine;
     hint_names = b.hint_names;

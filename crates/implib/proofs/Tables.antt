@@ -1,40 +1,28 @@
 -- The lookup table and the address table of linked objects for GNU's linker ask for what was meant.
-use Rattle.std.proofs.Common.{◌≡◌, ℕ, ◌+◌, ◌-◌, ◌*◌, ◌%◌, ◌<◌, ◌≤◌, ◌^◌, true, false, List, [], ◌∷◌, ◌++◌, length, map, refl, ap, sym, ◌∙◌, arith, subst, inl, inr, if◌then◌else◌}
-use Rattle.std.specs.Prelude.{◌==◌}
+use Rattle.std.proofs.Common.{◌≡◌, ℕ, ◌+◌, ◌-◌, ◌%◌, ◌<◌, ◌≤◌, ◌^◌, true, false, List, [], ◌∷◌, ◌++◌, length, map, refl, ap, sym, ◌∙◌, arith, subst, inl, inr, if◌then◌else◌}
 use Rattle.std.specs.List.{AllByRecursion}
 use Rattle.std.proofs.lemmas.Bool.{cases_Bool}
 use Rattle.std.proofs.lemmas.List.{append_assoc, length-append, length-replicate}
 use Rattle.implib.specs.declared.machine.MachineType.{MachineType}
-use Rattle.implib.specs.declared.machine.MachineType.TheVariants.{I386, ARMNT, AMD64, ARM64}
 use Rattle.implib.specs.Bytes.{u16_bytes, u32_bytes}
-use Rattle.implib.specs.Constants.{image_relative}
 use Rattle.implib.specs.Definition.{ExportView}
 use Rattle.implib.specs.Gnu.{export_object, hint_name, hint_name_symbol, relocations_of_thunk, tail_object, thunk}
-use Rattle.implib.specs.Import.{Ask, Name, Ordinal, expected_ask, asked_name}
+use Rattle.implib.specs.Import.{Name, Ordinal, expected_ask, asked_name}
 use Rattle.implib.specs.Image.{Contribution, Range, filled, contributions, range_end, relocated, with_address}
 use Rattle.implib.specs.Placement.{Addresses, Bases, Descriptors, HintNames, Lookups, Placed, next_multiple, placed_from}
 use Rattle.implib.specs.Resolution.{target_address}
-use Rattle.implib.specs.Load.{ThunkAsksFor, BytesAt, IsWhole, NumberAt, TableAt, TextAt, ThunkAt, WholeTableAt, WholeThunkAt, number_in}
+use Rattle.implib.specs.Load.{BytesAt, TableAt, WholeTableAt}
 use Rattle.implib.specs.ImportTables.{thunk_width, zeros}
-use Rattle.implib.specs.Object.{Object, u32_at}
+use Rattle.implib.specs.Object.{Object}
 use Rattle.implib.specs.Layout.{HasNoNul}
-use Rattle.implib.proofs.Ranges.{address_bounds, stands_parts}
+use Rattle.implib.proofs.Ranges.{stands_parts}
 use Rattle.implib.proofs.Placement.{AreAligned, after_head, aligned_after, at_least, ends_of_all, ends_of_export, ends_of_exports, ends_of_tail, length-thunk_of, placed-export, placed-tail, placed_export}
+use Rattle.implib.proofs.Thunks.{StrictTableAt, StrictThunkAt, length-address, name_stands, ordinal_stands, ordinal_thunk, same_number, with_address-zeros, zeros_number}
 
 -- an export whose ordinal is a 16-bit number and whose asked name has no NUL
 pub record CanBeAsked (machine : MachineType) (e : ExportView) : Type 0 where
   pub ordinal : e.ordinal < 2 ^ 16
   pub name : HasNoNul (asked_name machine e.name)
-
--- a thunk for a loader that is strict
-record StrictThunkAt (image : List Range) (width : ℕ) (a : ℕ) (ask : Ask) : Type 0 where
-  plain : ThunkAt image width a ask
-  whole : WholeThunkAt image width a ask
-
--- and a table
-pub record StrictTableAt (image : List Range) (width : ℕ) (a : ℕ) (asks : List Ask) : Type 0 where
-  pub plain : TableAt image width a asks
-  pub whole : WholeTableAt image width a asks
 
 -- bytes at their place are what is filled in first
 pub filled_first : (a n : ℕ) (bytes : List ℕ) (rest : List Contribution) → length bytes ≡ n →
@@ -42,84 +30,6 @@ pub filled_first : (a n : ℕ) (bytes : List ℕ) (rest : List Contribution) →
 filled_first a n bytes rest long =
     let none : a - a ≡ 0 = omega arith in
     rw (none, long) refl
-
-pub same_number : (machine : MachineType) → (image_relative machine == image_relative machine) ≡ true
-same_number I386 = refl
-same_number ARMNT = refl
-same_number AMD64 = refl
-same_number ARM64 = refl
-
-small_mod : (n : ℕ) → n < 2 ^ 31 → (0 + (n + 0)) % 2 ^ 32 ≡ n
-small_mod n small = omega arith
-
-with_address-zeros : (machine : MachineType) (n : ℕ) → with_address (zeros (thunk_width machine)) 0 n ≡ u32_bytes ((0 + n) % 2 ^ 32) ++ zeros (thunk_width machine - 4)
-unfolding with_address u32_bytes u32_at
-with_address-zeros I386 n = refl
-with_address-zeros ARMNT n = refl
-with_address-zeros AMD64 n = refl
-with_address-zeros ARM64 n = refl
-
-length-address : (machine : MachineType) (n : ℕ) → length (u32_bytes n ++ zeros (thunk_width machine - 4)) ≡ thunk_width machine
-unfolding u32_bytes
-length-address I386 n = refl
-length-address ARMNT n = refl
-length-address AMD64 n = refl
-length-address ARM64 n = refl
-
--- the number in an address's bytes, followed by zeros
-number-address : (machine : MachineType) (n : ℕ) → n < 2 ^ 31 → number_in (u32_bytes n ++ zeros (thunk_width machine - 4)) ≡ n
-unfolding u32_bytes
-number-address I386 n small = omega arith
-number-address ARMNT n small = omega arith
-number-address AMD64 n small = omega arith
-number-address ARM64 n small = omega arith
-
--- a thunk of an ordinal
-abbrev ordinal_thunk : MachineType → ℕ → List ℕ
-ordinal_thunk machine n = u16_bytes n ++ (zeros (thunk_width machine - 3) ++ 0x80 ∷ [])
-
-ordinal_top : (machine : MachineType) (n : ℕ) → 2 ^ (8 * thunk_width machine - 1) ≤ number_in (ordinal_thunk machine n)
-unfolding u16_bytes
-ordinal_top I386 n = omega arith
-ordinal_top ARMNT n = omega arith
-ordinal_top AMD64 n = omega arith
-ordinal_top ARM64 n = omega arith
-
-ordinal_low : (machine : MachineType) (n : ℕ) → n < 2 ^ 16 → number_in (ordinal_thunk machine n) % 2 ^ 16 ≡ n
-unfolding u16_bytes
-ordinal_low I386 n small = omega arith
-ordinal_low ARMNT n small = omega arith
-ordinal_low AMD64 n small = omega arith
-ordinal_low ARM64 n small = omega arith
-
-ordinal_whole : (machine : MachineType) (n : ℕ) → n < 2 ^ 16 → number_in (ordinal_thunk machine n) ≡ 2 ^ (8 * thunk_width machine - 1) + n
-unfolding u16_bytes
-ordinal_whole I386 n small = omega arith
-ordinal_whole ARMNT n small = omega arith
-ordinal_whole AMD64 n small = omega arith
-ordinal_whole ARM64 n small = omega arith
-
-top_nonzero : (machine : MachineType) (n : ℕ) → 2 ^ (8 * thunk_width machine - 1) ≤ n → n ≡ 0 → ⊥
-top_nonzero I386 n high is = omega arith
-top_nonzero ARMNT n high is = omega arith
-top_nonzero AMD64 n high is = omega arith
-top_nonzero ARM64 n high is = omega arith
-
-below_top : (machine : MachineType) (n : ℕ) → n < 2 ^ 31 → n < 2 ^ (8 * thunk_width machine - 1)
-below_top I386 n small = omega arith
-below_top ARMNT n small = omega arith
-below_top AMD64 n small = omega arith
-below_top ARM64 n small = omega arith
-
-number-u16 : (n : ℕ) → n < 2 ^ 16 → number_in (u16_bytes n) ≡ n
-unfolding u16_bytes
-number-u16 n small = omega arith
-
-zeros_number : (machine : MachineType) → number_in (zeros (thunk_width machine)) ≡ 0
-zeros_number I386 = refl
-zeros_number ARMNT = refl
-zeros_number AMD64 = refl
-zeros_number ARM64 = refl
 
 module _ (machine : MachineType) (dll : List ℕ) (linked : List Placed) where
   -- an export's thunk, relocated
@@ -254,84 +164,20 @@ module _ (machine : MachineType) (dll : List ℕ) (linked : List Placed) where
 
   module _ (image : List Range) (starts : AllByRecursion (λ r. 0 < r.start) image) (ends : AllByRecursion (λ r. range_end r < 2 ^ 31) image) where
     -- an export's thunk asks for what is meant
-    ordinal_at : (b : Bases) (e : ExportView) (a : ℕ) → CanBeAsked machine e → e.no_name ≡ true → BytesAt image a (thunk_linked b e) →
-        StrictThunkAt image (thunk_width machine) a (Ordinal e.ordinal)
-    unfolding ThunkAsksFor IsWhole
-    ordinal_at b e a fits is stands =
-        let high = ordinal_top machine e.ordinal in
-        let here : NumberAt image (thunk_width machine) a (number_in (ordinal_thunk machine e.ordinal)) = record {
-          bytes = ordinal_thunk machine e.ordinal;
-          stands = subst (BytesAt image a) (thunk_of_ordinal b e is) stands;
-          count = length-thunk_of machine e.ordinal true;
-          value = refl;
-        } in
-        record {
-          plain = record {
-            thunk = number_in (ordinal_thunk machine e.ordinal);
-            stands = here;
-            goes_on = top_nonzero machine (number_in (ordinal_thunk machine e.ordinal)) high;
-            asks = (high, ordinal_low machine e.ordinal fits.ordinal);
-          };
-          whole = record { thunk = number_in (ordinal_thunk machine e.ordinal); stands = here; whole = ordinal_whole machine e.ordinal fits.ordinal };
-        }
-
     hint_is : (e : ExportView) → e.no_name ≡ false → hint_name machine e ≡ u16_bytes e.ordinal ++ (asked_name machine e.name ++ 0 ∷ [])
     unfolding hint_name
     hint_is e is = rw is refl
-
-    first_bounds : (a first : ℕ) (rest : List ℕ) → BytesAt image a (first ∷ rest) → (0 < a) × (a < 2 ^ 31)
-    unfolding BytesAt
-    first_bounds a first rest stands = address_bounds image a first starts ends stands.0
-
-    hint_bounds : (a n : ℕ) (rest : List ℕ) → BytesAt image a (u16_bytes n ++ rest) → (0 < a) × (a < 2 ^ 31)
-    unfolding u16_bytes
-    hint_bounds a n rest stands = first_bounds a _ _ stands
-
-    length-u16 : (n : ℕ) → length (u16_bytes n) ≡ 2
-    unfolding u16_bytes
-    length-u16 n = refl
-
-    name_at : (b : Bases) (e : ExportView) (a : ℕ) → CanBeAsked machine e → e.no_name ≡ false → BytesAt image a (thunk_linked b e) →
-        BytesAt image (next_multiple 2 b.hint_names) (hint_name machine e) → StrictThunkAt image (thunk_width machine) a (Name (asked_name machine e.name) e.ordinal)
-    unfolding ThunkAsksFor IsWhole
-    name_at b e a fits is stands hint_stands =
-        let place : ℕ = next_multiple 2 b.hint_names in
-        let hint : BytesAt image place (u16_bytes e.ordinal ++ (asked_name machine e.name ++ 0 ∷ [])) = subst (BytesAt image place) (hint_is e is) hint_stands in
-        let bounds = hint_bounds place e.ordinal (asked_name machine e.name ++ 0 ∷ []) hint in
-        let nonzero = bounds.0 in
-        let small = bounds.1 in
-        let parts = stands_parts image (u16_bytes e.ordinal) (asked_name machine e.name ++ 0 ∷ []) place hint in
-        let thunk_is : thunk_linked b e ≡ u32_bytes place ++ zeros (thunk_width machine - 4) =
-        thunk_of_name b e is ∙ ap (λ n. u32_bytes n ++ zeros (thunk_width machine - 4)) (small_mod place small) in
-        let low : place ≡ place % 2 ^ 31 = omega arith in
-        let text : BytesAt image (place + 2) (asked_name machine e.name ++ 0 ∷ []) =
-        subst (λ n. BytesAt image (place + n) (asked_name machine e.name ++ 0 ∷ [])) (length-u16 e.ordinal) parts.1 in
-        let here : NumberAt image (thunk_width machine) a place = record {
-          bytes = u32_bytes place ++ zeros (thunk_width machine - 4);
-          stands = subst (BytesAt image a) thunk_is stands;
-          count = length-address machine place;
-          value = number-address machine place small;
-        } in
-        record {
-          plain = record {
-            thunk = place;
-            stands = here;
-            goes_on = λ none. omega arith;
-            asks = (
-              below_top machine place small,
-              subst (λ n. NumberAt image 2 n e.ordinal) low (record { bytes = u16_bytes e.ordinal; stands = parts.0; count = length-u16 e.ordinal; value = number-u16 e.ordinal fits.ordinal }),
-              subst (λ n. TextAt image (n + 2) (asked_name machine e.name)) low (record { no_nul = fits.name; stands = text }),
-            );
-          };
-          whole = record { thunk = place; stands = here; whole = small };
-        }
 
     thunk_at : (b : Bases) (e : ExportView) (a : ℕ) → CanBeAsked machine e → BytesAt image a (thunk_linked b e) →
         BytesAt image (next_multiple 2 b.hint_names) (hint_name machine e) → StrictThunkAt image (thunk_width machine) a (expected_ask machine e)
     thunk_at b e a fits stands hint_stands =
         elim (cases_Bool e.no_name) [
-          | inl is ↦ subst (λ test. StrictThunkAt image (thunk_width machine) a (if test then Ordinal e.ordinal else Name (asked_name machine e.name) e.ordinal)) (sym is) (ordinal_at b e a fits is stands)
-          | inr is ↦ subst (λ test. StrictThunkAt image (thunk_width machine) a (if test then Ordinal e.ordinal else Name (asked_name machine e.name) e.ordinal)) (sym is) (name_at b e a fits is stands hint_stands)
+          | inl is ↦ subst (λ test. StrictThunkAt image (thunk_width machine) a (if test then Ordinal e.ordinal else Name (asked_name machine e.name) e.ordinal)) (sym is)
+              (ordinal_stands machine image e.ordinal a fits.ordinal (subst (BytesAt image a) (thunk_of_ordinal b e is) stands))
+          | inr is ↦ subst (λ test. StrictThunkAt image (thunk_width machine) a (if test then Ordinal e.ordinal else Name (asked_name machine e.name) e.ordinal)) (sym is)
+              (name_stands machine image starts ends (asked_name machine e.name) e.ordinal (next_multiple 2 b.hint_names) a fits.ordinal fits.name
+              (subst (BytesAt image a) (thunk_of_name b e is) stands)
+              (subst (BytesAt image (next_multiple 2 b.hint_names)) (hint_is e is) hint_stands))
         ]
 
     -- a table asks for what is meant

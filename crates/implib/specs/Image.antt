@@ -111,6 +111,7 @@ IsBase base = (0 < base) × (base % 4 ≡ 0)
 -- AMD64 at 0x1000, 0x1020, 0x1040, 0x1060 and 0x1080 (WorkedLinks).
 pub record IsAdmissible (machine : MachineType) (bases : Bases) (objects : List Object) : Type 0 where
   pub descriptors : IsBase bases.descriptors
+  pub directory_ends : IsBase bases.directory_ends
   pub lookups : IsBase bases.lookups
   pub addresses : IsBase bases.addresses
   pub hint_names : IsBase bases.hint_names

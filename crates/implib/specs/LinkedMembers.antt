@@ -53,10 +53,12 @@ AllRise [] = Unit {0}
 AllRise (first ∷ []) = Unit {0}
 AllRise (first ∷ second ∷ others) = ComesBefore first second × AllRise (second ∷ others)
 
--- the bases in the order of the groups' numbers
+-- the bases in the order of the groups' numbers; members for GNU's linker have no `.idata$3`, and the base
+-- that is said to be its is that of `.idata$2`
 abbrev pub bases_of : List ℕ → Bases
 bases_of bases = record {
   descriptors = slice_index bases 0;
+  directory_ends = slice_index bases 0;
   lookups = slice_index bases 1;
   addresses = slice_index bases 2;
   hint_names = slice_index bases 3;

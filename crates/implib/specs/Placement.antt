@@ -5,10 +5,11 @@ use Rattle.std.specs.Prelude.{Option, Some, None, if◌then◌else◌}
 use Rattle.implib.specs.Object.{Object, ObjectSection}
 
 -- The groups of sections that import tables are made of (PE/COFF specification, "The .idata
--- Section"): descriptors in `.idata$2`, lookup tables in `.idata$4`, address tables in `.idata$5`,
--- hints and names in `.idata$6`, names of DLLs in `.idata$7`.
+-- Section"): descriptors in `.idata$2`, what ends them in `.idata$3`, lookup tables in `.idata$4`, address
+-- tables in `.idata$5`, hints and names in `.idata$6`, names of DLLs in `.idata$7`.
 pub data Group : Type 0 where
   Descriptors : Group
+  DirectoryEnds : Group
   Lookups : Group
   Addresses : Group
   HintNames : Group
@@ -16,11 +17,12 @@ pub data Group : Type 0 where
 
 -- all groups
 abbrev pub groups : List Group
-groups = Descriptors ∷ Lookups ∷ Addresses ∷ HintNames ∷ DllNames ∷ []
+groups = Descriptors ∷ DirectoryEnds ∷ Lookups ∷ Addresses ∷ HintNames ∷ DllNames ∷ []
 
 -- the number after the `$`
 abbrev pub group_number : Group → ℕ
 group_number Descriptors = 2
+group_number DirectoryEnds = 3
 group_number Lookups = 4
 group_number Addresses = 5
 group_number HintNames = 6
@@ -34,6 +36,7 @@ same_group first second = group_number first == group_number second
 abbrev pub group_named : List ℕ → Option Group
 group_named name =
     if bytes_eq name (codes ".idata$2") then Some Descriptors
+    else if bytes_eq name (codes ".idata$3") then Some DirectoryEnds
     else if bytes_eq name (codes ".idata$4") then Some Lookups
     else if bytes_eq name (codes ".idata$5") then Some Addresses
     else if bytes_eq name (codes ".idata$6") then Some HintNames
@@ -43,6 +46,7 @@ group_named name =
 -- an address for each group
 pub record Bases : Type 0 where
   pub descriptors : ℕ
+  pub directory_ends : ℕ
   pub lookups : ℕ
   pub addresses : ℕ
   pub hint_names : ℕ
@@ -51,6 +55,7 @@ pub record Bases : Type 0 where
 -- the address of a group
 abbrev pub base_of : Group → Bases → ℕ
 base_of Descriptors b = b.descriptors
+base_of DirectoryEnds b = b.directory_ends
 base_of Lookups b = b.lookups
 base_of Addresses b = b.addresses
 base_of HintNames b = b.hint_names
@@ -59,6 +64,7 @@ base_of DllNames b = b.dll_names
 -- the addresses, with another one for a group
 abbrev pub with_base : Group → ℕ → Bases → Bases
 with_base Descriptors n b = record b { descriptors = n }
+with_base DirectoryEnds n b = record b { directory_ends = n }
 with_base Lookups n b = record b { lookups = n }
 with_base Addresses n b = record b { addresses = n }
 with_base HintNames n b = record b { hint_names = n }

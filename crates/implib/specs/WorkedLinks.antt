@@ -81,6 +81,7 @@ foo by_name by_number = of_dll (codes "foo.dll") (plain_export by_name ∷ namel
 abbrev pub bases_64 : Bases
 bases_64 = record {
   descriptors = 0x1000;
+  directory_ends = 0x1000;
   lookups = 0x1020;
   addresses = 0x1040;
   hint_names = 0x1060;
@@ -90,6 +91,7 @@ bases_64 = record {
 abbrev pub bases_32 : Bases
 bases_32 = record {
   descriptors = 0x1000;
+  directory_ends = 0x1000;
   lookups = 0x1014;
   addresses = 0x1020;
   hint_names = 0x102C;
@@ -111,6 +113,7 @@ two_parts = input (codes "foo.dll") (codes "bar") ∷ input (codes "zed.dll") (c
 abbrev pub bases_of_two : Bases
 bases_of_two = record {
   descriptors = 0x1000;
+  directory_ends = 0x1000;
   lookups = 0x1030;
   addresses = 0x1050;
   hint_names = 0x1070;

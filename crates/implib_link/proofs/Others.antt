@@ -24,6 +24,7 @@ pub no_group : (name : List ℕ) → bytes_eq (take 7 name) (codes ".idata$") �
 no_group name other =
     rw (
       other_name name (codes ".idata$2") refl other,
+      other_name name (codes ".idata$3") refl other,
       other_name name (codes ".idata$4") refl other,
       other_name name (codes ".idata$5") refl other,
       other_name name (codes ".idata$6") refl other,

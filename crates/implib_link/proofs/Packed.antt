@@ -9,10 +9,10 @@ use Rattle.implib.specs.Image.{AllApart, AreApart, Contribution, IsAdmissible, I
 use Rattle.implib.specs.LinkedMembers.{IsMade, LinkInput, all_linked, objects_in}
 use Rattle.implib.specs.ImportTables.{zeros}
 use Rattle.implib.specs.Object.{Object, ObjectSection}
-use Rattle.implib.specs.Placement.{Addresses, Bases, Descriptors, DllNames, Group, HintNames, Lookups, Placed, alignment, base_of, end_after, ends_after, group_named, next_multiple, place_after, section_address_of, placed_from, places_of, same_group, with_base}
+use Rattle.implib.specs.Placement.{Addresses, Bases, Descriptors, DirectoryEnds, DllNames, Group, HintNames, Lookups, Placed, alignment, base_of, end_after, ends_after, group_named, next_multiple, place_after, section_address_of, placed_from, places_of, same_group, with_base}
 use Rattle.implib.proofs.LinkedParts.{block_of, parts_objects}
 use Rattle.implib.proofs.Placement.{at_least}
-use Rattle.implib_link.specs.Packed.{end_with, group_end, packed, packed_addresses, packed_descriptors, packed_dll_names, packed_end, packed_hint_names, packed_lookups, sections_end}
+use Rattle.implib_link.specs.Packed.{end_with, group_end, packed, packed_addresses, packed_descriptors, packed_directory_ends, packed_dll_names, packed_end, packed_hint_names, packed_lookups, sections_end}
 use Rattle.implib_link.specs.Program.{IsProgram, has_tables, is_table, linked_symbols, null_descriptor}
 use Rattle.implib_link.proofs.Alone.{all_kept, members_are_program, members_have}
 use Rattle.implib_link.proofs.Blocks.{objects_behind}
@@ -23,6 +23,7 @@ use Rattle.implib_link.proofs.Sized.{AreWithin, IsSized, blocks_sized, length-re
 
 base_with : (group other : Group) (n : ℕ) (b : Bases) → base_of group (with_base other n b) ≡ (if same_group group other then n else base_of group b)
 base_with Descriptors Descriptors n b = refl
+base_with DirectoryEnds Descriptors n b = refl
 base_with Lookups Descriptors n b = refl
 base_with Addresses Descriptors n b = refl
 base_with HintNames Descriptors n b = refl
@@ -31,6 +32,7 @@ base_with group other n b = refl
 
 same_base : (group other : Group) (b : Bases) → same_group group other ≡ true → base_of other b ≡ base_of group b
 same_base Descriptors Descriptors b is = refl
+same_base DirectoryEnds DirectoryEnds b is = refl
 same_base Lookups Lookups b is = refl
 same_base Addresses Addresses b is = refl
 same_base HintNames HintNames b is = refl
@@ -126,7 +128,7 @@ end_without group n (s ∷ sections) none =
     let inputs = or_parts (is_table s) (list_any is_table sections) none in
     rw (no_group s.name inputs.0) (end_without group n sections inputs.1)
 
-end_kept : (group : Group) (n : ℕ) (objects : List Object) → group_end group n objects ≡ group_end group n (filter has_tables objects)
+pub end_kept : (group : Group) (n : ℕ) (objects : List Object) → group_end group n objects ≡ group_end group n (filter has_tables objects)
 unfolding group_end has_tables
 end_kept group n [] = refl
 end_kept group n (o ∷ objects) =
@@ -214,6 +216,10 @@ aligned_base : (n : ℕ) → 0 < n → IsBase (next_multiple 8 n)
 unfolding next_multiple
 aligned_base n above = (omega arith, omega arith)
 
+aligned_end : (n : ℕ) → 0 < n → IsBase (next_multiple 4 n)
+unfolding next_multiple
+aligned_end n above = (omega arith, omega arith)
+
 above_zero : (group : Group) (n : ℕ) (objects : List Object) → IsBase n → IsBase (next_multiple 8 (group_end group n objects))
 above_zero group n objects base =
     let first : 0 < n = base.0 in
@@ -242,24 +248,30 @@ module _ (machine : MachineType) (first : ℕ) (inputs : List LinkInput) (object
       ∙ sym (end_kept group (base_of group bases) objects)
 
   -- a group's range, and the others behind the next base
-  rising_next : (group : Group) (rs : List Range) → Rising (next_multiple 8 (group_end group (base_of group bases) objects)) (packed_end first objects) rs →
+  rising_next : (distance : ℕ) (group : Group) (rs : List Range) → Rising (next_multiple distance (group_end group (base_of group bases) objects)) (packed_end first objects) rs →
       Rising (base_of group bases) (packed_end first objects) (range_of (base_of group bases) (contributions machine linked group linked) ++ rs)
-  rising_next group rs rise =
+  rising_next distance group rs rise =
       rising_group (base_of group bases) (group_end group (base_of group bases) objects) (packed_end first objects) (contributions machine linked group linked) rs (group_span group)
-      (rising_from_below (group_end group (base_of group bases) objects) (next_multiple 8 (group_end group (base_of group bases) objects)) (packed_end first objects) rs
-      (at_least 8 (group_end group (base_of group bases) objects)) rise)
+      (rising_from_below (group_end group (base_of group bases) objects) (next_multiple distance (group_end group (base_of group bases) objects)) (packed_end first objects) rs
+      (at_least distance (group_end group (base_of group bases) objects)) rise)
 
   last_rises : Rising (packed_dll_names first objects) (packed_end first objects) (range_of (packed_dll_names first objects) (contributions machine linked DllNames linked) ++ [])
   last_rises = rising_group (packed_dll_names first objects) (packed_end first objects) (packed_end first objects) (contributions machine linked DllNames linked) [] (group_span DllNames) (end_of (packed_end first objects))
 
   all_rise : Rising (packed_descriptors first) (packed_end first objects) (image_of machine (packed first objects) (placed_from (packed first objects) objects))
-  all_rise = rising_next Descriptors _ (rising_next Lookups _ (rising_next Addresses _ (rising_next HintNames _ last_rises)))
+  all_rise = rising_next 4 Descriptors _ (rising_next 8 DirectoryEnds _ (rising_next 8 Lookups _ (rising_next 8 Addresses _ (rising_next 8 HintNames _ last_rises))))
 
   descriptors_base : IsBase (packed_descriptors first)
   descriptors_base = aligned_base first above
 
+  directory_ends_base : IsBase (packed_directory_ends first objects)
+  directory_ends_base =
+      let low : 0 < packed_descriptors first = descriptors_base.0 in
+      let end = ends_rise Descriptors (packed_descriptors first) objects in
+      aligned_end (group_end Descriptors (packed_descriptors first) objects) (omega arith)
+
   lookups_base : IsBase (packed_lookups first objects)
-  lookups_base = above_zero Descriptors (packed_descriptors first) objects descriptors_base
+  lookups_base = above_zero DirectoryEnds (packed_directory_ends first objects) objects directory_ends_base
 
   addresses_base : IsBase (packed_addresses first objects)
   addresses_base = above_zero Lookups (packed_lookups first objects) objects lookups_base
@@ -270,6 +282,7 @@ module _ (machine : MachineType) (first : ℕ) (inputs : List LinkInput) (object
   pub admissible : IsAdmissible machine (packed first objects) objects
   admissible = record {
     descriptors = descriptors_base;
+    directory_ends = directory_ends_base;
     lookups = lookups_base;
     addresses = addresses_base;
     hint_names = hint_names_base;

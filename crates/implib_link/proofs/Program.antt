@@ -31,18 +31,18 @@ claims_of name [] m o none = absurd m
 claims_of name (n ∷ names) (inl e) o none = subst (λ t. list_any (bytes_eq t) (claimed_names o) ≡ false) (sym e) none.0
 claims_of name (n ∷ names) (inr m) o none = claims_of name names m o none.1
 
-all_claim : (name : List ℕ) (names : List (List ℕ)) → Among name names → (objects : List Object) → AllByRecursion (ClaimsNone names) objects →
+pub all_claim : (name : List ℕ) (names : List (List ℕ)) → Among name names → (objects : List Object) → AllByRecursion (ClaimsNone names) objects →
     AllByRecursion (λ o. list_any (bytes_eq name) (claimed_names o) ≡ false) objects
 all_claim name names m [] none = tt
 all_claim name names m (o ∷ objects) none = (claims_of name names m o none.0, all_claim name names m objects none.1)
 
-once_of : (linked : List Placed) (ds : List SymbolDefinition) → ((d : SymbolDefinition) → Among d ds → definitions_of d.name linked ≡ d ∷ []) →
+pub once_of : (linked : List Placed) (ds : List SymbolDefinition) → ((d : SymbolDefinition) → Among d ds → definitions_of d.name linked ≡ d ∷ []) →
     AllByRecursion (IsDefinedOnce linked) (map (λ (d : SymbolDefinition). d.name) ds)
 once_of linked [] only = tt
 once_of linked (d ∷ ds) only = ((d, only d (among_first d ds)), once_of linked ds (λ other m. only other (among_later other d ds m)))
 
 -- an undefined symbol has the address of the only definition of its name
-gets_address : (linked : List Placed) (name : List ℕ) (address : ℕ) →
+pub gets_address : (linked : List Placed) (name : List ℕ) (address : ℕ) →
     definitions_of name linked ≡ record { name = name; address = Some address } ∷ [] → GetsAddress linked name address
 gets_address linked name address once p s held entry undefined named = rw (undefined, named, once) refl
 

@@ -18,7 +18,7 @@ use Rattle.implib_link.specs.Stub.{jump_reads}
 use Rattle.implib_link.proofs.Stubs.{same_address}
 
 -- numbers that are not equal
-differ : (n m : ℕ) → n ≡ m → n < m → ⊥
+pub differ : (n m : ℕ) → n ≡ m → n < m → ⊥
 differ n m same less = omega arith
 
 -- whether bytes stand in an image
@@ -41,7 +41,7 @@ stand image (byte ∷ bytes) a is =
     let parts = and_parts (is_byte (byte_at image a) byte) (do_stand image (a + 1) bytes) is in
     (is_the_byte (byte_at image a) byte parts.0, stand image bytes (a + 1) parts.1)
 
-number : (image : List Range) (width a n : ℕ) (bytes : List ℕ) → do_stand image a bytes ≡ true → length bytes ≡ width → number_in bytes ≡ n → NumberAt image width a n
+pub number : (image : List Range) (width a n : ℕ) (bytes : List ℕ) → do_stand image a bytes ≡ true → length bytes ≡ width → number_in bytes ≡ n → NumberAt image width a n
 number image width a n bytes is count value = record { bytes = bytes; stands = stand image bytes a is; count = count; value = value }
 
 -- Tables of both thunks.

@@ -69,7 +69,7 @@ all_chosen_option P [] n others all rest = rest
 all_chosen_option P (x ∷ xs) zero others all rest = (all.0, rest)
 all_chosen_option P (x ∷ xs) (suc n) others all rest = all_chosen_option P xs n others all.1 rest
 
-all_chosen : {X : Type 0} (P : X → Type 0) (xs : List X) (chosen : List ℕ) → AllByRecursion P xs → AllByRecursion P (filter_map (slice_get xs) chosen)
+pub all_chosen : {X : Type 0} (P : X → Type 0) (xs : List X) (chosen : List ℕ) → AllByRecursion P xs → AllByRecursion P (filter_map (slice_get xs) chosen)
 all_chosen P xs [] all = tt
 all_chosen P xs (n ∷ chosen) all = all_chosen_option P xs n (filter_map (slice_get xs) chosen) all (all_chosen P xs chosen all)
 

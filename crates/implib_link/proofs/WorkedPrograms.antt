@@ -35,14 +35,14 @@ differ_from name (other ∷ names) all =
     let parts = and_parts (not (bytes_eq name other)) (list_all (λ other. not (bytes_eq name other)) names) all in
     (not-true (bytes_eq name other) parts.0, differ_from name names parts.1)
 
-distinct_by : (names : List (List ℕ)) → all_differ names ≡ true → IsDistinct bytes_eq names
+pub distinct_by : (names : List (List ℕ)) → all_differ names ≡ true → IsDistinct bytes_eq names
 unfolding IsDistinct
 distinct_by [] all = tt
 distinct_by (name ∷ names) all =
     let parts = and_parts (list_all (λ other. not (bytes_eq name other)) names) (all_differ names) all in
     (differ_from name names parts.0, distinct_by names parts.1)
 
-claims_none_by : (names : List (List ℕ)) (o : Object) → list_all (λ name. not (list_any (bytes_eq name) (claimed_names o))) names ≡ true → ClaimsNone names o
+pub claims_none_by : (names : List (List ℕ)) (o : Object) → list_all (λ name. not (list_any (bytes_eq name) (claimed_names o))) names ≡ true → ClaimsNone names o
 claims_none_by [] o all = tt
 claims_none_by (name ∷ names) o all =
     let parts = and_parts (not (list_any (bytes_eq name) (claimed_names o))) (list_all (λ name. not (list_any (bytes_eq name) (claimed_names o))) names) all in
@@ -58,6 +58,7 @@ amd64 = record {
     others = (claims_none_by (linked_symbols AMD64 (both_parts AMD64)) (caller AMD64) refl, (claims_none_by (linked_symbols AMD64 (both_parts AMD64)) (another AMD64) refl, tt));
     admissible = record {
       descriptors = (omega arith, refl);
+      directory_ends = (omega arith, refl);
       lookups = (omega arith, refl);
       addresses = (omega arith, refl);
       hint_names = (omega arith, refl);
@@ -86,6 +87,7 @@ arm64 = record {
     others = (claims_none_by (linked_symbols ARM64 (both_parts ARM64)) (caller ARM64) refl, (claims_none_by (linked_symbols ARM64 (both_parts ARM64)) (another ARM64) refl, tt));
     admissible = record {
       descriptors = (omega arith, refl);
+      directory_ends = (omega arith, refl);
       lookups = (omega arith, refl);
       addresses = (omega arith, refl);
       hint_names = (omega arith, refl);
@@ -114,6 +116,7 @@ i386 = record {
     others = (claims_none_by (linked_symbols I386 (both_parts I386)) (caller I386) refl, (claims_none_by (linked_symbols I386 (both_parts I386)) (another I386) refl, tt));
     admissible = record {
       descriptors = (omega arith, refl);
+      directory_ends = (omega arith, refl);
       lookups = (omega arith, refl);
       addresses = (omega arith, refl);
       hint_names = (omega arith, refl);
@@ -142,6 +145,7 @@ armnt = record {
     others = (claims_none_by (linked_symbols ARMNT (both_parts ARMNT)) (caller ARMNT) refl, (claims_none_by (linked_symbols ARMNT (both_parts ARMNT)) (another ARMNT) refl, tt));
     admissible = record {
       descriptors = (omega arith, refl);
+      directory_ends = (omega arith, refl);
       lookups = (omega arith, refl);
       addresses = (omega arith, refl);
       hint_names = (omega arith, refl);

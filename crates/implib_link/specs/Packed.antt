@@ -1,7 +1,8 @@
--- Packed placement: the groups of the import tables one behind another, each at the first multiple of 8.
+-- Packed placement: the groups of the import tables one behind another, each at the first multiple of 8, and
+-- what ends the descriptors right behind them, at the first multiple of 4.
 use Rattle.std.specs.Prelude.{ℕ, ◌+◌, List, [], ◌∷◌, length, Option, Some, None, if◌then◌else◌}
 use Rattle.implib.specs.Object.{Object, ObjectSection}
-use Rattle.implib.specs.Placement.{Addresses, Bases, Descriptors, DllNames, Group, HintNames, Lookups, alignment, group_named, next_multiple, same_group}
+use Rattle.implib.specs.Placement.{Addresses, Bases, Descriptors, DirectoryEnds, DllNames, Group, HintNames, Lookups, alignment, group_named, next_multiple, same_group}
 
 -- the end of a group behind an end and a section of this group or of another one or of none
 abbrev pub end_with : Group → ℕ → ObjectSection → Option Group → ℕ
@@ -28,8 +29,12 @@ base_behind group base objects = next_multiple 8 (group_end group base objects)
 abbrev pub packed_descriptors : ℕ → ℕ
 packed_descriptors first = next_multiple 8 first
 
+abbrev pub packed_directory_ends : ℕ → List Object → ℕ
+packed_directory_ends first objects =
+    next_multiple 4 (group_end Descriptors (packed_descriptors first) objects)
+
 abbrev pub packed_lookups : ℕ → List Object → ℕ
-packed_lookups first objects = base_behind Descriptors (packed_descriptors first) objects
+packed_lookups first objects = base_behind DirectoryEnds (packed_directory_ends first objects) objects
 
 abbrev pub packed_addresses : ℕ → List Object → ℕ
 packed_addresses first objects = base_behind Lookups (packed_lookups first objects) objects
@@ -43,6 +48,7 @@ packed_dll_names first objects = base_behind HintNames (packed_hint_names first 
 abbrev pub packed : ℕ → List Object → Bases
 packed first objects = record {
   descriptors = packed_descriptors first;
+  directory_ends = packed_directory_ends first objects;
   lookups = packed_lookups first objects;
   addresses = packed_addresses first objects;
   hint_names = packed_hint_names first objects;

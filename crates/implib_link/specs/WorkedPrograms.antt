@@ -104,10 +104,24 @@ program_objects machine =
 
 -- bases whose ranges touch, for thunks of 8 and of 4 bytes
 abbrev pub touching_8 : Bases
-touching_8 = record { descriptors = 4; lookups = 64; addresses = 120; hint_names = 176; dll_names = 208 }
+touching_8 = record {
+  descriptors = 4;
+  directory_ends = 64;
+  lookups = 64;
+  addresses = 120;
+  hint_names = 176;
+  dll_names = 208;
+}
 
 abbrev pub touching_4 : Bases
-touching_4 = record { descriptors = 4; lookups = 64; addresses = 92; hint_names = 120; dll_names = 152 }
+touching_4 = record {
+  descriptors = 4;
+  directory_ends = 64;
+  lookups = 64;
+  addresses = 92;
+  hint_names = 120;
+  dll_names = 152;
+}
 
 -- what a program's image holds: the fields of the three descriptors, the thunks of a table, the addresses of
 -- the entries of `nine`, `open`, `stat`, `move`, `queue`, and of the symbol that the caller names
