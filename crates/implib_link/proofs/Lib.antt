@@ -25,3 +25,11 @@ pub mod Searched
 pub mod SearchSorted
 pub mod WorkedSearch
 pub mod WorkedArchives
+pub mod Taken
+pub mod FlavorBlock
+pub mod FlavorBlocks
+pub mod NullDescriptor
+pub mod FlavorParts
+pub mod FlavorProgram
+pub mod WorkedExpansion
+pub mod WorkedFlavors

@@ -11,3 +11,8 @@ pub mod Search
 pub mod Archives
 pub mod WorkedSearch
 pub mod WorkedArchives
+pub mod SectionSymbols
+pub mod Expansion
+pub mod FlavorProgram
+pub mod WorkedExpansion
+pub mod WorkedFlavors

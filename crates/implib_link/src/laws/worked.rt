@@ -1,6 +1,8 @@
 //! Programs that were linked by hand, and images that are wrong.
 
 ghost use Rattle.implib_link.specs.RefusedLinks.{RefusedLinks};
+ghost use Rattle.implib_link.specs.WorkedExpansion.{WorkedExpansion};
+ghost use Rattle.implib_link.specs.WorkedFlavors.{RefusedTables, WorkedFlavors};
 ghost use Rattle.implib_link.specs.WorkedPrograms.{WorkedPrograms, WorkedStubs};
 
 /// Programs that were linked by hand, on each machine, meet what the laws ask for and have these tables
@@ -8,6 +10,18 @@ ghost use Rattle.implib_link.specs.WorkedPrograms.{WorkedPrograms, WorkedStubs};
 pub fn worked_programs()
     ensures programs { WorkedPrograms }
     ensures stubs { WorkedStubs }
+{}
+
+/// Short imports, by their bytes, and objects with section symbols are taken for these objects.
+pub fn worked_expansion()
+    ensures { WorkedExpansion }
+{}
+
+/// Programs of DLLs in both flavours that were linked by hand meet what the law asks for and have these tables;
+/// tables at multiples of 4 alone do not load, where thunks have 8 bytes.
+pub fn worked_flavors()
+    ensures programs { WorkedFlavors }
+    ensures refused { RefusedTables }
 {}
 
 /// Images that are wrong in one way are not what the definitions describe.

@@ -1,0 +1,5 @@
+use Rattle.implib_link.proofs.WorkedExpansion.{worked_expansion}
+use Rattle.implib_link.proofs.laws.worked.worked_expansion.Goals as goal
+
+pub returns : goal.returns
+returns c = worked_expansion

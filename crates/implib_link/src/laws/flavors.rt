@@ -1,0 +1,20 @@
+//! Laws of programs of DLLs in both flavours: members for Microsoft's linker and for GNU's.
+
+ghost use Rattle.implib.specs.Object.{Object};
+ghost use Rattle.implib.specs.Placement.{Bases};
+ghost use Rattle.implib.specs.declared.machine.MachineType.{MachineType};
+ghost use Rattle.implib_link.specs.FlavorProgram.{FlavorInput, FlavorsLink, IsFlavorProgram, IsMadeFor};
+ghost use Rattle.std.specs.List.{AllByRecursion};
+ghost use Rattle.std.specs.Prelude.{List};
+
+/// The chosen members of several DLLs, each for Microsoft's linker or for GNU's, and a null descriptor link
+/// among any other objects: the import directory lists just these DLLs with just the chosen exports, ended by
+/// the null descriptor, and each `__imp_` symbol is its export's own entry, from whichever object it is named.
+///
+/// One DLL for Microsoft's linker at least is among them, since its members bring the null descriptor.
+pub fn links_in_both_flavors()
+    ensures links { (machine : MachineType) (bases : Bases) (inputs : List FlavorInput) (objects : List Object) →
+        AllByRecursion (IsMadeFor machine) inputs →
+        IsFlavorProgram machine bases inputs objects →
+        FlavorsLink machine bases inputs objects }
+{}
