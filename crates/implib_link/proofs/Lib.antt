@@ -33,3 +33,4 @@ pub mod FlavorParts
 pub mod FlavorProgram
 pub mod WorkedExpansion
 pub mod WorkedFlavors
+pub mod FlavorTexts

@@ -20,7 +20,7 @@ use Rattle.implib.specs.Resolution.{definitions_of}
 use Rattle.implib.proofs.Linked.{all_append}
 use Rattle.implib.proofs.Loading.{number_once}
 use Rattle.implib.proofs.Ranges.{is_in_from}
-use Rattle.implib_link.specs.Directory.{imported}
+use Rattle.implib_link.specs.Directory.{Imported, imported}
 use Rattle.implib_link.specs.Loaded.{IsLoaded, Writes, entries_written}
 use Rattle.implib_link.specs.Program.{IsProgram, LinksAmong, thunks_before}
 use Rattle.implib_link.proofs.Program.{program_links}
@@ -110,57 +110,53 @@ module _ (width : ℕ) where
 
 -- The tables of all DLLs, one behind another.
 
+-- the thunks in the tables of the first few DLLs, with the null thunks that end them
+abbrev pub thunks_asked : ℕ → List Imported → ℕ
+thunks_asked zero imports = 0
+thunks_asked (suc i) [] = 0
+thunks_asked (suc i) (p ∷ imports) = length p.asks + 1 + thunks_asked i imports
+
 module _ (machine : MachineType) (gives : List ℕ → Ask → List ℕ) where
   abbrev width : ℕ
   width = thunk_width machine
 
-  abbrev asks_of : LinkInput → List Ask
-  asks_of p = (imported machine p).asks
+  abbrev next_table : ℕ → Imported → ℕ
+  next_table a p = a + thunk_width machine * (length p.asks + 1)
 
-  abbrev exports_of : LinkInput → List ExportView
-  exports_of p = chosen_exports p.definition p.chosen
-
-  abbrev next_table : ℕ → LinkInput → ℕ
-  next_table a p = a + thunk_width machine * (length (chosen_exports p.definition p.chosen) + 1)
-
-  tables_written : ℕ → List LinkInput → List Range
+  pub tables_written : ℕ → List Imported → List Range
   tables_written a [] = []
-  tables_written a (p ∷ inputs) = entries_written (thunk_width machine) a (gives p.definition.import_name) (asks_of p) ++ tables_written (next_table a p) inputs
+  tables_written a (p ∷ inputs) = entries_written (thunk_width machine) a (gives p.dll) p.asks ++ tables_written (next_table a p) inputs
 
-  count_asks : (p : LinkInput) → length (asks_of p) ≡ length (exports_of p)
-  count_asks p = length-map (exports_of p) (expected_ask machine)
-
-  before_next : (a : ℕ) (p : LinkInput) → a + thunk_width machine * length (asks_of p) ≤ next_table a p
+  before_next : (a : ℕ) (p : Imported) → a + thunk_width machine * length p.asks ≤ next_table a p
   before_next a p =
-      let split : thunk_width machine * (length (exports_of p) + 1) ≡ thunk_width machine * length (exports_of p) + thunk_width machine * 1 = mul-add (thunk_width machine) (length (exports_of p)) 1 in
-      let same : thunk_width machine * length (asks_of p) ≡ thunk_width machine * length (exports_of p) = ap (λ n. thunk_width machine * n) (count_asks p) in
+      let split : thunk_width machine * (length p.asks + 1) ≡ thunk_width machine * length p.asks + thunk_width machine * 1 = mul-add (thunk_width machine) (length p.asks) 1 in
       omega arith
 
-  table_next : (a : ℕ) (p : LinkInput) (n : ℕ) → next_table a p + thunk_width machine * n ≡ a + thunk_width machine * (length (exports_of p) + 1 + n)
+  table_next : (a : ℕ) (p : Imported) (n : ℕ) → next_table a p + thunk_width machine * n ≡ a + thunk_width machine * (length p.asks + 1 + n)
   table_next a p n =
-      let split : thunk_width machine * (length (exports_of p) + 1 + n) ≡ thunk_width machine * (length (exports_of p) + 1) + thunk_width machine * n = mul-add (thunk_width machine) (length (exports_of p) + 1) n in
+      let split : thunk_width machine * (length p.asks + 1 + n) ≡ thunk_width machine * (length p.asks + 1) + thunk_width machine * n = mul-add (thunk_width machine) (length p.asks + 1) n in
       omega arith
 
   -- each descriptor's field at 16 has the address of its DLL's table
-  Fields : List Range → ℕ → ℕ → List LinkInput → Type 0
+  unfoldable pub Fields : List Range → ℕ → ℕ → List Imported → Type 0
   Fields image descriptor a inputs =
-      (i : ℕ) (p : LinkInput) → slice_get inputs i ≡ Some p → NumberAt image 4 (descriptor + 20 * i + 16) (a + thunk_width machine * thunks_before i inputs)
+      (i : ℕ) (p : Imported) → slice_get inputs i ≡ Some p → NumberAt image 4 (descriptor + 20 * i + 16) (a + thunk_width machine * thunks_asked i inputs)
 
-  first_field : (image : List Range) (descriptor a : ℕ) (p : LinkInput) (inputs : List LinkInput) → Fields image descriptor a (p ∷ inputs) → NumberAt image 4 (descriptor + 16) a
+  first_field : (image : List Range) (descriptor a : ℕ) (p : Imported) (inputs : List Imported) → Fields image descriptor a (p ∷ inputs) → NumberAt image 4 (descriptor + 16) a
   unfolding Fields
   first_field image descriptor a p inputs fields =
       let place : descriptor + 20 * 0 + 16 ≡ descriptor + 16 = omega arith in
       subst (λ n. NumberAt image 4 n a) place (subst (NumberAt image 4 (descriptor + 20 * 0 + 16)) (sym (times_none a (thunk_width machine))) (fields 0 p refl))
 
-  later_fields : (image : List Range) (descriptor a : ℕ) (p : LinkInput) (inputs : List LinkInput) → Fields image descriptor a (p ∷ inputs) → Fields image (descriptor + 20) (next_table a p) inputs
+  later_fields : (image : List Range) (descriptor a : ℕ) (p : Imported) (inputs : List Imported) → Fields image descriptor a (p ∷ inputs) → Fields image (descriptor + 20) (next_table a p) inputs
   unfolding Fields
   later_fields image descriptor a p inputs fields i q is =
       let place : descriptor + 20 * suc i + 16 ≡ descriptor + 20 + 20 * i + 16 = omega arith in
-      subst (λ n. NumberAt image 4 n (next_table a p + thunk_width machine * thunks_before i inputs)) place
-      (subst (NumberAt image 4 (descriptor + 20 * suc i + 16)) (sym (table_next a p (thunks_before i inputs))) (fields (suc i) q is))
+      subst (λ n. NumberAt image 4 n (next_table a p + thunk_width machine * thunks_asked i inputs)) place
+      (subst (NumberAt image 4 (descriptor + 20 * suc i + 16)) (sym (table_next a p (thunks_asked i inputs))) (fields (suc i) q is))
 
-  writes_are : (image : List Range) (inputs : List LinkInput) (descriptor a : ℕ) (written : List Range) → Fields image descriptor a inputs →
-      Writes image (thunk_width machine) gives descriptor (map (imported machine) inputs) written → written ≡ tables_written a inputs
+  pub writes_are : (image : List Range) (inputs : List Imported) (descriptor a : ℕ) (written : List Range) → Fields image descriptor a inputs →
+      Writes image (thunk_width machine) gives descriptor inputs written → written ≡ tables_written a inputs
   unfolding Writes tables_written
   writes_are image [] descriptor a written fields writes = writes
   writes_are image (p ∷ inputs) descriptor a written fields writes =
@@ -168,11 +164,11 @@ module _ (machine : MachineType) (gives : List ℕ → Ask → List ℕ) where
       let behind : writes.1.1.0 ≡ tables_written (next_table a p) inputs =
       writes_are image inputs (descriptor + 20) (next_table a p) writes.1.1.0 (later_fields image descriptor a p inputs fields) writes.1.1.1.1 in
       writes.1.1.1.0
-      ∙ ap (λ n. entries_written (thunk_width machine) n (gives p.definition.import_name) (asks_of p) ++ writes.1.1.0) table
-      ∙ ap (λ rest. entries_written (thunk_width machine) a (gives p.definition.import_name) (asks_of p) ++ rest) behind
+      ∙ ap (λ n. entries_written (thunk_width machine) n (gives p.dll) p.asks ++ writes.1.1.0) table
+      ∙ ap (λ rest. entries_written (thunk_width machine) a (gives p.dll) p.asks ++ rest) behind
 
-  writes_stand : (image : List Range) (inputs : List LinkInput) (descriptor a : ℕ) → Fields image descriptor a inputs →
-      Writes image (thunk_width machine) gives descriptor (map (imported machine) inputs) (tables_written a inputs)
+  pub writes_stand : (image : List Range) (inputs : List Imported) (descriptor a : ℕ) → Fields image descriptor a inputs →
+      Writes image (thunk_width machine) gives descriptor inputs (tables_written a inputs)
   unfolding Writes tables_written
   writes_stand image [] descriptor a fields = refl
   writes_stand image (p ∷ inputs) descriptor a fields = (
@@ -190,37 +186,37 @@ module _ (machine : MachineType) (gives : List ℕ → Ask → List ℕ) where
   )
 
   module _ (wide : (dll : List ℕ) (ask : Ask) → length (gives dll ask) ≡ thunk_width machine) where
-    tables_stand : (inputs : List LinkInput) (a : ℕ) (ranges : List Range) (i j : ℕ) (p : LinkInput) (ask : Ask) → slice_get inputs i ≡ Some p → slice_get (asks_of p) j ≡ Some ask →
-        BytesAt (tables_written a inputs ++ ranges) (a + thunk_width machine * thunks_before i inputs + thunk_width machine * j) (gives p.definition.import_name ask)
+    pub tables_stand : (inputs : List Imported) (a : ℕ) (ranges : List Range) (i j : ℕ) (p : Imported) (ask : Ask) → slice_get inputs i ≡ Some p → slice_get p.asks j ≡ Some ask →
+        BytesAt (tables_written a inputs ++ ranges) (a + thunk_width machine * thunks_asked i inputs + thunk_width machine * j) (gives p.dll ask)
     unfolding tables_written
     tables_stand [] a ranges i j p ask is asked = cc
     tables_stand (q ∷ inputs) a ranges zero j p ask is asked =
         let same : q ≡ p = cc in
-        subst (λ (r : LinkInput). BytesAt (tables_written a (q ∷ inputs) ++ ranges) (a + thunk_width machine * 0 + thunk_width machine * j) (gives r.definition.import_name ask)) same
-        (subst (λ n. BytesAt (tables_written a (q ∷ inputs) ++ ranges) (n + thunk_width machine * j) (gives q.definition.import_name ask)) (times_none a (thunk_width machine))
-        (subst (λ rs. BytesAt rs (a + thunk_width machine * j) (gives q.definition.import_name ask))
-        (sym (append_assoc (entries_written (thunk_width machine) a (gives q.definition.import_name) (asks_of q)) (tables_written (next_table a q) inputs) ranges))
-        (entry_stands (thunk_width machine) (gives q.definition.import_name) (wide q.definition.import_name) (asks_of q) a (tables_written (next_table a q) inputs ++ ranges) j ask
-        (subst (λ (r : LinkInput). slice_get (asks_of r) j ≡ Some ask) (sym same) asked))))
+        subst (λ (r : Imported). BytesAt (tables_written a (q ∷ inputs) ++ ranges) (a + thunk_width machine * 0 + thunk_width machine * j) (gives r.dll ask)) same
+        (subst (λ n. BytesAt (tables_written a (q ∷ inputs) ++ ranges) (n + thunk_width machine * j) (gives q.dll ask)) (times_none a (thunk_width machine))
+        (subst (λ rs. BytesAt rs (a + thunk_width machine * j) (gives q.dll ask))
+        (sym (append_assoc (entries_written (thunk_width machine) a (gives q.dll) q.asks) (tables_written (next_table a q) inputs) ranges))
+        (entry_stands (thunk_width machine) (gives q.dll) (wide q.dll) q.asks a (tables_written (next_table a q) inputs ++ ranges) j ask
+        (subst (λ (r : Imported). slice_get r.asks j ≡ Some ask) (sym same) asked))))
     tables_stand (q ∷ inputs) a ranges (suc i) j p ask is asked =
         let later = tables_stand inputs (next_table a q) ranges i j p ask is asked in
-        let place : next_table a q + thunk_width machine * thunks_before i inputs ≡ a + thunk_width machine * thunks_before (suc i) (q ∷ inputs) = table_next a q (thunks_before i inputs) in
+        let place : next_table a q + thunk_width machine * thunks_asked i inputs ≡ a + thunk_width machine * thunks_asked (suc i) (q ∷ inputs) = table_next a q (thunks_asked i inputs) in
         let past = before_next a q in
-        subst (λ n. BytesAt (tables_written a (q ∷ inputs) ++ ranges) (n + thunk_width machine * j) (gives p.definition.import_name ask)) place
-        (subst (λ rs. BytesAt rs (next_table a q + thunk_width machine * thunks_before i inputs + thunk_width machine * j) (gives p.definition.import_name ask))
-        (sym (append_assoc (entries_written (thunk_width machine) a (gives q.definition.import_name) (asks_of q)) (tables_written (next_table a q) inputs) ranges))
-        (behind_entries (thunk_width machine) (gives q.definition.import_name) (wide q.definition.import_name) (asks_of q) a (tables_written (next_table a q) inputs ++ ranges)
-        (next_table a q + thunk_width machine * thunks_before i inputs + thunk_width machine * j) (gives p.definition.import_name ask) (omega arith) later))
+        subst (λ n. BytesAt (tables_written a (q ∷ inputs) ++ ranges) (n + thunk_width machine * j) (gives p.dll ask)) place
+        (subst (λ rs. BytesAt rs (next_table a q + thunk_width machine * thunks_asked i inputs + thunk_width machine * j) (gives p.dll ask))
+        (sym (append_assoc (entries_written (thunk_width machine) a (gives q.dll) q.asks) (tables_written (next_table a q) inputs) ranges))
+        (behind_entries (thunk_width machine) (gives q.dll) (wide q.dll) q.asks a (tables_written (next_table a q) inputs ++ ranges)
+        (next_table a q + thunk_width machine * thunks_asked i inputs + thunk_width machine * j) (gives p.dll ask) (omega arith) later))
 
-    tables_within : (inputs : List LinkInput) (a low high : ℕ) → low ≤ a → a + thunk_width machine * thunks_before (length inputs) inputs ≤ high →
+    pub tables_within : (inputs : List Imported) (a low high : ℕ) → low ≤ a → a + thunk_width machine * thunks_asked (length inputs) inputs ≤ high →
         AllByRecursion (λ r. (low ≤ r.start) × (range_end r ≤ high)) (tables_written a inputs)
     unfolding tables_written
     tables_within [] a low high above below = tt
     tables_within (p ∷ inputs) a low high above below =
-        let next = table_next a p (thunks_before (length inputs) inputs) in
+        let next = table_next a p (thunks_asked (length inputs) inputs) in
         let past = before_next a p in
-        all_append (λ r. (low ≤ r.start) × (range_end r ≤ high)) (entries_written (thunk_width machine) a (gives p.definition.import_name) (asks_of p)) (tables_written (next_table a p) inputs)
-        (entries_within (thunk_width machine) (gives p.definition.import_name) (wide p.definition.import_name) (asks_of p) a low high above (omega arith))
+        all_append (λ r. (low ≤ r.start) × (range_end r ≤ high)) (entries_written (thunk_width machine) a (gives p.dll) p.asks) (tables_written (next_table a p) inputs)
+        (entries_within (thunk_width machine) (gives p.dll) (wide p.dll) p.asks a low high above (omega arith))
         (tables_within inputs (next_table a p) low high (omega arith) (omega arith))
 
 -- the j-th entry is the only definition of its symbol
@@ -236,12 +232,28 @@ entry_once linked width a (x ∷ exports) (suc j) e entries is =
     subst (λ n. definitions_of (address_symbol e.name) linked ≡ record { name = address_symbol e.name; address = Some n } ∷ []) (times_next a width j)
     (entry_once linked width (a + width) exports j e entries.1 is)
 
+-- an element of a list that was mapped
+pub mapped_at : {X Y : Type 0} (f : X → Y) (xs : List X) (i : ℕ) (y : Y) → slice_get (map f xs) i ≡ Some y → (x : X) × ((slice_get xs i ≡ Some x) × (f x ≡ y))
+mapped_at f [] i y is = cc
+mapped_at f (x ∷ xs) zero y is = let same : f x ≡ y = cc in (x, (refl, same))
+mapped_at f (x ∷ xs) (suc i) y is = mapped_at f xs i y is
+
+thunks_are : (machine : MachineType) (i : ℕ) (inputs : List LinkInput) → thunks_asked i (map (imported machine) inputs) ≡ thunks_before i inputs
+thunks_are machine zero inputs = refl
+thunks_are machine (suc i) [] = refl
+thunks_are machine (suc i) (p ∷ inputs) =
+    ap (λ n. n + 1 + thunks_asked i (map (imported machine) inputs)) (length-map (chosen_exports p.definition p.chosen) (expected_ask machine))
+    ∙ ap (λ n. length (chosen_exports p.definition p.chosen) + 1 + n) (thunks_are machine i inputs)
+
 fields_of : (machine : MachineType) (bases : Bases) (inputs : List LinkInput) (objects : List Object) (gives : List ℕ → Ask → List ℕ) → LinksAmong machine bases inputs objects →
-    Fields machine gives (image_of machine bases (placed_from bases objects)) bases.descriptors bases.addresses inputs
+    Fields machine gives (image_of machine bases (placed_from bases objects)) bases.descriptors bases.addresses (map (imported machine) inputs)
 unfolding Fields
 fields_of machine bases inputs objects gives links i p is =
-    let one = links.imports i p is in
-    subst (NumberAt (image_of machine bases (placed_from bases objects)) 4 (bases.descriptors + 20 * i + 16)) one.table_stands one.strictly.loads.plain.addresses_field
+    let image : List Range = image_of machine bases (placed_from bases objects) in
+    let found = mapped_at (imported machine) inputs i p is in
+    let one = links.imports i found.0 found.1.0 in
+    subst (NumberAt image 4 (bases.descriptors + 20 * i + 16))
+    (one.table_stands ∙ ap (λ n. bases.addresses + thunk_width machine * n) (sym (thunks_are machine i inputs))) one.strictly.loads.plain.addresses_field
 
 pub program_loads : (machine : MachineType) (bases : Bases) (inputs : List LinkInput) (objects : List Object) (gives : List ℕ → Ask → List ℕ) (written : List Range) →
     AllByRecursion (IsMade machine) inputs → IsProgram machine bases inputs objects → ((dll : List ℕ) (ask : Ask) → length (gives dll ask) ≡ thunk_width machine) →
@@ -250,8 +262,9 @@ pub program_loads : (machine : MachineType) (bases : Bases) (inputs : List LinkI
 program_loads machine bases inputs objects gives written made program wide writes =
     let links = program_links machine bases inputs objects made program in
     let image : List Range = image_of machine bases (placed_from bases objects) in
-    let is : written ≡ tables_written machine gives bases.addresses inputs =
-    writes_are machine gives image inputs bases.descriptors bases.addresses written (fields_of machine bases inputs objects gives links) writes in
+    let imports : List Imported = map (imported machine) inputs in
+    let is : written ≡ tables_written machine gives bases.addresses imports =
+    writes_are machine gives image imports bases.descriptors bases.addresses written (fields_of machine bases inputs objects gives links) writes in
     record {
       entries = λ i j p e input chosen.
           let one = links.imports i p input in
@@ -263,10 +276,15 @@ program_loads machine bases inputs objects gives written made program wide write
             once = entry_once (placed_from bases objects) (thunk_width machine) table (chosen_exports p.definition p.chosen) j e
                 (subst (λ n. EntriesAt (placed_from bases objects) (thunk_width machine) n (chosen_exports p.definition p.chosen)) one.table_stands one.strictly.entries) chosen;
             stands = subst (λ rs. BytesAt (rs ++ image) (table + thunk_width machine * j) (gives p.definition.import_name (expected_ask machine e))) (sym is)
-                (tables_stand machine gives wide inputs bases.addresses image i j p (expected_ask machine e) input asked);
+                (subst (λ n. BytesAt (tables_written machine gives bases.addresses imports ++ image) (bases.addresses + thunk_width machine * n + thunk_width machine * j) (gives p.definition.import_name (expected_ask machine e)))
+                (thunks_are machine i inputs)
+                (tables_stand machine gives wide imports bases.addresses image i j (imported machine p) (expected_ask machine e)
+                (slice_get-map (imported machine) inputs i ∙ ap (option_map (imported machine)) input) asked));
           };
       within = subst (AllByRecursion (λ r. (bases.addresses ≤ r.start) × (range_end r ≤ bases.addresses + thunk_width machine * thunks_before (length inputs) inputs))) (sym is)
-          (tables_within machine gives wide inputs bases.addresses bases.addresses (bases.addresses + thunk_width machine * thunks_before (length inputs) inputs) (omega arith) (omega arith));
+          (tables_within machine gives wide imports bases.addresses bases.addresses (bases.addresses + thunk_width machine * thunks_before (length inputs) inputs) (omega arith)
+          (subst (λ n. bases.addresses + thunk_width machine * n ≤ bases.addresses + thunk_width machine * thunks_before (length inputs) inputs)
+          (sym (ap (λ n. thunks_asked n imports) (length-map inputs (imported machine)) ∙ thunks_are machine (length inputs) inputs)) (omega arith)));
       kept = λ address none. kept_outside written image address none;
     }
 
@@ -276,4 +294,5 @@ pub program_writes : (machine : MachineType) (bases : Bases) (inputs : List Link
 program_writes machine bases inputs objects gives made program =
     let links = program_links machine bases inputs objects made program in
     let image : List Range = image_of machine bases (placed_from bases objects) in
-    (tables_written machine gives bases.addresses inputs, writes_stand machine gives image inputs bases.descriptors bases.addresses (fields_of machine bases inputs objects gives links))
+    let imports : List Imported = map (imported machine) inputs in
+    (tables_written machine gives bases.addresses imports, writes_stand machine gives image imports bases.descriptors bases.addresses (fields_of machine bases inputs objects gives links))

@@ -38,7 +38,7 @@ exports_stated machine (e ∷ exports) (s ∷ statements) each = ap (λ others. 
 AsksAsStated : MachineType → Stated → Type 0
 AsksAsStated machine s = expected_ask machine s.export ≡ ask_stated s
 
-stated_ask : (no_name : Bool) (ordinal : ℕ) (meant word : List ℕ) → (no_name ≡ false → meant ≡ word) →
+pub stated_ask : (no_name : Bool) (ordinal : ℕ) (meant word : List ℕ) → (no_name ≡ false → meant ≡ word) →
     (if no_name then Ordinal ordinal else Name meant ordinal) ≡ (if no_name then Ordinal ordinal else Name word ordinal)
 stated_ask true ordinal meant word same = refl
 stated_ask false ordinal meant word same = ap (λ text. Name text ordinal) (same refl)
@@ -52,7 +52,7 @@ each_stated machine (e ∷ exports) [] each = absurd each
 each_stated machine (e ∷ exports) (s ∷ statements) each =
     (stated_ask e.no_name e.ordinal _ (external_word s) each.0.meant, each_stated machine exports statements each.1)
 
-all_filter : {X : Type 0} (P : X → Type 0) (test : X → Bool) (xs : List X) → AllByRecursion P xs → AllByRecursion P (filter test xs)
+pub all_filter : {X : Type 0} (P : X → Type 0) (test : X → Bool) (xs : List X) → AllByRecursion P xs → AllByRecursion P (filter test xs)
 all_filter P test [] all = tt
 all_filter P test (x ∷ xs) all =
     elim (cases_Bool (test x)) [ inl is ↦ rw is (all.0, all_filter P test xs all.1) | inr is ↦ rw is (all_filter P test xs all.1) ]
@@ -117,7 +117,7 @@ sources_made machine [] are = tt
 sources_made machine (s ∷ sources) are = (source_made machine s are.0, sources_made machine sources are.1)
 
 -- exports under their names to link by are chosen as others
-chosen_renamed : (library : LibraryView) (meant : DefinitionView) (machine : MachineType) (flavor : Flavor) (chosen : List ℕ) →
+pub chosen_renamed : (library : LibraryView) (meant : DefinitionView) (machine : MachineType) (flavor : Flavor) (chosen : List ℕ) →
     library ≡ record { definition = renamed meant; machine = machine; flavor = flavor } → chosen_exports library.definition chosen ≡ chosen_exports meant chosen
 chosen_renamed library meant machine flavor chosen held =
     ap (λ (l : LibraryView). chosen_exports l.definition chosen) held

@@ -16,3 +16,4 @@ pub mod Expansion
 pub mod FlavorProgram
 pub mod WorkedExpansion
 pub mod WorkedFlavors
+pub mod FlavorTexts

@@ -1,7 +1,8 @@
-//! Programs that the members for GNU's linker are linked into: laws of linking, loading and calling.
+//! Programs that members are linked into, for GNU's linker and for Microsoft's: laws of linking, loading and
+//! calling.
 #![tactic(auto)]
 
 pub mod laws;
 mod members;
 
-pub use members::members_of_text;
+pub use members::{members_of_text, msvc_members_of_text};

@@ -1,9 +1,12 @@
 //! Members from a text, with all that linking them gives.
 
 ghost use Rattle.implib.specs.Library.{member_view};
+ghost use Rattle.implib.specs.declared.members.Flavor.TheVariants.{Msvc};
+ghost use Rattle.implib_link.specs.FlavorTexts.{LinkInFlavor};
 ghost use Rattle.implib_link.specs.Texts.{LinkAsStated};
 ghost use Rattle.std.specs.Prelude.{IfOk, map};
 
+use crate::laws::flavors::flavored_texts_link;
 use crate::laws::texts::texts_link;
 use implib::{Error, Flavor, ImportLibrary, MachineType, Member};
 use std::alloc::Global;
@@ -19,5 +22,19 @@ pub fn members_of_text(
     let library = ImportLibrary::new(alloc, text, machine, Flavor::Gnu)?;
     let members = library.members()?;
     texts_link();
+    Ok(members)
+}
+
+/// The members of a text for Microsoft's linker, which link as the text states.
+pub fn msvc_members_of_text(
+    alloc: Global,
+    text: &str,
+    machine: MachineType,
+) -> Result<Vec<Member>, Error>
+    ensures links { IfOk result (λ members. LinkInFlavor text.now machine Msvc (map member_view members.items)) }
+{
+    let library = ImportLibrary::new(alloc, text, machine, Flavor::Msvc)?;
+    let members = library.members()?;
+    flavored_texts_link();
     Ok(members)
 }

@@ -4,8 +4,9 @@ ghost use Rattle.implib.specs.Object.{Object};
 ghost use Rattle.implib.specs.Placement.{Bases};
 ghost use Rattle.implib.specs.declared.machine.MachineType.{MachineType};
 ghost use Rattle.implib_link.specs.FlavorProgram.{FlavorInput, FlavorsLink, IsFlavorProgram, IsMadeFor};
+ghost use Rattle.implib_link.specs.FlavorTexts.{FlavorSource, FlavorTextsLink, IsFlavorSource, input_of};
 ghost use Rattle.std.specs.List.{AllByRecursion};
-ghost use Rattle.std.specs.Prelude.{List};
+ghost use Rattle.std.specs.Prelude.{List, map};
 
 /// The chosen members of several DLLs, each for Microsoft's linker or for GNU's, and a null descriptor link
 /// among any other objects: the import directory lists just these DLLs with just the chosen exports, ended by
@@ -17,4 +18,13 @@ pub fn links_in_both_flavors()
         AllByRecursion (IsMadeFor machine) inputs →
         IsFlavorProgram machine bases inputs objects →
         FlavorsLink machine bases inputs objects }
+{}
+
+/// The members of texts, each in its flavour, link among any other objects to a program whose import directory
+/// lists just their DLLs, each with just its chosen exports, each by the word of its own statement.
+pub fn flavored_texts_link()
+    ensures links { (machine : MachineType) (bases : Bases) (sources : List FlavorSource) (objects : List Object) →
+        AllByRecursion (IsFlavorSource machine) sources →
+        IsFlavorProgram machine bases (map input_of sources) objects →
+        FlavorTextsLink machine bases sources objects }
 {}
