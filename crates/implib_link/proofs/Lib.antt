@@ -34,3 +34,4 @@ pub mod FlavorProgram
 pub mod WorkedExpansion
 pub mod WorkedFlavors
 pub mod FlavorTexts
+pub mod FlavorLoaded

@@ -17,3 +17,4 @@ pub mod FlavorProgram
 pub mod WorkedExpansion
 pub mod WorkedFlavors
 pub mod FlavorTexts
+pub mod FlavorLoaded

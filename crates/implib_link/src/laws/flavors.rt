@@ -1,12 +1,17 @@
 //! Laws of programs of DLLs in both flavours: members for Microsoft's linker and for GNU's.
 
+ghost use Rattle.implib.specs.Image.{Range, image_of};
+ghost use Rattle.implib.specs.Import.{Ask};
+ghost use Rattle.implib.specs.ImportTables.{thunk_width};
 ghost use Rattle.implib.specs.Object.{Object};
-ghost use Rattle.implib.specs.Placement.{Bases};
+ghost use Rattle.implib.specs.Placement.{Bases, placed_from};
 ghost use Rattle.implib.specs.declared.machine.MachineType.{MachineType};
-ghost use Rattle.implib_link.specs.FlavorProgram.{FlavorInput, FlavorsLink, IsFlavorProgram, IsMadeFor};
+ghost use Rattle.implib_link.specs.FlavorLoaded.{AreLoaded};
+ghost use Rattle.implib_link.specs.FlavorProgram.{FlavorInput, FlavorsLink, IsFlavorProgram, IsMadeFor, imported_in};
 ghost use Rattle.implib_link.specs.FlavorTexts.{FlavorSource, FlavorTextsLink, IsFlavorSource, input_of};
+ghost use Rattle.implib_link.specs.Loaded.{Writes};
 ghost use Rattle.std.specs.List.{AllByRecursion};
-ghost use Rattle.std.specs.Prelude.{List, map};
+ghost use Rattle.std.specs.Prelude.{◌≡◌, ℕ, List, length, map};
 
 /// The chosen members of several DLLs, each for Microsoft's linker or for GNU's, and a null descriptor link
 /// among any other objects: the import directory lists just these DLLs with just the chosen exports, ended by
@@ -27,4 +32,25 @@ pub fn flavored_texts_link()
         AllByRecursion (IsFlavorSource machine) sources →
         IsFlavorProgram machine bases (map input_of sources) objects →
         FlavorTextsLink machine bases sources objects }
+{}
+
+/// Whatever a loader writes that walks the directory of a program: at each `__imp_` symbol stands what the
+/// DLL gives for the export, and no byte outside the address tables changed. Such a loader can write.
+///
+/// What a DLL gives has as many bytes as an entry.
+pub fn program_of_flavors_loads()
+    ensures loads { (machine : MachineType) (bases : Bases) (inputs : List FlavorInput) (objects : List Object)
+        (gives : List ℕ → Ask → List ℕ) (written : List Range) →
+        AllByRecursion (IsMadeFor machine) inputs →
+        IsFlavorProgram machine bases inputs objects →
+        ((dll : List ℕ) (ask : Ask) → length (gives dll ask) ≡ thunk_width machine) →
+        Writes (image_of machine bases (placed_from bases objects)) (thunk_width machine) gives bases.descriptors
+        (map (imported_in machine) inputs) written →
+        AreLoaded machine bases inputs objects gives written }
+    ensures writes { (machine : MachineType) (bases : Bases) (inputs : List FlavorInput) (objects : List Object)
+        (gives : List ℕ → Ask → List ℕ) →
+        AllByRecursion (IsMadeFor machine) inputs →
+        IsFlavorProgram machine bases inputs objects →
+        (written : List Range) × Writes (image_of machine bases (placed_from bases objects)) (thunk_width machine) gives
+        bases.descriptors (map (imported_in machine) inputs) written }
 {}

@@ -1,0 +1,5 @@
+use Rattle.implib_link.proofs.FlavorLoaded.{flavors_load, flavors_write}
+use Rattle.implib_link.proofs.laws.flavors.program_of_flavors_loads.Goals as goal
+
+pub returns : goal.returns
+returns c = record { loads = flavors_load; writes = flavors_write }
