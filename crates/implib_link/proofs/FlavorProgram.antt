@@ -37,7 +37,7 @@ use Rattle.implib_link.specs.SectionSymbols.{with_section_symbols}
 use Rattle.implib_link.proofs.FlavorBlock.{OneLinks, asking, behind_descriptor, objects_of, use_for}
 use Rattle.implib_link.proofs.FlavorBlocks.{EachIn, FlavorBlock, all_objects, definitions-all, definitions_all, descriptors_all, directory_in, each_in, ends_all, imported_of, names-all, nth_in, thunks_in}
 use Rattle.implib_link.proofs.FlavorParts.{block_in, inputs_link, inputs_objects, inputs_symbols, inputs_taken, null_object, objects_with_null}
-use Rattle.implib_link.proofs.NullDescriptor.{EndsNothing, addresses_same, descriptors_end_same, descriptors_same, dll_names_same, finds_same, hint_names_same, lookups_same, null_filled, null_once, others_same, undefined_same}
+use Rattle.implib_link.proofs.NullDescriptor.{EndsNothing, addresses_same, among_same, descriptors_end_same, descriptors_same, dll_names_same, finds_same, hint_names_same, lookups_same, null_filled, null_once, others_same, undefined_same}
 use Rattle.implib_link.proofs.Others.{contributions_kept, definitions_kept, placed_kept}
 use Rattle.implib_link.proofs.Packed.{end_kept}
 use Rattle.implib_link.proofs.Program.{all_claim, gets_address, once_of}
@@ -116,7 +116,7 @@ blocks_group_end machine (k ∷ blocks) n even =
     ∙ blocks_group_end machine blocks (n + 20) (later_even n even) ∙ plus_sum n (length blocks)
 
 -- the same thunks, counted by inputs
-thunks_are : (i : ℕ) (ps : List FlavorInput) → thunks_in i (map block_in ps) ≡ thunks_of i ps
+pub thunks_are : (i : ℕ) (ps : List FlavorInput) → thunks_in i (map block_in ps) ≡ thunks_of i ps
 thunks_are zero ps = refl
 thunks_are (suc i) [] = refl
 thunks_are (suc i) (p ∷ ps) = ap (λ n. length (exports_chosen p) + 1 + n) (thunks_are i ps)
@@ -277,6 +277,15 @@ module _ (machine : MachineType) (b : Bases) (inputs : List FlavorInput) (object
 
   pub kept_placed : with_tables (placed_from b objects) ≡ placed_from b (objects_taken machine program.before ++ taken_null machine ∷ objects_taken machine program.behind)
   kept_placed = placed_kept b objects ∙ ap (placed_from b) kept_are
+
+  -- what is placed of the members' objects is placed among all
+  pub placed_among : (q : Placed) → Among q (placed_from b (all_objects machine (map block_in inputs) [])) → Among q (with_tables (placed_from b objects))
+  placed_among q m =
+      subst (Among q) (sym kept_placed)
+      (among_same machine b front back none ends_even q (subst (λ os. Among q (placed_from b os)) (sym parts_are) m))
+
+  pub wide : AreWide machine b
+  wide = even
 
   -- the directory, and its end
   directory : DirectoryAt image (thunk_width machine) b.descriptors (map (imported_in machine) inputs)

@@ -35,3 +35,4 @@ pub mod WorkedExpansion
 pub mod WorkedFlavors
 pub mod FlavorTexts
 pub mod FlavorLoaded
+pub mod FlavorStubs

@@ -16,6 +16,7 @@ use Rattle.implib.specs.Placement.{Addresses, At, Bases, Descriptors, DirectoryE
 use Rattle.implib.specs.Resolution.{SymbolDefinition, defined_by, definitions, definitions_of}
 use Rattle.implib.proofs.Definitions.{none_of, not_same_turned, same_text}
 use Rattle.implib.proofs.Placement.{aligned}
+use Rattle.implib.proofs.Ranges.{Among}
 use Rattle.implib_link.specs.Packed.{group_end, sections_end}
 use Rattle.implib_link.specs.SectionSymbols.{with_section_symbols}
 use Rattle.implib_link.proofs.Taken.{taken_null}
@@ -162,6 +163,12 @@ all_insert : {X : Type 0} (P : X → Type 0) (xs ys : List X) (n : X) → P n �
 all_insert P [] ys n here all = (here, all)
 all_insert P (x ∷ xs) ys n here all = (all.0, all_insert P xs ys n here all.1)
 
+among_insert : {X : Type 0} (x : X) (xs ys : List X) (n : X) → Among x (xs ++ ys) → Among x (xs ++ n ∷ ys)
+unfolding Among
+among_insert x [] ys n m = inr m
+among_insert x (y ∷ xs) ys n (inl e) = inl e
+among_insert x (y ∷ xs) ys n (inr m) = inr (among_insert x xs ys n m)
+
 pub all_front : {X : Type 0} (P : X → Type 0) (xs ys : List X) → AllByRecursion P (xs ++ ys) → AllByRecursion P xs
 all_front P [] ys all = tt
 all_front P (x ∷ xs) ys all = (all.0, all_front P xs ys all.1)
@@ -279,6 +286,10 @@ module _ (machine : MachineType) (b : Bases) (xs ys : List Object) (none : AllBy
   finds_same linked all =
       subst (AllByRecursion (AllFind linked)) (sym with_null)
       (all_insert (AllFind linked) front back own (tt, tt) (subst (AllByRecursion (AllFind linked)) without all))
+
+  -- what is placed without it is placed with it, too
+  pub among_same : (q : Placed) → Among q (placed_from b (xs ++ ys)) → Among q (placed_from b (xs ++ taken_null machine ∷ ys))
+  among_same q m = subst (Among q) (sym with_null) (among_insert q front back own (subst (Among q) without m))
 
 -- it ends `.idata$2` nowhere else
 pub group_end-append : (group : Group) (n : ℕ) (xs ys : List Object) → group_end group n (xs ++ ys) ≡ group_end group (group_end group n xs) ys

@@ -37,7 +37,7 @@ use Rattle.implib_link.proofs.SearchLists.{among_at, flat_map_among}
 -- Each export's object is placed, with its entry where the addresses have come to.
 
 module _ (machine : MachineType) (dll : List ℕ) where
-  export_placed : (es : List ExportView) (b : Bases) (rest : List Object) → AreAligned b → (j : ℕ) (e : ExportView) → slice_get es j ≡ Some e →
+  pub export_placed : (es : List ExportView) (b : Bases) (rest : List Object) → AreAligned b → (j : ℕ) (e : ExportView) → slice_get es j ≡ Some e →
       (c : Bases) × (Among (placed_export machine dll c e) (placed_from b (after_head machine dll es rest)) × (c.addresses ≡ b.addresses + thunk_width machine * j))
   export_placed [] b rest even j e is = cc
   export_placed (x ∷ es) b rest even zero e is =
@@ -61,7 +61,7 @@ module _ (machine : MachineType) (dll : List ℕ) where
         ),
       )
 
-  behind_exports : (es : List ExportView) (b : Bases) (rest : List Object) (q : Placed) → AreAligned b → Among q (placed_from (ends_of_all machine dll b es) rest) →
+  pub behind_exports : (es : List ExportView) (b : Bases) (rest : List Object) (q : Placed) → AreAligned b → Among q (placed_from (ends_of_all machine dll b es) rest) →
       Among q (placed_from b (after_head machine dll es rest))
   unfolding ends_of_exports
   behind_exports [] b rest q even m = subst (Among q) (sym (placed-tail machine dll b rest even)) (among_later q _ _ m)
@@ -69,10 +69,10 @@ module _ (machine : MachineType) (dll : List ℕ) where
       subst (Among q) (sym (placed-export machine dll b e (after_head machine dll es rest) even))
       (among_later q _ _ (behind_exports es (ends_of_export machine dll b e) rest q (aligned_after machine dll b e even) m))
 
-first_sum : (c a w m : ℕ) → c ≡ a + w * m → c ≡ a + w * 0 + w * m
+pub first_sum : (c a w m : ℕ) → c ≡ a + w * m → c ≡ a + w * 0 + w * m
 first_sum c a w m is = is ∙ ap (λ k. k + w * m) (times_none a w)
 
-later_sum : (c a b w m : ℕ) → c ≡ a + w * m → a ≡ b → c ≡ b + w * m
+pub later_sum : (c a b w m : ℕ) → c ≡ a + w * m → a ≡ b → c ≡ b + w * m
 later_sum c a b w m is same = is ∙ ap (λ n. n + w * m) same
 
 block_placed : (machine : MachineType) (inputs : List LinkInput) (b : Bases) (rest : List Object) → AreAligned b → (i j : ℕ) (p : LinkInput) (e : ExportView) → slice_get inputs i ≡ Some p →
@@ -117,7 +117,7 @@ unfolding Among
 among_kept test x y xs (inl e) later = inl e
 among_kept test x y xs (inr m) later = inr (later m)
 
-among_filter : {X : Type 0} (test : X → Bool) (x : X) (xs : List X) → Among x (filter test xs) → Among x xs
+pub among_filter : {X : Type 0} (test : X → Bool) (x : X) (xs : List X) → Among x (filter test xs) → Among x xs
 unfolding Among
 among_filter test x [] m = m
 among_filter test x (y ∷ xs) m =
@@ -134,7 +134,7 @@ unfolding BytesAt
 byte_below image low high a [] long stands = absurd (omega arith)
 byte_below image low high a (byte ∷ bytes) long stands = (address_bounds image a byte low high stands.0).1
 
-thunk_below : (image : List Range) → AllByRecursion (λ r. 0 < r.start) image → AllByRecursion (λ r. range_end r < 2 ^ 31) image → (width : ℕ) → 0 < width → (asks : List Ask) (a j : ℕ) (ask : Ask) →
+pub thunk_below : (image : List Range) → AllByRecursion (λ r. 0 < r.start) image → AllByRecursion (λ r. range_end r < 2 ^ 31) image → (width : ℕ) → 0 < width → (asks : List Ask) (a j : ℕ) (ask : Ask) →
     TableAt image width a asks → slice_get asks j ≡ Some ask → a + width * j < 2 ^ 31
 unfolding TableAt
 thunk_below image low high width wide [] a j ask table is = cc
@@ -146,7 +146,7 @@ thunk_below image low high width wide (x ∷ asks) a zero ask table is =
 thunk_below image low high width wide (x ∷ asks) a (suc j) ask table is =
     subst (λ n. n < 2 ^ 31) (times_next a width j) (thunk_below image low high width wide asks (a + width) j ask table.1 is)
 
-wide_thunk : (machine : MachineType) → 0 < thunk_width machine
+pub wide_thunk : (machine : MachineType) → 0 < thunk_width machine
 wide_thunk I386 = omega arith
 wide_thunk ARMNT = omega arith
 wide_thunk AMD64 = omega arith
@@ -154,25 +154,25 @@ wide_thunk ARM64 = omega arith
 
 -- The code of an export.
 
-code_defined : (machine : MachineType) (dll : List ℕ) (b : Bases) (e : ExportView) → e.is_data ≡ false →
+pub code_defined : (machine : MachineType) (dll : List ℕ) (b : Bases) (e : ExportView) → e.is_data ≡ false →
     Among (ASymbol (record { name = e.name; value = 0; section = 1; kind = 0; class = class_external })) (placed_export machine dll b e).object.entries
 unfolding export_object
 code_defined machine dll b e is = rw is (among_later _ _ _ (among_first _ _))
 
-code_here : (machine : MachineType) (dll : List ℕ) (b : Bases) (e : ExportView) →
+pub code_here : (machine : MachineType) (dll : List ℕ) (b : Bases) (e : ExportView) →
     slice_get (placed_export machine dll b e).object.sections 0 ≡ Some (section text_name (cnt_code + align_4bytes + mem_execute_read) (stub machine e) (relocations_of_stub machine e))
 unfolding export_object
 code_here machine dll b e = refl
 
-code_bytes : (machine : MachineType) (e : ExportView) → e.is_data ≡ false → stub machine e ≡ stub_bytes machine
+pub code_bytes : (machine : MachineType) (e : ExportView) → e.is_data ≡ false → stub machine e ≡ stub_bytes machine
 unfolding stub
 code_bytes machine e is = rw is refl
 
-code_relocations : (machine : MachineType) (e : ExportView) → e.is_data ≡ false → relocations_of_stub machine e ≡ stub_relocations machine 2
+pub code_relocations : (machine : MachineType) (e : ExportView) → e.is_data ≡ false → relocations_of_stub machine e ≡ stub_relocations machine 2
 unfolding relocations_of_stub
 code_relocations machine e is = rw is refl
 
-target_is : (machine : MachineType) (dll : List ℕ) (linked : List Placed) (b : Bases) (e : ExportView) (entry : ℕ) → e.is_data ≡ false → b.addresses ≡ entry →
+pub target_is : (machine : MachineType) (dll : List ℕ) (linked : List Placed) (b : Bases) (e : ExportView) (entry : ℕ) → e.is_data ≡ false → b.addresses ≡ entry →
     target_address linked (placed_export machine dll b e) 2 ≡ entry
 target_is machine dll linked b e entry is same =
     let plain : b.addresses + 0 ≡ b.addresses = omega arith in
@@ -182,7 +182,7 @@ eights : (a n m : ℕ) → a % 8 ≡ 0 → (a + 8 * n + 8 * m) % 8 ≡ 0
 eights a n m even = omega arith
 
 -- by the machine's instructions
-jump_by : (machine : MachineType) (image_base : ℕ) (bases : Bases) (n m place : ℕ) (linked : List Placed) (p : Placed) → CanJump machine image_base bases →
+pub jump_by : (machine : MachineType) (image_base : ℕ) (bases : Bases) (n m place : ℕ) (linked : List Placed) (p : Placed) → CanJump machine image_base bases →
     place + 16 ≤ 2 ^ 31 → bases.addresses + thunk_width machine * n + thunk_width machine * m < 2 ^ 31 →
     target_address linked p 2 ≡ bases.addresses + thunk_width machine * n + thunk_width machine * m →
     jump_reads machine (image_base + place) (code_relocated machine image_base linked p place (stub_relocations machine 2) (stub_bytes machine))

@@ -1,7 +1,7 @@
 -- Programs of DLLs in both flavours: objects that are linked, among them what a linker takes the chosen members
 -- of several DLLs for, each made for Microsoft's linker or for GNU's, and one null descriptor. The others hold
 -- no part of the import tables and claim no symbol of the members.
-use Rattle.std.specs.Prelude.{◌≡◌, ℕ, ◌+◌, ◌*◌, ◌%◌, not, List, [], ◌∷◌, ◌++◌, bytes_eq, length, map, slice_get, Some, if◌then◌else◌}
+use Rattle.std.specs.Prelude.{◌≡◌, ℕ, ◌+◌, ◌*◌, ◌%◌, false, not, List, [], ◌∷◌, ◌++◌, bytes_eq, length, map, slice_get, Some, if◌then◌else◌}
 use Rattle.std.specs.List.{AllByRecursion, Contains, IsDistinct, filter, filter_map, flat_map}
 use Rattle.implib.specs.declared.members.Flavor.{Flavor}
 use Rattle.implib.specs.declared.members.Flavor.TheVariants.{Gnu, Msvc}
@@ -50,6 +50,11 @@ exports_chosen p = chosen_exports p.input.definition p.input.chosen
 abbrev pub symbol_in : Flavor → ExportView → List ℕ
 symbol_in Msvc e = short_import_symbol e
 symbol_in Gnu e = e.name
+
+-- an export is code: for Microsoft's linker neither data nor a constant, for GNU's no data
+abbrev pub IsCode : Flavor → ExportView → Type 0
+IsCode Msvc e = (e.is_data ≡ false) × (e.constant ≡ false)
+IsCode Gnu e = e.is_data ≡ false
 
 -- what an export's members ask the DLL for
 abbrev pub ask_in : Flavor → MachineType → ExportView → Ask

@@ -1,5 +1,6 @@
 //! Laws of programs of DLLs in both flavours: members for Microsoft's linker and for GNU's.
 
+ghost use Rattle.implib.specs.Definition.{ExportView};
 ghost use Rattle.implib.specs.Image.{Range, image_of};
 ghost use Rattle.implib.specs.Import.{Ask};
 ghost use Rattle.implib.specs.ImportTables.{thunk_width};
@@ -7,11 +8,12 @@ ghost use Rattle.implib.specs.Object.{Object};
 ghost use Rattle.implib.specs.Placement.{Bases, placed_from};
 ghost use Rattle.implib.specs.declared.machine.MachineType.{MachineType};
 ghost use Rattle.implib_link.specs.FlavorLoaded.{AreLoaded};
-ghost use Rattle.implib_link.specs.FlavorProgram.{FlavorInput, FlavorsLink, IsFlavorProgram, IsMadeFor, imported_in};
+ghost use Rattle.implib_link.specs.FlavorProgram.{FlavorInput, FlavorsLink, IsCode, IsFlavorProgram, IsMadeFor, ask_in, dll_of, exports_chosen, imported_in, symbol_in, thunks_of};
 ghost use Rattle.implib_link.specs.FlavorTexts.{FlavorSource, FlavorTextsLink, IsFlavorSource, input_of};
 ghost use Rattle.implib_link.specs.Loaded.{Writes};
+ghost use Rattle.implib_link.specs.Stub.{CallReaches, CanJump, JumpsThrough};
 ghost use Rattle.std.specs.List.{AllByRecursion};
-ghost use Rattle.std.specs.Prelude.{◌≡◌, ℕ, List, length, map};
+ghost use Rattle.std.specs.Prelude.{◌≡◌, ◌+◌, ◌*◌, ◌++◌, ℕ, List, Some, length, map, slice_get};
 
 /// The chosen members of several DLLs, each for Microsoft's linker or for GNU's, and a null descriptor link
 /// among any other objects: the import directory lists just these DLLs with just the chosen exports, ended by
@@ -53,4 +55,34 @@ pub fn program_of_flavors_loads()
         IsFlavorProgram machine bases inputs objects →
         (written : List Range) × Writes (image_of machine bases (placed_from bases objects)) (thunk_width machine) gives
         bases.descriptors (map (imported_in machine) inputs) written }
+{}
+
+/// The stub of each chosen export of code jumps through the export's own entry, wherever its code is placed; in
+/// a loaded program, a call of an export goes where its DLL says that it is.
+///
+/// For Microsoft's linker the stub is that of the short import's expansion.
+pub fn stubs_of_flavors_jump()
+    ensures jumps { (machine : MachineType) (image_base : ℕ) (bases : Bases) (inputs : List FlavorInput) (objects : List Object)
+        (i j : ℕ) (p : FlavorInput) (e : ExportView) →
+        AllByRecursion (IsMadeFor machine) inputs →
+        IsFlavorProgram machine bases inputs objects →
+        CanJump machine image_base bases →
+        slice_get inputs i ≡ Some p →
+        slice_get (exports_chosen p) j ≡ Some e →
+        IsCode p.flavor e →
+        JumpsThrough machine image_base (placed_from bases objects) (symbol_in p.flavor e)
+        (bases.addresses + thunk_width machine * thunks_of i inputs + thunk_width machine * j) }
+    ensures reaches { (machine : MachineType) (image_base : ℕ) (bases : Bases) (inputs : List FlavorInput) (objects : List Object)
+        (gives : List ℕ → Ask → List ℕ) (written : List Range) (i j : ℕ) (p : FlavorInput) (e : ExportView) →
+        AllByRecursion (IsMadeFor machine) inputs →
+        IsFlavorProgram machine bases inputs objects →
+        CanJump machine image_base bases →
+        ((dll : List ℕ) (ask : Ask) → length (gives dll ask) ≡ thunk_width machine) →
+        Writes (image_of machine bases (placed_from bases objects)) (thunk_width machine) gives bases.descriptors
+        (map (imported_in machine) inputs) written →
+        slice_get inputs i ≡ Some p →
+        slice_get (exports_chosen p) j ≡ Some e →
+        IsCode p.flavor e →
+        CallReaches machine image_base (written ++ image_of machine bases (placed_from bases objects))
+        (placed_from bases objects) (symbol_in p.flavor e) (gives (dll_of p) (ask_in p.flavor machine e)) }
 {}
