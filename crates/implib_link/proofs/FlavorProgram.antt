@@ -30,7 +30,7 @@ use Rattle.implib.proofs.Placement.{aligned, export, head, tail}
 use Rattle.implib.proofs.Ranges.{Among, all_among, among_first, among_later}
 use Rattle.implib_link.specs.Directory.{DirectoryAt}
 use Rattle.implib_link.specs.Expansion.{asking_object, taken_in}
-use Rattle.implib_link.specs.FlavorProgram.{FlavorInput, FlavorsLink, InputImports, IsFlavorProgram, IsMadeFor, SymbolsAt, SymbolsGet, address_symbols, all_members, ask_in, dll_of, exports_chosen, imported_in, null_member, objects_taken, symbol_in, symbols_listed, thunks_of}
+use Rattle.implib_link.specs.FlavorProgram.{AreFlavorObjects, FlavorInput, FlavorsLink, InputImports, IsFlavorProgram, IsMadeFor, SymbolsAt, SymbolsGet, address_symbols, all_members, ask_in, dll_of, exports_chosen, imported_in, null_member, objects_taken, symbol_in, symbols_listed, thunks_of}
 use Rattle.implib_link.specs.Packed.{group_end, sections_end}
 use Rattle.implib_link.specs.Program.{ClaimsNone, claimed_names, has_tables, thunks_before, with_tables}
 use Rattle.implib_link.specs.SectionSymbols.{with_section_symbols}
@@ -147,6 +147,29 @@ imports_of machine image linked p b descriptor table behind place begins one =
 contained_at : {X : Type 0} (P : X → Type 0) (xs : List X) (x : X) → AllByRecursion P xs → Contains xs x → P x
 contained_at P xs x all held = all_among P x xs (contains_among x xs held) all
 
+-- What the members are taken for, among the objects.
+module _ (machine : MachineType) (inputs : List FlavorInput) (objects : List Object) (made : AllByRecursion (IsMadeFor machine) inputs) (held : AreFlavorObjects machine inputs objects) where
+  -- the members' objects without the null descriptor
+  pub parts_are : objects_taken machine held.before ++ objects_taken machine held.behind ≡ all_objects machine (map block_in inputs) []
+  parts_are =
+      sym (filter_map-append _ held.before held.behind) ∙ ap (objects_taken machine) held.members ∙ inputs_objects machine inputs made
+
+  null_is : taken_in machine (null_member machine (dll_of held.null_from)).bytes ≡ Some (taken_null machine)
+  null_is =
+      null_object machine held.null_from (contained_at (IsMadeFor machine) inputs held.null_from made held.null_held) held.null_flavor
+
+  pub kept_are : filter has_tables objects ≡ objects_taken machine held.before ++ taken_null machine ∷ objects_taken machine held.behind
+  kept_are = held.tables ∙ objects_with_null machine held.before held.behind (null_member machine (dll_of held.null_from)) null_is
+
+  pub directory_end : (n : ℕ) → n % 4 ≡ 0 → group_end Descriptors n objects ≡ n + 20 * length inputs
+  directory_end n even =
+      end_kept Descriptors n objects
+      ∙ ap (group_end Descriptors n) kept_are
+      ∙ descriptors_end_same machine n (objects_taken machine held.before) (objects_taken machine held.behind)
+      ∙ ap (group_end Descriptors n) parts_are
+      ∙ blocks_group_end machine (map block_in inputs) n even
+      ∙ ap (λ m. n + 20 * m) (length-map inputs block_in)
+
 module _ (machine : MachineType) (b : Bases) (inputs : List FlavorInput) (objects : List Object) (made : AllByRecursion (IsMadeFor machine) inputs)
     (program : IsFlavorProgram machine b inputs objects) where
   abbrev linked : List Placed
@@ -159,31 +182,19 @@ module _ (machine : MachineType) (b : Bases) (inputs : List FlavorInput) (object
   dlls = map block_in inputs
 
   abbrev front : List Object
-  front = objects_taken machine program.before
+  front = objects_taken machine program.held.before
 
   abbrev back : List Object
-  back = objects_taken machine program.behind
+  back = objects_taken machine program.held.behind
 
   names : List (List ℕ)
   names = symbols_listed (all_members machine inputs)
 
-  -- the members' objects without the null descriptor
-  parts_are : objects_taken machine program.before ++ objects_taken machine program.behind ≡ all_objects machine (map block_in inputs) []
-  parts_are =
-      sym (filter_map-append _ program.before program.behind) ∙ ap (objects_taken machine) program.members ∙ inputs_objects machine inputs made
-
-  null_is : taken_in machine (null_member machine (dll_of program.null_from)).bytes ≡ Some (taken_null machine)
-  null_is =
-      null_object machine program.null_from (contained_at (IsMadeFor machine) inputs program.null_from made program.null_held) program.null_flavor
-
-  kept_are : filter has_tables objects ≡ objects_taken machine program.before ++ taken_null machine ∷ objects_taken machine program.behind
-  kept_are = program.tables ∙ objects_with_null machine program.before program.behind (null_member machine (dll_of program.null_from)) null_is
-
   even : AreWide machine b
   even = record { descriptors = program.admissible.descriptors.1; lookups = program.lookups; addresses = program.addresses }
 
-  none : AllByRecursion EndsNothing (objects_taken machine program.before ++ objects_taken machine program.behind)
-  none = subst (AllByRecursion EndsNothing) (sym parts_are) (blocks_end machine dlls)
+  none : AllByRecursion EndsNothing (objects_taken machine program.held.before ++ objects_taken machine program.held.behind)
+  none = subst (AllByRecursion EndsNothing) (sym (parts_are machine inputs objects made program.held)) (blocks_end machine dlls)
 
   ends_even : b.directory_ends % 4 ≡ 0
   ends_even = program.admissible.directory_ends.1
@@ -193,9 +204,9 @@ module _ (machine : MachineType) (b : Bases) (inputs : List FlavorInput) (object
       contributions machine linked group (placed_from b (front ++ taken_null machine ∷ back)) ≡ contributions machine linked group (placed_from b (front ++ back)) →
       BytesAt image (base_of group b) (filled (base_of group b) (contributions machine linked group (placed_from b (all_objects machine dlls []))))
   group_from group stands same =
-      subst (λ os. BytesAt image (base_of group b) (filled (base_of group b) (contributions machine linked group (placed_from b os)))) parts_are
+      subst (λ os. BytesAt image (base_of group b) (filled (base_of group b) (contributions machine linked group (placed_from b os)))) (parts_are machine inputs objects made program.held)
       (subst (λ cs. BytesAt image (base_of group b) (filled (base_of group b) cs))
-      (contributions_kept machine linked group b objects ∙ ap (λ os. contributions machine linked group (placed_from b os)) kept_are ∙ same) stands)
+      (contributions_kept machine linked group b objects ∙ ap (λ os. contributions machine linked group (placed_from b os)) (kept_are machine inputs objects made program.held) ∙ same) stands)
 
   stands : StandsFrom machine linked image b (all_objects machine dlls [])
   stands =
@@ -213,19 +224,12 @@ module _ (machine : MachineType) (b : Bases) (inputs : List FlavorInput) (object
   unfolding Among
   null_stands =
       subst (BytesAt image b.directory_ends)
-      (ap (filled b.directory_ends) (contributions_kept machine linked DirectoryEnds b objects ∙ ap (λ os. contributions machine linked DirectoryEnds (placed_from b os)) kept_are)
+      (ap (filled b.directory_ends) (contributions_kept machine linked DirectoryEnds b objects ∙ ap (λ os. contributions machine linked DirectoryEnds (placed_from b os)) (kept_are machine inputs objects made program.held))
       ∙ null_filled machine b front back none ends_even linked)
       (group_stands machine b objects program.admissible DirectoryEnds (inr (inl refl)))
 
   follows : b.directory_ends ≡ b.descriptors + 20 * length inputs
-  follows =
-      program.follows
-      ∙ end_kept Descriptors b.descriptors objects
-      ∙ ap (group_end Descriptors b.descriptors) kept_are
-      ∙ descriptors_end_same machine b.descriptors front back
-      ∙ ap (group_end Descriptors b.descriptors) parts_are
-      ∙ blocks_group_end machine dlls b.descriptors program.admissible.descriptors.1
-      ∙ ap (λ n. b.descriptors + 20 * n) (length-map inputs block_in)
+  follows = program.follows ∙ directory_end machine inputs objects made program.held b.descriptors program.admissible.descriptors.1
 
   abbrev defined : List SymbolDefinition
   defined = definitions_all machine b dlls
@@ -236,24 +240,24 @@ module _ (machine : MachineType) (b : Bases) (inputs : List FlavorInput) (object
 
   definitions_are : definitions (placed_from b (front ++ back)) ≡ defined
   definitions_are =
-      ap (λ os. definitions (placed_from b os)) parts_are ∙ definitions-all machine b dlls [] even ∙ append-nil defined
+      ap (λ os. definitions (placed_from b os)) (parts_are machine inputs objects made program.held) ∙ definitions-all machine b dlls [] even ∙ append-nil defined
 
   -- definitions among all objects are those among the members
   of_members : (name : List ℕ) → Among name (null_descriptor_symbol ∷ names) → definitions_of name linked ≡ definitions_of name (placed_from b (front ++ taken_null machine ∷ back))
   unfolding names
   of_members name m =
-      definitions_kept name b objects (all_claim name (null_descriptor_symbol ∷ names) m (filter (λ o. not (has_tables o)) objects) program.others)
-      ∙ ap (λ os. definitions_of name (placed_from b os)) kept_are
+      definitions_kept name b objects (all_claim name (null_descriptor_symbol ∷ names) m (filter (λ o. not (has_tables o)) objects) program.held.others)
+      ∙ ap (λ os. definitions_of name (placed_from b os)) (kept_are machine inputs objects made program.held)
 
   only : (d : SymbolDefinition) → Among d (definitions_all machine b (map block_in inputs)) → definitions_of d.name (placed_from b objects) ≡ d ∷ []
   unfolding names IsDistinct
   only d m =
       let listed : Among d.name names = subst (Among d.name) names_are (among_map (λ (x : SymbolDefinition). x.name) d defined m) in
-      let other : bytes_eq d.name null_descriptor_symbol ≡ false = not_same_turned null_descriptor_symbol d.name (all_among (λ name. bytes_eq null_descriptor_symbol name ≡ false) d.name names listed program.distinct.0) in
+      let other : bytes_eq d.name null_descriptor_symbol ≡ false = not_same_turned null_descriptor_symbol d.name (all_among (λ name. bytes_eq null_descriptor_symbol name ≡ false) d.name names listed program.held.distinct.0) in
       of_members d.name (among_later d.name null_descriptor_symbol names listed)
       ∙ others_same machine b front back none ends_even d.name other
       ∙ ap (λ ds. filter (λ (x : SymbolDefinition). bytes_eq d.name x.name) ds) definitions_are
-      ∙ only_definition d defined m (subst (IsDistinct bytes_eq) (sym names_are) program.distinct.1)
+      ∙ only_definition d defined m (subst (IsDistinct bytes_eq) (sym names_are) program.held.distinct.1)
 
   pub null_only : definitions_of null_descriptor_symbol (placed_from b objects) ≡ record { name = null_descriptor_symbol; address = Some b.directory_ends } ∷ []
   unfolding names IsDistinct
@@ -261,12 +265,12 @@ module _ (machine : MachineType) (b : Bases) (inputs : List FlavorInput) (object
       of_members null_descriptor_symbol (among_first null_descriptor_symbol names)
       ∙ null_once machine b front back none ends_even
       (subst (AllByRecursion (λ other. bytes_eq null_descriptor_symbol other ≡ false))
-      (sym (ap (map (λ (d : SymbolDefinition). d.name)) definitions_are ∙ names_are)) program.distinct.0)
+      (sym (ap (map (λ (d : SymbolDefinition). d.name)) definitions_are ∙ names_are)) program.held.distinct.0)
 
   pub each : EachIn machine (placed_from b objects) (image_of machine b (placed_from b objects)) b (map block_in inputs) []
   each =
       each_in machine linked image [] (starts machine b objects program.admissible) (ends machine b objects program.admissible) (b.directory_ends, null_only)
-      dlls b (inputs_link machine inputs made program.found) even only stands
+      dlls b (inputs_link machine inputs made program.held.found) even only stands
 
   nth_imports : (i : ℕ) (p : FlavorInput) → slice_get inputs i ≡ Some p →
       InputImports machine (image_of machine b (placed_from b objects)) (placed_from b objects) (b.descriptors + 20 * i) (b.addresses + thunk_width machine * thunks_of i inputs) p
@@ -275,14 +279,14 @@ module _ (machine : MachineType) (b : Bases) (inputs : List FlavorInput) (object
       imports_of machine image linked p found.0 (b.descriptors + 20 * i) (b.addresses + thunk_width machine * thunks_of i inputs) found.1.1.1.0 found.1.0
       (found.1.1.0 ∙ ap (λ n. b.addresses + thunk_width machine * n) (thunks_are i inputs)) found.1.1.1.1
 
-  pub kept_placed : with_tables (placed_from b objects) ≡ placed_from b (objects_taken machine program.before ++ taken_null machine ∷ objects_taken machine program.behind)
-  kept_placed = placed_kept b objects ∙ ap (placed_from b) kept_are
+  pub kept_placed : with_tables (placed_from b objects) ≡ placed_from b (objects_taken machine program.held.before ++ taken_null machine ∷ objects_taken machine program.held.behind)
+  kept_placed = placed_kept b objects ∙ ap (placed_from b) (kept_are machine inputs objects made program.held)
 
   -- what is placed of the members' objects is placed among all
   pub placed_among : (q : Placed) → Among q (placed_from b (all_objects machine (map block_in inputs) [])) → Among q (with_tables (placed_from b objects))
   placed_among q m =
       subst (Among q) (sym kept_placed)
-      (among_same machine b front back none ends_even q (subst (λ os. Among q (placed_from b os)) (sym parts_are) m))
+      (among_same machine b front back none ends_even q (subst (λ os. Among q (placed_from b os)) (sym (parts_are machine inputs objects made program.held)) m))
 
   pub wide : AreWide machine b
   wide = even
@@ -298,13 +302,13 @@ module _ (machine : MachineType) (b : Bases) (inputs : List FlavorInput) (object
   targets : AllByRecursion (AllFind linked) (with_tables linked)
   targets =
       subst (AllByRecursion (AllFind linked)) (sym kept_placed)
-      (finds_same machine b front back none ends_even linked (subst (λ os. AllByRecursion (AllFind linked) (placed_from b os)) (sym parts_are) (each.targets tt)))
+      (finds_same machine b front back none ends_even linked (subst (λ os. AllByRecursion (AllFind linked) (placed_from b os)) (sym (parts_are machine inputs objects made program.held)) (each.targets tt)))
 
   all_defined : AllByRecursion (IsDefinedAt linked) (undefined_names (with_tables linked))
   all_defined =
       subst (λ ps. AllByRecursion (IsDefinedAt linked) (undefined_names ps)) (sym kept_placed)
       (subst (AllByRecursion (IsDefinedAt linked)) (sym (undefined_same machine b front back none ends_even))
-      (subst (λ os. AllByRecursion (IsDefinedAt linked) (undefined_names (placed_from b os))) (sym parts_are) (each.defined tt)))
+      (subst (λ os. AllByRecursion (IsDefinedAt linked) (undefined_names (placed_from b os))) (sym (parts_are machine inputs objects made program.held)) (each.defined tt)))
 
   pub flavors_link : FlavorsLink machine b inputs objects
   unfolding names

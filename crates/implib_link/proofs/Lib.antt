@@ -36,3 +36,4 @@ pub mod WorkedFlavors
 pub mod FlavorTexts
 pub mod FlavorLoaded
 pub mod FlavorStubs
+pub mod FlavorPacked

@@ -159,7 +159,7 @@ flat_none : {X Y : Type 0} (f : X → List Y) (xs ys : List X) (n : X) → f n �
 flat_none f xs ys n none =
     flat_insert f xs ys n ∙ ap (λ own. flat_map f xs ++ (own ++ flat_map f ys)) none ∙ sym (flat_map-append f xs ys)
 
-all_insert : {X : Type 0} (P : X → Type 0) (xs ys : List X) (n : X) → P n → AllByRecursion P (xs ++ ys) → AllByRecursion P (xs ++ n ∷ ys)
+pub all_insert : {X : Type 0} (P : X → Type 0) (xs ys : List X) (n : X) → P n → AllByRecursion P (xs ++ ys) → AllByRecursion P (xs ++ n ∷ ys)
 all_insert P [] ys n here all = (here, all)
 all_insert P (x ∷ xs) ys n here all = (all.0, all_insert P xs ys n here all.1)
 

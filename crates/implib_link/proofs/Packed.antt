@@ -226,20 +226,13 @@ above_zero group n objects base =
     let end = ends_rise group n objects in
     aligned_base (group_end group n objects) (omega arith)
 
-module _ (machine : MachineType) (first : ℕ) (inputs : List LinkInput) (objects : List Object) (made : AllByRecursion (IsMade machine) inputs)
-    (tables : filter has_tables objects ≡ objects_in (all_linked machine inputs) ++ null_descriptor ∷ [])
+module _ (machine : MachineType) (first : ℕ) (objects : List Object) (sized : AllByRecursion IsSized (filter has_tables objects))
     (above : 0 < first) (below : packed_end first objects < 2 ^ 31) where
   abbrev bases : Bases
   bases = packed first objects
 
   abbrev linked : List Placed
   linked = placed_from (packed first objects) objects
-
-  sized : AllByRecursion IsSized (filter has_tables objects)
-  sized =
-      subst (AllByRecursion IsSized)
-      (sym (tables ∙ ap (λ members. members ++ null_descriptor ∷ []) (parts_objects machine inputs made) ∙ objects_behind machine (map block_of inputs) (null_descriptor ∷ [])))
-      (blocks_sized machine (map block_of inputs))
 
   group_span : (group : Group) → span (base_of group bases) (contributions machine linked group linked) ≡ group_end group (base_of group bases) objects
   group_span group =
@@ -294,7 +287,11 @@ module _ (machine : MachineType) (first : ℕ) (inputs : List LinkInput) (object
 pub packed_is_admissible : (machine : MachineType) (first : ℕ) (inputs : List LinkInput) (objects : List Object) → AllByRecursion (IsMade machine) inputs →
     filter has_tables objects ≡ objects_in (all_linked machine inputs) ++ null_descriptor ∷ [] → 0 < first → packed_end first objects < 2 ^ 31 →
     IsAdmissible machine (packed first objects) objects
-packed_is_admissible machine first inputs objects made tables above below = admissible machine first inputs objects made tables above below
+packed_is_admissible machine first inputs objects made tables above below =
+    admissible machine first objects
+    (subst (AllByRecursion IsSized)
+    (sym (tables ∙ ap (λ members. members ++ null_descriptor ∷ []) (parts_objects machine inputs made) ∙ objects_behind machine (map block_of inputs) (null_descriptor ∷ [])))
+    (blocks_sized machine (map block_of inputs))) above below
 
 pub packed_is_program : (machine : MachineType) (first : ℕ) (inputs : List LinkInput) → AllByRecursion (IsMade machine) inputs →
     IsDistinct bytes_eq (linked_symbols machine inputs) → 0 < first → packed_end first (objects_in (all_linked machine inputs) ++ null_descriptor ∷ []) < 2 ^ 31 →

@@ -49,7 +49,7 @@ length-relocated machine linked p (r ∷ relocations) bytes size within long =
 
 -- The members' objects are sized.
 
-thunk_size : (machine : MachineType) → 4 ≤ thunk_width machine
+pub thunk_size : (machine : MachineType) → 4 ≤ thunk_width machine
 thunk_size I386 = omega arith
 thunk_size ARMNT = omega arith
 thunk_size AMD64 = omega arith
@@ -72,11 +72,11 @@ stub_within ARMNT e = elim (cases_Bool e.is_data) [ inl is ↦ rw is tt | inr is
 stub_within AMD64 e = elim (cases_Bool e.is_data) [ inl is ↦ rw is tt | inr is ↦ rw is (omega arith, tt) ]
 stub_within ARM64 e = elim (cases_Bool e.is_data) [ inl is ↦ rw is tt | inr is ↦ rw is (omega arith, (omega arith, tt)) ]
 
-head_sized : (machine : MachineType) (dll : List ℕ) → IsSized (head machine dll)
+pub head_sized : (machine : MachineType) (dll : List ℕ) → IsSized (head machine dll)
 unfolding head_object
 head_sized machine dll = (tt, (tt, (tt, ((omega arith, (omega arith, (omega arith, tt))), (tt, (tt, tt))))))
 
-tail_sized : (machine : MachineType) (dll : List ℕ) → IsSized (tail machine dll)
+pub tail_sized : (machine : MachineType) (dll : List ℕ) → IsSized (tail machine dll)
 unfolding tail_object
 tail_sized machine dll = (tt, (tt, (tt, (tt, (tt, (tt, tt))))))
 
@@ -84,7 +84,7 @@ export_sized : (machine : MachineType) (dll : List ℕ) (e : ExportView) → IsS
 unfolding export_object
 export_sized machine dll e = (stub_within machine e, (tt, (tt, ((omega arith, tt), (thunk_within machine e, (thunk_within machine e, (tt, tt)))))))
 
-exports_sized : (machine : MachineType) (dll : List ℕ) (es : List ExportView) (rest : List Object) → AllByRecursion IsSized rest → AllByRecursion IsSized (map (export machine dll) es ++ rest)
+pub exports_sized : (machine : MachineType) (dll : List ℕ) (es : List ExportView) (rest : List Object) → AllByRecursion IsSized rest → AllByRecursion IsSized (map (export machine dll) es ++ rest)
 exports_sized machine dll [] rest all = all
 exports_sized machine dll (e ∷ es) rest all = (export_sized machine dll e, exports_sized machine dll es rest all)
 

@@ -39,19 +39,21 @@ unfolding opened refusal renamed_refusal alias_specs encoded_size weak_object ha
 amd64 = record {
   made = (record { accepted = refl; made = refl; ordinals = refl }, (record { accepted = refl; made = refl; ordinals = refl }, tt));
   program = record {
-    distinct = distinct_by (null_descriptor_symbol ∷ symbols_listed (all_members AMD64 (both_inputs AMD64))) refl;
-    null_from = foo_input AMD64;
-    null_held = (0, omega arith, refl);
-    null_flavor = refl;
-    before = take 0 (all_members AMD64 (both_inputs AMD64));
-    behind = drop 0 (all_members AMD64 (both_inputs AMD64));
-    members = refl;
-    tables = refl;
-    others = (
-      claims_none_by (null_descriptor_symbol ∷ symbols_listed (all_members AMD64 (both_inputs AMD64))) (caller AMD64) refl,
-      (claims_none_by (null_descriptor_symbol ∷ symbols_listed (all_members AMD64 (both_inputs AMD64))) (another AMD64) refl, tt),
-    );
-    found = (refl, (tt, tt));
+    held = record {
+      distinct = distinct_by (null_descriptor_symbol ∷ symbols_listed (all_members AMD64 (both_inputs AMD64))) refl;
+      null_from = foo_input AMD64;
+      null_held = (0, omega arith, refl);
+      null_flavor = refl;
+      before = take 0 (all_members AMD64 (both_inputs AMD64));
+      behind = drop 0 (all_members AMD64 (both_inputs AMD64));
+      members = refl;
+      tables = refl;
+      others = (
+        claims_none_by (null_descriptor_symbol ∷ symbols_listed (all_members AMD64 (both_inputs AMD64))) (caller AMD64) refl,
+        (claims_none_by (null_descriptor_symbol ∷ symbols_listed (all_members AMD64 (both_inputs AMD64))) (another AMD64) refl, tt),
+      );
+      found = (refl, (tt, tt));
+    };
     admissible = record {
       descriptors = (omega arith, refl);
       directory_ends = (omega arith, refl);
@@ -80,19 +82,21 @@ unfolding opened refusal renamed_refusal alias_specs encoded_size weak_object ha
 i386 = record {
   made = (record { accepted = refl; made = refl; ordinals = refl }, (record { accepted = refl; made = refl; ordinals = refl }, tt));
   program = record {
-    distinct = distinct_by (null_descriptor_symbol ∷ symbols_listed (all_members I386 (both_inputs I386))) refl;
-    null_from = foo_input I386;
-    null_held = (0, omega arith, refl);
-    null_flavor = refl;
-    before = take 2 (all_members I386 (both_inputs I386));
-    behind = drop 2 (all_members I386 (both_inputs I386));
-    members = refl;
-    tables = refl;
-    others = (
-      claims_none_by (null_descriptor_symbol ∷ symbols_listed (all_members I386 (both_inputs I386))) (caller I386) refl,
-      (claims_none_by (null_descriptor_symbol ∷ symbols_listed (all_members I386 (both_inputs I386))) (another I386) refl, tt),
-    );
-    found = (refl, (tt, tt));
+    held = record {
+      distinct = distinct_by (null_descriptor_symbol ∷ symbols_listed (all_members I386 (both_inputs I386))) refl;
+      null_from = foo_input I386;
+      null_held = (0, omega arith, refl);
+      null_flavor = refl;
+      before = take 2 (all_members I386 (both_inputs I386));
+      behind = drop 2 (all_members I386 (both_inputs I386));
+      members = refl;
+      tables = refl;
+      others = (
+        claims_none_by (null_descriptor_symbol ∷ symbols_listed (all_members I386 (both_inputs I386))) (caller I386) refl,
+        (claims_none_by (null_descriptor_symbol ∷ symbols_listed (all_members I386 (both_inputs I386))) (another I386) refl, tt),
+      );
+      found = (refl, (tt, tt));
+    };
     admissible = record {
       descriptors = (omega arith, refl);
       directory_ends = (omega arith, refl);

@@ -107,12 +107,9 @@ IsFoundByName Gnu dll = Unit {0}
 -- `behind`) among the members (`members`);
 -- `tables`: the objects with import tables are what these are taken for;
 -- `others`: the other objects stand anywhere before, between and behind, and claim none of the members' symbols;
--- `found`: linkers find each descriptor by its DLL's name;
--- `admissible`, `lookups`, `addresses`: the bases are admissible, and the tables begin at multiples of a
--- thunk's width;
--- `follows`: `.idata$3` begins where `.idata$2` ends.
-pub record IsFlavorProgram (machine : MachineType) (bases : Bases) (inputs : List FlavorInput)
-    (objects : List Object) : Type 0 where
+-- `found`: linkers find each descriptor by its DLL's name.
+pub record AreFlavorObjects (machine : MachineType) (inputs : List FlavorInput) (objects : List Object)
+    : Type 0 where
   pub distinct : IsDistinct bytes_eq (null_descriptor_symbol ∷ symbols_listed (all_members machine inputs))
   pub null_from : FlavorInput
   pub null_held : Contains inputs null_from
@@ -126,6 +123,12 @@ pub record IsFlavorProgram (machine : MachineType) (bases : Bases) (inputs : Lis
       (ClaimsNone (null_descriptor_symbol ∷ symbols_listed (all_members machine inputs)))
       (filter (λ o. not (has_tables o)) objects)
   pub found : AllByRecursion (λ p. IsFoundByName p.flavor (dll_of p)) inputs
+
+-- A program of such objects: the bases are admissible; the tables begin at multiples of a thunk's width;
+-- `.idata$3` begins where `.idata$2` ends.
+pub record IsFlavorProgram (machine : MachineType) (bases : Bases) (inputs : List FlavorInput)
+    (objects : List Object) : Type 0 where
+  pub held : AreFlavorObjects machine inputs objects
   pub admissible : IsAdmissible machine bases objects
   pub lookups : bases.lookups % thunk_width machine ≡ 0
   pub addresses : bases.addresses % thunk_width machine ≡ 0

@@ -8,12 +8,13 @@ ghost use Rattle.implib.specs.Object.{Object};
 ghost use Rattle.implib.specs.Placement.{Bases, placed_from};
 ghost use Rattle.implib.specs.declared.machine.MachineType.{MachineType};
 ghost use Rattle.implib_link.specs.FlavorLoaded.{AreLoaded};
-ghost use Rattle.implib_link.specs.FlavorProgram.{FlavorInput, FlavorsLink, IsCode, IsFlavorProgram, IsMadeFor, ask_in, dll_of, exports_chosen, imported_in, symbol_in, thunks_of};
+ghost use Rattle.implib_link.specs.FlavorProgram.{AreFlavorObjects, FlavorInput, FlavorsLink, IsCode, IsFlavorProgram, IsMadeFor, ask_in, dll_of, exports_chosen, imported_in, symbol_in, thunks_of};
 ghost use Rattle.implib_link.specs.FlavorTexts.{FlavorSource, FlavorTextsLink, IsFlavorSource, input_of};
 ghost use Rattle.implib_link.specs.Loaded.{Writes};
+ghost use Rattle.implib_link.specs.Packed.{packed, packed_end};
 ghost use Rattle.implib_link.specs.Stub.{CallReaches, CanJump, JumpsThrough};
 ghost use Rattle.std.specs.List.{AllByRecursion};
-ghost use Rattle.std.specs.Prelude.{◌≡◌, ◌+◌, ◌*◌, ◌++◌, ℕ, List, Some, length, map, slice_get};
+ghost use Rattle.std.specs.Prelude.{◌≡◌, ◌<◌, ◌+◌, ◌*◌, ◌^◌, ◌++◌, ℕ, List, Some, length, map, slice_get};
 
 /// The chosen members of several DLLs, each for Microsoft's linker or for GNU's, and a null descriptor link
 /// among any other objects: the import directory lists just these DLLs with just the chosen exports, ended by
@@ -85,4 +86,14 @@ pub fn stubs_of_flavors_jump()
         IsCode p.flavor e →
         CallReaches machine image_base (written ++ image_of machine bases (placed_from bases objects))
         (placed_from bases objects) (symbol_in p.flavor e) (gives (dll_of p) (ask_in p.flavor machine e)) }
+{}
+
+/// Packed placement from any address on makes a program of such objects, where it ends below 2^31.
+pub fn packed_flavors_are_program()
+    ensures program { (machine : MachineType) (first : ℕ) (inputs : List FlavorInput) (objects : List Object) →
+        AllByRecursion (IsMadeFor machine) inputs →
+        AreFlavorObjects machine inputs objects →
+        0 < first →
+        packed_end first objects < 2 ^ 31 →
+        IsFlavorProgram machine (packed first objects) inputs objects }
 {}
