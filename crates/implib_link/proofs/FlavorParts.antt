@@ -154,31 +154,31 @@ module _ (d : DefinitionView) (machine : MachineType) (members : List MemberView
   header_at : (p : MemberSpec) → Among p (header_specs machine d.import_name) → Among p (member_specs (renamed d) machine Msvc)
   header_at p m = among_front p (header_specs machine d.import_name) (flat_map (export_specs machine d.import_name) (public_exports (renamed d))) m
 
-  descriptor_at : Among (descriptor_spec machine d.import_name) (member_specs (renamed d) machine Msvc)
+  pub descriptor_at : Among (descriptor_spec machine d.import_name) (member_specs (renamed d) machine Msvc)
   unfolding header_specs
   descriptor_at = header_at (descriptor_spec machine d.import_name) (among_first _ _)
 
-  null_at : Among (null_descriptor_spec machine d.import_name) (member_specs (renamed d) machine Msvc)
+  pub null_at : Among (null_descriptor_spec machine d.import_name) (member_specs (renamed d) machine Msvc)
   unfolding header_specs
   null_at = header_at (null_descriptor_spec machine d.import_name) (among_later _ _ _ (among_first _ _))
 
-  thunk_at : Among (null_thunk_spec machine d.import_name) (member_specs (renamed d) machine Msvc)
+  pub thunk_at : Among (null_thunk_spec machine d.import_name) (member_specs (renamed d) machine Msvc)
   unfolding header_specs
   thunk_at = header_at (null_thunk_spec machine d.import_name) (among_later _ _ _ (among_later _ _ _ (among_first _ _)))
 
-  short_at : (e : ExportView) → Among e (public_exports (renamed d)) → Among (short_import_spec machine d.import_name e) (member_specs (renamed d) machine Msvc)
+  pub short_at : (e : ExportView) → Among e (public_exports (renamed d)) → Among (short_import_spec machine d.import_name e) (member_specs (renamed d) machine Msvc)
   short_at e m =
       among_back _ (header_specs machine d.import_name) (flat_map (export_specs machine d.import_name) (public_exports (renamed d)))
       (among_flat (export_specs machine d.import_name) e (public_exports (renamed d)) (short_import_spec machine d.import_name e) m
       (among_back _ (weak_specs machine d.import_name e) (short_import_spec machine d.import_name e ∷ []) (among_first _ _)))
 
-  read_of : (p : MemberSpec) → Among p (member_specs (renamed d) machine Msvc) → file_in (file_bytes p.contents) ≡ Some (file_of p.contents)
+  pub read_of : (p : MemberSpec) → Among p (member_specs (renamed d) machine Msvc) → file_in (file_bytes p.contents) ≡ Some (file_of p.contents)
   read_of p m = (all_among (λ (q : MemberSpec). ReadsBack q.contents) p (member_specs (renamed d) machine Msvc) m reads).read
 
   taken_of : (p : MemberSpec) → Among p (member_specs (renamed d) machine Msvc) → taken_in machine (member_of p).bytes ≡ taken_as machine (file_of p.contents)
   taken_of p m = taken_by machine (file_bytes p.contents) (file_of p.contents) (read_of p m)
 
-  descriptor_taken : taken_in machine (member_of (descriptor_spec machine d.import_name)).bytes ≡ Some (taken_descriptor machine d.import_name)
+  pub descriptor_taken : taken_in machine (member_of (descriptor_spec machine d.import_name)).bytes ≡ Some (taken_descriptor machine d.import_name)
   unfolding descriptor_spec
   descriptor_taken = taken_of (descriptor_spec machine d.import_name) descriptor_at
 
@@ -186,11 +186,11 @@ module _ (d : DefinitionView) (machine : MachineType) (members : List MemberView
   unfolding null_descriptor_spec
   null_taken = taken_of (null_descriptor_spec machine d.import_name) null_at
 
-  thunk_taken : taken_in machine (member_of (null_thunk_spec machine d.import_name)).bytes ≡ Some (taken_null_thunk machine d.import_name)
+  pub thunk_taken : taken_in machine (member_of (null_thunk_spec machine d.import_name)).bytes ≡ Some (taken_null_thunk machine d.import_name)
   unfolding null_thunk_spec
   thunk_taken = taken_of (null_thunk_spec machine d.import_name) thunk_at
 
-  short_taken : (e : ExportView) → Among e (public_exports (renamed d)) →
+  pub short_taken : (e : ExportView) → Among e (public_exports (renamed d)) →
       taken_in machine (member_of (short_import_spec machine d.import_name e)).bytes ≡ Some (asking machine d.import_name e)
   short_taken e m = taken_of (short_import_spec machine d.import_name e) (short_at e m) ∙ short_import_taken machine d.import_name e
 

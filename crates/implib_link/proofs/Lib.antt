@@ -37,3 +37,4 @@ pub mod FlavorTexts
 pub mod FlavorLoaded
 pub mod FlavorStubs
 pub mod FlavorPacked
+pub mod MsvcSearch

@@ -18,3 +18,4 @@ pub mod WorkedExpansion
 pub mod WorkedFlavors
 pub mod FlavorTexts
 pub mod FlavorLoaded
+pub mod MsvcSearch

@@ -2,6 +2,7 @@
 
 pub mod flavors;
 pub mod loaded;
+pub mod msvc_search;
 pub mod packed;
 pub mod program;
 pub mod search;

@@ -1,0 +1,29 @@
+//! The law of archive search of members for Microsoft's linker.
+
+ghost use Rattle.implib.specs.Definition.{DefinitionView};
+ghost use Rattle.implib.specs.MemberSpec.{MemberView};
+ghost use Rattle.implib.specs.Members.{AreMembersOf};
+ghost use Rattle.implib.specs.MsvcObjects.{descriptor_symbol};
+ghost use Rattle.implib.specs.declared.machine.MachineType.{MachineType};
+ghost use Rattle.implib.specs.declared.members.Flavor.TheVariants.{Msvc};
+ghost use Rattle.implib_link.specs.Expansion.{descriptor_wanted};
+ghost use Rattle.implib_link.specs.MsvcSearch.{NamesNoHeader, TakesFor, msvc_if_any, shorts_wanted};
+ghost use Rattle.implib_link.specs.Search.{HaveSame};
+ghost use Rattle.std.specs.List.{IsDistinct, flat_map};
+ghost use Rattle.std.specs.Prelude.{◌≡◌, ℕ, List, bytes_eq};
+
+/// A linker takes of an archive of the members for Microsoft's linker just the short imports that are wanted,
+/// the import descriptor, the null descriptor and the null thunk, which are found by the symbols that they are
+/// listed for; nothing, where no export is wanted.
+///
+/// All listed symbols differ, so no export has an alias. The DLL's name leads linkers to its descriptor.
+pub fn search_takes_short_imports()
+    ensures takes { (machine : MachineType) (d : DefinitionView) (members taken : List MemberView)
+        (wanted : List (List ℕ)) →
+        AreMembersOf d machine Msvc members →
+        IsDistinct bytes_eq (flat_map (λ m. m.symbols) members) →
+        descriptor_wanted d.import_name ≡ descriptor_symbol d.import_name →
+        NamesNoHeader d.import_name wanted →
+        TakesFor machine members wanted taken →
+        HaveSame taken (msvc_if_any d machine (shorts_wanted d wanted)) }
+{}
