@@ -24,7 +24,7 @@ pub claimed_export : (machine : MachineType) (dll : List ℕ) (e : ExportView) �
 unfolding export_object
 claimed_export machine dll e = elim (cases_Bool e.is_data) [ inl is ↦ rw is refl | inr is ↦ rw is refl ]
 
-claimed_after : (machine : MachineType) (dll : List ℕ) (es : List ExportView) (rest : List Object) →
+pub claimed_after : (machine : MachineType) (dll : List ℕ) (es : List ExportView) (rest : List Object) →
     flat_map claimed_names (after_head machine dll es rest) ≡ (flat_map export_listed es ++ name_symbol machine dll ∷ []) ++ flat_map claimed_names rest
 claimed_after machine dll [] rest = ap (λ names. names ++ flat_map claimed_names rest) (claimed_tail machine dll)
 claimed_after machine dll (e ∷ es) rest =

@@ -32,10 +32,13 @@ use Rattle.implib_link.specs.Directory.{DirectoryAt}
 use Rattle.implib_link.specs.Expansion.{asking_object, taken_in}
 use Rattle.implib_link.specs.FlavorProgram.{AreFlavorObjects, FlavorInput, FlavorsLink, InputImports, IsFlavorProgram, IsMadeFor, SymbolsAt, SymbolsGet, address_symbols, all_members, ask_in, dll_of, exports_chosen, imported_in, null_member, objects_taken, symbol_in, symbols_listed, thunks_of}
 use Rattle.implib_link.specs.Packed.{group_end, sections_end}
-use Rattle.implib_link.specs.Program.{ClaimsNone, claimed_names, has_tables, thunks_before, with_tables}
+use Rattle.implib_link.specs.Program.{ClaimsNone, claimed_names, has_tables, names_claimed_in, thunks_before, with_tables}
+use Rattle.implib_link.specs.Search.{HaveSame}
 use Rattle.implib_link.specs.SectionSymbols.{with_section_symbols}
 use Rattle.implib_link.proofs.FlavorBlock.{OneLinks, asking, behind_descriptor, objects_of, use_for}
 use Rattle.implib_link.proofs.FlavorBlocks.{EachIn, FlavorBlock, all_objects, definitions-all, definitions_all, descriptors_all, directory_in, each_in, ends_all, imported_of, names-all, nth_in, thunks_in}
+use Rattle.implib_link.proofs.Claims.{claimed_placed}
+use Rattle.implib_link.proofs.FlavorClaims.{all_claim_listed, claimed_with_null}
 use Rattle.implib_link.proofs.FlavorParts.{block_in, inputs_link, inputs_objects, inputs_symbols, inputs_taken, null_object, objects_with_null}
 use Rattle.implib_link.proofs.NullDescriptor.{EndsNothing, addresses_same, among_same, descriptors_end_same, descriptors_same, dll_names_same, finds_same, hint_names_same, lookups_same, null_filled, null_once, others_same, undefined_same}
 use Rattle.implib_link.proofs.Others.{contributions_kept, definitions_kept, placed_kept}
@@ -321,4 +324,7 @@ module _ (machine : MachineType) (b : Bases) (inputs : List FlavorInput) (object
     targets = targets;
     defined = all_defined;
     listed = subst (AllByRecursion (IsDefinedOnce linked)) names_are (once_of linked defined only);
+    claimed = subst (λ ns. HaveSame ns (null_descriptor_symbol ∷ names)) (sym (ap names_claimed_in kept_placed ∙ claimed_placed b (front ++ taken_null machine ∷ back)))
+        (claimed_with_null machine front back names
+        (ap (flat_map claimed_names) (parts_are machine inputs objects made program.held) ∙ all_claim_listed machine dlls ∙ sym (inputs_symbols machine inputs made)));
   }

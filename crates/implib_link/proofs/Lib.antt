@@ -29,6 +29,7 @@ pub mod Taken
 pub mod FlavorBlock
 pub mod FlavorBlocks
 pub mod NullDescriptor
+pub mod FlavorClaims
 pub mod FlavorParts
 pub mod FlavorProgram
 pub mod WorkedExpansion

@@ -28,34 +28,13 @@ use Rattle.implib_link.specs.Program.{claimed_names}
 use Rattle.implib_link.specs.Search.{HaveSame, left_by}
 use Rattle.implib_link.specs.SectionSymbols.{with_section_symbols}
 use Rattle.implib_link.proofs.FlavorBlock.{asking, use_for}
+use Rattle.implib_link.proofs.FlavorClaims.{claims_asking, claims_descriptor, claims_null, claims_thunk}
 use Rattle.implib_link.proofs.FlavorParts.{descriptor_at, descriptor_taken, null_at, null_taken, read_of, short_at, short_taken, thunk_at, thunk_taken}
 use Rattle.implib_link.proofs.Search.{in_nothing, only_one, wanted_name, wants}
 use Rattle.implib_link.proofs.SearchLists.{all_listed, among_any, among_either, among_mapped, any_among, contains_among, listed_is, listed_once, one_member}
 use Rattle.implib_link.proofs.Taken.{taken_descriptor, taken_null, taken_null_thunk}
 
--- What the members claim and leave.
-
-claims_descriptor : (machine : MachineType) (dll : List ℕ) → claimed_names (taken_descriptor machine dll) ≡ descriptor_symbol dll ∷ []
-unfolding with_section_symbols object_of descriptor entries_of name_text
-claims_descriptor machine dll = refl
-
-claims_null : (machine : MachineType) → claimed_names (taken_null machine) ≡ null_descriptor_symbol ∷ []
-unfolding with_section_symbols object_of null_descriptor entries_of name_text
-claims_null machine = refl
-
-claims_thunk : (machine : MachineType) (dll : List ℕ) → claimed_names (taken_null_thunk machine dll) ≡ null_thunk_symbol dll ∷ []
-unfolding with_section_symbols object_of null_thunk entries_of name_text
-claims_thunk machine dll = refl
-
-claims_asking : (machine : MachineType) (dll symbol : List ℕ) (ask : Ask) (is_data constant : Bool) →
-    claimed_names (asking_object machine dll symbol ask (if is_data then Data else if constant then Constant else Code)) ≡ address_symbol symbol ∷ (if is_data then [] else symbol ∷ [])
-unfolding asking_object
-claims_asking machine dll symbol (Ordinal n) true constant = refl
-claims_asking machine dll symbol (Ordinal n) false true = refl
-claims_asking machine dll symbol (Ordinal n) false false = refl
-claims_asking machine dll symbol (Name text hint) true constant = refl
-claims_asking machine dll symbol (Name text hint) false true = refl
-claims_asking machine dll symbol (Name text hint) false false = refl
+-- What the members leave.
 
 left_descriptor : (machine : MachineType) (dll : List ℕ) → left_by (taken_descriptor machine dll) ≡ null_descriptor_symbol ∷ null_thunk_symbol dll ∷ []
 unfolding left_by with_section_symbols object_of descriptor entries_of name_text

@@ -26,7 +26,8 @@ use Rattle.implib.specs.Resolution.{definitions_of}
 use Rattle.implib_link.specs.Directory.{DirectoryAt, Imported}
 use Rattle.implib_link.specs.Expansion.{descriptor_wanted, taken_in}
 use Rattle.implib_link.specs.Packed.{group_end}
-use Rattle.implib_link.specs.Program.{ClaimsNone, GetsAddress, has_tables, thunks_before, with_tables}
+use Rattle.implib_link.specs.Program.{ClaimsNone, GetsAddress, has_tables, names_claimed_in, thunks_before, with_tables}
+use Rattle.implib_link.specs.Search.{HaveSame}
 
 -- an input of a link in a flavour: a definition, its members for this flavour's linker, and the numbers of the
 -- chosen exports
@@ -189,7 +190,9 @@ thunks_of i inputs = thunks_before i (map (λ p. p.input) inputs)
 -- `null`: it is the null descriptor that ends it, whose symbol has this address (`ended`);
 -- `targets`: every relocation of a member finds its target;
 -- `defined`: every symbol that a member leaves to others is defined once, at an address;
--- `listed`: every symbol that a member is listed for is defined once.
+-- `listed`: every symbol that a member is listed for is defined once;
+-- `claimed`: the names that the members claim are those that they are listed for, the null descriptor's with
+-- them, and no others.
 pub record FlavorsLink (machine : MachineType) (bases : Bases) (inputs : List FlavorInput)
     (objects : List Object) : Type 0 where
   pub linked : AllByRecursion (IsTaken machine) inputs
@@ -206,3 +209,5 @@ pub record FlavorsLink (machine : MachineType) (bases : Bases) (inputs : List Fl
       (undefined_names (with_tables (placed_from bases objects)))
   pub listed : AllByRecursion (IsDefinedOnce (placed_from bases objects))
       (symbols_listed (all_members machine inputs))
+  pub claimed : HaveSame (names_claimed_in (with_tables (placed_from bases objects)))
+      (null_descriptor_symbol ∷ symbols_listed (all_members machine inputs))
