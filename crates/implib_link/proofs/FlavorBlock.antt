@@ -2,7 +2,6 @@
 use Rattle.std.proofs.Common.{◌≡◌, ℕ, ◌+◌, ◌%◌, ◌<◌, ◌^◌, Bool, true, false, List, [], ◌∷◌, ◌++◌, length, map, Some, None, refl, ap, sym, ◌∙◌, arith, subst, if◌then◌else◌}
 use Rattle.std.specs.List.{AllByRecursion, flat_map}
 use Rattle.std.proofs.lemmas.List.{append_assoc, length-replicate}
-use Rattle.implib.specs.declared.coff.object.Relocation.{Relocation}
 use Rattle.implib.specs.declared.machine.MachineType.{MachineType}
 use Rattle.implib.specs.declared.members.Flavor.{Flavor}
 use Rattle.implib.specs.declared.members.Flavor.TheVariants.{Gnu, Msvc}
@@ -21,14 +20,14 @@ use Rattle.implib.specs.Placement.{Bases, Placed, next_multiple, placed_from}
 use Rattle.implib.specs.Resolution.{SymbolDefinition, defined_by, definitions, definitions_of}
 use Rattle.implib.proofs.Descriptors.{descriptor_loads}
 use Rattle.implib.proofs.Linked.{StandsFrom, all_of_stub, block_defined, block_definitions, block_links, block_targets, definitions-block, ends_of_block, head_definition, rest_stands}
-use Rattle.implib.proofs.Placement.{AreAligned, after_head, ends_of_all, ends_of_export, ends_of_exports, ends_of_head, ends_of_tail, head, names-after}
+use Rattle.implib.proofs.Placement.{after_head, ends_of_all, ends_of_export, ends_of_exports, ends_of_head, head, names-after}
 use Rattle.implib.proofs.Ranges.{Among, among_back, among_first, among_later}
 use Rattle.implib.proofs.Tables.{CanBeAsked}
 use Rattle.implib.proofs.Thunks.{StrictTableAt, zeros_number}
 use Rattle.implib_link.specs.Expansion.{Code, Constant, Data, Use, asking_object, descriptor_wanted, stub_relocations_for}
 use Rattle.implib_link.specs.FlavorProgram.{IsFoundByName, SymbolsAt, ask_in, descriptor_in, symbol_in}
 use Rattle.implib_link.specs.SectionSymbols.{with_section_symbols}
-use Rattle.implib_link.proofs.Taken.{AreWide, AskFits, asking_stands, descriptor_stands, ends_of_asking, ends_of_descriptor, ends_of_null_thunk, null_thunk_stands, placed-asking, placed-descriptor, placed-null_thunk, placed_asking, placed_descriptor, placed_null_thunk, taken_descriptor, taken_null_thunk, wide_aligned, wide_asking, wide_descriptor, wide_next, wide_null_thunk}
+use Rattle.implib_link.proofs.Taken.{AreWide, AskFits, asking_stands, descriptor_stands, ends_of_asking, ends_of_descriptor, ends_of_null_thunk, null_thunk_stands, placed-asking, placed-descriptor, placed-null_thunk, placed_asking, placed_descriptor, taken_descriptor, taken_null_thunk, wide_aligned, wide_asking, wide_descriptor, wide_next, wide_null_thunk}
 
 -- what an export is used for
 abbrev pub use_for : ExportView → Use

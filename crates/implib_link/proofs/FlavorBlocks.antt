@@ -17,8 +17,8 @@ use Rattle.implib.specs.MsvcObjects.{null_descriptor_symbol}
 use Rattle.implib.specs.Object.{Object}
 use Rattle.implib.specs.Placement.{Bases, Placed, placed_from}
 use Rattle.implib.specs.Resolution.{SymbolDefinition, definitions, definitions_of}
-use Rattle.implib.proofs.Linked.{StandsFrom, ends_of_block}
-use Rattle.implib.proofs.Placement.{ends_of_all, ends_of_export, ends_of_exports, ends_of_head}
+use Rattle.implib.proofs.Linked.{StandsFrom}
+use Rattle.implib.proofs.Placement.{ends_of_head}
 use Rattle.implib.proofs.Ranges.{Among, among_back, among_front}
 use Rattle.implib_link.specs.Directory.{DirectoryAt, Imported}
 use Rattle.implib_link.specs.FlavorProgram.{IsFoundByName, ask_in}

@@ -1,20 +1,20 @@
 -- The names that the members of both flavours claim: those that they are listed for.
 use Rattle.std.proofs.Common.{◌≡◌, ℕ, Bool, true, false, List, [], ◌∷◌, ◌++◌, map, refl, ap, sym, ◌∙◌, subst, inl, inr, if◌then◌else◌}
-use Rattle.std.specs.List.{Contains, flat_map}
+use Rattle.std.specs.List.{flat_map}
 use Rattle.std.proofs.lemmas.Grind.{flat_map-append}
 use Rattle.std.proofs.lemmas.List.{append_assoc}
 use Rattle.implib.specs.declared.machine.MachineType.{MachineType}
 use Rattle.implib.specs.declared.members.Flavor.{Flavor}
 use Rattle.implib.specs.declared.members.Flavor.TheVariants.{Gnu, Msvc}
 use Rattle.implib.specs.Definition.{ExportView}
-use Rattle.implib.specs.Gnu.{export_listed, head_symbol, name_symbol}
+use Rattle.implib.specs.Gnu.{head_symbol}
 use Rattle.implib.specs.Import.{Ask, Name, Ordinal, address_symbol}
 use Rattle.implib.specs.Layout.{entries_of, name_text, object_of}
 use Rattle.implib.specs.Msvc.{short_import_listed, short_import_symbol}
 use Rattle.implib.specs.MsvcObjects.{descriptor, descriptor_symbol, null_descriptor, null_descriptor_symbol, null_thunk, null_thunk_symbol}
 use Rattle.implib.specs.Object.{Object}
 use Rattle.implib.proofs.LinkedMembers.{among_contains}
-use Rattle.implib.proofs.Placement.{export, head, tail}
+use Rattle.implib.proofs.Placement.{export, tail}
 use Rattle.implib.proofs.Ranges.{Among, among_back, among_front}
 use Rattle.implib_link.specs.Expansion.{Code, Constant, Data, asking_object}
 use Rattle.implib_link.specs.FlavorProgram.{ask_in}
@@ -22,7 +22,7 @@ use Rattle.implib_link.specs.Program.{claimed_names}
 use Rattle.implib_link.specs.Search.{HaveSame}
 use Rattle.implib_link.specs.SectionSymbols.{with_section_symbols}
 use Rattle.implib_link.proofs.Claims.{claimed_after, claimed_head}
-use Rattle.implib_link.proofs.FlavorBlock.{asking, behind_descriptor, objects_of, symbols_of}
+use Rattle.implib_link.proofs.FlavorBlock.{behind_descriptor, objects_of, symbols_of}
 use Rattle.implib_link.proofs.FlavorBlocks.{FlavorBlock, all_objects}
 use Rattle.implib_link.proofs.SearchLists.{among_either, contains_among}
 use Rattle.implib_link.proofs.Taken.{taken_descriptor, taken_null, taken_null_thunk}

@@ -1,5 +1,5 @@
 -- Packed placement of both flavours makes a program.
-use Rattle.std.proofs.Common.{◌≡◌, ℕ, ◌+◌, ◌*◌, ◌-◌, ◌%◌, ◌^◌, ◌<◌, ◌≤◌, List, [], ◌∷◌, ◌++◌, length, map, refl, ap, sym, ◌∙◌, subst, arith}
+use Rattle.std.proofs.Common.{◌≡◌, ℕ, ◌+◌, ◌*◌, ◌%◌, ◌^◌, ◌<◌, ◌≤◌, List, [], ◌∷◌, length, map, ap, sym, ◌∙◌, subst, arith}
 use Rattle.std.specs.List.{AllByRecursion, filter}
 use Rattle.std.proofs.lemmas.List.{length-replicate}
 use Rattle.implib.specs.declared.machine.MachineType.{MachineType}
@@ -20,14 +20,14 @@ use Rattle.implib_link.specs.FlavorProgram.{AreFlavorObjects, FlavorInput, IsFla
 use Rattle.implib_link.specs.Packed.{group_end, packed, packed_descriptors, packed_end}
 use Rattle.implib_link.specs.Program.{has_tables}
 use Rattle.implib_link.specs.SectionSymbols.{with_section_symbols}
-use Rattle.implib_link.proofs.FlavorBlock.{asking, behind_descriptor, objects_of, use_for}
+use Rattle.implib_link.proofs.FlavorBlock.{behind_descriptor, objects_of, use_for}
 use Rattle.implib_link.proofs.FlavorBlocks.{FlavorBlock, all_objects}
 use Rattle.implib_link.proofs.FlavorParts.{block_in}
 use Rattle.implib_link.proofs.FlavorProgram.{directory_end, kept_are, parts_are}
 use Rattle.implib_link.proofs.NullDescriptor.{all_insert}
 use Rattle.implib_link.proofs.Packed.{admissible, packed_eights}
 use Rattle.implib_link.proofs.Sized.{AreWithin, IsSized, exports_sized, head_sized, tail_sized, thunk_size}
-use Rattle.implib_link.proofs.Taken.{taken_descriptor, taken_null, taken_null_thunk}
+use Rattle.implib_link.proofs.Taken.{taken_descriptor, taken_null}
 
 -- Relocations are within their sections.
 

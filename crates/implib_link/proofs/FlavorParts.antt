@@ -1,6 +1,6 @@
 -- What a linker takes the members of definitions for, in either flavour.
-use Rattle.std.proofs.Common.{◌≡◌, ℕ, ◌+◌, ◌<◌, ◌^◌, Bool, true, false, List, [], ◌∷◌, ◌++◌, map, Option, Some, None, refl, ap, sym, ◌∙◌, arith, subst, inl, inr, if◌then◌else◌}
-use Rattle.std.specs.Prelude.{◌&&◌, ◌==◌, nat_le, slice_get, suc, take, zero}
+use Rattle.std.proofs.Common.{◌≡◌, ℕ, ◌<◌, ◌^◌, Bool, true, false, List, [], ◌∷◌, ◌++◌, map, Option, Some, None, refl, ap, sym, ◌∙◌, subst, inl, inr, if◌then◌else◌}
+use Rattle.std.specs.Prelude.{◌==◌, nat_le, slice_get, suc, take, zero}
 use Rattle.std.specs.List.{AllByRecursion, Contains, cons_option, filter_map, flat_map, position_or_len}
 use Rattle.std.specs.Option.{option_and_then, option_map}
 use Rattle.std.proofs.lemmas.Bool.{cases_Bool, le-leb, ltb-true, or_parts}
@@ -13,10 +13,10 @@ use Rattle.implib.specs.declared.members.Flavor.{Flavor}
 use Rattle.implib.specs.declared.members.Flavor.TheVariants.{Gnu, Msvc}
 use Rattle.implib.specs.Ascii.{at_sign, holds, question_mark, underscore}
 use Rattle.implib.specs.Definition.{DefinitionView, ExportView}
-use Rattle.implib.specs.File.{File, ObjectFile, ShortImportFile, file_in, short_import_or_object}
+use Rattle.implib.specs.File.{File, ObjectFile, file_in, short_import_or_object}
 use Rattle.implib.specs.Gnu.{export_object, head_object, tail_object}
 use Rattle.implib.specs.GnuMembers.{export_spec, gnu_specs, head_spec, tail_spec}
-use Rattle.implib.specs.Import.{Ask, Name, Ordinal, begins_with, public_exports, without_first}
+use Rattle.implib.specs.Import.{Name, Ordinal, begins_with, public_exports, without_first}
 use Rattle.implib.specs.Layout.{HasNoNul, encoded, object_of}
 use Rattle.implib.specs.LinkedMembers.{chosen_exports, linked_specs, numbered_spec}
 use Rattle.implib.specs.Machine.{machine_number}
@@ -24,23 +24,23 @@ use Rattle.implib.specs.MemberSpec.{AShortImport, AnObject, Contents, MemberSpec
 use Rattle.implib.specs.Members.{AreMembersOf, member_specs}
 use Rattle.implib.specs.Msvc.{kind_of, name_type_of, short_import_listed, short_import_of, short_import_symbol}
 use Rattle.implib.specs.MsvcMembers.{descriptor_spec, export_specs, header_specs, null_descriptor_spec, null_thunk_spec, short_import_spec, weak_specs}
-use Rattle.implib.specs.MsvcObjects.{descriptor_symbol, null_thunk_symbol}
+use Rattle.implib.specs.MsvcObjects.{descriptor_symbol}
 use Rattle.implib.specs.Object.{Object, object_in}
 use Rattle.implib.specs.ReadBack.{file_of}
 use Rattle.implib.specs.Renaming.{renamed}
-use Rattle.implib.specs.ShortImport.{ShortImport, ask_of_short_import, asked_by_name_type, before_at_sign, import_code, import_const, import_data, import_name, import_name_noprefix, import_name_undecorate, import_ordinal, short_import_in, without_prefix}
+use Rattle.implib.specs.ShortImport.{ShortImport, ask_of_short_import, asked_by_name_type, before_at_sign, import_code, import_const, import_data, import_name, import_name_noprefix, import_name_undecorate, short_import_in, without_prefix}
 use Rattle.implib.proofs.GnuReadings.{member_specs_read}
 use Rattle.implib.proofs.Import.{name_type_is_ordinal, name_type_of_fits, symbol_without_nul}
 use Rattle.implib.proofs.LinkedBlocks.{linked_objects}
 use Rattle.implib.proofs.LinkedMembers.{among_contains, among_map, chosen_among, exports_fit, head_among, members_among, read_as, symbols_are}
-use Rattle.implib.proofs.MemberReadings.{ReadsBack, map_after, map_same, member_specs_read_back}
+use Rattle.implib.proofs.MemberReadings.{ReadsBack, map_after, member_specs_read_back}
 use Rattle.implib.proofs.NotRefused.{Sound, exports_sound, import_name_is_free, none_long}
 use Rattle.implib.proofs.Placement.{export, head, tail}
 use Rattle.implib.proofs.Ranges.{Among, all_among, among_back, among_first, among_flat, among_front, among_later}
-use Rattle.implib_link.specs.Expansion.{Code, Constant, Data, Use, asking_object, expansion, is_import_for, taken_as, taken_in, use_of}
+use Rattle.implib_link.specs.Expansion.{Code, Constant, Data, asking_object, expansion, is_import_for, taken_as, taken_in, use_of}
 use Rattle.implib_link.specs.FlavorProgram.{FlavorInput, IsFoundByName, IsMadeFor, IsTaken, all_members, ask_in, dll_of, exports_chosen, members_linked, null_member, objects_taken, specs_in, symbols_listed}
 use Rattle.implib_link.specs.SectionSymbols.{with_section_symbols}
-use Rattle.implib_link.proofs.FlavorBlock.{FitsIn, asking, behind_descriptor, objects_of, symbols_of, use_for}
+use Rattle.implib_link.proofs.FlavorBlock.{FitsIn, asking, objects_of, symbols_of}
 use Rattle.implib_link.proofs.FlavorBlocks.{CanLink, FlavorBlock, all_objects}
 use Rattle.implib_link.proofs.Taken.{AskFits, taken_descriptor, taken_null, taken_null_thunk}
 use Rattle.implib_link.proofs.Texts.{all_chosen}

@@ -1,7 +1,7 @@
 -- A program of DLLs in both flavours links.
-use Rattle.std.proofs.Common.{◌≡◌, ℕ, ◌+◌, ◌*◌, ◌%◌, zero, suc, false, List, [], ◌∷◌, ◌++◌, length, map, Some, None, refl, ap, sym, ◌∙◌, arith, subst, inl, inr}
+use Rattle.std.proofs.Common.{◌≡◌, ℕ, ◌+◌, ◌*◌, ◌%◌, zero, suc, false, List, [], ◌∷◌, ◌++◌, length, map, Some, refl, ap, sym, ◌∙◌, arith, subst, inl, inr}
 use Rattle.std.specs.Prelude.{bytes_eq, not, option_map, slice_get}
-use Rattle.std.specs.List.{AllByRecursion, Contains, IsDistinct, filter, flat_map, list_any}
+use Rattle.std.specs.List.{AllByRecursion, Contains, IsDistinct, filter, flat_map}
 use Rattle.std.proofs.lemmas.List.{append-nil, length-map}
 use Rattle.std.proofs.lemmas.List.Elements.{filter_map-append}
 use Rattle.std.proofs.lemmas.Option.{slice_get-map}
@@ -15,27 +15,26 @@ use Rattle.implib.specs.Import.{Ask, Name, Ordinal, address_symbol}
 use Rattle.implib.specs.ImportTables.{thunk_width, zeros}
 use Rattle.implib.specs.Layout.{entries_of, name_text, object_of}
 use Rattle.implib.specs.Linked.{AllFind, IsDefinedAt, IsDefinedOnce, undefined_names}
-use Rattle.implib.specs.Load.{BytesAt, LoadsStrictly}
+use Rattle.implib.specs.Load.{BytesAt}
 use Rattle.implib.specs.Msvc.{short_import_symbol}
 use Rattle.implib.specs.MsvcObjects.{descriptor, null_descriptor_symbol, null_thunk}
 use Rattle.implib.specs.Object.{Object}
-use Rattle.implib.specs.Placement.{Addresses, Bases, Descriptors, DirectoryEnds, DllNames, Group, HintNames, Lookups, Placed, base_of, next_multiple, placed_from}
+use Rattle.implib.specs.Placement.{Addresses, Bases, Descriptors, DirectoryEnds, DllNames, Group, HintNames, Lookups, Placed, base_of, placed_from}
 use Rattle.implib.specs.Resolution.{SymbolDefinition, definitions, definitions_of}
 use Rattle.implib.proofs.Definitions.{not_same_turned, only_definition}
 use Rattle.implib.proofs.Linked.{StandsFrom}
 use Rattle.implib.proofs.LinkedBlocks.{all_stand, ends, group_stands, starts}
-use Rattle.implib.proofs.LinkedMembers.{all_at, among_map}
-use Rattle.implib.proofs.LinkedParts.{all_of_map}
-use Rattle.implib.proofs.Placement.{aligned, export, head, tail}
+use Rattle.implib.proofs.LinkedMembers.{among_map}
+use Rattle.implib.proofs.Placement.{aligned, export, tail}
 use Rattle.implib.proofs.Ranges.{Among, all_among, among_first, among_later}
 use Rattle.implib_link.specs.Directory.{DirectoryAt}
 use Rattle.implib_link.specs.Expansion.{asking_object, taken_in}
 use Rattle.implib_link.specs.FlavorProgram.{AreFlavorObjects, FlavorInput, FlavorsLink, InputImports, IsFlavorProgram, IsMadeFor, SymbolsAt, SymbolsGet, address_symbols, all_members, ask_in, dll_of, exports_chosen, imported_in, null_member, objects_taken, symbol_in, symbols_listed, thunks_of}
 use Rattle.implib_link.specs.Packed.{group_end, sections_end}
-use Rattle.implib_link.specs.Program.{ClaimsNone, claimed_names, has_tables, names_claimed_in, thunks_before, with_tables}
+use Rattle.implib_link.specs.Program.{claimed_names, has_tables, names_claimed_in, with_tables}
 use Rattle.implib_link.specs.Search.{HaveSame}
 use Rattle.implib_link.specs.SectionSymbols.{with_section_symbols}
-use Rattle.implib_link.proofs.FlavorBlock.{OneLinks, asking, behind_descriptor, objects_of, use_for}
+use Rattle.implib_link.proofs.FlavorBlock.{OneLinks, behind_descriptor, objects_of, use_for}
 use Rattle.implib_link.proofs.FlavorBlocks.{EachIn, FlavorBlock, all_objects, definitions-all, definitions_all, descriptors_all, directory_in, each_in, ends_all, imported_of, names-all, nth_in, thunks_in}
 use Rattle.implib_link.proofs.Claims.{claimed_placed}
 use Rattle.implib_link.proofs.FlavorClaims.{all_claim_listed, claimed_with_null}
@@ -45,7 +44,7 @@ use Rattle.implib_link.proofs.Others.{contributions_kept, definitions_kept, plac
 use Rattle.implib_link.proofs.Packed.{end_kept}
 use Rattle.implib_link.proofs.Program.{all_claim, gets_address, once_of}
 use Rattle.implib_link.proofs.SearchLists.{contains_among}
-use Rattle.implib_link.proofs.Taken.{AreWide, taken_descriptor, taken_null, taken_null_thunk}
+use Rattle.implib_link.proofs.Taken.{AreWide, taken_null}
 
 -- The objects of the members have no `.idata$3`.
 

@@ -8,31 +8,27 @@ use Rattle.implib.specs.declared.members.Flavor.{Flavor}
 use Rattle.implib.specs.declared.members.Flavor.TheVariants.{Gnu, Msvc}
 use Rattle.implib.specs.Constants.{align_4bytes, class_external, cnt_code, mem_execute_read}
 use Rattle.implib.specs.Definition.{ExportView}
-use Rattle.implib.specs.Gnu.{export_listed, relocations_of_stub, section, stub, stub_bytes, stub_relocations, text_name}
+use Rattle.implib.specs.Gnu.{export_listed, relocations_of_stub, section, stub_bytes, stub_relocations, text_name}
 use Rattle.implib.specs.Image.{Range, image_of}
 use Rattle.implib.specs.Import.{Ask, Name, Ordinal, address_symbol}
 use Rattle.implib.specs.ImportTables.{thunk_width}
-use Rattle.implib.specs.Layout.{entries_of, name_text, object_of}
 use Rattle.implib.specs.Linked.{IsDefinedOnce}
 use Rattle.implib.specs.Load.{BytesAt, TableAt}
 use Rattle.implib.specs.Msvc.{short_import_listed, short_import_symbol}
-use Rattle.implib.specs.MsvcObjects.{descriptor}
 use Rattle.implib.specs.Object.{ASymbol, Object}
 use Rattle.implib.specs.Placement.{Bases, Placed, placed_from}
 use Rattle.implib.specs.Resolution.{definitions_of, target_address}
 use Rattle.implib.proofs.LinkedBlocks.{ends, starts}
 use Rattle.implib.proofs.LinkedMembers.{among_contains, among_map}
-use Rattle.implib.proofs.Linked.{ends_of_block}
 use Rattle.implib.proofs.Placement.{after_head, aligned_head, ends_of_head, placed-head, placed_export}
-use Rattle.implib.proofs.Ranges.{Among, all_among, among_back, among_first, among_front, among_later}
-use Rattle.implib_link.specs.Expansion.{Code, Constant, Data, Use, asking_object, stub_for, stub_relocations_for, use_entries}
+use Rattle.implib.proofs.Ranges.{Among, all_among, among_first, among_front, among_later}
+use Rattle.implib_link.specs.Expansion.{Code, Constant, Data, Use, asking_object}
 use Rattle.implib_link.specs.FlavorProgram.{FlavorInput, IsCode, IsFlavorProgram, IsMadeFor, all_members, ask_in, dll_of, exports_chosen, imported_in, symbol_in, symbols_listed, thunks_of}
 use Rattle.implib_link.specs.Loaded.{Writes}
 use Rattle.implib_link.specs.Program.{has_tables}
-use Rattle.implib_link.specs.SectionSymbols.{with_section_symbols}
-use Rattle.implib_link.specs.Stub.{CallReaches, CanJump, JumpsThrough, code_relocated, jump_reads}
+use Rattle.implib_link.specs.Stub.{CallReaches, CanJump, JumpsThrough}
 use Rattle.implib_link.proofs.Blocks.{table_sum}
-use Rattle.implib_link.proofs.FlavorBlock.{asking, behind_descriptor, ends_in, ends_of_askings, objects_of, symbols_of, use_for, wide_in}
+use Rattle.implib_link.proofs.FlavorBlock.{behind_descriptor, ends_in, ends_of_askings, objects_of, symbols_of, use_for, wide_in}
 use Rattle.implib_link.proofs.FlavorBlocks.{FlavorBlock, addresses_one, all_objects, ends_one, thunks_in}
 use Rattle.implib_link.proofs.FlavorLoaded.{entry_of, flavors_load}
 use Rattle.implib_link.proofs.FlavorParts.{block_in, inputs_symbols}

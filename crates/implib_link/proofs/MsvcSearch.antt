@@ -1,17 +1,17 @@
 -- What a linker takes of the members for Microsoft's linker.
-use Rattle.std.proofs.Common.{◌≡◌, ℕ, suc, zero, ◌+◌, Bool, true, false, List, [], ◌∷◌, ◌++◌, length, map, Option, Some, None, refl, ap, sym, ◌∙◌, arith, subst, inl, inr, ◌⊎◌, if◌then◌else◌}
+use Rattle.std.proofs.Common.{◌≡◌, ℕ, ◌+◌, Bool, true, false, List, [], ◌∷◌, ◌++◌, length, map, Option, Some, None, refl, ap, sym, ◌∙◌, subst, inl, inr}
 use Rattle.std.specs.Prelude.{bytes_eq, slice_get}
-use Rattle.std.specs.List.{Contains, IsDistinct, cons_option, filter, filter_map, flat_map, list_any}
+use Rattle.std.specs.List.{IsDistinct, cons_option, filter, filter_map, flat_map, list_any}
 use Rattle.std.proofs.lemmas.Bool.{cases_Bool, true≢false}
 use Rattle.std.proofs.lemmas.List.{append_assoc, length-append}
 use Rattle.implib.specs.declared.machine.MachineType.{MachineType}
 use Rattle.implib.specs.declared.members.Flavor.TheVariants.{Msvc}
 use Rattle.implib.specs.Definition.{DefinitionView, ExportView}
-use Rattle.implib.specs.File.{File, ObjectFile, ShortImportFile, file_in}
+use Rattle.implib.specs.File.{ObjectFile, ShortImportFile, file_in}
 use Rattle.implib.specs.Import.{Ask, Name, Ordinal, address_symbol, is_alias, public_exports}
 use Rattle.implib.specs.Layout.{entries_of, name_text, object_of}
 use Rattle.implib.specs.LinkedMembers.{chosen_exports}
-use Rattle.implib.specs.MemberSpec.{MemberSpec, MemberView, file_bytes, member_of}
+use Rattle.implib.specs.MemberSpec.{MemberSpec, MemberView, member_of}
 use Rattle.implib.specs.Members.{AreMembersOf, member_specs}
 use Rattle.implib.specs.Msvc.{short_import_listed, short_import_of, short_import_symbol}
 use Rattle.implib.specs.MsvcMembers.{descriptor_spec, export_specs, header_specs, null_descriptor_spec, null_thunk_spec, short_import_spec, weak_specs}
@@ -22,7 +22,7 @@ use Rattle.implib.specs.WeakExternal.{weak_object, weak_spec}
 use Rattle.implib.proofs.LinkedMembers.{among_contains, among_map}
 use Rattle.implib.proofs.Ranges.{Among, among_back, among_first, among_flat, among_front, among_later}
 use Rattle.implib_link.specs.Expansion.{Code, Constant, Data, Use, asking_object, descriptor_wanted, taken_in}
-use Rattle.implib_link.specs.FlavorProgram.{ask_in, null_member, objects_taken, specs_in}
+use Rattle.implib_link.specs.FlavorProgram.{ask_in, objects_taken, specs_in}
 use Rattle.implib_link.specs.MsvcSearch.{AreTakenInTurn, AsksFor, NamesNoHeader, TakesFor, claimed_in, is_short_wanted, left_in, msvc_if_any, numbers_passing, shorts_wanted}
 use Rattle.implib_link.specs.Program.{claimed_names}
 use Rattle.implib_link.specs.Search.{HaveSame, left_by}

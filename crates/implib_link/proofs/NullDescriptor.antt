@@ -1,20 +1,19 @@
 -- The null descriptor, put in anywhere among objects without `.idata$3`, changes nothing of these.
 use Rattle.std.proofs.Common.{◌≡◌, ℕ, ◌+◌, ◌-◌, ◌%◌, Bool, true, false, List, [], ◌∷◌, ◌++◌, length, map, Option, Some, None, refl, ap, sym, ◌∙◌, arith, subst, inl, inr}
 use Rattle.std.specs.Prelude.{bytes_eq}
-use Rattle.std.specs.List.{AllByRecursion, IsDistinct, filter, flat_map}
+use Rattle.std.specs.List.{AllByRecursion, filter, flat_map}
 use Rattle.std.proofs.lemmas.Bool.{cases_Bool}
 use Rattle.std.proofs.lemmas.Grind.{flat_map-append}
-use Rattle.std.proofs.lemmas.List.{append_assoc}
 use Rattle.implib.specs.declared.machine.MachineType.{MachineType}
-use Rattle.implib.specs.Image.{Contribution, contribution_at, contributions, contributions_in, contributions_of, filled, relocated}
+use Rattle.implib.specs.Image.{contribution_at, contributions, contributions_in, contributions_of, filled, relocated}
 use Rattle.implib.specs.ImportTables.{zeros}
 use Rattle.implib.specs.Layout.{entries_of, name_text, object_of}
-use Rattle.implib.specs.Linked.{AllFind, undefined_names, undefined_name}
+use Rattle.implib.specs.Linked.{AllFind, undefined_names}
 use Rattle.implib.specs.MsvcObjects.{null_descriptor, null_descriptor_symbol}
 use Rattle.implib.specs.Object.{Object, ObjectSection}
-use Rattle.implib.specs.Placement.{Addresses, At, Bases, Descriptors, DirectoryEnds, DllNames, Group, HintNames, Lookups, Placed, SectionAddress, Unplaced, end_after, ends_after, group_named, next_multiple, place_after, placed_from, places_of, same_group, section_address_of}
+use Rattle.implib.specs.Placement.{Addresses, At, Bases, Descriptors, DirectoryEnds, DllNames, Group, HintNames, Lookups, Placed, end_after, ends_after, group_named, next_multiple, place_after, placed_from, places_of, same_group, section_address_of}
 use Rattle.implib.specs.Resolution.{SymbolDefinition, defined_by, definitions, definitions_of}
-use Rattle.implib.proofs.Definitions.{none_of, not_same_turned, same_text}
+use Rattle.implib.proofs.Definitions.{none_of, same_text}
 use Rattle.implib.proofs.Placement.{aligned}
 use Rattle.implib.proofs.Ranges.{Among}
 use Rattle.implib_link.specs.Packed.{group_end, sections_end}

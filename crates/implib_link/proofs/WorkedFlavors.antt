@@ -1,5 +1,5 @@
 -- Programs of DLLs in both flavours, by computing.
-use Rattle.std.proofs.Common.{◌≡◌, ℕ, ◌+◌, ◌<◌, ◌^◌, List, [], ◌∷◌, Some, refl, sym, ◌∙◌, arith, subst}
+use Rattle.std.proofs.Common.{◌≡◌, ℕ, ◌+◌, ◌^◌, List, [], ◌∷◌, refl, ◌∙◌, arith, subst}
 use Rattle.std.specs.Prelude.{drop, take}
 use Rattle.implib.specs.declared.machine.MachineType.TheVariants.{I386, AMD64}
 use Rattle.implib.specs.Image.{Range, with_address}
@@ -7,7 +7,7 @@ use Rattle.std.specs.Fmt.{digits}
 use Rattle.implib.specs.Bytes.{u16_bytes, u32_bytes}
 use Rattle.implib.specs.Gnu.{export_object, five_digits, head_name, head_object, head_symbol, hint_name, name_symbol, numbered_name, relocations_of_stub, relocations_of_thunk, stem, stub, tail_name, tail_object, thunk}
 use Rattle.implib.specs.GnuMembers.{alias_specs, export_spec, head_spec, tail_spec}
-use Rattle.implib.specs.Object.{Object, before_nul, bytes_at, data_at, each_at, entries_at, name_of, object_in, object_of_header, relocation_at, relocation_of, section_at, section_of, strings_at, symbol_of, u16_at, u32_at, up_to_nul}
+use Rattle.implib.specs.Object.{before_nul, bytes_at, data_at, each_at, entries_at, name_of, object_in, object_of_header, relocation_at, relocation_of, section_at, section_of, strings_at, symbol_of, u16_at, u32_at, up_to_nul}
 use Rattle.implib.specs.Layout.{auxiliary_bytes, auxiliary_count, contents, contents_offset, contents_size, header_bytes, encoded, encoded_size, name_field, offsets_from, pointer_or_zero, record_count, records, relocation_bytes, section_header, section_headers, string_bytes_of, string_offsets, string_size, string_table, strings_size, symbol_bytes, symbol_table_offset}
 use Rattle.implib.specs.Placement.{next_multiple}
 use Rattle.implib.specs.Writer.{long_names, name_location, layout_of, symbol_written, with_long_name, with_name}
@@ -24,7 +24,7 @@ use Rattle.implib_link.specs.FlavorProgram.{all_members, symbols_listed}
 use Rattle.implib_link.specs.Packed.{group_end, sections_end}
 use Rattle.implib_link.specs.Program.{has_tables}
 use Rattle.implib_link.specs.SectionSymbols.{with_section_symbols}
-use Rattle.implib_link.specs.WorkedFlavors.{RefusedTables, WorkedFlavorProgram, WorkedFlavors, both_inputs, flavor_bases_4, flavor_bases_8, flavor_expected_4, flavor_expected_8, flavor_image, flavor_objects, foo_asks, foo_input, shifted_bases}
+use Rattle.implib_link.specs.WorkedFlavors.{RefusedTables, WorkedFlavorProgram, WorkedFlavors, both_inputs, flavor_bases_4, flavor_bases_8, flavor_expected_4, flavor_expected_8, flavor_image, foo_asks, foo_input, shifted_bases}
 use Rattle.implib_link.specs.WorkedPrograms.{another, caller}
 use Rattle.implib_link.proofs.RefusedLinks.{differ, number}
 use Rattle.implib_link.proofs.WorkedPrograms.{claims_none_by, distinct_by}

@@ -1,7 +1,7 @@
 -- Expansion: a linker takes a short import for the object that it stands for (PE/COFF specification, "Import
--- Library Format"): a thunk in the address table and one in the lookup table, the hint and the name, a stub for
--- code, and its symbols. The specification names the symbols; the sections are those of this project's model
--- (docs/FORMATS.md, "Placement").
+-- Library Format"): a thunk in the address table and one in the lookup table, the hint and the name, a stub
+-- for code, and its symbols. The specification names the symbols; the sections are those of this project's
+-- model (docs/FORMATS.md, "Placement").
 use Rattle.std.specs.Prelude.{ℕ, ◌+◌, ◌-◌, Bool, ◌&&◌, ◌==◌, nat_le, not, List, [], ◌∷◌, ◌++◌, codes, Option, Some, None, if◌then◌else◌}
 use Rattle.std.specs.Option.{option_and_then, option_map}
 use Rattle.implib.specs.declared.coff.object.Relocation.{Relocation}

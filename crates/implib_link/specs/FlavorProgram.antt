@@ -1,6 +1,6 @@
--- Programs of DLLs in both flavours: objects that are linked, among them what a linker takes the chosen members
--- of several DLLs for, each made for Microsoft's linker or for GNU's, and one null descriptor. The others hold
--- no part of the import tables and claim no symbol of the members.
+-- Programs of DLLs in both flavours: objects that are linked, among them what a linker takes the chosen
+-- members of several DLLs for, each made for Microsoft's linker or for GNU's, and one null descriptor. The
+-- others hold no part of the import tables and claim no symbol of the members.
 use Rattle.std.specs.Prelude.{◌≡◌, ℕ, ◌+◌, ◌*◌, ◌%◌, false, not, List, [], ◌∷◌, ◌++◌, bytes_eq, length, map, slice_get, Some, if◌then◌else◌}
 use Rattle.std.specs.List.{AllByRecursion, Contains, IsDistinct, filter, filter_map, flat_map}
 use Rattle.implib.specs.declared.members.Flavor.{Flavor}
@@ -29,8 +29,8 @@ use Rattle.implib_link.specs.Packed.{group_end}
 use Rattle.implib_link.specs.Program.{ClaimsNone, GetsAddress, has_tables, names_claimed_in, thunks_before, with_tables}
 use Rattle.implib_link.specs.Search.{HaveSame}
 
--- an input of a link in a flavour: a definition, its members for this flavour's linker, and the numbers of the
--- chosen exports
+-- an input of a link in a flavour: a definition, its members for this flavour's linker, and the numbers of
+-- the chosen exports
 pub record FlavorInput : Type 0 where
   pub flavor : Flavor
   pub input : LinkInput
@@ -67,8 +67,8 @@ abbrev pub descriptor_in : Flavor → MachineType → List ℕ → List ℕ
 descriptor_in Msvc machine dll = descriptor_symbol dll
 descriptor_in Gnu machine dll = head_symbol machine dll
 
--- the specifications of what is linked: for Microsoft's linker the import descriptor, the short imports of the
--- chosen exports and the null thunk, for GNU's the head, the chosen exports' members and the tail
+-- the specifications of what is linked: for Microsoft's linker the import descriptor, the short imports of
+-- the chosen exports and the null thunk, for GNU's the head, the chosen exports' members and the tail
 abbrev pub specs_in : Flavor → DefinitionView → MachineType → List ℕ → List MemberSpec
 specs_in Msvc d machine chosen =
     descriptor_spec machine d.import_name
@@ -96,8 +96,8 @@ objects_taken machine members = filter_map (λ m. taken_in machine m.bytes) memb
 abbrev pub null_member : MachineType → List ℕ → MemberView
 null_member machine dll = member_of (null_descriptor_spec machine dll)
 
--- A linker finds a DLL's descriptor by the DLL's name: for GNU's members always, for Microsoft's where the name
--- has one full stop less to lose than its ending. For example, that of foo.dll, but not that of foo.drv.
+-- A linker finds a DLL's descriptor by the DLL's name: for GNU's members always, for Microsoft's where the
+-- name has one full stop less to lose than its ending. For example, that of foo.dll, but not that of foo.drv.
 abbrev pub IsFoundByName : Flavor → List ℕ → Type 0
 IsFoundByName Msvc dll = descriptor_wanted dll ≡ descriptor_symbol dll
 IsFoundByName Gnu dll = Unit {0}
@@ -107,7 +107,8 @@ IsFoundByName Gnu dll = Unit {0}
 -- `null_from`: an input for Microsoft's linker, whose null descriptor is linked, put in anywhere (`before`,
 -- `behind`) among the members (`members`);
 -- `tables`: the objects with import tables are what these are taken for;
--- `others`: the other objects stand anywhere before, between and behind, and claim none of the members' symbols;
+-- `others`: the other objects stand anywhere before, between and behind, and claim none of the members'
+-- symbols;
 -- `found`: linkers find each descriptor by its DLL's name.
 pub record AreFlavorObjects (machine : MachineType) (inputs : List FlavorInput) (objects : List Object)
     : Type 0 where
@@ -157,9 +158,9 @@ imported_in machine p = record { dll = dll_of p; asks = map (ask_in p.flavor mac
 abbrev pub address_symbols : FlavorInput → List (List ℕ)
 address_symbols p = map (λ e. address_symbol (symbol_in p.flavor e)) (exports_chosen p)
 
--- A DLL's chosen exports are imported by the descriptor at an address, whose symbol has this address: a strict
--- loader finds the DLL and what they ask for, the address table stands at this address, and `__imp_` symbols
--- are its entries.
+-- A DLL's chosen exports are imported by the descriptor at an address, whose symbol has this address: a
+-- strict loader finds the DLL and what they ask for, the address table stands at this address, and `__imp_`
+-- symbols are its entries.
 pub record InputImports (machine : MachineType) (image : List Range) (linked : List Placed)
     (descriptor table : ℕ) (p : FlavorInput) : Type 0 where
   pub top : definitions_of (descriptor_in p.flavor machine (dll_of p)) linked

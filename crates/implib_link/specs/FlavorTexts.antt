@@ -1,5 +1,5 @@
--- Programs of both flavours from texts: what linking the members of module definition files gives, in the words
--- of their statements.
+-- Programs of both flavours from texts: what linking the members of module definition files gives, in the
+-- words of their statements.
 use Rattle.std.specs.Prelude.{◌≡◌, ℕ, ◌+◌, ◌*◌, List, [], ◌∷◌, map, slice_get, Some}
 use Rattle.implib.specs.declared.members.Flavor.{Flavor}
 use Rattle.implib.specs.declared.machine.MachineType.{MachineType}
@@ -8,14 +8,14 @@ use Rattle.implib.specs.Definition.{DefinitionView}
 use Rattle.implib.specs.Image.{Range, image_of}
 use Rattle.implib.specs.ImportTables.{thunk_width}
 use Rattle.implib.specs.Library.{LibraryOf, LibraryView}
-use Rattle.implib.specs.LinkedMembers.{LinkInput, chosen_exports}
+use Rattle.implib.specs.LinkedMembers.{chosen_exports}
 use Rattle.implib.specs.MemberSpec.{MemberView}
 use Rattle.implib.specs.Members.{AreMembersOf}
 use Rattle.implib.specs.Object.{Object}
 use Rattle.implib.specs.Parses.{Parses}
 use Rattle.implib.specs.Placement.{Bases, Placed, placed_from}
 use Rattle.implib_link.specs.FlavorProgram.{FlavorInput, FlavorsLink, InputImports, IsFlavorProgram, ask_in, symbol_in, thunks_of}
-use Rattle.implib_link.specs.Texts.{Source, Stated, ask_stated, chosen_stated, part_of, source_of}
+use Rattle.implib_link.specs.Texts.{Source, ask_stated, chosen_stated, part_of, source_of}
 
 -- a source in a flavour
 pub record FlavorSource : Type 0 where

@@ -1,7 +1,7 @@
 -- Undefined symbols of class section (PE/COFF specification, "Storage Class"): such a symbol stands for the
 -- section of its name. Where its object has no section of this name, it makes a contribution without bytes to
 -- the group of the name, so that its address is where the object's part of the group begins.
-use Rattle.std.specs.Prelude.{ℕ, ◌+◌, Bool, false, true, ◌&&◌, ◌==◌, List, [], ◌∷◌, ◌++◌, bytes_eq, length, map, not, Option, Some, None, if◌then◌else◌}
+use Rattle.std.specs.Prelude.{ℕ, ◌+◌, Bool, false, true, ◌&&◌, ◌==◌, List, [], ◌∷◌, ◌++◌, bytes_eq, map, not, Option, Some, None, if◌then◌else◌}
 use Rattle.std.specs.List.{list_any}
 use Rattle.implib.specs.Constants.{class_section, class_static, section_undefined}
 use Rattle.implib.specs.Gnu.{section}
@@ -46,7 +46,8 @@ entry_with sections (ASymbol s) =
     then ASymbol (record s { section = section_number_from 1 sections s.name; class = class_static })
     else ASymbol s
 
--- An object with the sections that its symbols stand for. For example, the import descriptor gets a section 3,
+-- An object with the sections that its symbols stand for. For example, the import descriptor gets a section
+-- 3,
 -- `.idata$4`, and a section 4, `.idata$5`, without bytes, in which its symbols 3 and 4 are.
 unfoldable pub with_section_symbols : Object → Object
 with_section_symbols o = record o {

@@ -1,7 +1,7 @@
 -- What a linker takes files for, worked by hand: short imports by their bytes, and section symbols.
-use Rattle.std.specs.Prelude.{◌≡◌, ℕ, List, [], ◌∷◌, ◌++◌, codes, Option, Some, None}
+use Rattle.std.specs.Prelude.{◌≡◌, ℕ, List, [], ◌∷◌, ◌++◌, codes, Some, None}
 use Rattle.implib.specs.declared.coff.object.Relocation.{Relocation}
-use Rattle.implib.specs.declared.machine.MachineType.TheVariants.{I386, ARMNT, AMD64, ARM64}
+use Rattle.implib.specs.declared.machine.MachineType.TheVariants.{I386, AMD64, ARM64}
 use Rattle.implib.specs.Object.{Entry, Object, ObjectSection}
 use Rattle.implib_link.specs.Expansion.{before_last_stop, descriptor_wanted, entry, taken_in}
 use Rattle.implib_link.specs.SectionSymbols.{with_section_symbols}
@@ -118,9 +118,12 @@ pub record WorkedExpansion : Type 0 where
       ≡ Some expanded_cord
   pub pi : taken_in I386 (short_import_file i386_bytes 12 0 10 (codes "_pi") (codes "foo.dll"))
       ≡ Some expanded_pi
-  pub other_machine : taken_in ARM64 (short_import_file amd64_bytes 12 2 4 (codes "bar") (codes "foo.dll")) ≡ None
-  pub other_type : taken_in AMD64 (short_import_file amd64_bytes 12 2 7 (codes "bar") (codes "foo.dll")) ≡ None
-  pub other_name : taken_in AMD64 (short_import_file amd64_bytes 12 2 16 (codes "bar") (codes "foo.dll")) ≡ None
+  pub other_machine : taken_in ARM64 (short_import_file amd64_bytes 12 2 4 (codes "bar") (codes "foo.dll"))
+      ≡ None
+  pub other_type : taken_in AMD64 (short_import_file amd64_bytes 12 2 7 (codes "bar") (codes "foo.dll"))
+      ≡ None
+  pub other_name : taken_in AMD64 (short_import_file amd64_bytes 12 2 16 (codes "bar") (codes "foo.dll"))
+      ≡ None
   pub drv : descriptor_wanted (codes "foo.drv") ≡ codes "__IMPORT_DESCRIPTOR_foo"
   pub plain : before_last_stop (codes "foo") ≡ codes "foo"
   pub stops : before_last_stop (codes "a.b.dll") ≡ codes "a.b"

@@ -102,7 +102,8 @@ flavor_hints =
     ∷ 0 ∷ 0 ∷ (codes "queue" ++ 0 ∷ []))))
 
 -- what an image holds: the fields of both descriptors and of the null descriptor, the thunks of a table, the
--- addresses of the entries of `nine`, `open`, `stat`, `_f@8`, `queue`, and of the symbol that the caller names
+-- addresses of the entries of `nine`, `open`, `stat`, `_f@8`, `queue`, and of the symbol that the caller
+-- names
 pub record FlavorExpected : Type 0 where
   pub descriptors : List ℕ
   pub thunks : List ℕ
@@ -131,8 +132,8 @@ flavor_placed machine count bases = placed_from bases (flavor_objects machine co
 abbrev pub flavor_image : MachineType → ℕ → Bases → List Range
 flavor_image machine count bases = image_of machine bases (flavor_placed machine count bases)
 
--- The program of a machine, with the null descriptor behind the first few members, meets all that the law asks
--- for, and its image holds what is expected.
+-- The program of a machine, with the null descriptor behind the first few members, meets all that the law
+-- asks for, and its image holds what is expected.
 pub record WorkedFlavorProgram (machine : MachineType) (count : ℕ) (bases : Bases) (expected : FlavorExpected)
     : Type 0 where
   pub made : AllByRecursion (IsMadeFor machine) (both_inputs machine)
@@ -168,8 +169,8 @@ foo_asks = Ordinal 9 ∷ Name (codes "open") 258 ∷ Name (codes "stat") 0 ∷ N
 abbrev pub shifted_bases : Bases
 shifted_bases = record flavor_bases_8 { lookups = 68 }
 
--- Such bases are admissible, and yet no program's: the import descriptor leads to 68, where zeros fill the gap
--- before the first thunk, and the eight bytes there are not the thunk. No strict loader takes that.
+-- Such bases are admissible, and yet no program's: the import descriptor leads to 68, where zeros fill the
+-- gap before the first thunk, and the eight bytes there are not the thunk. No strict loader takes that.
 pub record RefusedTables : Type 0 where
   pub admissible : IsAdmissible AMD64 shifted_bases (flavor_objects AMD64 0)
   pub field : numbers_from (flavor_image AMD64 0 shifted_bases) 4 1 8 ≡ Some (68 ∷ [])

@@ -18,7 +18,8 @@ ghost use Rattle.std.specs.Prelude.{◌≡◌, ◌<◌, ◌+◌, ◌*◌, ◌^�
 
 /// The chosen members of several DLLs, each for Microsoft's linker or for GNU's, and a null descriptor link
 /// among any other objects: the import directory lists just these DLLs with just the chosen exports, ended by
-/// the null descriptor, and each `__imp_` symbol is its export's own entry, from whichever object it is named.
+/// the null descriptor, and each `__imp_` symbol is its export's own entry, from whichever object it is
+/// named.
 ///
 /// One DLL for Microsoft's linker at least is among them, since its members bring the null descriptor.
 pub fn links_in_both_flavors()
@@ -28,8 +29,8 @@ pub fn links_in_both_flavors()
         FlavorsLink machine bases inputs objects }
 {}
 
-/// The members of texts, each in its flavour, link among any other objects to a program whose import directory
-/// lists just their DLLs, each with just its chosen exports, each by the word of its own statement.
+/// The members of texts, each in its flavour, link among any other objects to a program whose import
+/// directory lists just their DLLs, each with just its chosen exports, each by the word of its own statement.
 pub fn flavored_texts_link()
     ensures links { (machine : MachineType) (bases : Bases) (sources : List FlavorSource) (objects : List Object) →
         AllByRecursion (IsFlavorSource machine) sources →
@@ -58,8 +59,8 @@ pub fn program_of_flavors_loads()
         bases.descriptors (map (imported_in machine) inputs) written }
 {}
 
-/// The stub of each chosen export of code jumps through the export's own entry, wherever its code is placed; in
-/// a loaded program, a call of an export goes where its DLL says that it is.
+/// The stub of each chosen export of code jumps through the export's own entry, wherever its code is placed;
+/// in a loaded program, a call of an export goes where its DLL says that it is.
 ///
 /// For Microsoft's linker the stub is that of the short import's expansion.
 pub fn stubs_of_flavors_jump()

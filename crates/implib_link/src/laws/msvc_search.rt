@@ -13,8 +13,8 @@ ghost use Rattle.std.specs.List.{IsDistinct, flat_map};
 ghost use Rattle.std.specs.Prelude.{◌≡◌, ℕ, List, bytes_eq};
 
 /// A linker takes of an archive of the members for Microsoft's linker just the short imports that are wanted,
-/// the import descriptor, the null descriptor and the null thunk, which are found by the symbols that they are
-/// listed for; nothing, where no export is wanted.
+/// the import descriptor, the null descriptor and the null thunk, which are found by the symbols that they
+/// are listed for; nothing, where no export is wanted.
 ///
 /// All listed symbols differ, so no export has an alias. The DLL's name leads linkers to its descriptor.
 pub fn search_takes_short_imports()

@@ -17,8 +17,8 @@ pub fn worked_expansion()
     ensures { WorkedExpansion }
 {}
 
-/// Programs of DLLs in both flavours that were linked by hand meet what the law asks for and have these tables;
-/// tables at multiples of 4 alone do not load, where thunks have 8 bytes.
+/// Programs of DLLs in both flavours that were linked by hand meet what the law asks for and have these
+/// tables; tables at multiples of 4 alone do not load, where thunks have 8 bytes.
 pub fn worked_flavors()
     ensures programs { WorkedFlavors }
     ensures refused { RefusedTables }
