@@ -96,8 +96,8 @@ objects_taken machine members = filter_map (λ m. taken_in machine m.bytes) memb
 abbrev pub null_member : MachineType → List ℕ → MemberView
 null_member machine dll = member_of (null_descriptor_spec machine dll)
 
--- A linker finds a DLL's descriptor by the DLL's name: for GNU's members always, for Microsoft's where the
--- name has one full stop less to lose than its ending. For example, that of foo.dll, but not that of foo.drv.
+-- Linkers find a DLL's descriptor: GNU's members name it, and for Microsoft's the symbol that is looked for
+-- by the DLL's name is the descriptor's. For example, that of foo.dll is found, and that of foo.drv is not.
 abbrev pub IsFoundByName : Flavor → List ℕ → Type 0
 IsFoundByName Msvc dll = descriptor_wanted dll ≡ descriptor_symbol dll
 IsFoundByName Gnu dll = Unit {0}
@@ -136,15 +136,14 @@ pub record IsFlavorProgram (machine : MachineType) (bases : Bases) (inputs : Lis
   pub addresses : bases.addresses % thunk_width machine ≡ 0
   pub follows : bases.directory_ends ≡ group_end Descriptors bases.descriptors objects
 
--- the `__imp_` symbols of these names are at entries of `width` bytes, one after another from an address on,
--- and nowhere else
+-- these symbols are at entries of `width` bytes, one after another from an address on, and nowhere else
 unfoldable pub SymbolsAt : List Placed → ℕ → ℕ → List (List ℕ) → Type 0
 SymbolsAt linked width address [] = Unit {0}
 SymbolsAt linked width address (name ∷ names) =
     (definitions_of name linked ≡ record { name = name; address = Some address } ∷ [])
     × SymbolsAt linked width (address + width) names
 
--- an undefined symbol of each name, in any object that is linked, has the address of its own entry
+-- an undefined symbol of each of these names, in any object that is linked, has the address of its own entry
 unfoldable pub SymbolsGet : List Placed → ℕ → ℕ → List (List ℕ) → Type 0
 SymbolsGet linked width address [] = Unit {0}
 SymbolsGet linked width address (name ∷ names) =
