@@ -42,7 +42,7 @@ mod refusal;
 mod weak_external;
 
 pub use conversions::{UnknownFlavor, UnknownMachine};
-pub use error::{Error, Fault};
+pub use error::{Error, Fault, ParseError};
 pub use library::ImportLibrary;
 pub use machine::MachineType;
 pub use members::{Flavor, Member};
