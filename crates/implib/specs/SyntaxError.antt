@@ -228,7 +228,8 @@ abbrev pub HasSyntaxError : List TokenView → Type 0
 HasSyntaxError tokens = (cause : Cause) × IsSyntaxError tokens cause
 
 -- the token that a syntax error is about: the first one that no derivation allows
-abbrev pub unexpected_token : {tokens : List TokenView} {cause : Cause} → IsSyntaxError tokens cause → TokenView
+abbrev pub unexpected_token : {tokens : List TokenView} {cause : Cause} → IsSyntaxError tokens cause →
+    TokenView
 unexpected_token (inl error) = error.token
 unexpected_token (inr error) = error.token
 

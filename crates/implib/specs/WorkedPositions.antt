@@ -32,12 +32,12 @@ pub record WorkedPositions : Type 0 where
   pub first_word : IsRefusedIn (codes "foo") (UnknownDirective (codes "foo")) 0 1 1
   pub after_blanks : IsRefusedIn (codes "\n  foo") (UnknownDirective (codes "foo")) 3 2 3
   pub after_comment : IsRefusedIn (codes "; x\r\n,") (UnknownDirective (codes ",")) 5 2 1
-  pub no_name_without_ordinal : IsRefusedIn (codes "EXPORTS\n f\n g NONAME") (UnknownDirective (codes "NONAME"))
-      14 3 4
+  pub no_name_without_ordinal : IsRefusedIn (codes "EXPORTS\n f\n g NONAME")
+      (UnknownDirective (codes "NONAME")) 14 3 4
   pub second_target : IsRefusedIn (codes "EXPORTS\nfoo = bar =") (UnknownDirective (codes "=")) 18 2 11
   pub missing_size : IsRefusedIn (codes "HEAPSIZE 1,") (ExpectedIdentifier kind.Eof) 11 1 12
-  pub missing_size_before_nul : IsRefusedIn (codes "STACKSIZE " ++ 0 ∷ codes "5") (ExpectedIdentifier kind.Eof)
-      10 1 11
+  pub missing_size_before_nul : IsRefusedIn (codes "STACKSIZE " ++ 0 ∷ codes "5")
+      (ExpectedIdentifier kind.Eof) 10 1 11
   pub missing_size_at_last_line : IsRefusedIn (codes "STACKSIZE\n\n") (ExpectedIdentifier kind.Eof) 11 3 1
   pub negative_size : IsRefusedIn (codes "NAME a\nHEAPSIZE -1") ExpectedInteger 16 2 10
   -- of a quoted name, its value counts, and behind the quote where the value is empty
@@ -50,5 +50,5 @@ pub record WorkedPositions : Type 0 where
   pub word_for_ordinal : IsRefusedIn (codes "EXPORTS\nf @ x") (InvalidOrdinal (codes "x")) 12 2 5
   pub end_for_ordinal : IsRefusedIn (codes "EXPORTS\nf @") (ExpectedIdentifier kind.Eof) 11 2 4
   -- a byte order mark begins a word
-  pub byte_order_mark : IsRefusedIn (239 ∷ 187 ∷ 191 ∷ codes "NAME") (UnknownDirective (239 ∷ 187 ∷ 191 ∷ codes "NAME"))
-      0 1 1
+  pub byte_order_mark : IsRefusedIn (239 ∷ 187 ∷ 191 ∷ codes "NAME")
+      (UnknownDirective (239 ∷ 187 ∷ 191 ∷ codes "NAME")) 0 1 1
