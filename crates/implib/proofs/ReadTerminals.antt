@@ -4,8 +4,8 @@ use Rattle.std.specs.Result.{MatchResult}
 use Rattle.implib.specs.declared.def.lexer.TokenKind.{TokenKind}
 use Rattle.implib.specs.declared.def.lexer.TokenKind.TheVariants.{Identifier, Comma, Equal, KwBase}
 use Rattle.implib.specs.Fault.{Cause, ExpectedIdentifier, ExpectedEqual}
-use Rattle.implib.specs.Grammar.{Terminal, Of, Word, Number, Numbers, StartsWith, IsWord, IsVersion, Statement, base_terminals, commit_terminals, NameOrLibrary, Matches, statement_terminals}
-use Rattle.implib.specs.Number.{IsNumber, u64_limit}
+use Rattle.implib.specs.Grammar.{Terminal, Of, Word, Number, Numbers, StartsWith, IsWord, Statement, base_terminals, commit_terminals, NameOrLibrary, Matches, statement_terminals}
+use Rattle.implib.specs.Number.{u64_limit}
 use Rattle.implib.specs.TokenReader.{Reader, Refusal, ◌>>=◌, number_of, version_of, word_by, word_read, integer_or, number_from, number_read, version_from, version_read, some_number, commit_by, commit_read, sizes_of, sizes_from, sizes_read, sign_by, sign_read, base_by, base_read, named_from, name_by, name_read}
 use Rattle.implib.specs.SyntaxError.{IsNotIdentifier, IsNotNumber, IsNotVersion, IsNotEqualSign, follow_size, follow_name, follow}
 use Rattle.implib.specs.Token.{TokenView}

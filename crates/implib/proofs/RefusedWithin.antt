@@ -1,5 +1,5 @@
 -- A refused token begins within its text.
-use Rattle.std.proofs.Common.{◌≡◌, ℕ, ◌+◌, ◌-◌, ◌≤◌, ◌==◌, Bool, true, false, inl, inr, List, [], ◌∷◌, ◌++◌, length, subst, sym, arith, if◌then◌else◌, length-append, refl, ap}
+use Rattle.std.proofs.Common.{ℕ, ◌+◌, ◌-◌, ◌≤◌, ◌==◌, Bool, true, false, inl, inr, List, [], ◌∷◌, ◌++◌, length, subst, sym, arith, if◌then◌else◌, length-append, ap}
 use Rattle.std.specs.List.{AllByRecursion}
 use Rattle.std.specs.Str.{trim, trim_start}
 use Rattle.implib.specs.Fault.{Cause}

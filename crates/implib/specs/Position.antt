@@ -1,5 +1,5 @@
 -- Positions in a text: lines and columns.
-use Rattle.std.specs.Prelude.{◌≡◌, ℕ, ◌+◌, List, if◌then◌else◌, take}
+use Rattle.std.specs.Prelude.{ℕ, ◌+◌, List, if◌then◌else◌, take}
 use Rattle.std.specs.List.{fold}
 use Rattle.implib.specs.declared.def.position.Position.{Position}
 use Rattle.implib.specs.Token.{is_line_feed}
