@@ -98,7 +98,7 @@ impl<T: Drop> From<AllocFailed<T>> for Error {
 /// A fault of a text with its position, or a failed allocation.
 #[derive(Debug, Drop, thiserror::Error)]
 pub enum ParseError {
-    /// The text is refused, at the token that begins here.
+    /// The text is refused for the fault, at the token that it names: the position is that of the token's value.
     #[error("{1}: {0}")]
     Invalid(Fault, Position),
     /// An allocation failed.

@@ -134,6 +134,23 @@ fn a_text_without_errors_is_parsed(rt: HostRuntime) -> Result<(), Fail> {
     Ok(())
 }
 
+/// What a tool prints of a text that is refused, as `zoo.def:2:3: unknown directive: foo`.
+fn complaint(alloc: Global, file: &str, text: &str) -> Result<Option<String>, AllocError> {
+    match ModuleDef::parse_with_position(alloc, text, MachineType::AMD64) {
+        Ok(_) => Ok(None),
+        Err(error) => Ok(Some(format!(in alloc; "{file}:{error}")?)),
+    }
+}
+
+#[test]
+fn an_error_reads_as_a_compilers_message(rt: HostRuntime) -> Result<(), Fail> {
+    let alloc = rt.alloc();
+    let line = complaint(alloc, "zoo.def", "NAME a\n  foo")?.ok_or("a refusal")?;
+    assert_eq!(&rt; line.as_str(), "zoo.def:2:3: unknown directive: foo");
+    assert_eq!(&rt; complaint(alloc, "zoo.def", "NAME a")?.is_none(), true);
+    Ok(())
+}
+
 /// Offsets of one text, with their lines and columns.
 const POSITIONS: [(usize, usize, usize); 9] = [
     (0, 1, 1),
