@@ -48,6 +48,8 @@ pub mod ParserAnswers
 pub mod TerminalsOfStatements
 pub mod OneReading
 pub mod WorkedStatements
+pub mod WorkedPositions
+pub mod RefusedWithin
 pub mod ObjectReading
 pub mod LongNames
 pub mod WriterLayout

@@ -1,15 +1,14 @@
 -- A sequence of items, read one after another.
 use Rattle.std.proofs.Common.{◌≡◌, ℕ, zero, suc, ◌<◌, ◌≤◌, List, [], ◌∷◌, length, Option, Some, None, Result, Ok, Err, refl, sym, ap, subst, ◌∙◌, arith}
 use Rattle.std.specs.Result.{MatchResult}
-use Rattle.implib.specs.Fault.{Cause}
-use Rattle.implib.specs.TokenReader.{Reader, ◌>>=◌, cons_item, many_from, many, all}
+use Rattle.implib.specs.TokenReader.{Reader, Refusal, ◌>>=◌, cons_item, many_from, many, all}
 use Rattle.implib.specs.Token.{TokenView}
 
 -- what holds of a step and of what goes on from it holds of both
-pub bind_outcome : {A B : Type 0} (P : A → Type 0) (Q : Cause → Type 0) (P' : B → Type 0) (Q' : Cause → Type 0) (r : Result A Cause) (f : A → Result B Cause)
-    → MatchResult r P Q → ((x : A) → P x → MatchResult (f x) P' Q') → ((cause : Cause) → Q cause → Q' cause) → MatchResult (r >>= f) P' Q'
+pub bind_outcome : {A B : Type 0} (P : A → Type 0) (Q : Refusal → Type 0) (P' : B → Type 0) (Q' : Refusal → Type 0) (r : Result A Refusal) (f : A → Result B Refusal)
+    → MatchResult r P Q → ((x : A) → P x → MatchResult (f x) P' Q') → ((refusal : Refusal) → Q refusal → Q' refusal) → MatchResult (r >>= f) P' Q'
 bind_outcome P Q P' Q' (Ok x) f h k m = k x h
-bind_outcome P Q P' Q' (Err cause) f h k m = m cause h
+bind_outcome P Q P' Q' (Err refusal) f h k m = m refusal h
 
 module _ {A : Type 0} (P : List TokenView → A → List TokenView → Type 0) (N : List TokenView → Type 0) where
   -- items one after another, each standing before what follows it
@@ -26,13 +25,13 @@ module _ {A : Type 0} (P : List TokenView → A → List TokenView → Type 0) (
   abbrev pub AllRead : List TokenView → List A × List TokenView → Type 0
   AllRead tokens items = Chain items.0 tokens items.1 × N items.1
 
-  module _ (Q : List TokenView → Cause → Type 0) where
+  module _ (Q : List TokenView → Refusal → Type 0) where
     -- items, and then one that is refused
-    pub record Stopped (tokens : List TokenView) (cause : Cause) : Type 0 where
+    pub record Stopped (tokens : List TokenView) (refusal : Refusal) : Type 0 where
       pub items : List A
       pub mid : List TokenView
       pub chain : Chain items tokens mid
-      pub refused : Q mid cause
+      pub refused : Q mid refusal
 
     more_outcome : (tokens : List TokenView) (others : List TokenView → Reader (List A)) → ((rest : List TokenView) → length rest < length tokens → MatchResult (others rest) (AllRead rest) (Stopped rest))
         → ((tokens : List TokenView) (x : A) (rest : List TokenView) → P tokens x rest → length rest < length tokens)
@@ -42,7 +41,7 @@ module _ {A : Type 0} (P : List TokenView → A → List TokenView → Type 0) (
         bind_outcome (AllRead rest) (Stopped rest) (AllRead tokens) (Stopped tokens) (others rest) (cons_item x)
         (read rest (shorter tokens x rest h))
         (λ found k. ((rest, h, k.0), k.1))
-        (λ cause k. record { items = x ∷ k.items; mid = k.mid; chain = (rest, h, k.chain); refused = k.refused })
+        (λ refusal k. record { items = x ∷ k.items; mid = k.mid; chain = (rest, h, k.chain); refused = k.refused })
 
     many_outcome : (item : List TokenView → Reader (Option A)) → ((tokens : List TokenView) → MatchResult (item tokens) (ItemRead tokens) (Q tokens))
         → ((tokens : List TokenView) (x : A) (rest : List TokenView) → P tokens x rest → length rest < length tokens) → N []
@@ -53,7 +52,7 @@ module _ {A : Type 0} (P : List TokenView → A → List TokenView → Type 0) (
     many_outcome item outcome shorter none (suc n) tokens le =
         bind_outcome (ItemRead tokens) (Q tokens) (AllRead tokens) (Stopped tokens) (item tokens) (many_from (many item n)) (outcome tokens)
         (λ found h. more_outcome tokens (many item n) (λ rest lt. many_outcome item outcome shorter none n rest (omega arith)) shorter found h)
-        (λ cause h. record { items = []; mid = tokens; chain = refl; refused = h })
+        (λ refusal h. record { items = []; mid = tokens; chain = refl; refused = h })
 
     -- what holds of each item holds of all
     pub all_outcome : (item : List TokenView → Reader (Option A)) → ((tokens : List TokenView) → MatchResult (item tokens) (ItemRead tokens) (Q tokens))
@@ -63,11 +62,11 @@ module _ {A : Type 0} (P : List TokenView → A → List TokenView → Type 0) (
 
 -- ---- what a chain of items gives
 
-pub bind_ok : {A B : Type 0} (r : Result A Cause) (f : A → Result B Cause) (x : A) (y : Result B Cause) → r ≡ Ok x → f x ≡ y → (r >>= f) ≡ y
-bind_ok {A} r f x y e h = ap (λ (s : Result A Cause). s >>= f) e ∙ h
+pub bind_ok : {A B : Type 0} (r : Result A Refusal) (f : A → Result B Refusal) (x : A) (y : Result B Refusal) → r ≡ Ok x → f x ≡ y → (r >>= f) ≡ y
+bind_ok {A} r f x y e h = ap (λ (s : Result A Refusal). s >>= f) e ∙ h
 
-pub bind_err : {A B : Type 0} (r : Result A Cause) (f : A → Result B Cause) (cause : Cause) → r ≡ Err cause → (r >>= f) ≡ Err cause
-bind_err {A} r f cause e = ap (λ (s : Result A Cause). s >>= f) e
+pub bind_err : {A B : Type 0} (r : Result A Refusal) (f : A → Result B Refusal) (refusal : Refusal) → r ≡ Err refusal → (r >>= f) ≡ Err refusal
+bind_err {A} r f refusal e = ap (λ (s : Result A Refusal). s >>= f) e
 
 module _ {A : Type 0} (item : List TokenView → Reader (Option A)) where
   -- the item is read, and takes a token
@@ -90,21 +89,21 @@ module _ {A : Type 0} (item : List TokenView → Reader (Option A)) where
       bind_ok (item tokens) (many_from (many item n)) (Some x, chain.0) (Ok (x ∷ items, rest)) chain.1.read
       (bind_ok (many item n chain.0) (cons_item x) (items, rest) (Ok (x ∷ items, rest)) (many_again items n chain.0 rest (omega arith) chain.2 none) refl)
 
-  many_refused : (items : List A) (n : ℕ) (tokens : List TokenView) (t : TokenView) (rest : List TokenView) (cause : Cause) → length tokens ≤ n → AreRead items tokens (t ∷ rest) → item (t ∷ rest) ≡ Err cause → many item n tokens ≡ Err cause
+  many_refused : (items : List A) (n : ℕ) (tokens : List TokenView) (t : TokenView) (rest : List TokenView) (refusal : Refusal) → length tokens ≤ n → AreRead items tokens (t ∷ rest) → item (t ∷ rest) ≡ Err refusal → many item n tokens ≡ Err refusal
   unfolding many
-  many_refused [] zero tokens t rest cause le chain refused = let e = ap length chain in absurd (omega arith)
-  many_refused [] (suc n) tokens t rest cause le chain refused =
-      ap (λ (s : List TokenView). item s >>= many_from (many item n)) chain ∙ bind_err (item (t ∷ rest)) (many_from (many item n)) cause refused
-  many_refused (x ∷ items) zero tokens t rest cause le chain refused = let lt = chain.1.shorter in absurd (omega arith)
-  many_refused (x ∷ items) (suc n) tokens t rest cause le chain refused =
+  many_refused [] zero tokens t rest refusal le chain refused = let e = ap length chain in absurd (omega arith)
+  many_refused [] (suc n) tokens t rest refusal le chain refused =
+      ap (λ (s : List TokenView). item s >>= many_from (many item n)) chain ∙ bind_err (item (t ∷ rest)) (many_from (many item n)) refusal refused
+  many_refused (x ∷ items) zero tokens t rest refusal le chain refused = let lt = chain.1.shorter in absurd (omega arith)
+  many_refused (x ∷ items) (suc n) tokens t rest refusal le chain refused =
       let lt = chain.1.shorter in
-      bind_ok (item tokens) (many_from (many item n)) (Some x, chain.0) (Err cause) chain.1.read
-      (bind_err (many item n chain.0) (cons_item x) cause (many_refused items n chain.0 t rest cause (omega arith) chain.2 refused))
+      bind_ok (item tokens) (many_from (many item n)) (Some x, chain.0) (Err refusal) chain.1.read
+      (bind_err (many item n chain.0) (cons_item x) refusal (many_refused items n chain.0 t rest refusal (omega arith) chain.2 refused))
 
   -- the items that are read, up to where there is none
   pub all_again : (items : List A) (tokens rest : List TokenView) → AreRead items tokens rest → item rest ≡ Ok (None, rest) → all item tokens ≡ Ok (items, rest)
   all_again items tokens rest chain none = many_again items (length tokens) tokens rest (omega arith) chain none
 
   -- an item that is refused refuses them all
-  pub all_refused : (items : List A) (tokens : List TokenView) (t : TokenView) (rest : List TokenView) (cause : Cause) → AreRead items tokens (t ∷ rest) → item (t ∷ rest) ≡ Err cause → all item tokens ≡ Err cause
-  all_refused items tokens t rest cause chain refused = many_refused items (length tokens) tokens t rest cause (omega arith) chain refused
+  pub all_refused : (items : List A) (tokens : List TokenView) (t : TokenView) (rest : List TokenView) (refusal : Refusal) → AreRead items tokens (t ∷ rest) → item (t ∷ rest) ≡ Err refusal → all item tokens ≡ Err refusal
+  all_refused items tokens t rest refusal chain refused = many_refused items (length tokens) tokens t rest refusal (omega arith) chain refused

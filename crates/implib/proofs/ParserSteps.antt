@@ -7,11 +7,10 @@ use Rattle.implib.specs.declared.def.lexer.TokenKind.{TokenKind}
 use Rattle.implib.specs.declared.def.lexer.TokenKind.TheVariants.{Identifier, KwExports, KwLibrary, KwName, KwVersion}
 use Rattle.implib.specs.declared.machine.MachineType.{MachineType}
 use Rattle.implib.specs.Definition.{DefinitionView, ExportView, empty_definition}
-use Rattle.implib.specs.Fault.{Cause}
 use Rattle.implib.specs.Grammar.{Attribute, Export, Heap, Named, Nameless, Region, Sizes, Stack, Statement, Version, region_kind}
 use Rattle.implib.specs.Meaning.{exports_in}
 use Rattle.implib.specs.ParserViews.{TakesFirst, all_put, one_put, put, settings_put, with_export}
-use Rattle.implib.specs.TokenReader.{◌>>=◌, Reader, attributes_read, base_read, definition_from, name_by, name_read, named_from, read, some_statement, statements_read, with_statements, export_of, export_read, exports_from, exports_read, made_export, named_export, sizes_read, statement_read, target_read, version_read, with_attribute, with_settings, with_statement}
+use Rattle.implib.specs.TokenReader.{◌>>=◌, Reader, Refusal, attributes_read, base_read, definition_from, name_by, name_read, named_from, read, some_statement, statements_read, with_statements, export_of, export_read, exports_from, exports_read, made_export, named_export, sizes_read, statement_read, target_read, version_read, with_attribute, with_settings, with_statement}
 use Rattle.implib.specs.Token.{TokenView, token_view}
 use Rattle.implib.proofs.ParserLoops.{err_is, ok_is}
 
@@ -29,7 +28,7 @@ pub export_put : (machine : MachineType) (exports : List ExportView) (word : Lis
     → all_put with_attribute (named_export machine word target) read ≡ Ok (e, rest) → one_put (with_export machine) exports (read >>= export_of word target) ≡ Ok (true, exports ++ e ∷ [], rest)
 unfolding made_export
 export_put machine exports word target (Ok items) e rest h = ap (λ (x : ExportView × List TokenView). Ok (true, exports ++ x.0 ∷ [], x.1)) (ok_is h)
-export_put machine exports word target (Err cause) e rest h = absurd cc
+export_put machine exports word target (Err refusal) e rest h = absurd cc
 
 -- an export, from its first token on
 pub export_reads : (machine : MachineType) (exports : List ExportView) (tokens : List TokenView) (token : TokenView) (after_name after_target rest : List TokenView) (target : Option (List ℕ)) (e : ExportView)
@@ -71,7 +70,7 @@ exports_put : (machine : MachineType) (d : DefinitionView) (read : Reader (List 
     → one_put (with_statement machine) d (read >>= exports_from) ≡ Ok (true, record d { exports = exports }, rest)
 exports_put machine d (Ok items) exports rest h =
     ap (λ (es : List ExportView). Ok (true, record d { exports = es }, items.1)) (sym (fold-with_export machine d.exports items.0)) ∙ ap (λ (x : List ExportView × List TokenView). Ok (true, record d { exports = x.0 }, x.1)) (ok_is h)
-exports_put machine d (Err cause) exports rest h = absurd cc
+exports_put machine d (Err refusal) exports rest h = absurd cc
 
 pub exports_reads : (machine : MachineType) (d : DefinitionView) (tokens : List TokenView) (token : TokenView) (after : List TokenView) (exports : List ExportView) (rest : List TokenView)
     → tokens ≡ token ∷ after → token.kind ≡ KwExports → all_put (with_export machine) d.exports (exports_read after) ≡ Ok (exports, rest)
@@ -83,7 +82,7 @@ exports_reads machine d tokens token after exports rest starts kind read = rw (s
 named_put : (machine : MachineType) (d : DefinitionView) (name : List ℕ) (read : Reader (Option ℕ)) (e : DefinitionView) (rest : List TokenView) → settings_put d (read >>= named_from name) ≡ Ok (e, rest)
     → one_put (with_statement machine) d ((read >>= named_from name) >>= some_statement) ≡ Ok (true, e, rest)
 named_put machine d name (Ok base) e rest h = put_settled machine d (Named name base.0) base.1 refl ∙ ap (λ (x : DefinitionView × List TokenView). Ok (true, x.0, x.1)) (ok_is h)
-named_put machine d name (Err cause) e rest h = absurd cc
+named_put machine d name (Err refusal) e rest h = absurd cc
 
 name_put : (machine : MachineType) (d : DefinitionView) (kind : TokenKind) (token : TokenView) (after : List TokenView) (e : DefinitionView) (rest : List TokenView) → settings_put d (name_by kind token after) ≡ Ok (e, rest)
     → one_put (with_statement machine) d (name_by kind token after >>= some_statement) ≡ Ok (true, e, rest)
@@ -107,16 +106,16 @@ name_reads machine d tokens token after e rest starts (inr kind) read = rw (star
 read_ok : (machine : MachineType) (read : Reader (List Statement)) (e : DefinitionView) (rest : List TokenView) → all_put (with_statement machine) empty_definition read ≡ Ok (e, rest) → (read >>= definition_from machine) ≡ Ok e
 unfolding with_statements
 read_ok machine (Ok statements) e rest h = ap (λ (x : DefinitionView × List TokenView). Ok x.0) (ok_is h)
-read_ok machine (Err cause) e rest h = absurd cc
+read_ok machine (Err refusal) e rest h = absurd cc
 
-read_err : (machine : MachineType) (read : Reader (List Statement)) (cause : Cause) → all_put (with_statement machine) empty_definition read ≡ Err cause → (read >>= definition_from machine) ≡ Err cause
-read_err machine (Ok statements) cause h = absurd cc
-read_err machine (Err other) cause h = ap Err (err_is h)
+read_err : (machine : MachineType) (read : Reader (List Statement)) (refusal : Refusal) → all_put (with_statement machine) empty_definition read ≡ Err refusal → (read >>= definition_from machine) ≡ Err refusal
+read_err machine (Ok statements) refusal h = absurd cc
+read_err machine (Err other) refusal h = ap Err (err_is h)
 
 pub definition_read : (machine : MachineType) (tokens : List TokenView) (e : DefinitionView) (rest : List TokenView) → all_put (with_statement machine) empty_definition (statements_read tokens) ≡ Ok (e, rest) → read machine tokens ≡ Ok e
 unfolding read
 definition_read machine tokens e rest h = read_ok machine (statements_read tokens) e rest h
 
-pub definition_refused : (machine : MachineType) (tokens : List TokenView) (cause : Cause) → all_put (with_statement machine) empty_definition (statements_read tokens) ≡ Err cause → read machine tokens ≡ Err cause
+pub definition_refused : (machine : MachineType) (tokens : List TokenView) (refusal : Refusal) → all_put (with_statement machine) empty_definition (statements_read tokens) ≡ Err refusal → read machine tokens ≡ Err refusal
 unfolding read
-definition_refused machine tokens cause h = read_err machine (statements_read tokens) cause h
+definition_refused machine tokens refusal h = read_err machine (statements_read tokens) refusal h

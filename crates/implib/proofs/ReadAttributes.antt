@@ -7,12 +7,12 @@ use Rattle.implib.specs.declared.def.lexer.TokenKind.TheVariants.{Eof, Identifie
 use Rattle.implib.specs.Fault.{Cause}
 use Rattle.implib.specs.Grammar.{Attribute, Joined, Apart, Data, Constant, Private, Alias, Of, Word, Ordinal, StartsWith, IsWord, IsLoneAt, at_sign, no_name_terminals, attribute_terminals, target_terminals}
 use Rattle.implib.specs.Number.{u16_limit}
-use Rattle.implib.specs.TokenReader.{◌>>=◌, number_of, AtWord, Lone, WithOrdinal, Plain, at_word, word_read, no_name_by, no_name_read, ordinal_or, ordinal_by, ordinal_read, apart_from, alias_from, at_attribute, attribute_by, attribute_read, attributes_read, target_of, target_from, target_by, target_read}
+use Rattle.implib.specs.TokenReader.{◌>>=◌, Refusal, number_of, AtWord, Lone, WithOrdinal, Plain, at_word, word_read, no_name_by, no_name_read, ordinal_or, ordinal_by, ordinal_read, apart_from, alias_from, at_attribute, attribute_by, attribute_read, attributes_read, target_of, target_from, target_by, target_read}
 use Rattle.implib.specs.SyntaxError.{IsNotIdentifier, IsEndForOrdinal, IsNotOrdinal, IsLoneTarget, attribute_kinds, follow_ordinal, follow_attribute, follow_attributes}
 use Rattle.implib.specs.Token.{TokenView}
 use Rattle.implib.proofs.StartsWith.{StartsWith-append, StartsWith-shorter, IsAfter, AtFront, AtFront-weaker, CutAfter}
 use Rattle.implib.proofs.Many.{bind_outcome, Chain, ItemRead, AllRead, Stopped, all_outcome}
-use Rattle.implib.proofs.ReadTerminals.{WordRead, word_outcome, IsAfter-none}
+use Rattle.implib.proofs.ReadTerminals.{WordRead, word_outcome, word_starts, IsAfter-none}
 use Rattle.implib.proofs.TokenKinds.{none_at, not_at}
 use Rattle.implib.proofs.Words.{IsAtWord, at_word-at, at_word-gives, at_word-is, number_of-gives, number_of-lacks}
 
@@ -40,10 +40,10 @@ OrdinalRead tokens n = StartsWith tokens (Ordinal n.0 ∷ []) n.1
 
 ordinal_or_outcome : (t : TokenView) (rest : List TokenView) → t.kind ≢ Eof → (o : Option ℕ) → number_of t.value u16_limit ≡ o → MatchResult (ordinal_or o t rest) (OrdinalRead (t ∷ rest)) (AtFront OrdinalRefused (t ∷ rest))
 ordinal_or_outcome t rest other (Some n) e = ((other, number_of-gives t.value u16_limit n e), refl)
-ordinal_or_outcome t rest other None e = inr (record { not_end = other; none = number_of-lacks t.value u16_limit e; reported = refl })
+ordinal_or_outcome t rest other None e = (inr (record { not_end = other; none = number_of-lacks t.value u16_limit e; reported = refl }), refl)
 
 ordinal_by_outcome : (kind : TokenKind) (t : TokenView) (rest : List TokenView) → t.kind ≡ kind → MatchResult (ordinal_by kind t rest) (OrdinalRead (t ∷ rest)) (AtFront OrdinalRefused (t ∷ rest))
-ordinal_by_outcome Eof t rest e = inl (record { end = e; reported = refl })
+ordinal_by_outcome Eof t rest e = (inl (record { end = e; reported = refl }), refl)
 ordinal_by_outcome kind t rest e = ordinal_or_outcome t rest (not_at t.kind kind Eof e refl) (number_of t.value u16_limit) refl
 
 ordinal_outcome : (tokens : List TokenView) → MatchResult (ordinal_read tokens) (OrdinalRead tokens) (AtFront OrdinalRefused tokens)
@@ -67,8 +67,8 @@ abbrev pub NoAttribute : List TokenView → Type 0
 NoAttribute tokens = IsAfter attribute_kinds tokens × PlainFront tokens
 
 -- the word after `==` is refused, or the ordinal after `@`
-abbrev pub AttributeCut : List TokenView → Cause → Type 0
-AttributeCut tokens cause = CutAfter tokens (Of EqualEqual ∷ []) IsNotIdentifier cause ⊎ CutAfter tokens (Word (at_sign ∷ []) ∷ []) OrdinalRefused cause
+abbrev pub AttributeCut : List TokenView → Refusal → Type 0
+AttributeCut tokens refusal = CutAfter tokens (Of EqualEqual ∷ []) IsNotIdentifier refusal ⊎ CutAfter tokens (Word (at_sign ∷ []) ∷ []) OrdinalRefused refusal
 
 abbrev pub AttributeRead : List TokenView → Option Attribute × List TokenView → Type 0
 AttributeRead tokens found = ItemRead AttributeStands NoAttribute tokens found
@@ -78,7 +78,7 @@ apart_outcome t rest word =
     bind_outcome (OrdinalRead rest) (AtFront OrdinalRefused rest) (AttributeRead (t ∷ rest)) (AttributeCut (t ∷ rest)) (ordinal_read rest) apart_from (ordinal_outcome rest)
     (λ n h. let after = no_name_outcome n.1 in
     ((word, StartsWith-append rest (Ordinal n.0 ∷ []) (no_name_terminals (no_name_read n.1).0) n.1 (no_name_read n.1).1 h after.0), after.1))
-    (λ cause h. inr (record { mid = rest; begins = (word, refl); refused = h }))
+    (λ refusal h. inr (record { mid = rest; begins = (word, refl); refused = h }))
 
 at_attribute_outcome : (word : AtWord) (t : TokenView) (rest : List TokenView) → t.kind ≡ Identifier → IsAtWord word t.value → MatchResult (at_attribute word t rest) (AttributeRead (t ∷ rest)) (AttributeCut (t ∷ rest))
 at_attribute_outcome Lone t rest e is = apart_outcome t rest (record { kind = e; value_is = is })
@@ -89,8 +89,8 @@ attribute_by_outcome : (kind : TokenKind) (t : TokenView) (rest : List TokenView
 attribute_by_outcome Identifier t rest e = at_attribute_outcome (at_word t.value) t rest e (at_word-gives t.value)
 attribute_by_outcome EqualEqual t rest e =
     bind_outcome (WordRead rest) (AtFront IsNotIdentifier rest) (AttributeRead (t ∷ rest)) (AttributeCut (t ∷ rest)) (word_read rest) alias_from (word_outcome rest)
-    (λ word h. ((e, h), IsAfter-none word.1))
-    (λ cause h. inl (record { mid = rest; begins = (e, refl); refused = h }))
+    (λ word h. ((e, word_starts rest word h), IsAfter-none word.1))
+    (λ refusal h. inl (record { mid = rest; begins = (e, refl); refused = h }))
 attribute_by_outcome KwData t rest e = ((e, refl), IsAfter-none rest)
 attribute_by_outcome KwConstant t rest e = ((e, refl), IsAfter-none rest)
 attribute_by_outcome KwPrivate t rest e = ((e, refl), IsAfter-none rest)
@@ -115,8 +115,8 @@ attribute_shorter tokens a rest h = StartsWith-shorter tokens (attribute_termina
 abbrev pub AttributesRead : List TokenView → List Attribute × List TokenView → Type 0
 AttributesRead tokens found = AllRead AttributeStands NoAttribute tokens found
 
-abbrev pub AttributesCut : List TokenView → Cause → Type 0
-AttributesCut tokens cause = Stopped AttributeStands NoAttribute AttributeCut tokens cause
+abbrev pub AttributesCut : List TokenView → Refusal → Type 0
+AttributesCut tokens refusal = Stopped AttributeStands NoAttribute AttributeCut tokens refusal
 
 pub attributes_outcome : (tokens : List TokenView) → MatchResult (attributes_read tokens) (AttributesRead tokens) (AttributesCut tokens)
 unfolding attributes_read
@@ -145,31 +145,32 @@ goes_on_no_target (Some value) = []
 abbrev pub TargetRead : List TokenView → Option (List ℕ) × List TokenView → Type 0
 TargetRead tokens target = StartsWith tokens (target_terminals target.0) target.1 × IsAfter (goes_on_no_target target.0) target.1
 
-abbrev pub TargetCut : List TokenView → Cause → Type 0
-TargetCut tokens cause = CutAfter tokens (Of Equal ∷ []) TargetRefused cause
+abbrev pub TargetCut : List TokenView → Refusal → Type 0
+TargetCut tokens refusal = CutAfter tokens (Of Equal ∷ []) TargetRefused refusal
 
 not_lone : (value : List ℕ) (word : AtWord) → at_word value ≡ word → word ≢ Lone → ¬ (IsLoneAt value)
 not_lone value word e other lone = other (sym e ∙ at_word-is value Lone lone)
 
-target_of_outcome : (first t : TokenView) (tokens : List TokenView) (word : List ℕ × List TokenView) → first.kind ≡ Equal → IsWord t word.0 → tokens ≡ word.1 → (found : AtWord) → at_word word.0 ≡ found
-    → MatchResult (target_of found word) (TargetRead (first ∷ t ∷ tokens)) (TargetCut (first ∷ t ∷ tokens))
-target_of_outcome first t tokens word sign is rest Lone e = record {
-  mid = t ∷ tokens;
+target_of_outcome : (first t : TokenView) (rest : List TokenView) → first.kind ≡ Equal → t.kind ≡ Identifier → (found : AtWord) → at_word t.value ≡ found
+    → MatchResult (target_of found (t, rest)) (TargetRead (first ∷ t ∷ rest)) (TargetCut (first ∷ t ∷ rest))
+target_of_outcome first t rest sign is Lone e = record {
+  mid = t ∷ rest;
   begins = (sign, refl);
-  refused = inr (record { kind = is.kind; lone = is.value_is ∙ at_word-at word.0 Lone e; reported = refl });
+  refused = (inr (record { kind = is; lone = at_word-at t.value Lone e; reported = refl }), refl);
 }
-target_of_outcome first t tokens word sign is rest found e =
-    ((sign, ((is, not_lone word.0 found e (λ h. absurd cc)), rest)), IsAfter-none word.1)
+target_of_outcome first t rest sign is found e =
+    ((sign, ((record { kind = is; value_is = refl }, not_lone t.value found e (λ h. absurd cc)), refl)), IsAfter-none rest)
 
-target_from_outcome : (first : TokenView) (tokens : List TokenView) (word : List ℕ × List TokenView) → first.kind ≡ Equal → WordRead tokens word → MatchResult (target_from word) (TargetRead (first ∷ tokens)) (TargetCut (first ∷ tokens))
-target_from_outcome first [] word sign h = absurd h
-target_from_outcome first (t ∷ tokens) word sign h = target_of_outcome first t tokens word sign h.0 h.1 (at_word word.0) refl
+target_from_outcome : (first : TokenView) (tokens : List TokenView) (word : TokenView × List TokenView) → first.kind ≡ Equal → WordRead tokens word → MatchResult (target_from word) (TargetRead (first ∷ tokens)) (TargetCut (first ∷ tokens))
+target_from_outcome first tokens word sign h =
+    subst (λ (s : List TokenView). MatchResult (target_from word) (TargetRead (first ∷ s)) (TargetCut (first ∷ s))) (sym h.0)
+    (target_of_outcome first word.0 word.1 sign h.1 (at_word word.0.value) refl)
 
 target_by_outcome : (kind : TokenKind) (t : TokenView) (rest : List TokenView) → t.kind ≡ kind → MatchResult (target_by kind t rest) (TargetRead (t ∷ rest)) (TargetCut (t ∷ rest))
 target_by_outcome Equal t rest e =
     bind_outcome (WordRead rest) (AtFront IsNotIdentifier rest) (TargetRead (t ∷ rest)) (TargetCut (t ∷ rest)) (word_read rest) target_from (word_outcome rest)
     (λ word h. target_from_outcome t rest word e h)
-    (λ cause h. record { mid = rest; begins = (e, refl); refused = AtFront-weaker IsNotIdentifier TargetRefused (λ u c k. inl k) rest cause h })
+    (λ refusal h. record { mid = rest; begins = (e, refl); refused = AtFront-weaker IsNotIdentifier TargetRefused (λ u c k. inl k) rest refusal h })
 target_by_outcome kind t rest e = (refl, none_at t.kind kind (Equal ∷ []) e refl)
 
 pub target_outcome : (tokens : List TokenView) → MatchResult (target_read tokens) (TargetRead tokens) (TargetCut tokens)

@@ -6,7 +6,7 @@ use Rattle.implib.specs.declared.def.lexer.TokenKind.{TokenKind}
 use Rattle.implib.specs.declared.def.lexer.TokenKind.TheVariants.{Identifier, Equal, EqualEqual}
 use Rattle.implib.specs.Fault.{Cause}
 use Rattle.implib.specs.Grammar.{Attribute, Export, Terminal, Of, Word, Later, StartsWith, at_sign, attribute_terminals, target_terminals, export_terminals, exports_terminals}
-use Rattle.implib.specs.TokenReader.{Plain, target_read, attributes_read, export_of, export_from, export_by, export_read, exports_read}
+use Rattle.implib.specs.TokenReader.{Refusal, Plain, target_read, attributes_read, export_of, export_from, export_by, export_read, exports_read}
 use Rattle.implib.specs.SyntaxError.{IsNotIdentifier, attribute_kinds, follow_target, follow_attributes, follow_export, follow_exports, bare}
 use Rattle.implib.specs.Token.{TokenView}
 use Rattle.implib.proofs.StartsWith.{IsAfter-append, StartsWith-append, StartsWith-shorter, IsAfter, AtFront}
@@ -42,13 +42,13 @@ part_refused (AliasPart e) = IsNotIdentifier
 part_refused (OrdinalPart e) = OrdinalRefused
 
 -- the export so far, what has begun, and then a token that is refused
-pub record PartCut (tokens : List TokenView) (cause : Cause) : Type 0 where
+pub record PartCut (tokens : List TokenView) (refusal : Refusal) : Type 0 where
   pub part : Part
   pub whole : List TokenView
   pub mid : List TokenView
   pub begins : StartsWith tokens (export_terminals Word (part_export part)) whole
   pub begun : StartsWith whole (part_wanted part ∷ []) mid
-  pub refused : AtFront (part_refused part) mid cause
+  pub refused : AtFront (part_refused part) mid refusal
 
 -- ---- one export
 
@@ -83,9 +83,9 @@ whole_export t tokens target found e h k = (
   },
 )
 
-cut_attribute : (t : TokenView) (tokens : List TokenView) (target : Option (List ℕ) × List TokenView) (cause : Cause) → t.kind ≡ Identifier → TargetRead tokens target → (items : List Attribute) (mid : List TokenView) → Chain AttributeStands NoAttribute items target.1 mid → AttributeCut mid cause
-    → PartCut (t ∷ tokens) cause
-cut_attribute t tokens target cause e h items mid chain (inl c) = record {
+cut_attribute : (t : TokenView) (tokens : List TokenView) (target : Option (List ℕ) × List TokenView) (refusal : Refusal) → t.kind ≡ Identifier → TargetRead tokens target → (items : List Attribute) (mid : List TokenView) → Chain AttributeStands NoAttribute items target.1 mid → AttributeCut mid refusal
+    → PartCut (t ∷ tokens) refusal
+cut_attribute t tokens target refusal e h items mid chain (inl c) = record {
   part = AliasPart (record { word = t.value; target = target.0; attributes = items });
   whole = mid;
   mid = c.mid;
@@ -93,7 +93,7 @@ cut_attribute t tokens target cause e h items mid chain (inl c) = record {
   begun = c.begins;
   refused = c.refused;
 }
-cut_attribute t tokens target cause e h items mid chain (inr c) = record {
+cut_attribute t tokens target refusal e h items mid chain (inr c) = record {
   part = OrdinalPart (record { word = t.value; target = target.0; attributes = items });
   whole = mid;
   mid = c.mid;
@@ -102,8 +102,8 @@ cut_attribute t tokens target cause e h items mid chain (inr c) = record {
   refused = c.refused;
 }
 
-cut_target : (t : TokenView) (tokens : List TokenView) (cause : Cause) → t.kind ≡ Identifier → TargetCut tokens cause → PartCut (t ∷ tokens) cause
-cut_target t tokens cause e c = record {
+cut_target : (t : TokenView) (tokens : List TokenView) (refusal : Refusal) → t.kind ≡ Identifier → TargetCut tokens refusal → PartCut (t ∷ tokens) refusal
+cut_target t tokens refusal e c = record {
   part = TargetPart t.value;
   whole = tokens;
   mid = c.mid;
@@ -116,13 +116,13 @@ export_from_outcome : (t : TokenView) (tokens : List TokenView) (target : Option
 export_from_outcome t tokens target e h =
     bind_outcome (AttributesRead target.1) (AttributesCut target.1) (ExportRead (t ∷ tokens)) (PartCut (t ∷ tokens)) (attributes_read target.1) (export_of t.value target.0) (attributes_outcome target.1)
     (λ found k. whole_export t tokens target found e h k)
-    (λ cause k. cut_attribute t tokens target cause e h k.items k.mid k.chain k.refused)
+    (λ refusal k. cut_attribute t tokens target refusal e h k.items k.mid k.chain k.refused)
 
 export_by_outcome : (kind : TokenKind) (t : TokenView) (rest : List TokenView) → t.kind ≡ kind → MatchResult (export_by kind t rest) (ExportRead (t ∷ rest)) (PartCut (t ∷ rest))
 export_by_outcome Identifier t rest e =
     bind_outcome (TargetRead rest) (TargetCut rest) (ExportRead (t ∷ rest)) (PartCut (t ∷ rest)) (target_read rest) (export_from t.value) (target_outcome rest)
     (λ target h. export_from_outcome t rest target e h)
-    (λ cause h. cut_target t rest cause e h)
+    (λ refusal h. cut_target t rest refusal e h)
 export_by_outcome kind t rest e = (refl, none_at t.kind kind (Identifier ∷ []) e refl)
 
 export_outcome : (tokens : List TokenView) → MatchResult (export_read tokens) (ExportRead tokens) (PartCut tokens)
@@ -138,8 +138,8 @@ export_shorter tokens e rest h = StartsWith-shorter tokens (export_terminals Wor
 abbrev pub ExportsRead : List TokenView → List Export × List TokenView → Type 0
 ExportsRead tokens found = AllRead ExportStands NoExport tokens found
 
-abbrev pub ExportsCut : List TokenView → Cause → Type 0
-ExportsCut tokens cause = Stopped ExportStands NoExport PartCut tokens cause
+abbrev pub ExportsCut : List TokenView → Refusal → Type 0
+ExportsCut tokens refusal = Stopped ExportStands NoExport PartCut tokens refusal
 
 pub exports_outcome : (tokens : List TokenView) → MatchResult (exports_read tokens) (ExportsRead tokens) (ExportsCut tokens)
 unfolding exports_read

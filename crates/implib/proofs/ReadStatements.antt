@@ -5,7 +5,7 @@ use Rattle.implib.specs.declared.def.lexer.TokenKind.{TokenKind}
 use Rattle.implib.specs.declared.def.lexer.TokenKind.TheVariants.{Eof, Identifier, Equal, EqualEqual, KwExports, KwHeapsize, KwLibrary, KwName, KwStacksize, KwVersion}
 use Rattle.implib.specs.Fault.{Cause, UnknownDirective}
 use Rattle.implib.specs.Grammar.{Export, Region, Heap, Stack, Statement, Exports, Sizes, Nameless, Named, Version, Of, NameOrLibrary, Word, Matches, StartsWith, region_kind, export_terminals, exports_terminals, statement_terminals, terminals}
-use Rattle.implib.specs.TokenReader.{◌>>=◌, sizes_read, version_read, name_read, exports_read, exports_from, region_from, some_statement, versions_from, statement_by, statement_read, statements_read}
+use Rattle.implib.specs.TokenReader.{◌>>=◌, Refusal, sizes_read, version_read, name_read, exports_read, exports_from, region_from, some_statement, versions_from, statement_by, statement_read, statements_read}
 use Rattle.implib.specs.SyntaxError.{IsNoneOf, directives, follow, follow_exports, follow_last, PartialStatement, ToSize, ToSecondSize, ToBaseSign, ToBase, ToVersion, ToTarget, ToAlias, ToOrdinal, partial_terminals, IsUnexpectedAfter, bare}
 use Rattle.implib.specs.Token.{TokenView}
 use Rattle.implib.proofs.StartsWith.{IsAfter-append, StartsWith-append, StartsWith-shorter, IsAfter, AtFront}
@@ -33,33 +33,33 @@ pub record BeginsNone (t : TokenView) (cause : Cause) : Type 0 where
   pub reported : cause ≡ UnknownDirective t.value
 
 -- a statement that has begun, and then a token that is refused
-pub record StartedCut (tokens : List TokenView) (cause : Cause) : Type 0 where
+pub record StartedCut (tokens : List TokenView) (refusal : Refusal) : Type 0 where
   pub partial : PartialStatement
   pub mid : List TokenView
   pub begins : StartsWith tokens (partial_terminals partial) mid
-  pub refused : AtFront (IsUnexpectedAfter partial) mid cause
+  pub refused : AtFront (IsUnexpectedAfter partial) mid refusal
 
-abbrev pub StatementCut : List TokenView → Cause → Type 0
-StatementCut tokens cause = AtFront BeginsNone tokens cause ⊎ StartedCut tokens cause
+abbrev pub StatementCut : List TokenView → Refusal → Type 0
+StatementCut tokens refusal = AtFront BeginsNone tokens refusal ⊎ StartedCut tokens refusal
 
 -- ---- each kind of statement
 
-cut_part : (t : TokenView) (rest : List TokenView) (items : List Export) (next : List TokenView) (cause : Cause) → t.kind ≡ KwExports → Chain ExportStands NoExport items rest next
-    → (part : Part) (whole mid : List TokenView) → StartsWith next (export_terminals Word (part_export part)) whole → StartsWith whole (part_wanted part ∷ []) mid → AtFront (part_refused part) mid cause
-    → StatementCut (t ∷ rest) cause
-cut_part t rest items next cause e chain (TargetPart word) whole mid begins begun refused = inr (record {
+cut_part : (t : TokenView) (rest : List TokenView) (items : List Export) (next : List TokenView) (refusal : Refusal) → t.kind ≡ KwExports → Chain ExportStands NoExport items rest next
+    → (part : Part) (whole mid : List TokenView) → StartsWith next (export_terminals Word (part_export part)) whole → StartsWith whole (part_wanted part ∷ []) mid → AtFront (part_refused part) mid refusal
+    → StatementCut (t ∷ rest) refusal
+cut_part t rest items next refusal e chain (TargetPart word) whole mid begins begun refused = inr (record {
   partial = ToTarget items word;
   mid = mid;
   begins = (e, StartsWith-append rest (exports_terminals Word (items ++ bare word ∷ [])) (Of Equal ∷ []) whole mid (exports_then items (bare word) rest next whole chain begins) begun);
   refused = refused;
 })
-cut_part t rest items next cause e chain (AliasPart last) whole mid begins begun refused = inr (record {
+cut_part t rest items next refusal e chain (AliasPart last) whole mid begins begun refused = inr (record {
   partial = ToAlias items last;
   mid = mid;
   begins = (e, StartsWith-append rest (exports_terminals Word (items ++ last ∷ [])) (Of EqualEqual ∷ []) whole mid (exports_then items last rest next whole chain begins) begun);
   refused = refused;
 })
-cut_part t rest items next cause e chain (OrdinalPart last) whole mid begins begun refused = inr (record {
+cut_part t rest items next refusal e chain (OrdinalPart last) whole mid begins begun refused = inr (record {
   partial = ToOrdinal items last;
   mid = mid;
   begins = (e, StartsWith-append rest (exports_terminals Word (items ++ last ∷ [])) (part_wanted (OrdinalPart last) ∷ []) whole mid (exports_then items last rest next whole chain begins) begun);
@@ -70,33 +70,33 @@ exports_statement : (t : TokenView) (rest : List TokenView) → t.kind ≡ KwExp
 exports_statement t rest e =
     bind_outcome (ExportsRead rest) (ExportsCut rest) (StatementRead (t ∷ rest)) (StatementCut (t ∷ rest)) (exports_read rest) exports_from (exports_outcome rest)
     (λ found k. ((e, exports_begin found.0 rest found.1 k.0), IsAfter-append (Identifier ∷ []) (follow_exports found.0) found.1 k.1 (exports_end found.0 rest found.1 k.0)))
-    (λ cause k. cut_part t rest k.items k.mid cause e k.chain k.refused.part k.refused.whole k.refused.mid k.refused.begins k.refused.begun k.refused.refused)
+    (λ refusal k. cut_part t rest k.items k.mid refusal e k.chain k.refused.part k.refused.whole k.refused.mid k.refused.begins k.refused.begun k.refused.refused)
 
-cut_sizes : (t : TokenView) (rest : List TokenView) (region : Region) (cause : Cause) → t.kind ≡ region_kind region → SizesCut rest cause → StatementCut (t ∷ rest) cause
-cut_sizes t rest region cause e (inl h) = inr (record { partial = ToSize region; mid = rest; begins = (e, refl); refused = h })
-cut_sizes t rest region cause e (inr c) = inr (record { partial = ToSecondSize region c.0; mid = c.1.mid; begins = (e, c.1.begins); refused = c.1.refused })
+cut_sizes : (t : TokenView) (rest : List TokenView) (region : Region) (refusal : Refusal) → t.kind ≡ region_kind region → SizesCut rest refusal → StatementCut (t ∷ rest) refusal
+cut_sizes t rest region refusal e (inl h) = inr (record { partial = ToSize region; mid = rest; begins = (e, refl); refused = h })
+cut_sizes t rest region refusal e (inr c) = inr (record { partial = ToSecondSize region c.0; mid = c.1.mid; begins = (e, c.1.begins); refused = c.1.refused })
 
 sizes_statement : (t : TokenView) (rest : List TokenView) (region : Region) → t.kind ≡ region_kind region → MatchResult (sizes_read rest >>= region_from region) (StatementRead (t ∷ rest)) (StatementCut (t ∷ rest))
 sizes_statement t rest region e =
     bind_outcome (SizesRead rest) (SizesCut rest) (StatementRead (t ∷ rest)) (StatementCut (t ∷ rest)) (sizes_read rest) (region_from region) (sizes_outcome rest)
     (λ sizes k. ((e, k.0), k.1))
-    (λ cause k. cut_sizes t rest region cause e k)
+    (λ refusal k. cut_sizes t rest region refusal e k)
 
-cut_base : (t : TokenView) (rest : List TokenView) (name : List ℕ) (cause : Cause) → BaseCut (NameOrLibrary ∷ Word name ∷ []) (t ∷ rest) cause → StatementCut (t ∷ rest) cause
-cut_base t rest name cause (inl c) = inr (record { partial = ToBaseSign name; mid = c.mid; begins = c.begins; refused = c.refused })
-cut_base t rest name cause (inr c) = inr (record { partial = ToBase name; mid = c.mid; begins = c.begins; refused = c.refused })
+cut_base : (t : TokenView) (rest : List TokenView) (name : List ℕ) (refusal : Refusal) → BaseCut (NameOrLibrary ∷ Word name ∷ []) (t ∷ rest) refusal → StatementCut (t ∷ rest) refusal
+cut_base t rest name refusal (inl c) = inr (record { partial = ToBaseSign name; mid = c.mid; begins = c.begins; refused = c.refused })
+cut_base t rest name refusal (inr c) = inr (record { partial = ToBase name; mid = c.mid; begins = c.begins; refused = c.refused })
 
 name_statement : (t : TokenView) (rest : List TokenView) → Matches NameOrLibrary t → MatchResult (name_read rest >>= some_statement) (StatementRead (t ∷ rest)) (StatementCut (t ∷ rest))
 name_statement t rest is =
     bind_outcome (NameRead (t ∷ rest)) (NameCut (t ∷ rest)) (StatementRead (t ∷ rest)) (StatementCut (t ∷ rest)) (name_read rest) some_statement (name_outcome t is rest)
     (λ statement k. k)
-    (λ cause k. cut_base t rest k.0 cause k.1)
+    (λ refusal k. cut_base t rest k.0 refusal k.1)
 
 version_statement : (t : TokenView) (rest : List TokenView) → t.kind ≡ KwVersion → MatchResult (version_read rest >>= versions_from) (StatementRead (t ∷ rest)) (StatementCut (t ∷ rest))
 version_statement t rest e =
     bind_outcome (VersionRead rest) (AtFront VersionRefused rest) (StatementRead (t ∷ rest)) (StatementCut (t ∷ rest)) (version_read rest) versions_from (version_outcome rest)
     (λ version k. ((e, k), IsAfter-none version.1))
-    (λ cause k. inr (record { partial = ToVersion; mid = rest; begins = (e, refl); refused = k }))
+    (λ refusal k. inr (record { partial = ToVersion; mid = rest; begins = (e, refl); refused = k }))
 
 statement_by_outcome : (kind : TokenKind) (t : TokenView) (rest : List TokenView) → t.kind ≡ kind → MatchResult (statement_by kind t rest) (StatementRead (t ∷ rest)) (StatementCut (t ∷ rest))
 statement_by_outcome Eof t rest e = (refl, e)
@@ -106,7 +106,7 @@ statement_by_outcome KwStacksize t rest e = sizes_statement t rest Stack e
 statement_by_outcome KwName t rest e = name_statement t rest (inl e)
 statement_by_outcome KwLibrary t rest e = name_statement t rest (inr e)
 statement_by_outcome KwVersion t rest e = version_statement t rest e
-statement_by_outcome kind t rest e = inl (record { not_end = not_at t.kind kind Eof e refl; no_directive = none_at t.kind kind directives e refl; reported = refl })
+statement_by_outcome kind t rest e = inl (record { not_end = not_at t.kind kind Eof e refl; no_directive = none_at t.kind kind directives e refl; reported = refl }, refl)
 
 statement_outcome : (tokens : List TokenView) → MatchResult (statement_read tokens) (StatementRead tokens) (StatementCut tokens)
 unfolding statement_read
@@ -128,8 +128,8 @@ statement_shorter tokens s rest h = StartsWith-shorter tokens (statement_termina
 abbrev pub StatementsRead : List TokenView → List Statement × List TokenView → Type 0
 StatementsRead tokens found = AllRead StatementStands NoStatement tokens found
 
-abbrev pub StatementsCut : List TokenView → Cause → Type 0
-StatementsCut tokens cause = Stopped StatementStands NoStatement StatementCut tokens cause
+abbrev pub StatementsCut : List TokenView → Refusal → Type 0
+StatementsCut tokens refusal = Stopped StatementStands NoStatement StatementCut tokens refusal
 
 pub statements_outcome : (tokens : List TokenView) → MatchResult (statements_read tokens) (StatementsRead tokens) (StatementsCut tokens)
 unfolding statements_read

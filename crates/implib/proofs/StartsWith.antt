@@ -6,6 +6,7 @@ use Rattle.implib.specs.declared.def.lexer.TokenKind.TheVariants.{Eof, Identifie
 use Rattle.implib.specs.Fault.{Cause}
 use Rattle.implib.specs.Grammar.{Terminal, Of, NameOrLibrary, Word, Number, Numbers, Target, Later, At, Ordinal, Matches, StartsWith}
 use Rattle.implib.specs.SyntaxError.{IsNoneOf}
+use Rattle.implib.specs.TokenReader.{Refusal}
 use Rattle.implib.specs.Token.{TokenView, EndsInEof}
 use Rattle.implib.proofs.TokenKinds.{not_at}
 
@@ -99,17 +100,17 @@ pub IsAfter-parts : (a b : List TokenKind) (tokens : List TokenView) → IsAfter
 IsAfter-parts a b [] h = (tt, tt)
 IsAfter-parts a b (t ∷ rest) h = IsNoneOf-parts t.kind a b h
 
--- the first token, if there is one, is refused for the cause
-abbrev pub AtFront : (TokenView → Cause → Type 0) → List TokenView → Cause → Type 0
-AtFront Refused [] cause = Unit {0}
-AtFront Refused (t ∷ rest) cause = Refused t cause
+-- the first token, if there is one, is refused for the cause, and the offset is its own
+abbrev pub AtFront : (TokenView → Cause → Type 0) → List TokenView → Refusal → Type 0
+AtFront Refused [] refusal = Unit {0}
+AtFront Refused (t ∷ rest) refusal = Refused t refusal.cause × (refusal.at ≡ t.at)
 
 -- the tokens begin with what is wanted, and then comes one that is refused
-pub record CutAfter (tokens : List TokenView) (wanted : List Terminal) (Refused : TokenView → Cause → Type 0) (cause : Cause) : Type 0 where
+pub record CutAfter (tokens : List TokenView) (wanted : List Terminal) (Refused : TokenView → Cause → Type 0) (refusal : Refusal) : Type 0 where
   pub mid : List TokenView
   pub begins : StartsWith tokens wanted mid
-  pub refused : AtFront Refused mid cause
+  pub refused : AtFront Refused mid refusal
 
-pub AtFront-weaker : (P Q : TokenView → Cause → Type 0) → ((t : TokenView) (cause : Cause) → P t cause → Q t cause) → (tokens : List TokenView) (cause : Cause) → AtFront P tokens cause → AtFront Q tokens cause
-AtFront-weaker P Q f [] cause h = tt
-AtFront-weaker P Q f (t ∷ rest) cause h = f t cause h
+pub AtFront-weaker : (P Q : TokenView → Cause → Type 0) → ((t : TokenView) (cause : Cause) → P t cause → Q t cause) → (tokens : List TokenView) (refusal : Refusal) → AtFront P tokens refusal → AtFront Q tokens refusal
+AtFront-weaker P Q f [] refusal h = tt
+AtFront-weaker P Q f (t ∷ rest) refusal h = (f t refusal.cause h.0, h.1)

@@ -6,7 +6,7 @@ use Rattle.implib.specs.declared.def.lexer.TokenKind.TheVariants.{Eof, Identifie
 use Rattle.implib.specs.Fault.{Cause}
 use Rattle.implib.specs.Grammar.{Attribute, Joined, Apart, Data, Constant, Private, Alias, Export, Terminal, Of, Word, Later, StartsWith, IsWord, IsLoneAt, at_sign, no_name_terminals, attribute_terminals, target_terminals, export_terminals, exports_terminals}
 use Rattle.implib.specs.Number.{IsNumber, u16_limit}
-use Rattle.implib.specs.TokenReader.{◌>>=◌, number_of, AtWord, Lone, WithOrdinal, Plain, at_word, word_read, no_name_by, no_name_read, ordinal_or, ordinal_by, ordinal_read, joined_from, apart_of, apart_from, alias_from, at_attribute, attribute_by, attribute_read, attributes_read, target_of, target_from, target_by, target_read, export_of, export_from, export_by, export_read, exports_read}
+use Rattle.implib.specs.TokenReader.{◌>>=◌, Refusal, refusal_of, number_of, AtWord, Lone, WithOrdinal, Plain, at_word, word_read, no_name_by, no_name_read, ordinal_or, ordinal_by, ordinal_read, joined_from, apart_of, apart_from, alias_from, at_attribute, attribute_by, attribute_read, attributes_read, target_of, target_from, target_by, target_read, export_of, export_from, export_by, export_read, exports_read}
 use Rattle.implib.specs.SyntaxError.{IsNotIdentifier, IsNoneOf, attribute_kinds, follow_ordinal, follow_attribute, follow_attributes, follow_target, follow_export, follow_exports, bare}
 use Rattle.implib.specs.Token.{TokenView}
 use Rattle.implib.proofs.StartsWith.{IsNoneOf-append, IsNoneOf-parts, IsAfter-parts, StartsWith-parted, StartsWith-shorter, IsAfter}
@@ -46,14 +46,14 @@ unfolding ordinal_read
 ordinal_again t n rest other is =
     ordinal_by_other t.kind t rest other ∙ ap (λ (o : Option ℕ). ordinal_or o t rest) (number_of-is t.value u16_limit n is)
 
-ordinal_refused : (t : TokenView) (rest : List TokenView) (cause : Cause) → OrdinalRefused t cause → ordinal_read (t ∷ rest) ≡ Err cause
+ordinal_refused : (t : TokenView) (rest : List TokenView) (cause : Cause) → OrdinalRefused t cause → ordinal_read (t ∷ rest) ≡ Err (refusal_of cause t)
 unfolding ordinal_read
 ordinal_refused t rest cause (inl h) =
-    ap (λ (k : TokenKind). ordinal_by k t rest) h.end ∙ ap (λ (c : Cause). Err c) (sym h.reported)
+    ap (λ (k : TokenKind). ordinal_by k t rest) h.end ∙ ap (λ (c : Cause). Err (refusal_of c t)) (sym h.reported)
 ordinal_refused t rest cause (inr h) =
     ordinal_by_other t.kind t rest h.not_end
     ∙ ap (λ (o : Option ℕ). ordinal_or o t rest) (number_of-none t.value u16_limit h.none)
-    ∙ ap (λ (c : Cause). Err c) (sym h.reported)
+    ∙ ap (λ (c : Cause). Err (refusal_of c t)) (sym h.reported)
 
 -- ---- attributes
 
@@ -97,15 +97,16 @@ attribute_again (Alias value) [] rest h after = absurd h
 attribute_again (Alias value) (t ∷ []) rest h after = absurd h.1
 attribute_again (Alias value) (t ∷ u ∷ tokens) rest h after =
     at_kind t (u ∷ tokens) EqualEqual h.0
-    ∙ bind_ok (word_read (u ∷ tokens)) alias_from (value, tokens) (Ok (Some (Alias value), rest)) (word_again u value tokens h.1.0) (ap (λ (s : List TokenView). Ok (Some (Alias value), s)) h.1.1)
+    ∙ bind_ok (word_read (u ∷ tokens)) alias_from (u, tokens) (Ok (Some (Alias value), rest)) (word_again u tokens h.1.0.kind)
+    (ap (λ (v : List ℕ). Ok (Some (Alias v), tokens)) h.1.0.value_is ∙ ap (λ (s : List TokenView). Ok (Some (Alias value), s)) h.1.1)
 
-alias_refused : (t u : TokenView) (rest : List TokenView) (cause : Cause) → t.kind ≡ EqualEqual → IsNotIdentifier u cause → attribute_read (t ∷ u ∷ rest) ≡ Err cause
+alias_refused : (t u : TokenView) (rest : List TokenView) (cause : Cause) → t.kind ≡ EqualEqual → IsNotIdentifier u cause → attribute_read (t ∷ u ∷ rest) ≡ Err (refusal_of cause u)
 alias_refused t u rest cause e h =
-    at_kind t (u ∷ rest) EqualEqual e ∙ bind_err (word_read (u ∷ rest)) alias_from cause (word_refused u rest cause h)
+    at_kind t (u ∷ rest) EqualEqual e ∙ bind_err (word_read (u ∷ rest)) alias_from (refusal_of cause u) (word_refused u rest cause h)
 
-lone_refused : (t u : TokenView) (rest : List TokenView) (cause : Cause) → IsWord t (at_sign ∷ []) → OrdinalRefused u cause → attribute_read (t ∷ u ∷ rest) ≡ Err cause
+lone_refused : (t u : TokenView) (rest : List TokenView) (cause : Cause) → IsWord t (at_sign ∷ []) → OrdinalRefused u cause → attribute_read (t ∷ u ∷ rest) ≡ Err (refusal_of cause u)
 lone_refused t u rest cause is h =
-    at_word_kind t (u ∷ rest) Lone is.kind is.value_is ∙ bind_err (ordinal_read (u ∷ rest)) apart_from cause (ordinal_refused u rest cause h)
+    at_word_kind t (u ∷ rest) Lone is.kind is.value_is ∙ bind_err (ordinal_read (u ∷ rest)) apart_from (refusal_of cause u) (ordinal_refused u rest cause h)
 
 -- neither `NONAME` nor `=` begins an attribute
 abbrev no_attribute_kinds : List TokenKind
@@ -167,7 +168,7 @@ after_sign : (t : TokenView) (rest : List TokenView) → t.kind ≡ Equal → ta
 unfolding target_read
 after_sign t rest e = ap (λ (k : TokenKind). target_by k t rest) e
 
-not_lone_target : (word : List ℕ × List TokenView) (found : AtWord) → IsAtWord found word.0 → ¬ (IsLoneAt word.0) → target_of found word ≡ Ok (Some word.0, word.1)
+not_lone_target : (word : TokenView × List TokenView) (found : AtWord) → IsAtWord found word.0.value → ¬ (IsLoneAt word.0.value) → target_of found word ≡ Ok (Some word.0.value, word.1)
 not_lone_target word Lone is other = absurd (other is)
 not_lone_target word (WithOrdinal n) is other = refl
 not_lone_target word Plain is other = refl
@@ -178,16 +179,18 @@ target_again (Some value) [] rest h after = absurd h
 target_again (Some value) (t ∷ []) rest h after = absurd h.1
 target_again (Some value) (t ∷ u ∷ tokens) rest h after =
     after_sign t (u ∷ tokens) h.0
-    ∙ bind_ok (word_read (u ∷ tokens)) target_from (value, tokens) (Ok (Some value, rest)) (word_again u value tokens h.1.0.0)
-    (not_lone_target (value, tokens) (at_word value) (at_word-gives value) h.1.0.1 ∙ ap (λ (s : List TokenView). Ok (Some value, s)) h.1.1)
+    ∙ bind_ok (word_read (u ∷ tokens)) target_from (u, tokens) (Ok (Some value, rest)) (word_again u tokens h.1.0.0.kind)
+    (not_lone_target (u, tokens) (at_word u.value) (at_word-gives u.value) (subst (λ (v : List ℕ). ¬ (IsLoneAt v)) (sym h.1.0.0.value_is) h.1.0.1)
+    ∙ ap (λ (v : List ℕ). Ok (Some v, tokens)) h.1.0.0.value_is
+    ∙ ap (λ (s : List TokenView). Ok (Some value, s)) h.1.1)
 
-target_refused : (t u : TokenView) (rest : List TokenView) (cause : Cause) → t.kind ≡ Equal → TargetRefused u cause → target_read (t ∷ u ∷ rest) ≡ Err cause
+target_refused : (t u : TokenView) (rest : List TokenView) (cause : Cause) → t.kind ≡ Equal → TargetRefused u cause → target_read (t ∷ u ∷ rest) ≡ Err (refusal_of cause u)
 target_refused t u rest cause e (inl h) =
-    after_sign t (u ∷ rest) e ∙ bind_err (word_read (u ∷ rest)) target_from cause (word_refused u rest cause h)
+    after_sign t (u ∷ rest) e ∙ bind_err (word_read (u ∷ rest)) target_from (refusal_of cause u) (word_refused u rest cause h)
 target_refused t u rest cause e (inr h) =
     after_sign t (u ∷ rest) e
-    ∙ bind_ok (word_read (u ∷ rest)) target_from (u.value, rest) (Err cause) (word_again u u.value rest (record { kind = h.kind; value_is = refl }))
-    (ap (λ (w : AtWord). target_of w (u.value, rest)) (at_word-is u.value Lone h.lone) ∙ ap (λ (c : Cause). Err c) (sym h.reported))
+    ∙ bind_ok (word_read (u ∷ rest)) target_from (u, rest) (Err (refusal_of cause u)) (word_again u rest h.kind)
+    (ap (λ (w : AtWord). target_of w (u, rest)) (at_word-is u.value Lone h.lone) ∙ ap (λ (c : Cause). Err (refusal_of c u)) (sym h.reported))
 
 -- ---- one export
 
@@ -223,37 +226,37 @@ clear_target None (a ∷ items) kind other = tt
 clear_target (Some value) items kind other = tt
 
 pub target_stops : (word : List ℕ) (tokens : List TokenView) (t : TokenView) (rest : List TokenView) (cause : Cause) → StartsWith tokens (export_terminals Word (bare word) ++ Of Equal ∷ []) (t ∷ rest) → TargetRefused t cause
-    → export_read tokens ≡ Err cause
+    → export_read tokens ≡ Err (refusal_of cause t)
 target_stops word [] t rest cause h refused = absurd h
 target_stops word (w ∷ []) t rest cause h refused = absurd h.1
 target_stops word (w ∷ sign ∷ tokens) t rest cause h refused =
     after_word (bare word) w (sign ∷ tokens) h.0
-    ∙ bind_err (target_read (sign ∷ tokens)) (export_from word) cause
+    ∙ bind_err (target_read (sign ∷ tokens)) (export_from word) (refusal_of cause t)
     (ap (λ (s : List TokenView). target_read (sign ∷ s)) h.1.1 ∙ target_refused sign t rest cause h.1.0 refused)
 
 -- the attributes so far are read, and one that is refused refuses the export
-attribute_stops : (e : Export) (tokens : List TokenView) (first : TokenView) (whole : List TokenView) (cause : Cause) → StartsWith tokens (export_terminals Word e) (first ∷ whole) → IsNoneOf first.kind no_attribute_kinds → attribute_read (first ∷ whole) ≡ Err cause
-    → export_read tokens ≡ Err cause
+attribute_stops : (e : Export) (tokens : List TokenView) (first : TokenView) (whole : List TokenView) (refusal : Refusal) → StartsWith tokens (export_terminals Word e) (first ∷ whole) → IsNoneOf first.kind no_attribute_kinds → attribute_read (first ∷ whole) ≡ Err refusal
+    → export_read tokens ≡ Err refusal
 unfolding attributes_read
-attribute_stops e [] first whole cause h clear refused = absurd h
-attribute_stops e (t ∷ tokens) first whole cause h clear refused =
+attribute_stops e [] first whole refusal h clear refused = absurd h
+attribute_stops e (t ∷ tokens) first whole refusal h clear refused =
     let p = StartsWith-parted tokens (target_terminals e.target) (flat_map attribute_terminals e.attributes) (first ∷ whole) h.1 in
     let target = target_again e.target tokens p.mid p.front (before_attributes e.target e.attributes p.mid (first ∷ whole) p.back (clear_target e.target e.attributes first.kind clear.1.0)) in
     let chain = attributes_again e.attributes p.mid (first ∷ whole) p.back (clear_attributes e.attributes first.kind clear.0) in
     after_word e t tokens h.0
-    ∙ bind_ok (target_read tokens) (export_from e.word) (e.target, p.mid) (Err cause) target
-    (bind_err (attributes_read p.mid) (export_of e.word e.target) cause (all_refused attribute_read e.attributes p.mid first whole cause chain refused))
+    ∙ bind_ok (target_read tokens) (export_from e.word) (e.target, p.mid) (Err refusal) target
+    (bind_err (attributes_read p.mid) (export_of e.word e.target) refusal (all_refused attribute_read e.attributes p.mid first whole refusal chain refused))
 
-pub alias_stops : (e : Export) (tokens whole : List TokenView) (t : TokenView) (rest : List TokenView) (cause : Cause) → StartsWith tokens (export_terminals Word e) whole → StartsWith whole (Of EqualEqual ∷ []) (t ∷ rest) → IsNotIdentifier t cause → export_read tokens ≡ Err cause
+pub alias_stops : (e : Export) (tokens whole : List TokenView) (t : TokenView) (rest : List TokenView) (cause : Cause) → StartsWith tokens (export_terminals Word e) whole → StartsWith whole (Of EqualEqual ∷ []) (t ∷ rest) → IsNotIdentifier t cause → export_read tokens ≡ Err (refusal_of cause t)
 alias_stops e tokens [] t rest cause h begun refused = absurd begun
 alias_stops e tokens (first ∷ whole) t rest cause h begun refused =
-    attribute_stops e tokens first whole cause h (none_at first.kind EqualEqual no_attribute_kinds begun.0 refl)
+    attribute_stops e tokens first whole (refusal_of cause t) h (none_at first.kind EqualEqual no_attribute_kinds begun.0 refl)
     (ap (λ (s : List TokenView). attribute_read (first ∷ s)) begun.1 ∙ alias_refused first t rest cause begun.0 refused)
 
-pub ordinal_stops : (e : Export) (tokens whole : List TokenView) (t : TokenView) (rest : List TokenView) (cause : Cause) → StartsWith tokens (export_terminals Word e) whole → StartsWith whole (Word (at_sign ∷ []) ∷ []) (t ∷ rest) → OrdinalRefused t cause → export_read tokens ≡ Err cause
+pub ordinal_stops : (e : Export) (tokens whole : List TokenView) (t : TokenView) (rest : List TokenView) (cause : Cause) → StartsWith tokens (export_terminals Word e) whole → StartsWith whole (Word (at_sign ∷ []) ∷ []) (t ∷ rest) → OrdinalRefused t cause → export_read tokens ≡ Err (refusal_of cause t)
 ordinal_stops e tokens [] t rest cause h begun refused = absurd begun
 ordinal_stops e tokens (first ∷ whole) t rest cause h begun refused =
-    attribute_stops e tokens first whole cause h (none_at first.kind Identifier no_attribute_kinds begun.0.kind refl)
+    attribute_stops e tokens first whole (refusal_of cause t) h (none_at first.kind Identifier no_attribute_kinds begun.0.kind refl)
     (ap (λ (s : List TokenView). attribute_read (first ∷ s)) begun.1 ∙ lone_refused first t rest cause begun.0 refused)
 
 -- ---- exports
@@ -334,12 +337,12 @@ before_last (e ∷ next ∷ items) last tokens whole h =
     record { mid = b.mid; chain = (p.mid, take_export e tokens p.mid p.front (ends_at_later e next (items ++ last ∷ []) p.mid whole p.back), b.chain); back = b.back }
 
 -- the exports before it are read, and an export that is refused refuses them all
-pub export_stops : (items : List Export) (last : Export) (tokens whole : List TokenView) (cause : Cause) → StartsWith tokens (exports_terminals Word (items ++ last ∷ [])) whole
-    → ((mid : List TokenView) → StartsWith mid (export_terminals Word last) whole → export_read mid ≡ Err cause) → exports_read tokens ≡ Err cause
+pub export_stops : (items : List Export) (last : Export) (tokens whole : List TokenView) (refusal : Refusal) → StartsWith tokens (exports_terminals Word (items ++ last ∷ [])) whole
+    → ((mid : List TokenView) → StartsWith mid (export_terminals Word last) whole → export_read mid ≡ Err refusal) → exports_read tokens ≡ Err refusal
 unfolding exports_read
-export_stops items last tokens whole cause h refused =
+export_stops items last tokens whole refusal h refused =
     let b = before_last items last tokens whole h in stops b.mid b.chain b.back
   where
-    stops : (mid : List TokenView) → AreRead export_read items tokens mid → StartsWith mid (export_terminals Word last) whole → exports_read tokens ≡ Err cause
+    stops : (mid : List TokenView) → AreRead export_read items tokens mid → StartsWith mid (export_terminals Word last) whole → exports_read tokens ≡ Err refusal
     stops [] chain back = absurd back
-    stops (t ∷ rest) chain back = all_refused export_read items tokens t rest cause chain (refused (t ∷ rest) back)
+    stops (t ∷ rest) chain back = all_refused export_read items tokens t rest refusal chain (refused (t ∷ rest) back)

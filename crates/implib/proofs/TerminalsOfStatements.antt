@@ -4,8 +4,8 @@ use Rattle.implib.specs.declared.def.lexer.TokenKind.{TokenKind}
 use Rattle.implib.specs.declared.def.lexer.TokenKind.TheVariants.{Eof, Identifier, Comma, Equal, EqualEqual, KwBase, KwExports, KwHeapsize, KwLibrary, KwName, KwStacksize, KwVersion}
 use Rattle.implib.specs.Fault.{Cause, UnknownDirective}
 use Rattle.implib.specs.Grammar.{Export, Region, Heap, Stack, Statement, Exports, Sizes, Nameless, Named, Version, Terminal, Of, NameOrLibrary, Word, Matches, StartsWith, Sentence, at_sign, region_kind, export_terminals, exports_terminals, statement_terminals, terminals}
-use Rattle.implib.specs.TokenReader.{◌>>=◌, sizes_read, version_read, name_read, export_read, exports_read, exports_from, region_from, some_statement, versions_from, statement_by, statement_read, statements_read}
-use Rattle.implib.specs.SyntaxError.{IsNoneOf, IsSyntaxError, directives, follow, follow_size, follow_name, follow_exports, follow_last, PartialStatement, ToSize, ToSecondSize, ToBaseSign, ToBase, ToVersion, ToTarget, ToAlias, ToOrdinal, partial_terminals, IsUnexpectedAfter, bare}
+use Rattle.implib.specs.TokenReader.{◌>>=◌, Refusal, refusal_of, sizes_read, version_read, name_read, export_read, exports_read, exports_from, region_from, some_statement, versions_from, statement_by, statement_read, statements_read}
+use Rattle.implib.specs.SyntaxError.{IsNoneOf, IsSyntaxError, unexpected_token, directives, follow, follow_size, follow_name, follow_exports, follow_last, PartialStatement, ToSize, ToSecondSize, ToBaseSign, ToBase, ToVersion, ToTarget, ToAlias, ToOrdinal, partial_terminals, IsUnexpectedAfter, bare}
 use Rattle.implib.specs.Token.{TokenView}
 use Rattle.implib.proofs.StartsWith.{StartsWith-parted, StartsWith-append, StartsWith-shorter, IsAfter}
 use Rattle.implib.proofs.Many.{bind_ok, bind_err, Takes, AreRead, all_again, all_refused}
@@ -129,7 +129,7 @@ statement_again (Version major minor) (t ∷ u ∷ tokens) rest h after =
     at_kind t (u ∷ tokens) KwVersion h.0
     ∙ bind_ok (version_read (u ∷ tokens)) versions_from ((major, minor), tokens) (Ok (Some (Version major minor), rest)) (version_again u major minor tokens h.1.0.0 h.1.0.1) (ap (λ (s : List TokenView). Ok (Some (Version major minor), s)) h.1.1)
 
-statement_by_other : (kind : TokenKind) (t : TokenView) (rest : List TokenView) → kind ≢ Eof → IsNoneOf kind directives → statement_by kind t rest ≡ Err (UnknownDirective t.value)
+statement_by_other : (kind : TokenKind) (t : TokenView) (rest : List TokenView) → kind ≢ Eof → IsNoneOf kind directives → statement_by kind t rest ≡ Err (refusal_of (UnknownDirective t.value) t)
 statement_by_other Eof t rest other h = absurd (other refl)
 statement_by_other KwExports t rest other h = absurd (h.0 refl)
 statement_by_other KwHeapsize t rest other h = absurd (h.1.0 refl)
@@ -139,38 +139,38 @@ statement_by_other KwLibrary t rest other h = absurd (h.1.1.1.1.0 refl)
 statement_by_other KwVersion t rest other h = absurd (h.1.1.1.1.1.0 refl)
 statement_by_other kind t rest other h = refl
 
-unknown_refused : (t : TokenView) (rest : List TokenView) (cause : Cause) → t.kind ≢ Eof → IsNoneOf t.kind directives → cause ≡ UnknownDirective t.value → statement_read (t ∷ rest) ≡ Err cause
+unknown_refused : (t : TokenView) (rest : List TokenView) (cause : Cause) → t.kind ≢ Eof → IsNoneOf t.kind directives → cause ≡ UnknownDirective t.value → statement_read (t ∷ rest) ≡ Err (refusal_of cause t)
 unfolding statement_read
-unknown_refused t rest cause other h reported = statement_by_other t.kind t rest other h ∙ ap (λ (c : Cause). Err c) (sym reported)
+unknown_refused t rest cause other h reported = statement_by_other t.kind t rest other h ∙ ap (λ (c : Cause). Err (refusal_of c t)) (sym reported)
 
 -- ---- a statement that has begun
 
-exports_stop : (items : List Export) (last : Export) (begun : Terminal) (first : TokenView) (tokens : List TokenView) (t : TokenView) (rest : List TokenView) (cause : Cause) → first.kind ≡ KwExports
+exports_stop : (items : List Export) (last : Export) (begun : Terminal) (first : TokenView) (tokens : List TokenView) (t : TokenView) (rest : List TokenView) (refusal : Refusal) → first.kind ≡ KwExports
     → StartsWith tokens (exports_terminals Word (items ++ last ∷ []) ++ begun ∷ []) (t ∷ rest)
-    → ((mid whole : List TokenView) → StartsWith mid (export_terminals Word last) whole → StartsWith whole (begun ∷ []) (t ∷ rest) → export_read mid ≡ Err cause)
-    → statement_read (first ∷ tokens) ≡ Err cause
-exports_stop items last begun first tokens t rest cause e h refused =
+    → ((mid whole : List TokenView) → StartsWith mid (export_terminals Word last) whole → StartsWith whole (begun ∷ []) (t ∷ rest) → export_read mid ≡ Err refusal)
+    → statement_read (first ∷ tokens) ≡ Err refusal
+exports_stop items last begun first tokens t rest refusal e h refused =
     let p = StartsWith-parted tokens (exports_terminals Word (items ++ last ∷ [])) (begun ∷ []) (t ∷ rest) h in
     at_kind first tokens KwExports e
-    ∙ bind_err (exports_read tokens) exports_from cause (export_stops items last tokens p.mid cause p.front (λ mid back. refused mid p.mid back p.back))
+    ∙ bind_err (exports_read tokens) exports_from refusal (export_stops items last tokens p.mid refusal p.front (λ mid back. refused mid p.mid back p.back))
 
-target_so_far : (word : List ℕ) (mid whole : List TokenView) (t : TokenView) (rest : List TokenView) (cause : Cause) → StartsWith mid (export_terminals Word (bare word)) whole → StartsWith whole (Of Equal ∷ []) (t ∷ rest) → IsUnexpectedAfter (ToTarget [] word) t cause → export_read mid ≡ Err cause
+target_so_far : (word : List ℕ) (mid whole : List TokenView) (t : TokenView) (rest : List TokenView) (cause : Cause) → StartsWith mid (export_terminals Word (bare word)) whole → StartsWith whole (Of Equal ∷ []) (t ∷ rest) → IsUnexpectedAfter (ToTarget [] word) t cause → export_read mid ≡ Err (refusal_of cause t)
 target_so_far word mid whole t rest cause back begun refused =
     target_stops word mid t rest cause (StartsWith-append mid (export_terminals Word (bare word)) (Of Equal ∷ []) whole (t ∷ rest) back begun) refused
 
-started_refused : (partial : PartialStatement) (tokens : List TokenView) (t : TokenView) (rest : List TokenView) (cause : Cause) → StartsWith tokens (partial_terminals partial) (t ∷ rest) → IsUnexpectedAfter partial t cause → statement_read tokens ≡ Err cause
+started_refused : (partial : PartialStatement) (tokens : List TokenView) (t : TokenView) (rest : List TokenView) (cause : Cause) → StartsWith tokens (partial_terminals partial) (t ∷ rest) → IsUnexpectedAfter partial t cause → statement_read tokens ≡ Err (refusal_of cause t)
 started_refused (ToSize region) [] t rest cause h refused = absurd h
 started_refused (ToSize region) (u ∷ tokens) t rest cause h refused =
-    at_region u tokens region h.0 ∙ bind_err (sizes_read tokens) (region_from region) cause (ap sizes_read h.1 ∙ size_refused t rest cause refused)
+    at_region u tokens region h.0 ∙ bind_err (sizes_read tokens) (region_from region) (refusal_of cause t) (ap sizes_read h.1 ∙ size_refused t rest cause refused)
 started_refused (ToSecondSize region n) [] t rest cause h refused = absurd h
 started_refused (ToSecondSize region n) (u ∷ tokens) t rest cause h refused =
-    at_region u tokens region h.0 ∙ bind_err (sizes_read tokens) (region_from region) cause (second_size_refused n tokens t rest cause h.1 refused)
+    at_region u tokens region h.0 ∙ bind_err (sizes_read tokens) (region_from region) (refusal_of cause t) (second_size_refused n tokens t rest cause h.1 refused)
 started_refused (ToBaseSign name) [] t rest cause h refused = absurd h
 started_refused (ToBaseSign name) (u ∷ []) t rest cause h refused = absurd h.1
 started_refused (ToBaseSign name) (u ∷ word ∷ []) t rest cause h refused = absurd h.1.1
 started_refused (ToBaseSign name) (u ∷ word ∷ base ∷ tokens) t rest cause h refused =
     at_name u (word ∷ base ∷ tokens) h.0
-    ∙ bind_err (name_read (word ∷ base ∷ tokens)) some_statement cause
+    ∙ bind_err (name_read (word ∷ base ∷ tokens)) some_statement (refusal_of cause t)
     (ap (λ (s : List TokenView). name_read (word ∷ base ∷ s)) h.1.1.1 ∙ name_sign_refused name word base t rest cause h.1.0 h.1.1.0 refused)
 started_refused (ToBase name) [] t rest cause h refused = absurd h
 started_refused (ToBase name) (u ∷ []) t rest cause h refused = absurd h.1
@@ -178,20 +178,20 @@ started_refused (ToBase name) (u ∷ word ∷ []) t rest cause h refused = absur
 started_refused (ToBase name) (u ∷ word ∷ base ∷ []) t rest cause h refused = absurd h.1.1.1
 started_refused (ToBase name) (u ∷ word ∷ base ∷ sign ∷ tokens) t rest cause h refused =
     at_name u (word ∷ base ∷ sign ∷ tokens) h.0
-    ∙ bind_err (name_read (word ∷ base ∷ sign ∷ tokens)) some_statement cause
+    ∙ bind_err (name_read (word ∷ base ∷ sign ∷ tokens)) some_statement (refusal_of cause t)
     (ap (λ (s : List TokenView). name_read (word ∷ base ∷ sign ∷ s)) h.1.1.1.1 ∙ name_number_refused name word base sign t rest cause h.1.0 h.1.1.0 h.1.1.1.0 refused)
 started_refused ToVersion [] t rest cause h refused = absurd h
 started_refused ToVersion (u ∷ tokens) t rest cause h refused =
-    at_kind u tokens KwVersion h.0 ∙ bind_err (version_read tokens) versions_from cause (ap version_read h.1 ∙ version_refused t rest cause refused)
+    at_kind u tokens KwVersion h.0 ∙ bind_err (version_read tokens) versions_from (refusal_of cause t) (ap version_read h.1 ∙ version_refused t rest cause refused)
 started_refused (ToTarget exports word) [] t rest cause h refused = absurd h
 started_refused (ToTarget exports word) (u ∷ tokens) t rest cause h refused =
-    exports_stop exports (bare word) (Of Equal) u tokens t rest cause h.0 h.1 (λ mid whole back begun. target_so_far word mid whole t rest cause back begun refused)
+    exports_stop exports (bare word) (Of Equal) u tokens t rest (refusal_of cause t) h.0 h.1 (λ mid whole back begun. target_so_far word mid whole t rest cause back begun refused)
 started_refused (ToAlias exports last) [] t rest cause h refused = absurd h
 started_refused (ToAlias exports last) (u ∷ tokens) t rest cause h refused =
-    exports_stop exports last (Of EqualEqual) u tokens t rest cause h.0 h.1 (λ mid whole back begun. alias_stops last mid whole t rest cause back begun refused)
+    exports_stop exports last (Of EqualEqual) u tokens t rest (refusal_of cause t) h.0 h.1 (λ mid whole back begun. alias_stops last mid whole t rest cause back begun refused)
 started_refused (ToOrdinal exports last) [] t rest cause h refused = absurd h
 started_refused (ToOrdinal exports last) (u ∷ tokens) t rest cause h refused =
-    exports_stop exports last (Word (at_sign ∷ [])) u tokens t rest cause h.0 h.1 (λ mid whole back begun. ordinal_stops last mid whole t rest cause back begun refused)
+    exports_stop exports last (Word (at_sign ∷ [])) u tokens t rest (refusal_of cause t) h.0 h.1 (λ mid whole back begun. ordinal_stops last mid whole t rest cause back begun refused)
 
 -- ---- statements
 
@@ -223,17 +223,17 @@ sentence-read tokens statements h =
     ended (t ∷ rest) front back =
         (t ∷ rest, all_again statement_read statements tokens (t ∷ rest) (statements_chain statements tokens (t ∷ rest) front (clear_last statements (t ∷ rest) (none_at t.kind Eof statement_kinds back.0 refl))) (end_read t rest back.0))
 
--- what the grammar refuses is refused for that cause
-pub broken-refused : (tokens : List TokenView) (cause : Cause) → IsSyntaxError tokens cause → statements_read tokens ≡ Err cause
+-- what the grammar refuses is refused for that cause, at that token
+pub broken-refused : (tokens : List TokenView) (cause : Cause) → (b : IsSyntaxError tokens cause) → statements_read tokens ≡ Err (refusal_of cause (unexpected_token b))
 unfolding statements_read
 broken-refused tokens cause (inl b) =
-    all_refused statement_read b.statements tokens b.token b.rest cause (statements_chain b.statements tokens (b.token ∷ b.rest) b.begins b.not_in_follow) (unknown_refused b.token b.rest cause b.not_end b.no_directive b.reported)
+    all_refused statement_read b.statements tokens b.token b.rest (refusal_of cause b.token) (statements_chain b.statements tokens (b.token ∷ b.rest) b.begins b.not_in_follow) (unknown_refused b.token b.rest cause b.not_end b.no_directive b.reported)
 broken-refused tokens cause (inr b) =
     let p = StartsWith-parted tokens (terminals b.statements) (partial_terminals b.partial) (b.token ∷ b.rest) b.begins in stopped p.mid p.front p.back
   where
-    stopped : (mid : List TokenView) → StartsWith tokens (terminals b.statements) mid → StartsWith mid (partial_terminals b.partial) (b.token ∷ b.rest) → statements_read tokens ≡ Err cause
+    stopped : (mid : List TokenView) → StartsWith tokens (terminals b.statements) mid → StartsWith mid (partial_terminals b.partial) (b.token ∷ b.rest) → statements_read tokens ≡ Err (refusal_of cause b.token)
     stopped [] front back = absurd (started_some b.partial b.token b.rest back)
     stopped (t ∷ rest) front back =
-        all_refused statement_read b.statements tokens t rest cause
+        all_refused statement_read b.statements tokens t rest (refusal_of cause b.token)
         (statements_chain b.statements tokens (t ∷ rest) front (clear_last b.statements (t ∷ rest) (started_first b.partial (t ∷ rest) (b.token ∷ b.rest) back)))
         (started_refused b.partial (t ∷ rest) b.token b.rest cause back b.refused)

@@ -5,7 +5,7 @@ use Rattle.implib.specs.declared.def.lexer.TokenKind.TheVariants.{Identifier, Co
 use Rattle.implib.specs.Fault.{Cause, ExpectedIdentifier, ExpectedEqual}
 use Rattle.implib.specs.Grammar.{Of, Number, StartsWith, IsWord, IsVersion, Nameless, Named, base_terminals, commit_terminals}
 use Rattle.implib.specs.Number.{IsNumber, u64_limit}
-use Rattle.implib.specs.TokenReader.{◌>>=◌, word_by, word_read, integer_or, number_from, number_read, version_from, version_read, some_number, commit_by, commit_read, sizes_of, sizes_from, sizes_read, sign_by, sign_read, base_by, base_read, named_from, name_by, name_read}
+use Rattle.implib.specs.TokenReader.{◌>>=◌, refusal_of, word_by, word_read, integer_or, number_from, number_read, version_from, version_read, some_number, commit_by, commit_read, sizes_of, sizes_from, sizes_read, sign_by, sign_read, base_by, base_read, named_from, name_by, name_read}
 use Rattle.implib.specs.SyntaxError.{IsNotIdentifier, IsNotEqualSign, follow_size, follow_name}
 use Rattle.implib.specs.Token.{TokenView}
 use Rattle.implib.proofs.StartsWith.{IsAfter}
@@ -15,52 +15,47 @@ use Rattle.implib.proofs.Words.{number_of-is, number_of-none, version_of-is, ver
 
 -- ---- words
 
-pub word_again : (t : TokenView) (value : List ℕ) (rest : List TokenView) → IsWord t value → word_read (t ∷ rest) ≡ Ok (value, rest)
+pub word_again : (t : TokenView) (rest : List TokenView) → t.kind ≡ Identifier → word_read (t ∷ rest) ≡ Ok (t, rest)
 unfolding word_read
-word_again t value rest is =
-    ap (λ (k : TokenKind). word_by k t rest) is.kind ∙ ap (λ (v : List ℕ). Ok (v, rest)) is.value_is
+word_again t rest is = ap (λ (k : TokenKind). word_by k t rest) is
 
-word_by_other : (kind : TokenKind) (t : TokenView) (rest : List TokenView) → kind ≢ Identifier → word_by kind t rest ≡ Err (ExpectedIdentifier kind)
+word_by_other : (kind : TokenKind) (t : TokenView) (rest : List TokenView) → kind ≢ Identifier → word_by kind t rest ≡ Err (refusal_of (ExpectedIdentifier kind) t)
 word_by_other Identifier t rest other = absurd (other refl)
 word_by_other kind t rest other = refl
 
-pub word_refused : (t : TokenView) (rest : List TokenView) (cause : Cause) → IsNotIdentifier t cause → word_read (t ∷ rest) ≡ Err cause
+pub word_refused : (t : TokenView) (rest : List TokenView) (cause : Cause) → IsNotIdentifier t cause → word_read (t ∷ rest) ≡ Err (refusal_of cause t)
 unfolding word_read
-word_refused t rest cause h = word_by_other t.kind t rest h.other ∙ ap (λ (c : Cause). Err c) (sym h.reported)
-
--- a word with its own value
-abbrev own_word : (t : TokenView) → t.kind ≡ Identifier → IsWord t t.value
-own_word t e = record { kind = e; value_is = refl }
+word_refused t rest cause h = word_by_other t.kind t rest h.other ∙ ap (λ (c : Cause). Err (refusal_of c t)) (sym h.reported)
 
 -- ---- numbers
 
 pub number_again : (t : TokenView) (n : ℕ) (rest : List TokenView) → t.kind ≡ Identifier → IsNumber t.value u64_limit n → number_read (t ∷ rest) ≡ Ok (n, rest)
 unfolding number_read
 number_again t n rest e is =
-    bind_ok (word_read (t ∷ rest)) number_from (t.value, rest) (Ok (n, rest)) (word_again t t.value rest (own_word t e))
-    (ap (λ (o : Option ℕ). integer_or o rest) (number_of-is t.value u64_limit n is))
+    bind_ok (word_read (t ∷ rest)) number_from (t, rest) (Ok (n, rest)) (word_again t rest e)
+    (ap (λ (o : Option ℕ). integer_or o t rest) (number_of-is t.value u64_limit n is))
 
-pub number_refused : (t : TokenView) (rest : List TokenView) (cause : Cause) → NumberRefused t cause → number_read (t ∷ rest) ≡ Err cause
+pub number_refused : (t : TokenView) (rest : List TokenView) (cause : Cause) → NumberRefused t cause → number_read (t ∷ rest) ≡ Err (refusal_of cause t)
 unfolding number_read
-number_refused t rest cause (inl h) = bind_err (word_read (t ∷ rest)) number_from cause (word_refused t rest cause h)
+number_refused t rest cause (inl h) = bind_err (word_read (t ∷ rest)) number_from (refusal_of cause t) (word_refused t rest cause h)
 number_refused t rest cause (inr h) =
-    bind_ok (word_read (t ∷ rest)) number_from (t.value, rest) (Err cause) (word_again t t.value rest (own_word t h.kind))
-    (ap (λ (o : Option ℕ). integer_or o rest) (number_of-none t.value u64_limit h.none) ∙ ap (λ (c : Cause). Err c) (sym h.reported))
+    bind_ok (word_read (t ∷ rest)) number_from (t, rest) (Err (refusal_of cause t)) (word_again t rest h.kind)
+    (ap (λ (o : Option ℕ). integer_or o t rest) (number_of-none t.value u64_limit h.none) ∙ ap (λ (c : Cause). Err (refusal_of c t)) (sym h.reported))
 
 -- ---- versions
 
 pub version_again : (t : TokenView) (major minor : ℕ) (rest : List TokenView) → t.kind ≡ Identifier → IsVersion t.value major minor → version_read (t ∷ rest) ≡ Ok ((major, minor), rest)
 unfolding version_read
 version_again t major minor rest e is =
-    bind_ok (word_read (t ∷ rest)) version_from (t.value, rest) (Ok ((major, minor), rest)) (word_again t t.value rest (own_word t e))
-    (ap (λ (o : Option (ℕ × ℕ)). integer_or o rest) (version_of-is t.value major minor is))
+    bind_ok (word_read (t ∷ rest)) version_from (t, rest) (Ok ((major, minor), rest)) (word_again t rest e)
+    (ap (λ (o : Option (ℕ × ℕ)). integer_or o t rest) (version_of-is t.value major minor is))
 
-pub version_refused : (t : TokenView) (rest : List TokenView) (cause : Cause) → VersionRefused t cause → version_read (t ∷ rest) ≡ Err cause
+pub version_refused : (t : TokenView) (rest : List TokenView) (cause : Cause) → VersionRefused t cause → version_read (t ∷ rest) ≡ Err (refusal_of cause t)
 unfolding version_read
-version_refused t rest cause (inl h) = bind_err (word_read (t ∷ rest)) version_from cause (word_refused t rest cause h)
+version_refused t rest cause (inl h) = bind_err (word_read (t ∷ rest)) version_from (refusal_of cause t) (word_refused t rest cause h)
 version_refused t rest cause (inr h) =
-    bind_ok (word_read (t ∷ rest)) version_from (t.value, rest) (Err cause) (word_again t t.value rest (own_word t h.kind))
-    (ap (λ (o : Option (ℕ × ℕ)). integer_or o rest) (version_of-none t.value h.none) ∙ ap (λ (c : Cause). Err c) (sym h.reported))
+    bind_ok (word_read (t ∷ rest)) version_from (t, rest) (Err (refusal_of cause t)) (word_again t rest h.kind)
+    (ap (λ (o : Option (ℕ × ℕ)). integer_or o t rest) (version_of-none t.value h.none) ∙ ap (λ (c : Cause). Err (refusal_of c t)) (sym h.reported))
 
 -- ---- sizes
 
@@ -93,18 +88,18 @@ sizes_again n commit (t ∷ tokens) rest h after =
     bind_ok (number_read (t ∷ tokens)) sizes_from (n, tokens) (Ok ((n, commit), rest)) (number_again t n tokens h.0.0 h.0.1)
     (bind_ok (commit_read tokens) (sizes_of n) (commit, rest) (Ok ((n, commit), rest)) (commit_again commit tokens rest h.1 after) refl)
 
-pub size_refused : (t : TokenView) (rest : List TokenView) (cause : Cause) → NumberRefused t cause → sizes_read (t ∷ rest) ≡ Err cause
+pub size_refused : (t : TokenView) (rest : List TokenView) (cause : Cause) → NumberRefused t cause → sizes_read (t ∷ rest) ≡ Err (refusal_of cause t)
 unfolding sizes_read
-size_refused t rest cause h = bind_err (number_read (t ∷ rest)) sizes_from cause (number_refused t rest cause h)
+size_refused t rest cause h = bind_err (number_read (t ∷ rest)) sizes_from (refusal_of cause t) (number_refused t rest cause h)
 
-pub second_size_refused : (n : ℕ) (tokens : List TokenView) (t : TokenView) (rest : List TokenView) (cause : Cause) → StartsWith tokens (Number n ∷ Of Comma ∷ []) (t ∷ rest) → NumberRefused t cause → sizes_read tokens ≡ Err cause
+pub second_size_refused : (n : ℕ) (tokens : List TokenView) (t : TokenView) (rest : List TokenView) (cause : Cause) → StartsWith tokens (Number n ∷ Of Comma ∷ []) (t ∷ rest) → NumberRefused t cause → sizes_read tokens ≡ Err (refusal_of cause t)
 unfolding sizes_read
 second_size_refused n [] t rest cause h refused = absurd h
 second_size_refused n (u ∷ []) t rest cause h refused = absurd h.1
 second_size_refused n (u ∷ comma ∷ tokens) t rest cause h refused =
-    let owed = ap (λ (s : List TokenView). number_read s >>= some_number) h.1.1 ∙ bind_err (number_read (t ∷ rest)) some_number cause (number_refused t rest cause refused) in
-    bind_ok (number_read (u ∷ comma ∷ tokens)) sizes_from (n, comma ∷ tokens) (Err cause) (number_again u n (comma ∷ tokens) h.0.0 h.0.1)
-    (bind_err (commit_read (comma ∷ tokens)) (sizes_of n) cause (after_comma comma tokens h.1.0 ∙ owed))
+    let owed = ap (λ (s : List TokenView). number_read s >>= some_number) h.1.1 ∙ bind_err (number_read (t ∷ rest)) some_number (refusal_of cause t) (number_refused t rest cause refused) in
+    bind_ok (number_read (u ∷ comma ∷ tokens)) sizes_from (n, comma ∷ tokens) (Err (refusal_of cause t)) (number_again u n (comma ∷ tokens) h.0.0 h.0.1)
+    (bind_err (commit_read (comma ∷ tokens)) (sizes_of n) (refusal_of cause t) (after_comma comma tokens h.1.0 ∙ owed))
 
 -- ---- names
 
@@ -123,15 +118,15 @@ after_base t rest e = ap (λ (k : TokenKind). base_by k t rest) e
 
 sign_again : (t : TokenView) (rest : List TokenView) → t.kind ≡ Equal → sign_read (t ∷ rest) ≡ Ok rest
 unfolding sign_read
-sign_again t rest e = ap (λ (k : TokenKind). sign_by k rest) e
+sign_again t rest e = ap (λ (k : TokenKind). sign_by k t rest) e
 
-sign_by_other : (kind : TokenKind) (rest : List TokenView) → kind ≢ Equal → sign_by kind rest ≡ Err (ExpectedEqual kind)
-sign_by_other Equal rest other = absurd (other refl)
-sign_by_other kind rest other = refl
+sign_by_other : (kind : TokenKind) (t : TokenView) (rest : List TokenView) → kind ≢ Equal → sign_by kind t rest ≡ Err (refusal_of (ExpectedEqual kind) t)
+sign_by_other Equal t rest other = absurd (other refl)
+sign_by_other kind t rest other = refl
 
-sign_refused : (t : TokenView) (rest : List TokenView) (cause : Cause) → IsNotEqualSign t cause → sign_read (t ∷ rest) ≡ Err cause
+sign_refused : (t : TokenView) (rest : List TokenView) (cause : Cause) → IsNotEqualSign t cause → sign_read (t ∷ rest) ≡ Err (refusal_of cause t)
 unfolding sign_read
-sign_refused t rest cause h = sign_by_other t.kind rest h.other ∙ ap (λ (c : Cause). Err c) (sym h.reported)
+sign_refused t rest cause h = sign_by_other t.kind t rest h.other ∙ ap (λ (c : Cause). Err (refusal_of c t)) (sym h.reported)
 
 base_again : (base : Option ℕ) (tokens rest : List TokenView) → StartsWith tokens (base_terminals base) rest → IsAfter (follow_name base) rest → base_read tokens ≡ Ok (base, rest)
 base_again None tokens rest h after = ap base_read h ∙ no_base rest after
@@ -143,16 +138,16 @@ base_again (Some n) (t ∷ sign ∷ u ∷ tokens) rest h after =
     after_base t (sign ∷ u ∷ tokens) h.0
     ∙ bind_ok (sign_read (sign ∷ u ∷ tokens) >>= number_read) some_number (n, tokens) (Ok (Some n, rest)) owed (ap (λ (s : List TokenView). Ok (Some n, s)) h.1.1.1)
 
-base_sign_refused : (base t : TokenView) (rest : List TokenView) (cause : Cause) → base.kind ≡ KwBase → IsNotEqualSign t cause → base_read (base ∷ t ∷ rest) ≡ Err cause
+base_sign_refused : (base t : TokenView) (rest : List TokenView) (cause : Cause) → base.kind ≡ KwBase → IsNotEqualSign t cause → base_read (base ∷ t ∷ rest) ≡ Err (refusal_of cause t)
 base_sign_refused base t rest cause e h =
     after_base base (t ∷ rest) e
-    ∙ bind_err (sign_read (t ∷ rest) >>= number_read) some_number cause (bind_err (sign_read (t ∷ rest)) number_read cause (sign_refused t rest cause h))
+    ∙ bind_err (sign_read (t ∷ rest) >>= number_read) some_number (refusal_of cause t) (bind_err (sign_read (t ∷ rest)) number_read (refusal_of cause t) (sign_refused t rest cause h))
 
-base_number_refused : (base sign t : TokenView) (rest : List TokenView) (cause : Cause) → base.kind ≡ KwBase → sign.kind ≡ Equal → NumberRefused t cause → base_read (base ∷ sign ∷ t ∷ rest) ≡ Err cause
+base_number_refused : (base sign t : TokenView) (rest : List TokenView) (cause : Cause) → base.kind ≡ KwBase → sign.kind ≡ Equal → NumberRefused t cause → base_read (base ∷ sign ∷ t ∷ rest) ≡ Err (refusal_of cause t)
 base_number_refused base sign t rest cause e s h =
     after_base base (sign ∷ t ∷ rest) e
-    ∙ bind_err (sign_read (sign ∷ t ∷ rest) >>= number_read) some_number cause
-    (bind_ok (sign_read (sign ∷ t ∷ rest)) number_read (t ∷ rest) (Err cause) (sign_again sign (t ∷ rest) s) (number_refused t rest cause h))
+    ∙ bind_err (sign_read (sign ∷ t ∷ rest) >>= number_read) some_number (refusal_of cause t)
+    (bind_ok (sign_read (sign ∷ t ∷ rest)) number_read (t ∷ rest) (Err (refusal_of cause t)) (sign_again sign (t ∷ rest) s) (number_refused t rest cause h))
 
 name_by_other : (kind : TokenKind) (t : TokenView) (rest : List TokenView) → kind ≢ Identifier → name_by kind t rest ≡ Ok (Nameless, t ∷ rest)
 name_by_other Identifier t rest other = absurd (other refl)
@@ -174,11 +169,11 @@ pub name_again : (name : List ℕ) (base : Option ℕ) (t : TokenView) (tokens r
 name_again name base t tokens rest is h after =
     after_name t name tokens is ∙ bind_ok (base_read tokens) (named_from name) (base, rest) (Ok (Named name base, rest)) (base_again base tokens rest h after) refl
 
-pub name_sign_refused : (name : List ℕ) (word base t : TokenView) (rest : List TokenView) (cause : Cause) → IsWord word name → base.kind ≡ KwBase → IsNotEqualSign t cause → name_read (word ∷ base ∷ t ∷ rest) ≡ Err cause
+pub name_sign_refused : (name : List ℕ) (word base t : TokenView) (rest : List TokenView) (cause : Cause) → IsWord word name → base.kind ≡ KwBase → IsNotEqualSign t cause → name_read (word ∷ base ∷ t ∷ rest) ≡ Err (refusal_of cause t)
 name_sign_refused name word base t rest cause is e h =
-    after_name word name (base ∷ t ∷ rest) is ∙ bind_err (base_read (base ∷ t ∷ rest)) (named_from name) cause (base_sign_refused base t rest cause e h)
+    after_name word name (base ∷ t ∷ rest) is ∙ bind_err (base_read (base ∷ t ∷ rest)) (named_from name) (refusal_of cause t) (base_sign_refused base t rest cause e h)
 
 pub name_number_refused : (name : List ℕ) (word base sign t : TokenView) (rest : List TokenView) (cause : Cause) → IsWord word name → base.kind ≡ KwBase → sign.kind ≡ Equal → NumberRefused t cause
-    → name_read (word ∷ base ∷ sign ∷ t ∷ rest) ≡ Err cause
+    → name_read (word ∷ base ∷ sign ∷ t ∷ rest) ≡ Err (refusal_of cause t)
 name_number_refused name word base sign t rest cause is e s h =
-    after_name word name (base ∷ sign ∷ t ∷ rest) is ∙ bind_err (base_read (base ∷ sign ∷ t ∷ rest)) (named_from name) cause (base_number_refused base sign t rest cause e s h)
+    after_name word name (base ∷ sign ∷ t ∷ rest) is ∙ bind_err (base_read (base ∷ sign ∷ t ∷ rest)) (named_from name) (refusal_of cause t) (base_number_refused base sign t rest cause e s h)

@@ -1,5 +1,5 @@
 -- What the readers give is what the grammar says.
-use Rattle.std.proofs.Common.{◌≡◌, inl, inr, List, [], ◌∷◌, ℕ, Result, Ok, Err, subst}
+use Rattle.std.proofs.Common.{◌≡◌, inl, inr, List, [], ◌∷◌, ℕ, Result, Ok, Err, subst, sym}
 use Rattle.std.specs.Result.{MatchResult}
 use Rattle.implib.specs.declared.def.lexer.TokenKind.TheVariants.{Eof}
 use Rattle.implib.specs.declared.machine.MachineType.{MachineType}
@@ -7,9 +7,9 @@ use Rattle.implib.specs.Definition.{DefinitionView}
 use Rattle.implib.specs.Fault.{Cause}
 use Rattle.implib.specs.Grammar.{Statement, Of, Sentence, StartsWith, terminals}
 use Rattle.implib.specs.Meaning.{meaning}
-use Rattle.implib.specs.Parses.{Parses, Refuses}
-use Rattle.implib.specs.TokenReader.{◌>>=◌, statements_read, definition_from, read}
-use Rattle.implib.specs.SyntaxError.{IsSyntaxError, partial_terminals, IsUnexpectedAfter}
+use Rattle.implib.specs.Parses.{Parses, Refuses, RefusesAt}
+use Rattle.implib.specs.TokenReader.{◌>>=◌, Refusal, statements_read, definition_from, read}
+use Rattle.implib.specs.SyntaxError.{IsSyntaxErrorAt, partial_terminals, IsUnexpectedAfter}
 use Rattle.implib.specs.Token.{Lexed, TokenView, EndsInEof}
 use Rattle.implib.proofs.StartsWith.{StartsWith-append, StartsWith-ends, EndsInEof-last, EndsInEof-some, AtFront}
 use Rattle.implib.proofs.Many.{Chain}
@@ -35,7 +35,7 @@ only_eof (t ∷ rest) ends none = (none, EndsInEof-last t rest none ends)
 ends_after : (tokens rest : List TokenView) (statements : List Statement) → EndsInEof tokens → StartsWith tokens (terminals statements) rest → EndsInEof rest
 ends_after tokens rest statements ends h = StartsWith-ends tokens (terminals statements) rest (statements_want_no_end statements) h ends
 
-spelled_from : (machine : MachineType) (tokens : List TokenView) (d : DefinitionView) → EndsInEof tokens → (r : Result (List Statement × List TokenView) Cause) → MatchResult r (StatementsRead tokens) (StatementsCut tokens)
+spelled_from : (machine : MachineType) (tokens : List TokenView) (d : DefinitionView) → EndsInEof tokens → (r : Result (List Statement × List TokenView) Refusal) → MatchResult r (StatementsRead tokens) (StatementsCut tokens)
     → (r >>= definition_from machine) ≡ Ok d → Spelled machine tokens d
 spelled_from machine tokens d ends (Ok found) h e =
     let begins = statements_begin found.0 tokens found.1 h.0 in
@@ -45,61 +45,75 @@ spelled_from machine tokens d ends (Ok found) h e =
       sentence = StartsWith-append tokens (terminals found.0) (Of Eof ∷ []) found.1 [] begins (only_eof found.1 (ends_after tokens found.1 found.0 ends begins) h.1);
       means = cc;
     }
-spelled_from machine tokens d ends (Err cause) h e = absurd cc
+spelled_from machine tokens d ends (Err refusal) h e = absurd cc
 
 -- what is read is spelled so
 pub read-spelled : (machine : MachineType) (tokens : List TokenView) (d : DefinitionView) → EndsInEof tokens → read machine tokens ≡ Ok d → Spelled machine tokens d
 unfolding read
 read-spelled machine tokens d ends e = spelled_from machine tokens d ends (statements_read tokens) (statements_outcome tokens) e
 
-broken_started : (tokens mid : List TokenView) (cause : Cause) (statements : List Statement) → EndsInEof tokens → StartsWith tokens (terminals statements) mid → StartedCut mid cause → IsSyntaxError tokens cause
-broken_started tokens mid cause statements ends begins c =
+broken_started : (tokens mid : List TokenView) (refusal : Refusal) (statements : List Statement) → EndsInEof tokens → StartsWith tokens (terminals statements) mid → StartedCut mid refusal → IsSyntaxErrorAt tokens refusal.cause refusal.at
+broken_started tokens mid refusal statements ends begins c =
     let last = StartsWith-ends mid (partial_terminals c.partial) c.mid (started_wants_no_end c.partial) c.begins (ends_after tokens mid statements ends begins) in
     let some = EndsInEof-some c.mid last in
-    inr (record {
-      statements = statements;
-      partial = c.partial;
-      token = some.0;
-      rest = some.1;
-      begins = StartsWith-append tokens (terminals statements) (partial_terminals c.partial) mid (some.0 ∷ some.1) begins (subst (StartsWith mid (partial_terminals c.partial)) some.2 c.begins);
-      refused = subst (λ (s : List TokenView). AtFront (IsUnexpectedAfter c.partial) s cause) some.2 c.refused;
-    })
+    let front : AtFront (IsUnexpectedAfter c.partial) (some.0 ∷ some.1) refusal = subst (λ (s : List TokenView). AtFront (IsUnexpectedAfter c.partial) s refusal) some.2 c.refused in
+    record {
+      error = inr (record {
+        statements = statements;
+        partial = c.partial;
+        token = some.0;
+        rest = some.1;
+        begins = StartsWith-append tokens (terminals statements) (partial_terminals c.partial) mid (some.0 ∷ some.1) begins (subst (StartsWith mid (partial_terminals c.partial)) some.2 c.begins);
+        refused = front.0;
+      });
+      token_is_at = sym front.1;
+    }
 
-broken_unknown : (tokens mid : List TokenView) (cause : Cause) (statements : List Statement) → EndsInEof tokens → Chain StatementStands NoStatement statements tokens mid → AtFront BeginsNone mid cause → IsSyntaxError tokens cause
-broken_unknown tokens [] cause statements ends chain h =
+broken_unknown : (tokens mid : List TokenView) (refusal : Refusal) (statements : List Statement) → EndsInEof tokens → Chain StatementStands NoStatement statements tokens mid → AtFront BeginsNone mid refusal → IsSyntaxErrorAt tokens refusal.cause refusal.at
+broken_unknown tokens [] refusal statements ends chain h =
     let some = EndsInEof-some [] (ends_after tokens [] statements ends (statements_begin statements tokens [] chain)) in absurd cc
-broken_unknown tokens (t ∷ rest) cause statements ends chain h = inl (record {
-  statements = statements;
-  token = t;
-  rest = rest;
-  begins = statements_begin statements tokens (t ∷ rest) chain;
-  not_end = h.not_end;
-  no_directive = h.no_directive;
-  not_in_follow = statements_end statements tokens (t ∷ rest) chain;
-  reported = h.reported;
-})
+broken_unknown tokens (t ∷ rest) refusal statements ends chain h = record {
+  error = inl (record {
+    statements = statements;
+    token = t;
+    rest = rest;
+    begins = statements_begin statements tokens (t ∷ rest) chain;
+    not_end = h.0.not_end;
+    no_directive = h.0.no_directive;
+    not_in_follow = statements_end statements tokens (t ∷ rest) chain;
+    reported = h.0.reported;
+  });
+  token_is_at = sym h.1;
+}
 
-broken_from : (tokens mid : List TokenView) (cause : Cause) (statements : List Statement) → EndsInEof tokens → Chain StatementStands NoStatement statements tokens mid → StatementCut mid cause → IsSyntaxError tokens cause
-broken_from tokens mid cause statements ends chain (inl h) = broken_unknown tokens mid cause statements ends chain h
-broken_from tokens mid cause statements ends chain (inr c) = broken_started tokens mid cause statements ends (statements_begin statements tokens mid chain) c
+broken_from : (tokens mid : List TokenView) (refusal : Refusal) (statements : List Statement) → EndsInEof tokens → Chain StatementStands NoStatement statements tokens mid → StatementCut mid refusal → IsSyntaxErrorAt tokens refusal.cause refusal.at
+broken_from tokens mid refusal statements ends chain (inl h) = broken_unknown tokens mid refusal statements ends chain h
+broken_from tokens mid refusal statements ends chain (inr c) = broken_started tokens mid refusal statements ends (statements_begin statements tokens mid chain) c
 
-refused_from : (machine : MachineType) (tokens : List TokenView) (cause : Cause) → EndsInEof tokens → (r : Result (List Statement × List TokenView) Cause) → MatchResult r (StatementsRead tokens) (StatementsCut tokens)
-    → (r >>= definition_from machine) ≡ Err cause → IsSyntaxError tokens cause
-refused_from machine tokens cause ends (Ok found) h e = absurd cc
-refused_from machine tokens cause ends (Err other) h e =
-    let same : other ≡ cause = cc in
-    subst (IsSyntaxError tokens) same (broken_from tokens h.mid other h.items ends h.chain h.refused)
+refused_from : (machine : MachineType) (tokens : List TokenView) (refusal : Refusal) → EndsInEof tokens → (r : Result (List Statement × List TokenView) Refusal) → MatchResult r (StatementsRead tokens) (StatementsCut tokens)
+    → (r >>= definition_from machine) ≡ Err refusal → IsSyntaxErrorAt tokens refusal.cause refusal.at
+refused_from machine tokens refusal ends (Ok found) h e = absurd cc
+refused_from machine tokens refusal ends (Err other) h e =
+    let same : other ≡ refusal = cc in
+    subst (λ (r : Refusal). IsSyntaxErrorAt tokens r.cause r.at) same (broken_from tokens h.mid other h.items ends h.chain h.refused)
 
--- what the readers refuse the grammar refuses for that cause
-pub read-refused : (machine : MachineType) (tokens : List TokenView) (cause : Cause) → EndsInEof tokens → read machine tokens ≡ Err cause → IsSyntaxError tokens cause
+-- what the readers refuse the grammar refuses for that cause, at that token
+pub read-refused : (machine : MachineType) (tokens : List TokenView) (refusal : Refusal) → EndsInEof tokens → read machine tokens ≡ Err refusal → IsSyntaxErrorAt tokens refusal.cause refusal.at
 unfolding read
-read-refused machine tokens cause ends e = refused_from machine tokens cause ends (statements_read tokens) (statements_outcome tokens) e
+read-refused machine tokens refusal ends e = refused_from machine tokens refusal ends (statements_read tokens) (statements_outcome tokens) e
 
 pub Parses-from_read : (text : List ℕ) (tokens : List TokenView) (machine : MachineType) (d : DefinitionView) → Lexed text tokens → read machine tokens ≡ Ok d → Parses text machine d
 Parses-from_read text tokens machine d lexed e =
     let s = read-spelled machine tokens d (EndsInEof-from_Lexed text tokens lexed) e in
     record { tokens = tokens; statements = s.statements; lexed = lexed; sentence = s.sentence; means = s.means }
 
-pub Refuses-from_read : (text : List ℕ) (tokens : List TokenView) (machine : MachineType) (cause : Cause) → Lexed text tokens → read machine tokens ≡ Err cause → Refuses text cause
-Refuses-from_read text tokens machine cause lexed e =
-    record { tokens = tokens; lexed = lexed; broken = read-refused machine tokens cause (EndsInEof-from_Lexed text tokens lexed) e }
+pub RefusesAt-from_read : (text : List ℕ) (tokens : List TokenView) (machine : MachineType) (refusal : Refusal) → Lexed text tokens → read machine tokens ≡ Err refusal → RefusesAt text refusal.cause refusal.at
+RefusesAt-from_read text tokens machine refusal lexed e =
+    record { tokens = tokens; lexed = lexed; broken = read-refused machine tokens refusal (EndsInEof-from_Lexed text tokens lexed) e }
+
+pub Refuses-from_At : (text : List ℕ) (cause : Cause) (offset : ℕ) → RefusesAt text cause offset → Refuses text cause
+Refuses-from_At text cause offset h = record { tokens = h.tokens; lexed = h.lexed; broken = h.broken.error }
+
+pub Refuses-from_read : (text : List ℕ) (tokens : List TokenView) (machine : MachineType) (refusal : Refusal) → Lexed text tokens → read machine tokens ≡ Err refusal → Refuses text refusal.cause
+Refuses-from_read text tokens machine refusal lexed e =
+    Refuses-from_At text refusal.cause refusal.at (RefusesAt-from_read text tokens machine refusal lexed e)

@@ -1,5 +1,5 @@
 -- The worked texts, by computing.
-use Rattle.std.proofs.Common.{◌≡◌, ℕ, List, true, length, Result, Ok, Err, refl}
+use Rattle.std.proofs.Common.{◌≡◌, ℕ, List, true, length, Result, Ok, Err, refl, subst}
 use Rattle.std.proofs.lemmas.Str.{IsUtf8-from_is_utf8}
 use Rattle.std.specs.Char.{encode_utf8}
 use Rattle.std.specs.Str.{chars, is_utf8, trim_end, trim_start}
@@ -8,7 +8,7 @@ use Rattle.implib.specs.declared.machine.MachineType.TheVariants.{AMD64}
 use Rattle.implib.specs.Definition.{DefinitionView}
 use Rattle.implib.specs.Fault.{Cause}
 use Rattle.implib.specs.Parses.{Parses, Refuses}
-use Rattle.implib.specs.TokenReader.{number_of, version_of, at_word, word_read, number_read, version_read, commit_read, sizes_read, sign_read, base_read, name_read, no_name_read, ordinal_read, attribute_read, many, target_read, attributes_read, export_read, exports_read, statement_read, statements_read, made_export, with_statements, read}
+use Rattle.implib.specs.TokenReader.{Refusal, number_of, version_of, at_word, word_read, number_read, version_read, commit_read, sizes_read, sign_read, base_read, name_read, no_name_read, ordinal_read, attribute_read, many, target_read, attributes_read, export_read, exports_read, statement_read, statements_read, made_export, with_statements, read}
 use Rattle.implib.specs.Token.{kind_of_word, tokens_of}
 use Rattle.implib.specs.Scanner.{lexemes_in, lexemes_within}
 use Rattle.implib.specs.WorkedStatements.{WorkedSettings, WorkedExports, WorkedRefusals, WorkedFronts, HasExports, front}
@@ -18,8 +18,18 @@ use Rattle.implib.proofs.Token.{Lexed-exists}
 pub parses : (text : List ℕ) (machine : MachineType) (d : DefinitionView) → is_utf8 text ≡ true → read machine (tokens_of 0 (lexemes_in text)) ≡ Ok d → Parses text machine d
 parses text machine d utf8 e = Parses-from_read text (tokens_of 0 (lexemes_in text)) machine d (Lexed-exists text (IsUtf8-from_is_utf8 text utf8)) e
 
-refuses : (text : List ℕ) (cause : Cause) → is_utf8 text ≡ true → read AMD64 (tokens_of 0 (lexemes_in text)) ≡ Err cause → Refuses text cause
-refuses text cause utf8 e = Refuses-from_read text (tokens_of 0 (lexemes_in text)) AMD64 cause (Lexed-exists text (IsUtf8-from_is_utf8 text utf8)) e
+-- the tokens are refused, for this cause
+abbrev IsFor : Cause → Result DefinitionView Refusal → Type 0
+IsFor cause (Ok d) = ⊥
+IsFor cause (Err refusal) = refusal.cause ≡ cause
+
+refused_for : (text : List ℕ) (cause : Cause) (r : Result DefinitionView Refusal) → is_utf8 text ≡ true → read AMD64 (tokens_of 0 (lexemes_in text)) ≡ r → IsFor cause r → Refuses text cause
+refused_for text cause (Ok d) utf8 e h = absurd h
+refused_for text cause (Err refusal) utf8 e h =
+    subst (Refuses text) h (Refuses-from_read text (tokens_of 0 (lexemes_in text)) AMD64 refusal (Lexed-exists text (IsUtf8-from_is_utf8 text utf8)) e)
+
+refuses : (text : List ℕ) (cause : Cause) → is_utf8 text ≡ true → IsFor cause (read AMD64 (tokens_of 0 (lexemes_in text))) → Refuses text cause
+refuses text cause utf8 h = refused_for text cause (read AMD64 (tokens_of 0 (lexemes_in text))) utf8 refl h
 
 -- what the computing has to open
 unfoldable pub opened : Unit {0}
@@ -90,11 +100,11 @@ worked_refusals = record {
 }
 
 -- a definition is read, with so many exports
-abbrev Counts : ℕ → Result DefinitionView Cause → Type 0
+abbrev Counts : ℕ → Result DefinitionView Refusal → Type 0
 Counts count (Ok d) = length d.exports ≡ count
 Counts count (Err cause) = ⊥
 
-counted : (count n : ℕ) (r : Result DefinitionView Cause) → is_utf8 (front n) ≡ true → read AMD64 (tokens_of 0 (lexemes_in (front n))) ≡ r → Counts count r → HasExports count n
+counted : (count n : ℕ) (r : Result DefinitionView Refusal) → is_utf8 (front n) ≡ true → read AMD64 (tokens_of 0 (lexemes_in (front n))) ≡ r → Counts count r → HasExports count n
 counted count n (Ok d) utf8 e many = (d, parses (front n) AMD64 d utf8 e, many)
 counted count n (Err cause) utf8 e many = absurd many
 

@@ -17,6 +17,8 @@ pub mod SyntaxError
 pub mod Parses
 pub mod Parser
 pub mod SymbolNames
+pub mod Position
+pub mod RefusedAt
 -- what a definition asks of its DLL
 pub mod Renaming
 pub mod Import
@@ -54,6 +56,7 @@ pub mod Linked
 -- worked by hand
 pub mod WorkedTokens
 pub mod WorkedStatements
+pub mod WorkedPositions
 pub mod WorkedMembers
 pub mod WorkedGnu
 pub mod WorkedObjects

@@ -5,7 +5,7 @@ use Rattle.implib.specs.Definition.{DefinitionView}
 use Rattle.implib.specs.Fault.{Cause}
 use Rattle.implib.specs.Grammar.{Sentence, Statement}
 use Rattle.implib.specs.Meaning.{meaning}
-use Rattle.implib.specs.SyntaxError.{IsSyntaxError}
+use Rattle.implib.specs.SyntaxError.{IsSyntaxError, IsSyntaxErrorAt}
 use Rattle.implib.specs.Token.{Lexed, TokenView}
 
 -- The text's tokens are statements, which mean this definition on this machine. For example, `HEAPSIZE 1,2`
@@ -23,6 +23,13 @@ pub record Refuses (text : List ℕ) (cause : Cause) : Type 0 where
   pub tokens : List TokenView
   pub lexed : Lexed text tokens
   pub broken : IsSyntaxError tokens cause
+
+-- The same, and this is the offset of the token that the refusal names. For example, `HEAPSIZE 1,` is refused
+-- at 11, which is its length.
+pub record RefusesAt (text : List ℕ) (cause : Cause) (offset : ℕ) : Type 0 where
+  pub tokens : List TokenView
+  pub lexed : Lexed text tokens
+  pub broken : IsSyntaxErrorAt tokens cause offset
 
 -- on each machine the text means a definition
 abbrev pub InGrammar : List ℕ → Type 0

@@ -1,6 +1,7 @@
 -- Syntax errors: the first token that no derivation allows, and the cause that is reported (docs/GRAMMAR.md,
 -- "Syntax errors"). A row `position | token | cause` says what is reported for a token at a position.
 use Rattle.std.specs.Prelude.{◌≡◌, ◌≢◌, ℕ, ◌⊎◌, Bool, true, false, List, [], ◌∷◌, ◌++◌, Option, Some, None}
+use mathlib.Core.Logic.{inl, inr}
 use Rattle.implib.specs.declared.def.lexer.TokenKind.{TokenKind}
 use Rattle.implib.specs.declared.def.lexer.TokenKind.TheVariants.{Eof, Identifier, Comma, Equal, EqualEqual}
 use Rattle.implib.specs.declared.def.lexer.TokenKind.TheVariants.{KwBase, KwConstant, KwData, KwExports}
@@ -225,3 +226,15 @@ IsSyntaxError tokens cause = IsUnknownDirective tokens cause ⊎ IsUnexpectedTok
 -- the tokens have a syntax error
 abbrev pub HasSyntaxError : List TokenView → Type 0
 HasSyntaxError tokens = (cause : Cause) × IsSyntaxError tokens cause
+
+-- the token that a syntax error is about: the first one that no derivation allows
+abbrev pub unexpected_token : {tokens : List TokenView} {cause : Cause} → IsSyntaxError tokens cause →
+    TokenView
+unexpected_token (inl error) = error.token
+unexpected_token (inr error) = error.token
+
+-- The tokens have a syntax error with this cause, and this is the offset of its token. For example, those of
+-- `VERSION 1.2.3` have ExpectedInteger at 8.
+pub record IsSyntaxErrorAt (tokens : List TokenView) (cause : Cause) (offset : ℕ) : Type 0 where
+  pub error : IsSyntaxError tokens cause
+  pub token_is_at : (unexpected_token error).at ≡ offset

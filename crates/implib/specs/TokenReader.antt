@@ -1,5 +1,5 @@
 -- A view of the parser, not a promise: readers of token lists, each the answer of one of its
--- functions. A reader gives a value and the tokens after it, or the first cause.
+-- functions. A reader gives a value and the tokens after it, or the first refusal.
 use Rattle.std.specs.Prelude.{ℕ, zero, suc, ◌==◌, ◌&&◌, ◌++◌, Bool, true, false, List, [], ◌∷◌, map, length}
 use Rattle.std.specs.Prelude.{Option, Some, None, unwrap_or, option_map, Result, Ok, Err, if◌then◌else◌}
 use Rattle.std.specs.Prelude.{nat_lt, nat_le}
@@ -24,13 +24,26 @@ use Rattle.implib.specs.Meaning.{stack_commit_in, heap_reserve_in, heap_commit_i
 use Rattle.implib.specs.Number.{u16_limit, u32_limit, u64_limit}
 use Rattle.implib.specs.Token.{TokenView}
 
+-- why a token is refused, and where the token is
+pub record Refusal : Type 0 where
+  pub cause : Cause
+  pub at : ℕ
+
+-- the token is refused, for this cause
+abbrev pub refusal_of : Cause → TokenView → Refusal
+refusal_of cause token = record { cause = cause; at = token.at }
+
+-- a token is missing: no text has such tokens, as Eof is the last one and is never passed
+abbrev pub missing : Cause → Refusal
+missing cause = record { cause = cause; at = 0 }
+
 -- what a reader gives
 abbrev pub Reader : Type 0 → Type 0
-Reader A = Result (A × List TokenView) Cause
+Reader A = Result (A × List TokenView) Refusal
 
 -- go on where a reader gave a value
 infixl 10 ◌>>=◌
-abbrev pub ◌>>=◌ : {A B : Type 0} → Result A Cause → (A → Result B Cause) → Result B Cause
+abbrev pub ◌>>=◌ : {A B : Type 0} → Result A Refusal → (A → Result B Refusal) → Result B Refusal
 (Ok x) >>= f = f x
 (Err e) >>= f = Err e
 
@@ -85,28 +98,28 @@ at_word [] = Plain
 at_word (byte ∷ rest) = if byte == at_sign then after_at rest else Plain
 
 -- an identifier
-abbrev pub word_by : TokenKind → TokenView → List TokenView → Reader (List ℕ)
-word_by Identifier token rest = Ok (token.value, rest)
-word_by kind token rest = Err (ExpectedIdentifier kind)
+abbrev pub word_by : TokenKind → TokenView → List TokenView → Reader TokenView
+word_by Identifier token rest = Ok (token, rest)
+word_by kind token rest = Err (refusal_of (ExpectedIdentifier kind) token)
 
-unfoldable pub word_read : List TokenView → Reader (List ℕ)
-word_read [] = Err (ExpectedIdentifier Eof)
+unfoldable pub word_read : List TokenView → Reader TokenView
+word_read [] = Err (missing (ExpectedIdentifier Eof))
 word_read (token ∷ rest) = word_by token.kind token rest
 
 -- a value that a word gives, or else the word is refused
-abbrev pub integer_or : {A : Type 0} → Option A → List TokenView → Reader A
-integer_or (Some n) rest = Ok (n, rest)
-integer_or None rest = Err ExpectedInteger
+abbrev pub integer_or : {A : Type 0} → Option A → TokenView → List TokenView → Reader A
+integer_or (Some n) word rest = Ok (n, rest)
+integer_or None word rest = Err (refusal_of ExpectedInteger word)
 
-abbrev pub number_from : List ℕ × List TokenView → Reader ℕ
-number_from word = integer_or (number_of word.0 u64_limit) word.1
+abbrev pub number_from : TokenView × List TokenView → Reader ℕ
+number_from word = integer_or (number_of word.0.value u64_limit) word.0 word.1
 
 -- a number of 64 bits
 unfoldable pub number_read : List TokenView → Reader ℕ
 number_read tokens = word_read tokens >>= number_from
 
-abbrev pub version_from : List ℕ × List TokenView → Reader (ℕ × ℕ)
-version_from word = integer_or (version_of word.0) word.1
+abbrev pub version_from : TokenView × List TokenView → Reader (ℕ × ℕ)
+version_from word = integer_or (version_of word.0.value) word.0 word.1
 
 -- a version
 unfoldable pub version_read : List TokenView → Reader (ℕ × ℕ)
@@ -135,13 +148,13 @@ unfoldable pub sizes_read : List TokenView → Reader (ℕ × Option ℕ)
 sizes_read tokens = number_read tokens >>= sizes_from
 
 -- the tokens after `=`
-abbrev pub sign_by : TokenKind → List TokenView → Result (List TokenView) Cause
-sign_by Equal rest = Ok rest
-sign_by kind rest = Err (ExpectedEqual kind)
+abbrev pub sign_by : TokenKind → TokenView → List TokenView → Result (List TokenView) Refusal
+sign_by Equal token rest = Ok rest
+sign_by kind token rest = Err (refusal_of (ExpectedEqual kind) token)
 
-unfoldable pub sign_read : List TokenView → Result (List TokenView) Cause
-sign_read [] = Err (ExpectedEqual Eof)
-sign_read (token ∷ rest) = sign_by token.kind rest
+unfoldable pub sign_read : List TokenView → Result (List TokenView) Refusal
+sign_read [] = Err (missing (ExpectedEqual Eof))
+sign_read (token ∷ rest) = sign_by token.kind token rest
 
 -- `BASE`, `=` and a number, or nothing
 abbrev pub base_by : TokenKind → TokenView → List TokenView → Reader (Option ℕ)
@@ -176,14 +189,14 @@ no_name_read (token ∷ rest) = no_name_by token.kind token rest
 -- the ordinal after a lone `@`
 abbrev pub ordinal_or : Option ℕ → TokenView → List TokenView → Reader ℕ
 ordinal_or (Some n) token rest = Ok (n, rest)
-ordinal_or None token rest = Err (InvalidOrdinal token.value)
+ordinal_or None token rest = Err (refusal_of (InvalidOrdinal token.value) token)
 
 abbrev pub ordinal_by : TokenKind → TokenView → List TokenView → Reader ℕ
-ordinal_by Eof token rest = Err (ExpectedIdentifier Eof)
+ordinal_by Eof token rest = Err (refusal_of (ExpectedIdentifier Eof) token)
 ordinal_by kind token rest = ordinal_or (number_of token.value u16_limit) token rest
 
 unfoldable pub ordinal_read : List TokenView → Reader ℕ
-ordinal_read [] = Err (ExpectedIdentifier Eof)
+ordinal_read [] = Err (missing (ExpectedIdentifier Eof))
 ordinal_read (token ∷ rest) = ordinal_by token.kind token rest
 
 -- an attribute and the tokens after it
@@ -196,8 +209,8 @@ apart_of n no_name = Ok (Some (Apart n no_name.0), no_name.1)
 abbrev pub apart_from : ℕ × List TokenView → Reader (Option Attribute)
 apart_from n = apart_of n.0 (no_name_read n.1)
 
-abbrev pub alias_from : List ℕ × List TokenView → Reader (Option Attribute)
-alias_from word = Ok (Some (Alias word.0), word.1)
+abbrev pub alias_from : TokenView × List TokenView → Reader (Option Attribute)
+alias_from word = Ok (Some (Alias word.0.value), word.1)
 
 -- an ordinal, or nothing
 abbrev pub at_attribute : AtWord → TokenView → List TokenView → Reader (Option Attribute)
@@ -238,12 +251,12 @@ abbrev pub all : {A : Type 0} → (List TokenView → Reader (Option A)) → Lis
 all item tokens = many item (length tokens) tokens
 
 -- the word after the `=` of an export
-abbrev pub target_of : AtWord → List ℕ × List TokenView → Reader (Option (List ℕ))
-target_of Lone word = Err LoneAt
-target_of _ word = Ok (Some word.0, word.1)
+abbrev pub target_of : AtWord → TokenView × List TokenView → Reader (Option (List ℕ))
+target_of Lone word = Err (refusal_of LoneAt word.0)
+target_of _ word = Ok (Some word.0.value, word.1)
 
-abbrev pub target_from : List ℕ × List TokenView → Reader (Option (List ℕ))
-target_from word = target_of (at_word word.0) word
+abbrev pub target_from : TokenView × List TokenView → Reader (Option (List ℕ))
+target_from word = target_of (at_word word.0.value) word
 
 -- `=` and a word other than `@`, or nothing
 abbrev pub target_by : TokenKind → TokenView → List TokenView → Reader (Option (List ℕ))
@@ -299,7 +312,7 @@ statement_by KwStacksize token rest = sizes_read rest >>= region_from Stack
 statement_by KwName token rest = name_read rest >>= some_statement
 statement_by KwLibrary token rest = name_read rest >>= some_statement
 statement_by KwVersion token rest = version_read rest >>= versions_from
-statement_by kind token rest = Err (UnknownDirective token.value)
+statement_by kind token rest = Err (refusal_of (UnknownDirective token.value) token)
 
 -- a statement, or nothing at the end
 unfoldable pub statement_read : List TokenView → Reader (Option Statement)
@@ -368,9 +381,9 @@ with_statement machine d s = record (with_settings d s) {
 unfoldable pub with_statements : MachineType → DefinitionView → List Statement → DefinitionView
 with_statements machine d statements = fold (with_statement machine) d statements
 
-abbrev pub definition_from : MachineType → List Statement × List TokenView → Result DefinitionView Cause
+abbrev pub definition_from : MachineType → List Statement × List TokenView → Result DefinitionView Refusal
 definition_from machine statements = Ok (with_statements machine empty_definition statements.0)
 
 -- the definition that the tokens give
-unfoldable pub read : MachineType → List TokenView → Result DefinitionView Cause
+unfoldable pub read : MachineType → List TokenView → Result DefinitionView Refusal
 read machine tokens = statements_read tokens >>= definition_from machine

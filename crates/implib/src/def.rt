@@ -3,5 +3,7 @@
 pub(crate) mod definition;
 pub mod lexer;
 pub mod parser;
+pub(crate) mod position;
 
 pub use definition::{ModuleDef, ShortExport};
+pub use position::Position;

@@ -2,9 +2,11 @@
 
 ghost use Rattle.implib.specs.declared.error.Error.TheVariants.{OutOfMemory};
 ghost use Rattle.implib.specs.Fault.{cause_of, export_index};
+ghost use Rattle.implib.specs.RefusedAt.{without_position};
 ghost use Rattle.std.specs.Prelude.{◌≡◌};
 
 use crate::def::lexer::TokenKind;
+use crate::def::position::Position;
 use std::alloc::{AllocError, AllocFailed};
 
 /// What is wrong with a text (docs/GRAMMAR.md, "Syntax errors") or with a definition.
@@ -90,5 +92,28 @@ impl<T: Drop> From<AllocFailed<T>> for Error {
 
     fn from(refused: AllocFailed<T>) -> Error {
         Error::OutOfMemory(AllocError::from(refused))
+    }
+}
+
+/// A fault of a text with its position, or a failed allocation.
+#[derive(Debug, Drop, thiserror::Error)]
+pub enum ParseError {
+    /// The text is refused for the fault, at the token that it names: the position is that of the token's value.
+    #[error("{1}: {0}")]
+    Invalid(Fault, Position),
+    /// An allocation failed.
+    #[error("out of memory")]
+    OutOfMemory(AllocError),
+}
+
+/// The error without its position, which is the one that `parse` gives.
+impl From<ParseError> for Error {
+    ghost from_gives = { λ placed error. error ≡ without_position placed };
+
+    fn from(placed: ParseError) -> Error {
+        match placed {
+            ParseError::Invalid(fault, _) => Error::Invalid(fault),
+            ParseError::OutOfMemory(refused) => Error::OutOfMemory(refused),
+        }
     }
 }

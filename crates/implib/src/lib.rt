@@ -10,9 +10,9 @@
 //! imports and aliases that the text means. The members for GNU's linker link and load to exactly the
 //! selected imports, in a model of linker and loader.
 //!
-//! [`ImportLibrary`] makes members of a text. [`def`] has definitions and their parser, [`coff`] a writer of
-//! objects, [`laws`] what a caller may conclude. `docs/GUARANTEES.md` says what is promised,
-//! `docs/GRAMMAR.md` what a text means, `docs/FORMATS.md` what each byte is.
+//! [`ImportLibrary`] makes members of a text. [`def`] has definitions and their parser, which also tells where
+//! a text is wrong, [`coff`] a writer of objects, [`laws`] what a caller may conclude. `docs/GUARANTEES.md`
+//! says what is promised, `docs/GRAMMAR.md` what a text means, `docs/FORMATS.md` what each byte is.
 //!
 //! ```
 //! use implib::{Error, Flavor, ImportLibrary, MachineType, Member};
@@ -42,7 +42,7 @@ mod refusal;
 mod weak_external;
 
 pub use conversions::{UnknownFlavor, UnknownMachine};
-pub use error::{Error, Fault};
+pub use error::{Error, Fault, ParseError};
 pub use library::ImportLibrary;
 pub use machine::MachineType;
 pub use members::{Flavor, Member};

@@ -22,6 +22,8 @@ mod objects;
 #[cfg(test)]
 mod pass;
 #[cfg(test)]
+mod positions;
+#[cfg(test)]
 mod readings;
 #[cfg(test)]
 mod statements;

@@ -4,21 +4,25 @@ ghost use Rattle.implib.specs.Definition.{definition_view};
 ghost use Rattle.implib.specs.Fault.{IfInvalid};
 ghost use Rattle.implib.specs.Parser.{ParsesFrom, RefusesFrom};
 ghost use Rattle.implib.specs.Parses.{Parses, Refuses};
-ghost use Rattle.implib.specs.ParserViews.{all_put, Gives, one_put, settings_put};
+ghost use Rattle.implib.specs.ParserViews.{all_put, Gives, OfRefusal, one_put, RefusesFromAt, settings_put};
+ghost use Rattle.implib.specs.RefusedAt.{IsRefusedAt};
 ghost use Rattle.implib.specs.TokenReader.{name_read, statement_read, statements_read, with_statement};
 ghost use Rattle.implib.specs.Token.{Lexed};
-ghost use Rattle.std.specs.Prelude.{◌≡◌, ◌<◌, ◌≤◌, length, IfOk, IsTrue, OnOk};
+ghost use Rattle.std.specs.Prelude.{◌≡◌, ◌<◌, ◌≤◌, length, IfErr, IfOk, IsTrue, OnOk};
 
 mod attributes;
 mod exports;
 mod numbers;
+mod read_error;
 mod settings;
 mod tokens;
 
 use crate::def::definition::ModuleDef;
 use crate::def::lexer::TokenKind;
+use crate::def::parser::read_error::ReadError;
 use crate::def::parser::tokens::Tokens;
-use crate::error::{Error, Fault};
+use crate::def::position::Position;
+use crate::error::{Error, Fault, ParseError};
 use crate::machine::MachineType;
 use std::alloc::Global;
 use std::marker::Model;
@@ -34,6 +38,34 @@ impl ModuleDef {
         ensures refused { IfInvalid result (Refuses def.now) }
     {
         Parser::new(def, machine).parse(alloc)
+    }
+
+    /// The same, with the position of the token that a fault names: the first one, from the left, that no
+    /// derivation allows. Its offset is that of the token's value, as [`Token::at`] is: of a quoted name that
+    /// of its value behind the quote, of `Eof` that of the end, which is the text's length or a NUL.
+    ///
+    /// A refused text is passed once more, to find line and column.
+    ///
+    /// # Errors
+    ///
+    /// Those of [`Parser::parse`].
+    ///
+    /// [`Token::at`]: crate::def::lexer::Token::at
+    pub fn parse_with_position(
+        alloc: Global,
+        def: &str,
+        machine: MachineType,
+    ) -> Result<ModuleDef, ParseError>
+        ensures parses { IfOk result (λ d. Parses def.now machine (definition_view d)) }
+        ensures refused { IfErr result (IsRefusedAt def.now) }
+    {
+        match Parser::new(def, machine).read(alloc) {
+            Ok(read) => Ok(read),
+            Err(ReadError::Refused(fault, offset)) => {
+                Err(ParseError::Invalid(fault, Position::at(def, offset)))
+            }
+            Err(ReadError::OutOfMemory(refused)) => Err(ParseError::OutOfMemory(refused)),
+        }
     }
 }
 
@@ -78,6 +110,14 @@ impl<'a> Parser<'a> {
         ensures parses { IfOk result (λ d. ParsesFrom self.entry (definition_view d)) }
         ensures refused { IfInvalid result (RefusesFrom self.entry) }
     {
+        Ok(self.read(alloc)?)
+    }
+
+    // What the text means; a fault comes with the offset of the token that is refused.
+    fn read(self, alloc: Global) -> Result<ModuleDef, ReadError>
+        ensures parses { IfOk result (λ d. ParsesFrom self.entry (definition_view d)) }
+        ensures refused { IfErr result (OfRefusal (RefusesFromAt self.entry)) }
+    {
         let Parser {
             mut tokens,
             machine,
@@ -95,7 +135,7 @@ impl<'a> Tokens<'a> {
         alloc: Global,
         machine: MachineType,
         def: &mut ModuleDef,
-    ) -> Result<(), Error>
+    ) -> Result<(), ReadError>
         ensures { Gives (λ _. (definition_view def.new, self.new)) result
             (all_put (with_statement machine) (definition_view def.old)
             (statements_read self.old)) }
@@ -111,7 +151,7 @@ impl<'a> Tokens<'a> {
         alloc: Global,
         machine: MachineType,
         def: &mut ModuleDef,
-    ) -> Result<bool, Error>
+    ) -> Result<bool, ReadError>
         ensures read { Gives (λ more. (more, definition_view def.new, self.new)) result
             (one_put (with_statement machine) (definition_view def.old)
             (statement_read self.old)) }
@@ -145,14 +185,14 @@ impl<'a> Tokens<'a> {
             }
             _ => {
                 let value = String::from_str(alloc, token.value)?;
-                return Err(Error::Invalid(Fault::UnknownDirective(value)));
+                return Err(ReadError::Refused(Fault::UnknownDirective(value), token.at));
             }
         }
         Ok(true)
     }
 
     // Sets the name and the base, to nothing and 0 where they are not given.
-    fn set_name(&mut self, alloc: Global, def: &mut ModuleDef) -> Result<(), Error>
+    fn set_name(&mut self, alloc: Global, def: &mut ModuleDef) -> Result<(), ReadError>
         ensures read { Gives (λ _. (definition_view def.new, self.new)) result
             (settings_put (definition_view def.old) (name_read self.old)) }
         ensures no_longer { OnOk result (length self.new ≤ length self.old) }

@@ -3,12 +3,13 @@
 ghost use Rattle.implib.specs.Definition.{DefinitionView};
 ghost use Rattle.implib.specs.Fault.{Cause};
 ghost use Rattle.implib.specs.Grammar.{IsSentence, Sentence, Statement};
-ghost use Rattle.implib.specs.Parses.{InGrammar, IsIllFormed, Parses, Refuses};
+ghost use Rattle.implib.specs.Parses.{InGrammar, IsIllFormed, Parses, Refuses, RefusesAt};
 ghost use Rattle.implib.specs.SyntaxError.{IsSyntaxError, HasSyntaxError};
 ghost use Rattle.implib.specs.Token.{EndsInEof, TokenView};
+ghost use Rattle.implib.specs.WorkedPositions.{WorkedLines, WorkedPositions};
 ghost use Rattle.implib.specs.WorkedStatements.{WorkedExports, WorkedFronts, WorkedRefusals, WorkedSettings};
 ghost use Rattle.implib.specs.declared.machine.MachineType.{MachineType};
-ghost use Rattle.std.specs.Prelude.{◌≡◌, ◌⊎◌, List};
+ghost use Rattle.std.specs.Prelude.{◌≡◌, ◌≤◌, ◌⊎◌, ℕ, length, List};
 
 /// Tokens that end in `Eof` are statements or have a syntax error, never both; they are one list of
 /// statements, or have a syntax error of one cause.
@@ -32,6 +33,23 @@ pub fn grammar_or_broken(text: &str)
         Parses text.now machine definition → Parses text.now machine other → definition ≡ other }
     ensures one_cause { (cause other : Cause) →
         Refuses text.now cause → Refuses text.now other → cause ≡ other }
+{}
+
+/// A refused text is refused at one token, whose offset is at most the text's length.
+pub fn refused_at_one_token(text: &str)
+    ensures somewhere { (cause : Cause) →
+        Refuses text.now cause → (offset : ℕ) × RefusesAt text.now cause offset }
+    ensures refused { (cause : Cause) (offset : ℕ) → RefusesAt text.now cause offset → Refuses text.now cause }
+    ensures one_offset { (cause other : Cause) (offset at : ℕ) →
+        RefusesAt text.now cause offset → RefusesAt text.now other at → offset ≡ at }
+    ensures within { (cause : Cause) (offset : ℕ) →
+        RefusesAt text.now cause offset → offset ≤ length text.now }
+{}
+
+/// Texts that were worked by hand are refused at these tokens, in these lines and columns.
+pub fn worked_positions()
+    ensures lines { WorkedLines }
+    ensures refusals { WorkedPositions }
 {}
 
 /// Texts that were worked by hand mean these definitions, and are refused for these causes.

@@ -15,13 +15,14 @@ ghost use Rattle.std.specs.Prelude.{◌≡◌, ◌<◌, ◌≤◌, length, IfOk,
 use crate::def::definition::ShortExport;
 use crate::def::lexer::TokenKind;
 use crate::def::parser::numbers::{AtWord, at_word, u16_of};
+use crate::def::parser::read_error::ReadError;
 use crate::def::parser::tokens::Tokens;
-use crate::error::{Error, Fault};
+use crate::error::Fault;
 use std::alloc::Global;
 
 impl<'a> Tokens<'a> {
     /// Reads all attributes at the front of the tokens into the export.
-    pub fn attributes(&mut self, alloc: Global, export: &mut ShortExport) -> Result<(), Error>
+    pub fn attributes(&mut self, alloc: Global, export: &mut ShortExport) -> Result<(), ReadError>
         ensures read { Gives (λ _. (export_view export.new, self.new)) result
             (all_put with_attribute (export_view export.old) (attributes_read self.old)) }
         ensures no_longer { OnOk result (length self.new ≤ length self.old) }
@@ -32,7 +33,7 @@ impl<'a> Tokens<'a> {
 
     // Reads an attribute into the export; false where there is none.
     #[tactic(auto, unfolding(crate::specs::TokenReader::attribute_read))]
-    fn attribute(&mut self, alloc: Global, export: &mut ShortExport) -> Result<bool, Error>
+    fn attribute(&mut self, alloc: Global, export: &mut ShortExport) -> Result<bool, ReadError>
         ensures read { Gives (λ more. (more, export_view export.new, self.new)) result
             (one_put with_attribute (export_view export.old) (attribute_read self.old)) }
         ensures no_longer { OnOk result (length self.new ≤ length self.old) }
@@ -57,7 +58,7 @@ impl<'a> Tokens<'a> {
             TokenKind::EqualEqual => {
                 self.advance();
                 let target = self.identifier()?;
-                export.alias_target = String::from_str(alloc, target)?;
+                export.alias_target = String::from_str(alloc, target.value)?;
             }
             TokenKind::KwData => {
                 self.advance();
@@ -78,21 +79,21 @@ impl<'a> Tokens<'a> {
 
     // The ordinal in the token after a lone `@`.
     #[tactic(auto, unfolding(crate::specs::TokenReader::ordinal_read))]
-    fn ordinal(&mut self, alloc: Global) -> Result<u16, Error>
+    fn ordinal(&mut self, alloc: Global) -> Result<u16, ReadError>
         ensures read { Gives (λ n. (n, self.new)) result (ordinal_read self.old) }
         ensures no_longer { OnOk result (length self.new ≤ length self.old) }
     {
         let Some(token) = self.advance() else {
-            return Err(Error::Invalid(Fault::ExpectedIdentifier(TokenKind::Eof)));
+            return Err(ReadError::Refused(Fault::ExpectedIdentifier(TokenKind::Eof), 0));
         };
         if token.kind == TokenKind::Eof {
-            return Err(Error::Invalid(Fault::ExpectedIdentifier(TokenKind::Eof)));
+            return Err(ReadError::Refused(Fault::ExpectedIdentifier(TokenKind::Eof), token.at));
         }
         match u16_of(token.value) {
             Some(ordinal) => Ok(ordinal),
             None => {
                 let value = String::from_str(alloc, token.value)?;
-                Err(Error::Invalid(Fault::InvalidOrdinal(value)))
+                Err(ReadError::Refused(Fault::InvalidOrdinal(value), token.at))
             }
         }
     }

@@ -10,8 +10,9 @@ ghost use Rattle.std.specs.String.{string_bytes};
 use crate::def::definition::ShortExport;
 use crate::def::lexer::TokenKind;
 use crate::def::parser::numbers::{AtWord, at_word};
+use crate::def::parser::read_error::ReadError;
 use crate::def::parser::tokens::Tokens;
-use crate::error::{Error, Fault};
+use crate::error::Fault;
 use crate::machine::MachineType;
 use std::alloc::{AllocError, Global};
 
@@ -22,7 +23,7 @@ impl<'a> Tokens<'a> {
         alloc: Global,
         machine: MachineType,
         exports: &mut Vec<ShortExport>,
-    ) -> Result<(), Error>
+    ) -> Result<(), ReadError>
         ensures read { Gives (λ _. (map export_view exports.new.items, self.new)) result
             (all_put (with_export machine) (map export_view exports.old.items)
             (exports_read self.old)) }
@@ -39,7 +40,7 @@ impl<'a> Tokens<'a> {
         alloc: Global,
         machine: MachineType,
         exports: &mut Vec<ShortExport>,
-    ) -> Result<bool, Error>
+    ) -> Result<bool, ReadError>
         ensures read { Gives (λ more. (more, map export_view exports.new.items, self.new)) result
             (one_put (with_export machine) (map export_view exports.old.items)
             (export_read self.old)) }
@@ -64,7 +65,7 @@ impl<'a> Tokens<'a> {
 
     // The word after the `=` of an export, if they are there.
     #[tactic(auto, unfolding(crate::specs::TokenReader::target_read))]
-    fn target(&mut self) -> Result<Option<&'a str>, Error>
+    fn target(&mut self) -> Result<Option<&'a str>, ReadError>
         ensures read { Gives (λ target. (value_of target, self.new)) result
             (target_read self.old) }
         ensures no_longer { OnOk result (length self.new ≤ length self.old) }
@@ -76,9 +77,9 @@ impl<'a> Tokens<'a> {
             TokenKind::Equal => {
                 self.advance();
                 let target = self.identifier()?;
-                match at_word(target) {
-                    AtWord::Lone => Err(Error::Invalid(Fault::LoneAt)),
-                    _ => Ok(Some(target)),
+                match at_word(target.value) {
+                    AtWord::Lone => Err(ReadError::Refused(Fault::LoneAt, target.at)),
+                    _ => Ok(Some(target.value)),
                 }
             }
             _ => Ok(None),

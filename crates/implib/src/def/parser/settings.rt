@@ -6,13 +6,14 @@ ghost use Rattle.std.specs.Prelude.{◌≡◌, ◌<◌, ◌≤◌, length, OnOk}
 
 use crate::def::lexer::TokenKind;
 use crate::def::parser::numbers::version_of;
+use crate::def::parser::read_error::ReadError;
 use crate::def::parser::tokens::Tokens;
-use crate::error::{Error, Fault};
+use crate::error::Fault;
 
 impl<'a> Tokens<'a> {
     /// One number, and the one after a comma, if there is one.
     #[tactic(auto, unfolding(crate::specs::TokenReader::sizes_read))]
-    pub fn sizes(&mut self) -> Result<(u64, Option<u64>), Error>
+    pub fn sizes(&mut self) -> Result<(u64, Option<u64>), ReadError>
         ensures read { Gives (λ sizes. (sizes, self.new)) result (sizes_read self.old) }
         ensures no_longer { OnOk result (length self.new ≤ length self.old) }
     {
@@ -23,7 +24,7 @@ impl<'a> Tokens<'a> {
 
     // The number after a comma, if there is one.
     #[tactic(auto, unfolding(crate::specs::TokenReader::commit_read))]
-    fn commit(&mut self) -> Result<Option<u64>, Error>
+    fn commit(&mut self) -> Result<Option<u64>, ReadError>
         ensures read { Gives (λ commit. (commit, self.new)) result (commit_read self.old) }
         ensures no_longer { OnOk result (length self.new ≤ length self.old) }
     {
@@ -41,7 +42,7 @@ impl<'a> Tokens<'a> {
 
     /// The name after `NAME` or `LIBRARY` and its base, if they are there.
     #[tactic(auto, unfolding(crate::specs::TokenReader::name_read))]
-    pub fn name(&mut self) -> Result<Option<(&'a str, Option<u64>)>, Error>
+    pub fn name(&mut self) -> Result<Option<(&'a str, Option<u64>)>, ReadError>
         ensures read { Gives (λ name. (named name, self.new)) result (name_read self.old) }
         ensures no_longer { OnOk result (length self.new ≤ length self.old) }
     {
@@ -60,7 +61,7 @@ impl<'a> Tokens<'a> {
 
     // The number of `BASE =`, if it is there.
     #[tactic(auto, unfolding(crate::specs::TokenReader::base_read))]
-    fn base(&mut self) -> Result<Option<u64>, Error>
+    fn base(&mut self) -> Result<Option<u64>, ReadError>
         ensures read { Gives (λ base. (base, self.new)) result (base_read self.old) }
         ensures no_longer { OnOk result (length self.new ≤ length self.old) }
     {
@@ -79,14 +80,14 @@ impl<'a> Tokens<'a> {
 
     /// The two numbers of the expected version, which is one identifier.
     #[tactic(auto, unfolding(crate::specs::TokenReader::version_read))]
-    pub fn version(&mut self) -> Result<(u32, u32), Error>
+    pub fn version(&mut self) -> Result<(u32, u32), ReadError>
         ensures read { Gives (λ version. (version, self.new)) result (version_read self.old) }
         ensures no_longer { OnOk result (length self.new ≤ length self.old) }
     {
-        let text = self.identifier()?;
-        match version_of(text) {
+        let word = self.identifier()?;
+        match version_of(word.value) {
             Some(version) => Ok(version),
-            None => Err(Error::Invalid(Fault::ExpectedInteger)),
+            None => Err(ReadError::Refused(Fault::ExpectedInteger, word.at)),
         }
     }
 }

@@ -2,12 +2,13 @@
 
 ghost use Rattle.implib.specs.ParserViews.{Gives, ShowsFirst, TakesFirst};
 ghost use Rattle.implib.specs.TokenReader.{number_read, sign_read, word_read};
-ghost use Rattle.implib.specs.Token.{Lexed};
+ghost use Rattle.implib.specs.Token.{token_view, Lexed};
 ghost use Rattle.std.specs.Prelude.{◌≡◌, ◌<◌, length, OnOk};
 
 use crate::def::lexer::{Lexer, Token, TokenKind};
 use crate::def::parser::numbers::u64_of;
-use crate::error::{Error, Fault};
+use crate::def::parser::read_error::ReadError;
+use crate::error::Fault;
 use std::marker::Model;
 
 /// The tokens that are still to be read, the first of which may have been looked at.
@@ -63,46 +64,46 @@ impl<'a> Tokens<'a> {
         self.pushed
     }
 
-    /// The value of the expected identifier.
+    /// The expected identifier.
     #[tactic(auto, unfolding(crate::specs::TokenReader::word_read))]
-    pub fn identifier(&mut self) -> Result<&'a str, Error>
-        ensures read { Gives (λ value. (value.now, self.new)) result (word_read self.old) }
+    pub fn identifier(&mut self) -> Result<Token<'a>, ReadError>
+        ensures read { Gives (λ token. (token_view token, self.new)) result (word_read self.old) }
         ensures shorter { OnOk result (length self.new < length self.old) }
     {
         let Some(token) = self.advance() else {
-            return Err(Error::Invalid(Fault::ExpectedIdentifier(TokenKind::Eof)));
+            return Err(ReadError::Refused(Fault::ExpectedIdentifier(TokenKind::Eof), 0));
         };
         match token.kind {
-            TokenKind::Identifier => Ok(token.value),
-            kind => Err(Error::Invalid(Fault::ExpectedIdentifier(kind))),
+            TokenKind::Identifier => Ok(token),
+            kind => Err(ReadError::Refused(Fault::ExpectedIdentifier(kind), token.at)),
         }
     }
 
     /// The expected `=`.
     #[tactic(auto, unfolding(crate::specs::TokenReader::sign_read))]
-    pub fn equal(&mut self) -> Result<(), Error>
+    pub fn equal(&mut self) -> Result<(), ReadError>
         ensures read { Gives (λ _. self.new) result (sign_read self.old) }
         ensures shorter { OnOk result (length self.new < length self.old) }
     {
         let Some(token) = self.advance() else {
-            return Err(Error::Invalid(Fault::ExpectedEqual(TokenKind::Eof)));
+            return Err(ReadError::Refused(Fault::ExpectedEqual(TokenKind::Eof), 0));
         };
         match token.kind {
             TokenKind::Equal => Ok(()),
-            kind => Err(Error::Invalid(Fault::ExpectedEqual(kind))),
+            kind => Err(ReadError::Refused(Fault::ExpectedEqual(kind), token.at)),
         }
     }
 
     /// The number that the expected identifier is.
     #[tactic(auto, unfolding(crate::specs::TokenReader::number_read))]
-    pub fn number(&mut self) -> Result<u64, Error>
+    pub fn number(&mut self) -> Result<u64, ReadError>
         ensures read { Gives (λ n. (n, self.new)) result (number_read self.old) }
         ensures shorter { OnOk result (length self.new < length self.old) }
     {
-        let text = self.identifier()?;
-        match u64_of(text) {
+        let word = self.identifier()?;
+        match u64_of(word.value) {
             Some(number) => Ok(number),
-            None => Err(Error::Invalid(Fault::ExpectedInteger)),
+            None => Err(ReadError::Refused(Fault::ExpectedInteger, word.at)),
         }
     }
 }

@@ -1,13 +1,8 @@
 use Rattle.std.proofs.lemmas.Result.{err_from_is_err_and}
-use Rattle.implib.specs.Definition.{definition_view}
-use Rattle.implib.proofs.ParserAnswers.{answer_parses, answer_refused}
+use Rattle.implib.proofs.ParserAnswers.{answer_invalid}
 use Rattle.implib.proofs.def.parser.Parser.parse.Goals as goal
 
-pub returns-in_err-statements-clause-refused : goal.returns-in_err-statements-clause-refused
-returns-in_err-statements-clause-refused c =
+pub returns-in_err-read-clause-refused : goal.returns-in_err-read-clause-refused
+returns-in_err-read-clause-refused c =
     let p = err_from_is_err_and c.from_residual.result c.from_residual.ensures.1 in
-    rw (p.1, p.2, ← c.self.view_is) (answer_refused c.self.inside.machine c.self.inside.tokens c.in_err-statements.field-0.0 (rw c.empty-def.ensures at c.in_err-statements.ensures))
-
-pub returns-clause-parses : goal.returns-clause-parses
-returns-clause-parses c =
-    rw (← c.self.view_is) (answer_parses c.self.inside.machine c.self.inside.tokens c.statements.new.self (definition_view c.statements.new.def) (rw c.empty-def.ensures at c.in_ok-statements.ensures))
+    rw (p.1, p.2) (answer_invalid c.args.self c.in_err-read.field-0.0 c.in_err-read.ensures.refused)
