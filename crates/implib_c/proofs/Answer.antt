@@ -1,42 +1,40 @@
 -- The answers of a call, case by case.
-use Rattle.std.proofs.Common.{◌≡◌, ℕ, List, Option, None, Some, Result, Ok, Err, length, refl, arith}
+use Rattle.std.proofs.Common.{◌≡◌, ℕ, List, None, Some, Result, Ok, Err, drop, length, refl, arith}
 use Rattle.std.specs.Prelude.{◌<◌, ◌≤◌}
+use Rattle.std.specs.Option.{unwrap_or}
 use Rattle.std.specs.Str.{IsUtf8}
 use Rattle.std.specs.Str.Lossy.{utf8_valid_len}
 use Rattle.implib.specs.declared.machine.MachineType.{MachineType}
 use Rattle.implib.specs.declared.members.Flavor.{Flavor}
 use Rattle.implib.specs.Conversions.{machine_numbered}
-use Rattle.implib.specs.Fault.{cause_of}
+use Rattle.implib.specs.Fault.{Cause, cause_of, export_index}
 use Rattle.implib.specs.MemberSpec.{MemberView}
 use Rattle.implib_c.specs.declared.outcome.Failure.{Failure}
 use Rattle.implib_c.specs.declared.outcome.Failure.TheVariants as failure
-use Rattle.implib_c.specs.Answer.{Answers, EndsSo, MembersOf, Outcome, Success, BufferTooSmall, OutOfMemory, NotUtf8, Refused, WithInput, buffer_of, flavor_numbered, length_of, place_of, status_of}
+use Rattle.implib_c.specs.Answer.{Answers, EndsSo, MembersOf, Success, BufferTooSmall, OutOfMemory, NotUtf8, Refused, UnknownFlavor, UnknownMachine, WithInput, flavor_numbered}
+use Rattle.implib_c.specs.Encoding.{encoded_members}
 use Rattle.implib_c.specs.Given.{OnTextFault, PutsInto, length_given, place_given, status_given}
-use Rattle.implib_c.specs.Status.{status_number}
+use Rattle.implib_c.specs.Status.{cause_status, status_number}
+use Rattle.implib_c.proofs.ReadBack.{members_back}
 
--- an outcome, with what it leaves
-pub answers : (text old : List ℕ) (machine flavor : ℕ) (outcome : Outcome) → EndsSo text machine flavor (length old) outcome
-    → Answers text machine flavor old (buffer_of old outcome) (length_of outcome) (place_of text outcome) (status_number (status_of outcome))
-answers text old machine flavor outcome ends = record {
-  outcome = outcome;
-  ends = ends;
-  status_is = refl;
-  length_is = refl;
-  place_is = refl;
-  buffer_is = refl;
-}
+-- outcomes that leave the buffer as it was
 
--- where the text is not UTF-8
-pub answers_not_utf8 : (text old : List ℕ) (machine flavor offset : ℕ) → ¬ (IsUtf8 text) → offset ≡ utf8_valid_len text
-    → Answers text machine flavor old old 0 offset 3
-answers_not_utf8 text old machine flavor offset not_utf8 is = record {
-  outcome = NotUtf8;
-  ends = not_utf8;
-  status_is = refl;
-  length_is = refl;
-  place_is = is;
-  buffer_is = refl;
-}
+module _ (text old : List ℕ) (machine flavor : ℕ) where
+  pub answers_memory : EndsSo text machine flavor (length old) OutOfMemory → Answers text machine flavor old old 0 0 2
+  answers_memory ends = record { outcome = OutOfMemory; ends = ends; status_is = refl; length_is = refl; place_is = refl; buffer_is = refl; buffer_reads = tt }
+
+  pub answers_machine : machine_numbered machine ≡ None → Answers text machine flavor old old 0 0 4
+  answers_machine ends = record { outcome = UnknownMachine; ends = ends; status_is = refl; length_is = refl; place_is = refl; buffer_is = refl; buffer_reads = tt }
+
+  pub answers_flavor : flavor_numbered flavor ≡ None → Answers text machine flavor old old 0 0 5
+  answers_flavor ends = record { outcome = UnknownFlavor; ends = ends; status_is = refl; length_is = refl; place_is = refl; buffer_is = refl; buffer_reads = tt }
+
+  pub answers_not_utf8 : (offset : ℕ) → ¬ (IsUtf8 text) → offset ≡ utf8_valid_len text → Answers text machine flavor old old 0 offset 3
+  answers_not_utf8 offset ends is = record { outcome = NotUtf8; ends = ends; status_is = refl; length_is = refl; place_is = is; buffer_is = refl; buffer_reads = tt }
+
+  pub answers_refused : (cause : Cause) → EndsSo text machine flavor (length old) (Refused cause)
+      → Answers text machine flavor old old 0 (unwrap_or (export_index cause) 0) (status_number (cause_status cause))
+  answers_refused cause ends = record { outcome = Refused cause; ends = ends; status_is = refl; length_is = refl; place_is = refl; buffer_is = refl; buffer_reads = tt }
 
 -- with a machine, a flavour and a text in UTF-8
 
@@ -55,11 +53,11 @@ module _ (text old : List ℕ) (machine flavor : ℕ) (m : MachineType) (f : Fla
   pub answers_fault : (why : Failure) → OnTextFault text m f why
       → Answers text machine flavor old old (length_given (Err why)) (place_given (Err why)) (status_number (status_given (Err why)))
   answers_fault (failure.BufferTooSmall needed) h = absurd h
-  answers_fault failure.OutOfMemory h = answers text old machine flavor OutOfMemory (with_input _ tt)
+  answers_fault failure.OutOfMemory h = answers_memory text old machine flavor (with_input _ tt)
   answers_fault (failure.NotUtf8 offset) h = absurd h
   answers_fault failure.UnknownMachine h = absurd h
   answers_fault failure.UnknownFlavor h = absurd h
-  answers_fault (failure.Refused fault) h = answers text old machine flavor (Refused (cause_of fault)) (with_input _ h)
+  answers_fault (failure.Refused fault) h = answers_refused text old machine flavor (cause_of fault) (with_input _ h)
 
   -- the members are put into the buffer, or not
   pub answers_put : (members : List MemberView) (new : List ℕ) (result : Result ℕ Failure) → MembersOf text m f members → PutsInto members old new result
@@ -70,7 +68,8 @@ module _ (text old : List ℕ) (machine flavor : ℕ) (m : MachineType) (f : Fla
     status_is = refl;
     length_is = puts.0;
     place_is = refl;
-    buffer_is = puts.2;
+    buffer_is = puts.3;
+    buffer_reads = rw puts.3 (members_back members (drop (length (encoded_members members)) old) (omega (arith, puts.0, puts.2)));
   }
   answers_put members new (Err (failure.BufferTooSmall needed)) made puts = record {
     outcome = BufferTooSmall members;
@@ -79,6 +78,7 @@ module _ (text old : List ℕ) (machine flavor : ℕ) (m : MachineType) (f : Fla
     length_is = puts.0;
     place_is = refl;
     buffer_is = puts.2;
+    buffer_reads = tt;
   }
   answers_put members new (Err failure.OutOfMemory) made puts = record {
     outcome = OutOfMemory;
@@ -87,6 +87,7 @@ module _ (text old : List ℕ) (machine flavor : ℕ) (m : MachineType) (f : Fla
     length_is = refl;
     place_is = refl;
     buffer_is = puts;
+    buffer_reads = tt;
   }
   answers_put members new (Err (failure.NotUtf8 offset)) made puts = absurd puts
   answers_put members new (Err failure.UnknownMachine) made puts = absurd puts

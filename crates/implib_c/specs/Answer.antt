@@ -15,7 +15,7 @@ use Rattle.implib.specs.Parses.{Refuses}
 use Rattle.implib.specs.ReadBack.{ReadBack}
 use Rattle.implib_c.specs.declared.status.Status.{Status}
 use Rattle.implib_c.specs.declared.status.Status.TheVariants as status
-use Rattle.implib_c.specs.Encoding.{encoded_members}
+use Rattle.implib_c.specs.Encoding.{encoded_members, members_in}
 use Rattle.implib_c.specs.Status.{cause_status, status_number}
 
 -- the flavour with a number
@@ -100,6 +100,12 @@ abbrev pub buffer_of : List ℕ → Outcome → List ℕ
 buffer_of old (Success members) = encoded_members members ++ drop (length (encoded_members members)) old
 buffer_of old _ = old
 
+-- what is read in the buffer: the members, and then what was behind their encoding
+abbrev pub BufferReads : List ℕ → List ℕ → Outcome → Type 0
+BufferReads old new (Success members) =
+    members_in new ≡ Some (members, drop (length (encoded_members members)) old)
+BufferReads old new _ = Unit {0}
+
 -- the call's outcome, with all that it leaves
 pub record Answers (text : List ℕ) (machine flavor : ℕ) (old new : List ℕ) (length_left place_left : ℕ)
     (status_left : ℕ) : Type 0 where
@@ -109,3 +115,4 @@ pub record Answers (text : List ℕ) (machine flavor : ℕ) (old new : List ℕ)
   pub length_is : length_left ≡ length_of outcome
   pub place_is : place_left ≡ place_of text outcome
   pub buffer_is : new ≡ buffer_of old outcome
+  pub buffer_reads : BufferReads old new outcome

@@ -1,5 +1,5 @@
 -- Views: what the functions below the exports give each other. No promise cites them.
-use Rattle.std.specs.Prelude.{◌≡◌, ℕ, ◌<◌, ◌≤◌, List, ◌++◌, length, drop, Result, Ok, Err}
+use Rattle.std.specs.Prelude.{◌≡◌, ℕ, ◌<◌, ◌≤◌, ◌^◌, List, ◌++◌, length, drop, Result, Ok, Err}
 use Rattle.std.specs.Option.{unwrap_or}
 use Rattle.implib.specs.declared.error.Error.{Error}
 use Rattle.implib.specs.declared.error.Error.TheVariants as error
@@ -66,7 +66,7 @@ OnTextFault text machine flavor (Refused fault) = IsRefused text machine flavor 
 -- the members' encoding is put at the beginning of the buffer, where there is room; else nothing is
 abbrev pub PutsInto : List MemberView → List ℕ → List ℕ → Result ℕ Failure → Type 0
 PutsInto members old new (Ok put) =
-    (put ≡ length (encoded_members members)) × (put ≤ length old)
+    (put ≡ length (encoded_members members)) × (put ≤ length old) × (put < 2 ^ 64)
     × (new ≡ encoded_members members ++ drop (length (encoded_members members)) old)
 PutsInto members old new (Err (BufferTooSmall needed)) =
     (needed ≡ length (encoded_members members)) × (length old < needed) × (new ≡ old)

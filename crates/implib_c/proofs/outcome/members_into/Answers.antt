@@ -1,18 +1,18 @@
 use Rattle.std.proofs.Common.{◌≡◌, Some, ◌∙◌, map, subst, sym}
 use Rattle.implib.specs.Conversions.{machine_numbered}
 use Rattle.implib.specs.Library.{member_view}
-use Rattle.implib_c.specs.Answer.{MembersOf, UnknownFlavor, UnknownMachine, flavor_numbered}
+use Rattle.implib_c.specs.Answer.{MembersOf}
 use Rattle.implib_c.specs.Given.{OnTextFault, PutsInto}
-use Rattle.implib_c.proofs.Answer.{answers, answers_fault, answers_not_utf8, answers_put}
+use Rattle.implib_c.proofs.Answer.{answers_fault, answers_flavor, answers_machine, answers_not_utf8, answers_put}
 use Rattle.implib_c.proofs.outcome.members_into.Goals as goal
 
 pub returns-in_default : goal.returns-in_default
 returns-in_default c =
-    answers c.args.text.now c.args.buffer.now c.args.machine c.args.flavor UnknownMachine (sym c.machine_with.ensures ∙ c.in_default.is)
+    answers_machine c.args.text.now c.args.buffer.now c.args.machine c.args.flavor (sym c.machine_with.ensures ∙ c.in_default.is)
 
 pub returns-in_default-flavor_with : goal.returns-in_default-flavor_with
 returns-in_default-flavor_with c =
-    answers c.args.text.now c.args.buffer.now c.args.machine c.args.flavor UnknownFlavor (sym c.flavor_with.ensures ∙ c.in_default-flavor_with.is)
+    answers_flavor c.args.text.now c.args.buffer.now c.args.machine c.args.flavor (sym c.flavor_with.ensures ∙ c.in_default-flavor_with.is)
 
 pub returns-in-Err : goal.returns-in-Err
 returns-in-Err c =
