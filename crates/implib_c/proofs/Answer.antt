@@ -1,7 +1,6 @@
 -- The answers of a call, case by case.
-use Rattle.std.proofs.Common.{◌≡◌, ℕ, List, None, Some, Result, Ok, Err, drop, length, refl, arith}
-use Rattle.std.specs.Prelude.{◌<◌, ◌≤◌}
-use Rattle.std.specs.Option.{unwrap_or}
+use Rattle.std.proofs.Common.{◌≡◌, ℕ, List, Option, None, Some, Result, Ok, Err, drop, length, refl, sym, subst, arith}
+use Rattle.std.specs.Option.{IsSome, unwrap_or}
 use Rattle.std.specs.Str.{IsUtf8}
 use Rattle.std.specs.Str.Lossy.{utf8_valid_len}
 use Rattle.implib.specs.declared.machine.MachineType.{MachineType}
@@ -17,6 +16,10 @@ use Rattle.implib_c.specs.Given.{OnTextFault, PutsInto, length_given, place_give
 use Rattle.implib_c.specs.Status.{cause_status, status_number}
 use Rattle.implib_c.proofs.ReadBack.{members_back}
 
+-- what is found is there
+there : {X : Type 0} → (found : Option X) (x : X) → found ≡ Some x → IsSome found
+there found x is = subst IsSome (sym is) refl
+
 -- outcomes that leave the buffer as it was
 
 module _ (text old : List ℕ) (machine flavor : ℕ) where
@@ -26,11 +29,12 @@ module _ (text old : List ℕ) (machine flavor : ℕ) where
   pub answers_machine : machine_numbered machine ≡ None → Answers text machine flavor old old 0 0 4
   answers_machine ends = record { outcome = UnknownMachine; ends = ends; status_is = refl; length_is = refl; place_is = refl; buffer_is = refl; buffer_reads = tt }
 
-  pub answers_flavor : flavor_numbered flavor ≡ None → Answers text machine flavor old old 0 0 5
-  answers_flavor ends = record { outcome = UnknownFlavor; ends = ends; status_is = refl; length_is = refl; place_is = refl; buffer_is = refl; buffer_reads = tt }
+  pub answers_flavor : (m : MachineType) → machine_numbered machine ≡ Some m → flavor_numbered flavor ≡ None → Answers text machine flavor old old 0 0 5
+  answers_flavor m machine_is ends = record { outcome = UnknownFlavor; ends = (there (machine_numbered machine) m machine_is, ends); status_is = refl; length_is = refl; place_is = refl; buffer_is = refl; buffer_reads = tt }
 
-  pub answers_not_utf8 : (offset : ℕ) → ¬ (IsUtf8 text) → offset ≡ utf8_valid_len text → Answers text machine flavor old old 0 offset 3
-  answers_not_utf8 offset ends is = record { outcome = NotUtf8; ends = ends; status_is = refl; length_is = refl; place_is = is; buffer_is = refl; buffer_reads = tt }
+  pub answers_not_utf8 : (m : MachineType) (f : Flavor) → machine_numbered machine ≡ Some m → flavor_numbered flavor ≡ Some f
+      → (offset : ℕ) → ¬ (IsUtf8 text) → offset ≡ utf8_valid_len text → Answers text machine flavor old old 0 offset 3
+  answers_not_utf8 m f machine_is flavor_is offset ends is = record { outcome = NotUtf8; ends = (there (machine_numbered machine) m machine_is, there (flavor_numbered flavor) f flavor_is, ends); status_is = refl; length_is = refl; place_is = is; buffer_is = refl; buffer_reads = tt }
 
   pub answers_refused : (cause : Cause) → EndsSo text machine flavor (length old) (Refused cause)
       → Answers text machine flavor old old 0 (unwrap_or (export_index cause) 0) (status_number (cause_status cause))

@@ -1,12 +1,12 @@
 -- An encoding reads back.
-use Rattle.std.proofs.Common.{◌≡◌, ℕ, suc, ◌+◌, ◌<◌, ◌≤◌, ◌^◌, true, List, [], ◌∷◌, ◌++◌, Option, Some, length, flat_map, take, drop, nat_le, refl, sym, ap, ◌∙◌, append_assoc, arith, length-append, le-leb}
+use Rattle.std.proofs.Common.{◌≡◌, ℕ, ◌+◌, ◌<◌, ◌≤◌, ◌^◌, true, List, [], ◌∷◌, ◌++◌, Option, Some, length, flat_map, nat_le, refl, ap, ◌∙◌, append_assoc, arith, length-append, le-leb}
 use Rattle.std.specs.Int.{w64, from_le_bytes}
-use Rattle.std.specs.Option.{option_and_then, option_map}
+use Rattle.std.specs.Option.{option_map}
 use Rattle.std.proofs.lemmas.List.{drop_at, take_at}
 use Rattle.std.proofs.lemmas.Nat.{from_le_bytes-to_le_bytes_8}
 use Rattle.implib.specs.MemberSpec.{MemberView}
 use Rattle.implib_c.specs.Encoding.{bytes_in, encoded_list, encoded_member, encoded_members, encoded_number, encoded_text, items_in, list_in, member_in, members_in, number_in, text_in}
-use Rattle.implib_c.proofs.Lengths.{list_size, member_size, members_size, number_size, text_size}
+use Rattle.implib_c.proofs.Lengths.{list_size, member_size, number_size, text_size}
 
 -- the reader finds the item, and then what follows it
 abbrev pub ReadsItem : {X : Type 0} → (X → List ℕ) → (List ℕ → Option (X × List ℕ)) → Type 0

@@ -1,6 +1,7 @@
 -- What the exports answer.
-use Rattle.std.specs.Prelude.{◌≡◌, ◌⊎◌, ℕ, ◌<◌, ◌≤◌, ◌==◌, List, ◌++◌, length, drop, Option, None, Some, if◌then◌else◌}
-use Rattle.std.specs.Option.{unwrap_or}
+use Rattle.std.specs.Prelude.{◌≡◌, ◌⊎◌, ℕ, ◌<◌, ◌≤◌, ◌==◌, List, ◌++◌, length, drop, Option, None, Some}
+use Rattle.std.specs.Prelude.{if◌then◌else◌}
+use Rattle.std.specs.Option.{IsSome, unwrap_or}
 use Rattle.std.specs.Str.{IsUtf8}
 use Rattle.std.specs.Str.Lossy.{utf8_valid_len}
 use Rattle.implib.specs.declared.machine.MachineType.{MachineType}
@@ -52,7 +53,8 @@ pub data Outcome : Type 0 where
   Refused : Cause → Outcome
 
 -- the numbers are those of a machine and of a flavour, the text is UTF-8, and with the three this holds
-pub record WithInput (text : List ℕ) (machine flavor : ℕ) (P : MachineType → Flavor → Type 0) : Type 0 where
+pub record WithInput (text : List ℕ) (machine flavor : ℕ) (P : MachineType → Flavor → Type 0)
+    : Type 0 where
   pub machine_found : MachineType
   pub flavor_found : Flavor
   pub machine_is : machine_numbered machine ≡ Some machine_found
@@ -67,10 +69,13 @@ EndsSo text machine flavor room (Success members) = WithInput text machine flavo
 EndsSo text machine flavor room (BufferTooSmall members) = WithInput text machine flavor
     (λ m f. MembersOf text m f members × (room < length (encoded_members members)))
 EndsSo text machine flavor room OutOfMemory = WithInput text machine flavor (λ m f. Unit {0})
-EndsSo text machine flavor room NotUtf8 = ¬ (IsUtf8 text)
+EndsSo text machine flavor room NotUtf8 =
+    IsSome (machine_numbered machine) × IsSome (flavor_numbered flavor) × ¬ (IsUtf8 text)
 EndsSo text machine flavor room UnknownMachine = machine_numbered machine ≡ None
-EndsSo text machine flavor room UnknownFlavor = flavor_numbered flavor ≡ None
-EndsSo text machine flavor room (Refused cause) = WithInput text machine flavor (λ m f. IsRefused text m f cause)
+EndsSo text machine flavor room UnknownFlavor =
+    IsSome (machine_numbered machine) × (flavor_numbered flavor ≡ None)
+EndsSo text machine flavor room (Refused cause) =
+    WithInput text machine flavor (λ m f. IsRefused text m f cause)
 
 -- the status
 abbrev pub status_of : Outcome → Status

@@ -1,5 +1,6 @@
 -- How members are encoded for C, and how an encoding is read (this project's choice).
-use Rattle.std.specs.Prelude.{◌≡◌, ℕ, zero, suc, ◌<◌, ◌^◌, nat_le, List, [], ◌∷◌, ◌++◌, length, take, drop, Option, None, Some, if◌then◌else◌}
+use Rattle.std.specs.Prelude.{◌≡◌, ℕ, zero, suc, ◌<◌, ◌^◌, nat_le, List, [], ◌∷◌, ◌++◌, length, take}
+use Rattle.std.specs.Prelude.{drop, Option, None, Some, if◌then◌else◌}
 use Rattle.std.specs.Int.{w64, from_le_bytes, to_le_bytes}
 use Rattle.std.specs.List.{flat_map}
 use Rattle.std.specs.Option.{option_and_then, option_map}
@@ -32,18 +33,21 @@ encoded_members members = encoded_list encoded_member members
 
 -- the number in the first 8 bytes
 unfoldable pub number_in : List ℕ → Option (ℕ × List ℕ)
-number_in bytes = if nat_le 8 (length bytes) then Some (from_le_bytes w64 (take 8 bytes), drop 8 bytes) else None
+number_in bytes =
+    if nat_le 8 (length bytes) then Some (from_le_bytes w64 (take 8 bytes), drop 8 bytes) else None
 
 -- `count` bytes, if there are as many
 unfoldable pub bytes_in : ℕ → List ℕ → Option (List ℕ × List ℕ)
-bytes_in count bytes = if nat_le count (length bytes) then Some (take count bytes, drop count bytes) else None
+bytes_in count bytes =
+    if nat_le count (length bytes) then Some (take count bytes, drop count bytes) else None
 
 -- a text, after its length
 unfoldable pub text_in : List ℕ → Option (List ℕ × List ℕ)
 text_in bytes = option_and_then (λ found. bytes_in found.0 found.1) (number_in bytes)
 
 -- `count` items
-unfoldable pub items_in : {X : Type 0} → (List ℕ → Option (X × List ℕ)) → ℕ → List ℕ → Option (List X × List ℕ)
+unfoldable pub items_in : {X : Type 0} → (List ℕ → Option (X × List ℕ)) → ℕ → List ℕ →
+    Option (List X × List ℕ)
 items_in read zero bytes = Some ([], bytes)
 items_in read (suc count) bytes = option_and_then
     (λ first. option_map (λ others. (first.0 ∷ others.0, others.1)) (items_in read count first.1))
@@ -70,4 +74,5 @@ members_in bytes = list_in member_in bytes
 -- An encoding of fewer than 2^64 bytes reads back, whatever follows it.
 abbrev pub ReadsBack : List MemberView → List ℕ → Type 0
 ReadsBack members rest =
-    length (encoded_members members) < 2 ^ 64 → members_in (encoded_members members ++ rest) ≡ Some (members, rest)
+    length (encoded_members members) < 2 ^ 64 →
+    members_in (encoded_members members ++ rest) ≡ Some (members, rest)

@@ -8,7 +8,8 @@ use Rattle.implib.specs.declared.members.Flavor.{Flavor}
 use Rattle.implib.specs.Fault.{cause_of, export_index}
 use Rattle.implib.specs.MemberSpec.{MemberView}
 use Rattle.implib_c.specs.declared.outcome.Failure.{Failure}
-use Rattle.implib_c.specs.declared.outcome.Failure.TheVariants.{BufferTooSmall, OutOfMemory, NotUtf8, UnknownMachine, UnknownFlavor, Refused}
+use Rattle.implib_c.specs.declared.outcome.Failure.TheVariants.{BufferTooSmall, OutOfMemory, NotUtf8}
+use Rattle.implib_c.specs.declared.outcome.Failure.TheVariants.{UnknownMachine, UnknownFlavor, Refused}
 use Rattle.implib_c.specs.declared.status.Status.{Status}
 use Rattle.implib_c.specs.declared.status.Status.TheVariants as status
 use Rattle.implib_c.specs.Answer.{IsRefused}

@@ -1,9 +1,16 @@
 -- The statuses that C gets, their numbers and their texts (this project's choice).
-use Rattle.std.specs.Prelude.{◌≡◌, ℕ, ◌+◌, ◌==◌, nat_lt, List, [], ◌∷◌, ◌++◌, length, drop, Option, None, Some, codes, if◌then◌else◌}
+use Rattle.std.specs.Prelude.{◌≡◌, ℕ, ◌+◌, ◌==◌, nat_lt, List, ◌∷◌, ◌++◌, length, drop, Option, None}
+use Rattle.std.specs.Prelude.{Some, codes, if◌then◌else◌}
 use Rattle.implib.specs.Fault.{Cause}
 use Rattle.implib.specs.Fault as cause
 use Rattle.implib_c.specs.declared.status.Status.{Status}
-use Rattle.implib_c.specs.declared.status.Status.TheVariants.{Success, BufferTooSmall, OutOfMemory, NotUtf8, UnknownMachine, UnknownFlavor, UnknownDirective, ExpectedIdentifier, ExpectedEqual, ExpectedInteger, InvalidOrdinal, LoneAt, EmptyImportName, NulInImportName, EmptyName, NulInExport, EmptyAskedName, MemberTooLong}
+use Rattle.implib_c.specs.declared.status.Status.TheVariants.{Success, BufferTooSmall, OutOfMemory}
+use Rattle.implib_c.specs.declared.status.Status.TheVariants.{NotUtf8, UnknownMachine, UnknownFlavor}
+use Rattle.implib_c.specs.declared.status.Status.TheVariants.{UnknownDirective, ExpectedIdentifier}
+use Rattle.implib_c.specs.declared.status.Status.TheVariants.{ExpectedEqual, ExpectedInteger}
+use Rattle.implib_c.specs.declared.status.Status.TheVariants.{InvalidOrdinal, LoneAt, EmptyImportName}
+use Rattle.implib_c.specs.declared.status.Status.TheVariants.{NulInImportName, EmptyName, NulInExport}
+use Rattle.implib_c.specs.declared.status.Status.TheVariants.{EmptyAskedName, MemberTooLong}
 
 -- the number of a status: those of the call first, and from 16 on those of the input's faults
 abbrev pub status_number : Status → ℕ

@@ -1,5 +1,5 @@
 -- Encodings worked by hand, and buffers that are read.
-use Rattle.std.specs.Prelude.{◌≡◌, ℕ, List, [], ◌∷◌, ◌++◌, Option, None, Some, codes}
+use Rattle.std.specs.Prelude.{◌≡◌, ℕ, List, [], ◌∷◌, ◌++◌, None, Some, codes}
 use Rattle.implib.specs.MemberSpec.{MemberView}
 use Rattle.implib.specs.WorkedDigits.{hex}
 use Rattle.implib_c.specs.Encoding.{encoded_members, members_in}

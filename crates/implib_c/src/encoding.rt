@@ -81,7 +81,8 @@ fn put_text(buffer: &mut [u8], start: usize, text: &[u8]) -> usize
 // Puts a list of symbols into the buffer.
 fn put_symbols(buffer: &mut [u8], start: usize, symbols: &[String]) -> usize
     requires { start + length (encoded_list encoded_text (map string_bytes symbols.now)) ≤ length buffer.old }
-    ensures { Fills buffer.old buffer.new start result (encoded_list encoded_text (map string_bytes symbols.now)) }
+    ensures { Fills buffer.old buffer.new start result
+        (encoded_list encoded_text (map string_bytes symbols.now)) }
 {
     let mut at = put_number(buffer, start, symbols.len());
     for symbol in symbols {

@@ -14,10 +14,10 @@ use std::alloc::Global;
 /// `specs/Encoding.antt` says, and gives a status: 0 where it is done.
 ///
 /// `machine` is a number of the PE/COFF specification, "Machine Types"; `flavor` is 0 for Microsoft's linker
-/// and 1 for GNU's. `length` gets the length of the encoding, where the status is 0 or says that the buffer is
-/// too small, and otherwise 0. `place` gets the index of the export that is at fault, where the status says
-/// that one is; the offset up to which the text is UTF-8, where it is not; and otherwise 0. Where the status
-/// is not 0 the buffer is as it was, and so is, where it is 0, what stands behind the encoding.
+/// and 1 for GNU's. `length` gets the length of the encoding in bytes, where the status is 0 or 1 (the buffer
+/// is too small), and otherwise 0. `place` gets the index of the export, from 0, where one is at fault; the
+/// length of the longest beginning that is UTF-8, where the text is not; and otherwise 0. Where the status is
+/// not 0 the buffer is as it was, and where it is, what stands behind the encoding.
 #[unsafe(no_mangle)]
 pub extern "C" fn implib_members(
     alloc: Global,
@@ -36,9 +36,9 @@ pub extern "C" fn implib_members(
     status_of(&answer).number()
 }
 
-/// Puts the text of a status and a NUL at the beginning of `buffer`, where it has room for both; otherwise the
-/// buffer is as it was. Gives the length of the text, which is less than 32. A number that is no status has
-/// a text, too.
+/// Puts the text of a status and a NUL at the beginning of `buffer`, where it has room for both; otherwise
+/// the buffer is as it was. Gives the length of the text without the NUL, less than 32. A number that is no
+/// status has a text, too.
 #[unsafe(no_mangle)]
 pub extern "C" fn implib_status_text(status: u32, buffer: &mut [u8]) -> usize
     ensures text { buffer.new ≡ with_text buffer.old (text_for status) }

@@ -135,8 +135,13 @@ fn put_into(buffer: &mut [u8], members: &[Member]) -> Result<usize, Failure>
     Ok(put_members(buffer, members))
 }
 
-/// Puts the members of the library that a text means at the beginning of the buffer. Gives the length of their
-/// encoding.
+/// Puts the members of the library that a text means at the beginning of the buffer. Gives the length of
+/// their encoding. An error leaves the buffer as it was.
+///
+/// # Errors
+///
+/// The first that applies: `UnknownMachine`, `UnknownFlavor`, `NotUtf8`, `Refused`, `BufferTooSmall`.
+/// `OutOfMemory` can precede the last two.
 pub fn members_into(
     alloc: Global,
     text: &[u8],

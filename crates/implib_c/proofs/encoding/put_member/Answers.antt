@@ -1,4 +1,4 @@
-use Rattle.std.proofs.Common.{◌+◌, ◌++◌, arith, ap, length, map}
+use Rattle.std.proofs.Common.{arith, ap, length, map}
 use Rattle.std.specs.String.{string_bytes}
 use Rattle.implib.specs.Library.{member_view}
 use Rattle.implib_c.specs.Encoding.{encoded_list, encoded_member, encoded_text}

@@ -1,4 +1,4 @@
-use Rattle.std.proofs.Common.{◌≤◌, ◌+◌, ◌++◌, arith, ap, flat_map, length, map, sym}
+use Rattle.std.proofs.Common.{◌++◌, arith, ap, flat_map, length, map, sym}
 use Rattle.std.proofs.lemmas.List.{length-map}
 use Rattle.implib.specs.Library.{member_view}
 use Rattle.implib_c.specs.Encoding.{encoded_member, encoded_members, encoded_number}

@@ -1,4 +1,4 @@
-use Rattle.std.proofs.Common.{◌≤◌, ◌+◌, arith, ap, length, map}
+use Rattle.std.proofs.Common.{arith, ap, length, map}
 use Rattle.std.specs.String.{string_bytes}
 use Rattle.implib_c.specs.Encoding.{encoded_number, encoded_text}
 use Rattle.implib_c.proofs.Fill.{fills_as, fills_more, fills_room}

@@ -1,5 +1,4 @@
-use Rattle.std.proofs.Common.{◌≡◌, Some, ◌∙◌, map, subst, sym}
-use Rattle.implib.specs.Conversions.{machine_numbered}
+use Rattle.std.proofs.Common.{◌∙◌, map, subst, sym}
 use Rattle.implib.specs.Library.{member_view}
 use Rattle.implib_c.specs.Answer.{MembersOf}
 use Rattle.implib_c.specs.Given.{OnTextFault, PutsInto}
@@ -12,11 +11,12 @@ returns-in_default c =
 
 pub returns-in_default-flavor_with : goal.returns-in_default-flavor_with
 returns-in_default-flavor_with c =
-    answers_flavor c.args.text.now c.args.buffer.now c.args.machine c.args.flavor (sym c.flavor_with.ensures ∙ c.in_default-flavor_with.is)
+    answers_flavor c.args.text.now c.args.buffer.now c.args.machine c.args.flavor c.in-Some.machine (sym c.machine_with.ensures ∙ c.in-Some.is) (sym c.flavor_with.ensures ∙ c.in_default-flavor_with.is)
 
 pub returns-in-Err : goal.returns-in-Err
 returns-in-Err c =
-    answers_not_utf8 c.args.text.now c.args.buffer.now c.args.machine c.args.flavor c.valid_up_to.result c.in-Err.ensures.cases.0
+    answers_not_utf8 c.args.text.now c.args.buffer.now c.args.machine c.args.flavor c.in-Some.machine c.in-Some-flavor_with.flavor
+    (sym c.machine_with.ensures ∙ c.in-Some.is) (sym c.flavor_with.ensures ∙ c.in-Some-flavor_with.is) c.valid_up_to.result c.in-Err.ensures.cases.0
     (c.valid_up_to.ensures ∙ c.in-Err.ensures.valid_len)
 
 pub returns-in-Err-members_of : goal.returns-in-Err-members_of
