@@ -25,7 +25,7 @@ unfoldable pub encoded_member : MemberView → List ℕ
 encoded_member m = encoded_text m.name ++ (encoded_list encoded_text m.symbols ++ encoded_text m.bytes)
 
 -- The members, in order. For example, no members are 8 zero bytes, and a member `a` for the symbol `b` with
--- the file `c` has 51 bytes (WorkedEncoding).
+-- the file `c` has 43 bytes (WorkedEncoding).
 unfoldable pub encoded_members : List MemberView → List ℕ
 encoded_members members = encoded_list encoded_member members
 
