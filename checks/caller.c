@@ -1,0 +1,313 @@
+/*
+ * Calls the library for checks/c: reads cases from standard input, and writes what came of each.
+ *
+ * A case is a machine, a flavour, whether allocations are to fail, and the length of a text, each a number of
+ * 8 bytes, and then the text. For each case the call is made with buffers of several sizes, whose answers
+ * have to agree; where they do not, the program ends. Of each case it writes a line with the status, the
+ * place, and the length of what follows: the listing of the members, as implib_tool writes it.
+ *
+ * With the argument `texts` it writes a line with the text of each status from 0 to 99 instead.
+ *
+ * The linker puts __wrap_malloc and its kin in the place of malloc (--wrap).
+ */
+#include <stdio.h>
+#include <stdlib.h>
+#include <string.h>
+
+#include "implib.h"
+#include "members.h"
+
+#define PATTERN 0xA5
+#define ROOM 64
+
+/* ---- allocations: how many are left until one fails, and how many are not freed */
+
+static long until_failure = -1;
+static long held;
+static int has_failed;
+
+void *__real_malloc(size_t size);
+void *__real_realloc(void *block, size_t size);
+void __real_free(void *block);
+void *__wrap_malloc(size_t size);
+void *__wrap_realloc(void *block, size_t size);
+void __wrap_free(void *block);
+
+static int fails_now(void)
+{
+    if (until_failure > 0 && --until_failure == 0)
+        has_failed = 1;
+    return until_failure == 0;
+}
+
+void *__wrap_malloc(size_t size)
+{
+    void *block = fails_now() ? NULL : __real_malloc(size);
+    held += block != NULL;
+    return block;
+}
+
+void *__wrap_realloc(void *block, size_t size)
+{
+    if (fails_now())
+        return NULL;
+    void *other = __real_realloc(block, size);
+    held += block == NULL && other != NULL;
+    return other;
+}
+
+void __wrap_free(void *block)
+{
+    held -= block != NULL;
+    __real_free(block);
+}
+
+/* ---- calls */
+
+static void demand(int holds, const char *what)
+{
+    if (!holds) {
+        fprintf(stderr, "caller: %s\n", what);
+        exit(1);
+    }
+}
+
+struct call {
+    struct slice text;
+    uint16_t machine;
+    uint32_t flavor;
+};
+
+struct answer {
+    uint32_t status;
+    size_t length;
+    size_t place;
+    uint8_t *buffer; /* exactly as long as the call was told */
+};
+
+static int is_untouched(const uint8_t *bytes, size_t from, size_t to)
+{
+    for (size_t index = from; index < to; index++)
+        if (bytes[index] != PATTERN)
+            return 0;
+    return 1;
+}
+
+/* A call with a buffer of this length, after whose end nothing may be touched. */
+static struct answer called(struct call call, size_t room)
+{
+    struct answer answer = {0, 12345, 67890, malloc(room)};
+    demand(answer.buffer != NULL, "no memory for a buffer");
+    memset(answer.buffer, PATTERN, room);
+    long before = held;
+    answer.status = implib_members(call.text.bytes, call.text.length, call.machine, call.flavor,
+                                   answer.buffer, room, &answer.length, &answer.place);
+    demand(held == before, "memory is not freed");
+    size_t written = answer.status == IMPLIB_SUCCESS ? answer.length : 0;
+    demand(written <= room, "more is written than there is room");
+    demand(is_untouched(answer.buffer, written, room), "the rest of the buffer is changed");
+    int has_length = answer.status == IMPLIB_SUCCESS || answer.status == IMPLIB_BUFFER_TOO_SMALL;
+    demand(has_length || answer.length == 0, "a length where there is none");
+    demand(answer.status != IMPLIB_BUFFER_TOO_SMALL || answer.length > room, "the buffer is not too small");
+    return answer;
+}
+
+static void demand_same(struct answer first, struct answer second)
+{
+    demand(first.status == second.status && first.length == second.length && first.place == second.place,
+           "the answer depends on the buffer");
+}
+
+/* The call with a buffer that is too short: the same length is needed. */
+static void call_short(struct call call, size_t room, size_t needed)
+{
+    struct answer answer = called(call, room);
+    demand(answer.status == IMPLIB_BUFFER_TOO_SMALL && answer.length == needed && answer.place == 0,
+           "a short buffer is not refused");
+    free(answer.buffer);
+}
+
+/* The call with buffers of several sizes; the answer is that of one that is just long enough. */
+static struct answer called_with_all(struct call call)
+{
+    struct answer empty = called(call, 0);
+    free(empty.buffer);
+    if (empty.status != IMPLIB_BUFFER_TOO_SMALL) {
+        struct answer other = called(call, ROOM);
+        demand_same(empty, other);
+        return other;
+    }
+    call_short(call, 1, empty.length);
+    call_short(call, empty.length / 2, empty.length);
+    call_short(call, empty.length - 1, empty.length);
+    struct answer exact = called(call, empty.length), roomy = called(call, empty.length + ROOM);
+    demand(exact.status == IMPLIB_SUCCESS && exact.length == empty.length, "an exact buffer is refused");
+    demand_same(exact, roomy);
+    demand(memcmp(exact.buffer, roomy.buffer, exact.length) == 0, "the encoding depends on the buffer");
+    free(roomy.buffer);
+    return exact;
+}
+
+/* The call with one allocation after the other failing, up to one at which none is left to fail. */
+static void call_refused(struct call call, struct answer expected)
+{
+    for (long number = 1; ; number++) {
+        size_t room = expected.length < ROOM ? ROOM : expected.length;
+        struct answer answer = {0, 1, 1, malloc(room)};
+        demand(answer.buffer != NULL, "no memory for a buffer");
+        memset(answer.buffer, PATTERN, room);
+        has_failed = 0;
+        long before = held;
+        until_failure = number;
+        answer.status = implib_members(call.text.bytes, call.text.length, call.machine, call.flavor,
+                                       answer.buffer, room, &answer.length, &answer.place);
+        until_failure = -1;
+        demand(held == before, "memory is not freed after a failed allocation");
+        if (!has_failed) {
+            demand_same(expected, answer);
+            free(answer.buffer);
+            return;
+        }
+        int is_told = answer.status == IMPLIB_OUT_OF_MEMORY && answer.length == 0 && answer.place == 0;
+        int is_other = answer.status == expected.status && answer.status >= IMPLIB_UNKNOWN_DIRECTIVE;
+        demand(is_told || is_other, "a failed allocation is not told");
+        demand(is_untouched(answer.buffer, 0, room), "a failed allocation changes the buffer");
+        free(answer.buffer);
+    }
+}
+
+/* ---- listings */
+
+/* A text that grows. */
+struct text {
+    char *bytes;
+    size_t length;
+    size_t room;
+};
+
+static void put(struct text *text, const char *format, size_t value)
+{
+    if (text->room - text->length < 64) {
+        text->room = 2 * text->room + 64;
+        text->bytes = realloc(text->bytes, text->room);
+        demand(text->bytes != NULL, "no memory for a listing");
+    }
+    text->length += (size_t)snprintf(text->bytes + text->length, 64, format, value);
+}
+
+static void put_name(struct text *text, struct slice name)
+{
+    for (size_t index = 0; index < name.length; index++) {
+        uint8_t byte = name.bytes[index];
+        put(text, byte < 0x21 || byte > 0x7E || byte == '\\' ? "\\x%02zx" : "%c", byte);
+    }
+}
+
+static void put_file(struct text *text, struct slice file)
+{
+    for (size_t index = 0; index < file.length; index++) {
+        put(text, "%02zx", file.bytes[index]);
+        put(text, index % 16 == 15 || index + 1 == file.length ? "\n" : " ", 0);
+    }
+}
+
+static void put_member(struct text *text, struct reader *reader)
+{
+    struct member member;
+    struct slice symbol, file;
+    demand(read_member(reader, &member), "the encoding of a member is cut short");
+    struct reader symbols = *reader;
+    for (size_t index = 0; index < member.symbols; index++)
+        demand(read_text(reader, &symbol), "the encoding of a symbol is cut short");
+    demand(read_text(reader, &file), "the encoding of a file is cut short");
+    put(text, "member ", 0);
+    put_name(text, member.name);
+    put(text, " %zu\n", file.length);
+    for (size_t index = 0; index < member.symbols; index++) {
+        read_text(&symbols, &symbol);
+        put(text, "symbol ", 0);
+        put_name(text, symbol);
+        put(text, "\n", 0);
+    }
+    put_file(text, file);
+}
+
+static struct text listing_of(struct answer answer)
+{
+    struct text text = {NULL, 0, 0};
+    struct reader reader = {answer.buffer, answer.length};
+    size_t count;
+    demand(read_number(&reader, &count), "the encoding has no count");
+    for (size_t index = 0; index < count; index++)
+        put_member(&text, &reader);
+    demand(reader.left == 0, "something follows the members");
+    return text;
+}
+
+/* ---- cases */
+
+static void run(struct call call, int refuses)
+{
+    struct answer answer = called_with_all(call);
+    struct text listing = {NULL, 0, 0};
+    if (refuses)
+        call_refused(call, answer);
+    if (answer.status == IMPLIB_SUCCESS)
+        listing = listing_of(answer);
+    printf("%u %zu %zu\n", answer.status, answer.place, listing.length);
+    fwrite(listing.bytes == NULL ? "" : listing.bytes, 1, listing.length, stdout);
+    free(listing.bytes);
+    free(answer.buffer);
+}
+
+static int number_read(size_t *number)
+{
+    uint8_t bytes[8];
+    struct reader reader = {bytes, 8};
+    return fread(bytes, 1, 8, stdin) == 8 && read_number(&reader, number);
+}
+
+static int run_next(void)
+{
+    size_t machine, flavor, refuses, length;
+    if (!number_read(&machine) || !number_read(&flavor) || !number_read(&refuses) || !number_read(&length))
+        return 0;
+    uint8_t *text = malloc(length);
+    demand(text != NULL && fread(text, 1, length, stdin) == length, "a case is cut short");
+    struct call call = {{text, length}, (uint16_t)machine, (uint32_t)flavor};
+    run(call, refuses != 0);
+    free(text);
+    return 1;
+}
+
+/* The text of a status, with buffers of each length up to one that is too long. */
+static void run_text(uint32_t status)
+{
+    char none;
+    size_t length = implib_status_text(status, &none, 0);
+    demand(length + 1 <= IMPLIB_STATUS_TEXT_SIZE, "a text is too long");
+    for (size_t room = 0; room <= IMPLIB_STATUS_TEXT_SIZE; room++) {
+        char *buffer = malloc(room);
+        demand(buffer != NULL, "no memory for a buffer");
+        memset(buffer, PATTERN, room);
+        demand(implib_status_text(status, buffer, room) == length, "the length depends on the buffer");
+        size_t written = room > length ? length + 1 : 0;
+        demand(is_untouched((uint8_t *)buffer, written, room), "more is written than the text");
+        demand(written == 0 || strlen(buffer) == length, "the text is not ended");
+        if (room == IMPLIB_STATUS_TEXT_SIZE)
+            printf("%s\n", buffer);
+        free(buffer);
+    }
+}
+
+int main(int count, char *words[])
+{
+    if (count == 2 && strcmp(words[1], "texts") == 0) {
+        for (uint32_t status = 0; status < 100; status++)
+            run_text(status);
+        return 0;
+    }
+    while (run_next())
+        ;
+    return 0;
+}

@@ -1,0 +1,6 @@
+pub mod Lists
+pub mod Fill
+pub mod Lengths
+pub mod ReadBack
+pub mod WorkedEncoding
+pub mod Answer

@@ -1,0 +1,78 @@
+-- Views: what the functions below the exports give each other. No promise cites them.
+use Rattle.std.specs.Prelude.{◌≡◌, ℕ, ◌<◌, ◌≤◌, ◌^◌, List, ◌++◌, length, drop, Result, Ok, Err}
+use Rattle.std.specs.Option.{unwrap_or}
+use Rattle.implib.specs.declared.error.Error.{Error}
+use Rattle.implib.specs.declared.error.Error.TheVariants as error
+use Rattle.implib.specs.declared.machine.MachineType.{MachineType}
+use Rattle.implib.specs.declared.members.Flavor.{Flavor}
+use Rattle.implib.specs.Fault.{cause_of, export_index}
+use Rattle.implib.specs.MemberSpec.{MemberView}
+use Rattle.implib_c.specs.declared.outcome.Failure.{Failure}
+use Rattle.implib_c.specs.declared.outcome.Failure.TheVariants.{BufferTooSmall, OutOfMemory, NotUtf8}
+use Rattle.implib_c.specs.declared.outcome.Failure.TheVariants.{UnknownMachine, UnknownFlavor, Refused}
+use Rattle.implib_c.specs.declared.status.Status.{Status}
+use Rattle.implib_c.specs.declared.status.Status.TheVariants as status
+use Rattle.implib_c.specs.Answer.{IsRefused}
+use Rattle.implib_c.specs.Encoding.{encoded_members}
+use Rattle.implib_c.specs.Status.{cause_status}
+
+-- what an error of the library becomes
+abbrev pub failure_of : Error → Failure
+failure_of (error.Invalid fault) = Refused fault
+failure_of (error.OutOfMemory refused) = OutOfMemory
+
+-- the status of a failure
+abbrev pub failure_status : Failure → Status
+failure_status (BufferTooSmall needed) = status.BufferTooSmall
+failure_status OutOfMemory = status.OutOfMemory
+failure_status (NotUtf8 offset) = status.NotUtf8
+failure_status UnknownMachine = status.UnknownMachine
+failure_status UnknownFlavor = status.UnknownFlavor
+failure_status (Refused fault) = cause_status (cause_of fault)
+
+-- the status of an answer
+abbrev pub status_given : Result ℕ Failure → Status
+status_given (Ok put) = status.Success
+status_given (Err failure) = failure_status failure
+
+-- the length that an answer tells
+abbrev pub length_given : Result ℕ Failure → ℕ
+length_given (Ok put) = put
+length_given (Err (BufferTooSmall needed)) = needed
+length_given (Err OutOfMemory) = 0
+length_given (Err (NotUtf8 offset)) = 0
+length_given (Err UnknownMachine) = 0
+length_given (Err UnknownFlavor) = 0
+length_given (Err (Refused fault)) = 0
+
+-- the place that an answer tells
+abbrev pub place_given : Result ℕ Failure → ℕ
+place_given (Ok put) = 0
+place_given (Err (BufferTooSmall needed)) = 0
+place_given (Err OutOfMemory) = 0
+place_given (Err (NotUtf8 offset)) = offset
+place_given (Err UnknownMachine) = 0
+place_given (Err UnknownFlavor) = 0
+place_given (Err (Refused fault)) = unwrap_or (export_index (cause_of fault)) 0
+
+-- the text is refused, or memory was
+abbrev pub OnTextFault : List ℕ → MachineType → Flavor → Failure → Type 0
+OnTextFault text machine flavor (BufferTooSmall needed) = ⊥
+OnTextFault text machine flavor OutOfMemory = Unit {0}
+OnTextFault text machine flavor (NotUtf8 offset) = ⊥
+OnTextFault text machine flavor UnknownMachine = ⊥
+OnTextFault text machine flavor UnknownFlavor = ⊥
+OnTextFault text machine flavor (Refused fault) = IsRefused text machine flavor (cause_of fault)
+
+-- the members' encoding is put at the beginning of the buffer, where there is room; else nothing is
+abbrev pub PutsInto : List MemberView → List ℕ → List ℕ → Result ℕ Failure → Type 0
+PutsInto members old new (Ok put) =
+    (put ≡ length (encoded_members members)) × (put ≤ length old) × (put < 2 ^ 64)
+    × (new ≡ encoded_members members ++ drop (length (encoded_members members)) old)
+PutsInto members old new (Err (BufferTooSmall needed)) =
+    (needed ≡ length (encoded_members members)) × (length old < needed) × (new ≡ old)
+PutsInto members old new (Err OutOfMemory) = new ≡ old
+PutsInto members old new (Err (NotUtf8 offset)) = ⊥
+PutsInto members old new (Err UnknownMachine) = ⊥
+PutsInto members old new (Err UnknownFlavor) = ⊥
+PutsInto members old new (Err (Refused fault)) = ⊥

@@ -1,0 +1,6 @@
+pub mod Status
+pub mod Encoding
+pub mod Fill
+pub mod Answer
+pub mod Given
+pub mod WorkedEncoding

@@ -1,0 +1,111 @@
+-- The statuses that C gets, their numbers and their texts (this project's choice).
+use Rattle.std.specs.Prelude.{◌≡◌, ℕ, ◌+◌, ◌==◌, nat_lt, List, ◌∷◌, ◌++◌, length, drop, Option, None}
+use Rattle.std.specs.Prelude.{Some, codes, if◌then◌else◌}
+use Rattle.implib.specs.Fault.{Cause}
+use Rattle.implib.specs.Fault as cause
+use Rattle.implib_c.specs.declared.status.Status.{Status}
+use Rattle.implib_c.specs.declared.status.Status.TheVariants.{Success, BufferTooSmall, OutOfMemory}
+use Rattle.implib_c.specs.declared.status.Status.TheVariants.{NotUtf8, UnknownMachine, UnknownFlavor}
+use Rattle.implib_c.specs.declared.status.Status.TheVariants.{UnknownDirective, ExpectedIdentifier}
+use Rattle.implib_c.specs.declared.status.Status.TheVariants.{ExpectedEqual, ExpectedInteger}
+use Rattle.implib_c.specs.declared.status.Status.TheVariants.{InvalidOrdinal, LoneAt, EmptyImportName}
+use Rattle.implib_c.specs.declared.status.Status.TheVariants.{NulInImportName, EmptyName, NulInExport}
+use Rattle.implib_c.specs.declared.status.Status.TheVariants.{EmptyAskedName, MemberTooLong}
+
+-- the number of a status: those of the call first, and from 16 on those of the input's faults
+abbrev pub status_number : Status → ℕ
+status_number Success = 0
+status_number BufferTooSmall = 1
+status_number OutOfMemory = 2
+status_number NotUtf8 = 3
+status_number UnknownMachine = 4
+status_number UnknownFlavor = 5
+status_number UnknownDirective = 16
+status_number ExpectedIdentifier = 17
+status_number ExpectedEqual = 18
+status_number ExpectedInteger = 19
+status_number InvalidOrdinal = 20
+status_number LoneAt = 21
+status_number EmptyImportName = 22
+status_number NulInImportName = 23
+status_number EmptyName = 24
+status_number NulInExport = 25
+status_number EmptyAskedName = 26
+status_number MemberTooLong = 27
+
+-- the status with a number
+abbrev pub status_numbered : ℕ → Option Status
+status_numbered number =
+    if number == 0 then Some Success
+    else if number == 1 then Some BufferTooSmall
+    else if number == 2 then Some OutOfMemory
+    else if number == 3 then Some NotUtf8
+    else if number == 4 then Some UnknownMachine
+    else if number == 5 then Some UnknownFlavor
+    else if number == 16 then Some UnknownDirective
+    else if number == 17 then Some ExpectedIdentifier
+    else if number == 18 then Some ExpectedEqual
+    else if number == 19 then Some ExpectedInteger
+    else if number == 20 then Some InvalidOrdinal
+    else if number == 21 then Some LoneAt
+    else if number == 22 then Some EmptyImportName
+    else if number == 23 then Some NulInImportName
+    else if number == 24 then Some EmptyName
+    else if number == 25 then Some NulInExport
+    else if number == 26 then Some EmptyAskedName
+    else if number == 27 then Some MemberTooLong
+    else None
+
+-- the text of a status
+abbrev pub status_text : Status → List ℕ
+status_text Success = codes "success"
+status_text BufferTooSmall = codes "buffer too small"
+status_text OutOfMemory = codes "out of memory"
+status_text NotUtf8 = codes "input is not UTF-8"
+status_text UnknownMachine = codes "unknown machine"
+status_text UnknownFlavor = codes "unknown flavour"
+status_text UnknownDirective = codes "unknown directive"
+status_text ExpectedIdentifier = codes "expected identifier"
+status_text ExpectedEqual = codes "expected equal"
+status_text ExpectedInteger = codes "expected integer"
+status_text InvalidOrdinal = codes "invalid ordinal"
+status_text LoneAt = codes "lone @ after ="
+status_text EmptyImportName = codes "import name is empty"
+status_text NulInImportName = codes "import name contains null byte"
+status_text EmptyName = codes "export name is empty"
+status_text NulInExport = codes "export name contains null byte"
+status_text EmptyAskedName = codes "asked name is empty"
+status_text MemberTooLong = codes "member too long"
+
+-- the status of a fault of the input
+abbrev pub cause_status : Cause → Status
+cause_status (cause.UnknownDirective value) = UnknownDirective
+cause_status (cause.ExpectedIdentifier kind) = ExpectedIdentifier
+cause_status (cause.ExpectedEqual kind) = ExpectedEqual
+cause_status cause.ExpectedInteger = ExpectedInteger
+cause_status (cause.InvalidOrdinal value) = InvalidOrdinal
+cause_status cause.LoneAt = LoneAt
+cause_status cause.EmptyImportName = EmptyImportName
+cause_status cause.NulInImportName = NulInImportName
+cause_status (cause.EmptyName index) = EmptyName
+cause_status (cause.NulInExport index) = NulInExport
+cause_status (cause.EmptyAskedName index) = EmptyAskedName
+cause_status cause.MemberTooLong = MemberTooLong
+
+-- the text of a status, if there is one
+abbrev pub found_text : Option Status → List ℕ
+found_text None = codes "unknown status"
+found_text (Some status) = status_text status
+
+-- the text for a number, which may be no status
+abbrev pub text_for : ℕ → List ℕ
+text_for number = found_text (status_numbered number)
+
+-- a buffer with a text and a NUL at its beginning, where it has room for both; as it was, where it has not
+abbrev pub with_text : List ℕ → List ℕ → List ℕ
+with_text buffer text =
+    if nat_lt (length text) (length buffer) then text ++ 0 ∷ drop (length text + 1) buffer else buffer
+
+-- each number leads back to its status
+pub record NumbersReturn : Type 0 where
+  pub status_by_number : (status : Status) → status_numbered (status_number status) ≡ Some status

@@ -1,0 +1,55 @@
+//! What C calls (`include/implib.h`).
+//!
+//! C passes nothing for `alloc`, and for a slice a pointer to its first element and its length.
+
+ghost use Rattle.implib_c.specs.Answer.{Answers};
+ghost use Rattle.implib_c.specs.Status.{text_for, with_text};
+ghost use Rattle.std.specs.Prelude.{◌<◌, ◌≡◌, length};
+
+use crate::outcome::{length_of, members_into, place_of, status_of};
+use crate::status::status_text;
+use std::alloc::Global;
+
+/// Puts the members of the import library that a text describes at the beginning of `buffer`, encoded as
+/// `specs/Encoding.antt` says, and gives a status: 0 where it is done.
+///
+/// `machine` is a number of the PE/COFF specification, "Machine Types"; `flavor` is 0 for Microsoft's linker
+/// and 1 for GNU's. `length` gets the length of the encoding in bytes, where the status is 0 or 1 (the buffer
+/// is too small), and otherwise 0. `place` gets the index of the export, from 0, where one is at fault; the
+/// length of the longest beginning that is UTF-8, where the text is not; and otherwise 0. Where the status is
+/// not 0 the buffer is as it was, and where it is, what stands behind the encoding.
+#[unsafe(no_mangle)]
+pub extern "C" fn implib_members(
+    alloc: Global,
+    text: &[u8],
+    machine: u16,
+    flavor: u32,
+    buffer: &mut [u8],
+    length: &mut usize,
+    place: &mut usize,
+) -> u32
+    ensures { Answers text.now machine flavor buffer.old buffer.new length.new place.new result }
+{
+    let answer = members_into(alloc, text, machine, flavor, buffer);
+    *length = length_of(&answer);
+    *place = place_of(&answer);
+    status_of(&answer).number()
+}
+
+/// Puts the text of a status and a NUL at the beginning of `buffer`, where it has room for both; otherwise
+/// the buffer is as it was. Gives the length of the text without the NUL, less than 32. A number that is no
+/// status has a text, too.
+#[unsafe(no_mangle)]
+pub extern "C" fn implib_status_text(status: u32, buffer: &mut [u8]) -> usize
+    ensures text { buffer.new ≡ with_text buffer.old (text_for status) }
+    ensures length { result ≡ length (text_for status) }
+    ensures short { result < 32 }
+{
+    let text = status_text(status);
+    let end = text.len();
+    if end < buffer.len() {
+        buffer[..end].copy_from_slice(text.as_bytes());
+        buffer[end] = 0;
+    }
+    end
+}

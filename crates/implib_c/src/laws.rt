@@ -1,0 +1,23 @@
+//! What a caller may conclude of encodings and of statuses. These functions do nothing: each contract is a
+//! law.
+
+ghost use Rattle.implib.specs.MemberSpec.{MemberView};
+ghost use Rattle.implib_c.specs.Encoding.{ReadsBack};
+ghost use Rattle.implib_c.specs.Status.{NumbersReturn};
+ghost use Rattle.implib_c.specs.WorkedEncoding.{WorkedEncodings};
+ghost use Rattle.std.specs.Prelude.{List, ℕ};
+
+/// An encoding of fewer than 2^64 bytes is read as its members, whatever follows it.
+pub fn encodings_read_back()
+    ensures { (members : List MemberView) (rest : List ℕ) → ReadsBack members rest }
+{}
+
+/// Encodings that were worked by hand have these bytes, and are read so.
+pub fn worked_encodings()
+    ensures { WorkedEncodings }
+{}
+
+/// Each number of a status leads back to it.
+pub fn numbers_return()
+    ensures { NumbersReturn }
+{}

@@ -1,0 +1,10 @@
+//! The library `implib` for C: see `include/implib.h`.
+//!
+//! The exports take slices and numbers, and give numbers. They keep nothing between calls.
+#![tactic(auto)]
+
+mod encoding;
+mod exports;
+mod laws;
+mod outcome;
+mod status;

@@ -1,0 +1,170 @@
+//! From a text to members in a buffer, or to what is wrong.
+
+ghost use Rattle.implib.specs.Conversions.{machine_numbered};
+ghost use Rattle.implib.specs.Library.{member_view};
+ghost use Rattle.implib_c.specs.Answer.{Answers, MembersOf, flavor_numbered};
+ghost use Rattle.implib_c.specs.Given.{OnTextFault, PutsInto, failure_status, length_given, place_given, status_given};
+ghost use Rattle.implib_c.specs.Status.{status_number};
+ghost use Rattle.std.specs.Prelude.{◌≡◌, IfErr, IfOk, map};
+
+use crate::encoding::{members_length, put_members};
+use crate::status::Status;
+use implib::{Error, Fault, Flavor, ImportLibrary, MachineType, Member};
+use std::alloc::Global;
+
+/// Why no members are put into the buffer.
+#[derive(Debug, Drop)]
+pub enum Failure {
+    /// The encoding has more bytes than the buffer: this many.
+    BufferTooSmall(usize),
+    /// An allocation failed, or the encoding is longer than any buffer.
+    OutOfMemory,
+    /// The text is UTF-8 up to this offset, and no further.
+    NotUtf8(usize),
+    /// No machine has this number.
+    UnknownMachine,
+    /// No flavour has this number.
+    UnknownFlavor,
+    /// The text is refused.
+    Refused(Fault),
+}
+
+impl From<Error> for Failure {
+    ghost use Rattle.implib_c.specs.Given.{failure_of};
+
+    ghost from_gives = { λ error given. given ≡ failure_of error };
+
+    fn from(error: Error) -> Failure {
+        match error {
+            Error::Invalid(fault) => Failure::Refused(fault),
+            Error::OutOfMemory(_) => Failure::OutOfMemory,
+        }
+    }
+}
+
+impl Failure {
+    // The status that C gets.
+    fn status(&self) -> Status
+        ensures { result ≡ failure_status self.now }
+    {
+        match self {
+            Failure::BufferTooSmall(_) => Status::BufferTooSmall,
+            Failure::OutOfMemory => Status::OutOfMemory,
+            Failure::NotUtf8(_) => Status::NotUtf8,
+            Failure::UnknownMachine => Status::UnknownMachine,
+            Failure::UnknownFlavor => Status::UnknownFlavor,
+            Failure::Refused(fault) => Status::of_fault(fault),
+        }
+    }
+}
+
+/// The status of an answer.
+pub fn status_of(answer: &Result<usize, Failure>) -> Status
+    ensures { result ≡ status_given answer.now }
+{
+    match answer {
+        Ok(_) => Status::Success,
+        Err(failure) => failure.status(),
+    }
+}
+
+/// The length of the encoding that an answer tells; else 0.
+pub fn length_of(answer: &Result<usize, Failure>) -> usize
+    ensures { result ≡ length_given answer.now }
+{
+    match answer {
+        Ok(length) | Err(Failure::BufferTooSmall(length)) => *length,
+        Err(_) => 0,
+    }
+}
+
+/// The index or the offset that an answer tells; else 0.
+pub fn place_of(answer: &Result<usize, Failure>) -> usize
+    ensures { result ≡ place_given answer.now }
+{
+    match answer {
+        Err(Failure::NotUtf8(offset)) => *offset,
+        Err(Failure::Refused(fault)) => fault.export_index().unwrap_or(0),
+        _ => 0,
+    }
+}
+
+// The machine with a number.
+fn machine_with(number: u16) -> Option<MachineType>
+    ensures { result ≡ machine_numbered number }
+{
+    MachineType::try_from(number).ok()
+}
+
+// The flavour with a number.
+fn flavor_with(number: u32) -> Option<Flavor>
+    ensures { result ≡ flavor_numbered number }
+{
+    match number {
+        0 => Some(Flavor::Msvc),
+        1 => Some(Flavor::Gnu),
+        _ => None,
+    }
+}
+
+// The members of the library that a text means.
+fn members_of(
+    alloc: Global,
+    text: &str,
+    machine: MachineType,
+    flavor: Flavor,
+) -> Result<Vec<Member>, Failure>
+    ensures ok { IfOk result (λ members. MembersOf text.now machine flavor (map member_view members.items)) }
+    ensures fault { IfErr result (OnTextFault text.now machine flavor) }
+{
+    let library = ImportLibrary::new(alloc, text, machine, flavor)?;
+    let members = library.members()?;
+    Ok(members)
+}
+
+// Puts the members' encoding at the beginning of the buffer, where there is room. Gives its length.
+fn put_into(buffer: &mut [u8], members: &[Member]) -> Result<usize, Failure>
+    ensures { PutsInto (map member_view members.now) buffer.old buffer.new result }
+{
+    let Some(length) = members_length(members) else {
+        return Err(Failure::OutOfMemory);
+    };
+    if buffer.len() < length {
+        return Err(Failure::BufferTooSmall(length));
+    }
+    Ok(put_members(buffer, members))
+}
+
+/// Puts the members of the library that a text means at the beginning of the buffer. Gives the length of
+/// their encoding. An error leaves the buffer as it was.
+///
+/// # Errors
+///
+/// The first that applies: `UnknownMachine`, `UnknownFlavor`, `NotUtf8`, `Refused`, `BufferTooSmall`.
+/// `OutOfMemory` can precede the last two.
+pub fn members_into(
+    alloc: Global,
+    text: &[u8],
+    machine: u16,
+    flavor: u32,
+    buffer: &mut [u8],
+) -> Result<usize, Failure>
+    ensures { Answers text.now machine flavor buffer.old buffer.new
+        (length_given result) (place_given result) (status_number (status_given result)) }
+{
+    let Some(machine) = machine_with(machine) else {
+        return Err(Failure::UnknownMachine);
+    };
+    let Some(flavor) = flavor_with(flavor) else {
+        return Err(Failure::UnknownFlavor);
+    };
+    let text = match str::from_utf8(text) {
+        Ok(text) => text,
+        Err(error) => return Err(Failure::NotUtf8(error.valid_up_to())),
+    };
+    let members = match members_of(alloc, text, machine, flavor) {
+        Ok(members) => members,
+        Err(failure) => return Err(failure),
+    };
+    put_into(buffer, members.as_slice())
+}

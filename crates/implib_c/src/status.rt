@@ -1,0 +1,162 @@
+//! The statuses that C gets.
+
+ghost use Rattle.implib.specs.Fault.{cause_of};
+ghost use Rattle.implib_c.specs.Status.{cause_status, status_number, status_numbered, status_text, text_for};
+ghost use Rattle.std.specs.Prelude.{◌<◌, ◌≡◌, length};
+
+use implib::Fault;
+
+/// How a call ended.
+#[derive(Clone, Copy, Debug)]
+pub enum Status {
+    /// Done.
+    Success,
+    /// The encoding is longer than the buffer.
+    BufferTooSmall,
+    /// An allocation failed.
+    OutOfMemory,
+    /// The text is not UTF-8.
+    NotUtf8,
+    /// No machine has this number.
+    UnknownMachine,
+    /// No flavour has this number.
+    UnknownFlavor,
+    /// [`Fault::UnknownDirective`], and each further one by its name.
+    UnknownDirective,
+    /// [`Fault::ExpectedIdentifier`].
+    ExpectedIdentifier,
+    /// [`Fault::ExpectedEqual`].
+    ExpectedEqual,
+    /// [`Fault::ExpectedInteger`].
+    ExpectedInteger,
+    /// [`Fault::InvalidOrdinal`].
+    InvalidOrdinal,
+    /// [`Fault::LoneAt`].
+    LoneAt,
+    /// [`Fault::EmptyImportName`].
+    EmptyImportName,
+    /// [`Fault::NulInImportName`].
+    NulInImportName,
+    /// [`Fault::EmptyName`].
+    EmptyName,
+    /// [`Fault::NulInExport`].
+    NulInExport,
+    /// [`Fault::EmptyAskedName`].
+    EmptyAskedName,
+    /// [`Fault::MemberTooLong`].
+    MemberTooLong,
+}
+
+impl Status {
+    /// The number that C gets.
+    pub fn number(self) -> u32
+        ensures { result ≡ status_number self }
+    {
+        match self {
+            Status::Success => 0,
+            Status::BufferTooSmall => 1,
+            Status::OutOfMemory => 2,
+            Status::NotUtf8 => 3,
+            Status::UnknownMachine => 4,
+            Status::UnknownFlavor => 5,
+            Status::UnknownDirective => 16,
+            Status::ExpectedIdentifier => 17,
+            Status::ExpectedEqual => 18,
+            Status::ExpectedInteger => 19,
+            Status::InvalidOrdinal => 20,
+            Status::LoneAt => 21,
+            Status::EmptyImportName => 22,
+            Status::NulInImportName => 23,
+            Status::EmptyName => 24,
+            Status::NulInExport => 25,
+            Status::EmptyAskedName => 26,
+            Status::MemberTooLong => 27,
+        }
+    }
+
+    /// The status with a number.
+    pub fn numbered(number: u32) -> Option<Status>
+        ensures { result ≡ status_numbered number }
+    {
+        match number {
+            0 => Some(Status::Success),
+            1 => Some(Status::BufferTooSmall),
+            2 => Some(Status::OutOfMemory),
+            3 => Some(Status::NotUtf8),
+            4 => Some(Status::UnknownMachine),
+            5 => Some(Status::UnknownFlavor),
+            16 => Some(Status::UnknownDirective),
+            17 => Some(Status::ExpectedIdentifier),
+            18 => Some(Status::ExpectedEqual),
+            19 => Some(Status::ExpectedInteger),
+            20 => Some(Status::InvalidOrdinal),
+            21 => Some(Status::LoneAt),
+            22 => Some(Status::EmptyImportName),
+            23 => Some(Status::NulInImportName),
+            24 => Some(Status::EmptyName),
+            25 => Some(Status::NulInExport),
+            26 => Some(Status::EmptyAskedName),
+            27 => Some(Status::MemberTooLong),
+            _ => None,
+        }
+    }
+
+    /// What is to be told of it, in ASCII without NUL. A fault's is its displayed text, less the value that
+    /// this ends with.
+    pub fn text(self) -> &'static str
+        ensures text { result.now ≡ status_text self }
+        ensures short { length result.now < 32 }
+    {
+        match self {
+            Status::Success => "success",
+            Status::BufferTooSmall => "buffer too small",
+            Status::OutOfMemory => "out of memory",
+            Status::NotUtf8 => "input is not UTF-8",
+            Status::UnknownMachine => "unknown machine",
+            Status::UnknownFlavor => "unknown flavour",
+            Status::UnknownDirective => "unknown directive",
+            Status::ExpectedIdentifier => "expected identifier",
+            Status::ExpectedEqual => "expected equal",
+            Status::ExpectedInteger => "expected integer",
+            Status::InvalidOrdinal => "invalid ordinal",
+            Status::LoneAt => "lone @ after =",
+            Status::EmptyImportName => "import name is empty",
+            Status::NulInImportName => "import name contains null byte",
+            Status::EmptyName => "export name is empty",
+            Status::NulInExport => "export name contains null byte",
+            Status::EmptyAskedName => "asked name is empty",
+            Status::MemberTooLong => "member too long",
+        }
+    }
+
+    /// The status of a fault of the input.
+    pub fn of_fault(fault: &Fault) -> Status
+        ensures { result ≡ cause_status (cause_of fault.now) }
+    {
+        match fault {
+            Fault::UnknownDirective(_) => Status::UnknownDirective,
+            Fault::ExpectedIdentifier(_) => Status::ExpectedIdentifier,
+            Fault::ExpectedEqual(_) => Status::ExpectedEqual,
+            Fault::ExpectedInteger => Status::ExpectedInteger,
+            Fault::InvalidOrdinal(_) => Status::InvalidOrdinal,
+            Fault::LoneAt => Status::LoneAt,
+            Fault::EmptyImportName => Status::EmptyImportName,
+            Fault::NulInImportName => Status::NulInImportName,
+            Fault::EmptyName(_) => Status::EmptyName,
+            Fault::NulInExport(_) => Status::NulInExport,
+            Fault::EmptyAskedName(_) => Status::EmptyAskedName,
+            Fault::MemberTooLong => Status::MemberTooLong,
+        }
+    }
+}
+
+/// The text for a number, which may be no status.
+pub fn status_text(number: u32) -> &'static str
+    ensures text { result.now ≡ text_for number }
+    ensures short { length result.now < 32 }
+{
+    match Status::numbered(number) {
+        Some(status) => status.text(),
+        None => "unknown status",
+    }
+}
