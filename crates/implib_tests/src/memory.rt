@@ -4,8 +4,7 @@
 ghost use Rattle.implib.specs.Writer.{with_section, with_symbol};
 ghost use Rattle.std.specs.Prelude.{◌≡◌, None, [], OnErr, OnOk, codes};
 
-use crate::objects::{section, symbol};
-use implib::coff::{ObjectWriter, Place, Relocation, Section, class};
+use implib::coff::{ObjectWriter, Place, Relocation, Section, Symbol, class};
 use implib::{Error, MachineType};
 use std::alloc::Global;
 use std::process::Abort;
@@ -57,7 +56,7 @@ fn add_data(alloc: Global, writer: &mut ObjectWriter) -> Result<(), Error>
         (record { name = NAME; flags = 0xC0300040; bytes = DATA; relocations = [] })) }
     ensures err { OnErr result (writer.new ≡ writer.old) }
 {
-    let data = section(alloc, NAME, 0xC030_0040, DATA.as_slice())?;
+    let data = Section::new(alloc, NAME, 0xC030_0040, DATA.as_slice())?;
     writer.add_section(data)?;
     Ok(())
 }
@@ -69,7 +68,7 @@ fn add_name(alloc: Global, writer: &mut ObjectWriter) -> Result<(), Error>
         (record { name = codes "abcdefghi"; value = 0; place = Place.Undefined; class = 2; aux = None })) }
     ensures err { OnErr result (writer.new ≡ writer.old) }
 {
-    let name = symbol(alloc, "abcdefghi", Place::Undefined, class::EXTERNAL, None)?;
+    let name = Symbol::new(alloc, "abcdefghi", Place::Undefined, class::EXTERNAL)?;
     writer.add_symbol(name)?;
     Ok(())
 }

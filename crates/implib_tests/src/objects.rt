@@ -1,59 +1,17 @@
 //! Objects of the writer, whose bytes are known from outside.
 
-ghost use Rattle.implib.specs.Writer.{section_view};
-ghost use Rattle.implib.specs.Writer.{added_view};
-ghost use Rattle.std.specs.Prelude.{◌≡◌, None, [], IfOk};
-
 use implib::coff::{ObjectWriter, Place, Relocation, Section, Symbol, class, relocation};
 use implib::{Error, MachineType};
-use std::alloc::{AllocError, Global};
+use std::alloc::Global;
 use std::test::Fail;
-
-/// A symbol of value 0.
-pub fn symbol(
-    alloc: Global,
-    name: &str,
-    place: Place,
-    class: u8,
-    aux: Option<[u8; 18]>,
-) -> Result<Symbol, AllocError>
-    ensures { IfOk result (λ s. added_view s
-        ≡ record { name = name.now; value = 0; place = place; class = class; aux = aux }) }
-{
-    Ok(Symbol {
-        name: String::from_str(alloc, name)?,
-        value: 0,
-        place,
-        class,
-        aux,
-    })
-}
-
-/// A section without relocations.
-pub fn section(
-    alloc: Global,
-    name: [u8; 8],
-    flags: u32,
-    bytes: &[u8],
-) -> Result<Section, AllocError>
-    ensures { IfOk result (λ s. section_view s
-        ≡ record { name = name; flags = flags; bytes = bytes.now; relocations = [] }) }
-{
-    Ok(Section {
-        name,
-        flags,
-        bytes: Vec::from_slice(alloc, bytes)?,
-        relocations: Vec::new(alloc),
-    })
-}
 
 #[test]
 fn a_name_of_nine_bytes_is_in_the_string_table(rt: HostRuntime) -> Result<(), Fail> {
     let alloc = rt.alloc();
     let mut writer = ObjectWriter::new(alloc, MachineType::AMD64);
-    let short = symbol(alloc, "abcdefgh", Place::Undefined, class::EXTERNAL, None)?;
+    let short = Symbol::new(alloc, "abcdefgh", Place::Undefined, class::EXTERNAL)?;
     writer.add_symbol(short)?;
-    let long = symbol(alloc, "abcdefghi", Place::Undefined, class::EXTERNAL, None)?;
+    let long = Symbol::new(alloc, "abcdefghi", Place::Undefined, class::EXTERNAL)?;
     writer.add_symbol(long)?;
     let bytes = writer.write()?;
     assert_eq!(rt; bytes.len(), 70);
@@ -72,8 +30,8 @@ fn a_name_of_nine_bytes_is_in_the_string_table(rt: HostRuntime) -> Result<(), Fa
 fn an_object_of_one_section_has_its_bytes(rt: HostRuntime) -> Result<(), Fail> {
     let alloc = rt.alloc();
     let mut writer = ObjectWriter::new(alloc, MachineType::ARM64);
-    let number = writer.add_section(section(alloc, *b".idata$2", 0xC030_0040, &[0; 20])?)?;
-    let named = symbol(alloc, "x", Place::Section(1), class::EXTERNAL, None)?;
+    let number = writer.add_section(Section::new(alloc, *b".idata$2", 0xC030_0040, &[0; 20])?)?;
+    let named = Symbol::new(alloc, "x", Place::Section(1), class::EXTERNAL)?;
     let index = writer.add_symbol(named)?;
     writer.add_relocation(
         1,
@@ -103,9 +61,9 @@ fn an_object_of_one_section_has_its_bytes(rt: HostRuntime) -> Result<(), Fail> {
 fn a_long_name_is_stored_once(rt: HostRuntime) -> Result<(), Fail> {
     let alloc = rt.alloc();
     let mut writer = ObjectWriter::new(alloc, MachineType::AMD64);
-    let first = symbol(alloc, "abcdefghi", Place::Undefined, class::EXTERNAL, None)?;
+    let first = Symbol::new(alloc, "abcdefghi", Place::Undefined, class::EXTERNAL)?;
     writer.add_symbol(first)?;
-    let second = symbol(alloc, "abcdefghi", Place::Undefined, class::EXTERNAL, None)?;
+    let second = Symbol::new(alloc, "abcdefghi", Place::Undefined, class::EXTERNAL)?;
     writer.add_symbol(second)?;
     let bytes = writer.write()?;
     assert_eq!(rt; bytes.len(), 70);
@@ -118,15 +76,10 @@ fn a_long_name_is_stored_once(rt: HostRuntime) -> Result<(), Fail> {
 fn an_auxiliary_record_takes_an_index(rt: HostRuntime) -> Result<(), Fail> {
     let alloc = rt.alloc();
     let mut writer = ObjectWriter::new(alloc, MachineType::AMD64);
-    let file = symbol(
-        alloc,
-        ".file",
-        Place::Debug,
-        class::FILE,
-        Some(*b"fake\0\0\0\0\0\0\0\0\0\0\0\0\0\0"),
-    )?;
+    let mut file = Symbol::new(alloc, ".file", Place::Debug, class::FILE)?;
+    file.aux = Some(*b"fake\0\0\0\0\0\0\0\0\0\0\0\0\0\0");
     let first = writer.add_symbol(file)?;
-    let next = symbol(alloc, "x", Place::Absolute, class::STATIC, None)?;
+    let next = Symbol::new(alloc, "x", Place::Absolute, class::STATIC)?;
     let second = writer.add_symbol(next)?;
     let bytes = writer.write()?;
     assert_eq!(rt; (first, second), (0, 2));
@@ -145,23 +98,17 @@ fn an_auxiliary_record_takes_an_index(rt: HostRuntime) -> Result<(), Fail> {
 // Code with a field, a section without data, and a field for a section's own symbol.
 fn object_of_three_sections(alloc: Global) -> Result<Vec<u8>, Error> {
     let mut writer = ObjectWriter::new(alloc, MachineType::AMD64);
-    writer.add_section(section(
+    writer.add_section(Section::new(
         alloc,
         *b".text\0\0\0",
         0x6030_0020,
         b"\xff\x25\0\0\0\0\x90\x90",
     )?)?;
-    writer.add_section(section(alloc, *b".bss\0\0\0\0", 0xC030_0080, &[])?)?;
-    writer.add_section(section(alloc, *b".idata$5", 0xC030_0000, &[0; 8])?)?;
-    writer.add_symbol(symbol(
-        alloc,
-        "_head_foo_dll",
-        Place::Undefined,
-        class::EXTERNAL,
-        None,
-    )?)?;
-    writer.add_symbol(symbol(alloc, "__imp_bar", Place::Section(3), class::EXTERNAL, None)?)?;
-    writer.add_symbol(symbol(alloc, ".idata$5", Place::Section(3), class::STATIC, None)?)?;
+    writer.add_section(Section::new(alloc, *b".bss\0\0\0\0", 0xC030_0080, &[])?)?;
+    writer.add_section(Section::new(alloc, *b".idata$5", 0xC030_0000, &[0; 8])?)?;
+    writer.add_symbol(Symbol::new(alloc, "_head_foo_dll", Place::Undefined, class::EXTERNAL)?)?;
+    writer.add_symbol(Symbol::new(alloc, "__imp_bar", Place::Section(3), class::EXTERNAL)?)?;
+    writer.add_symbol(Symbol::new(alloc, ".idata$5", Place::Section(3), class::STATIC)?)?;
     let jump = Relocation {
         offset: 2,
         symbol: 1,

@@ -25,21 +25,13 @@ pub fn data_object(
         ≡ Some (written_object (data_object machine name.now bytes.now))) }
 {
     let mut writer = ObjectWriter::new(alloc, machine);
-    let section = writer.add_section(Section {
-        name: *b".data\0\0\0",
-        flags: flags::CNT_INITIALIZED_DATA
-            | flags::ALIGN_4BYTES
-            | flags::MEM_READ
-            | flags::MEM_WRITE,
-        bytes: Vec::from_slice(alloc, bytes)?,
-        relocations: Vec::new(alloc),
-    })?;
-    writer.add_symbol(Symbol {
-        name: String::from_str(alloc, name)?,
-        value: 0,
-        place: Place::Section(section),
-        class: class::EXTERNAL,
-        aux: None,
-    })?;
+    let flags = flags::CNT_INITIALIZED_DATA
+        | flags::ALIGN_4BYTES
+        | flags::MEM_READ
+        | flags::MEM_WRITE;
+    let data = Section::new(alloc, *b".data\0\0\0", flags, bytes)?;
+    let section = writer.add_section(data)?;
+    let place = Place::Section(section);
+    writer.add_symbol(Symbol::new(alloc, name, place, class::EXTERNAL)?)?;
     writer.write()
 }

@@ -74,12 +74,7 @@ fn add_sections(alloc: Global, writer: &mut ObjectWriter, rows: &[SectionRow]) -
     ensures memory { IfErr result (λ e. e ≡ Error.OutOfMemory alloc_error) }
 {
     for row in rows {
-        writer.add_section(Section {
-            name: row.name,
-            flags: row.flags,
-            bytes: Vec::from_slice(alloc, row.bytes)?,
-            relocations: Vec::new(alloc),
-        })?;
+        writer.add_section(Section::new(alloc, row.name, row.flags, row.bytes)?)?;
     }
     Ok(())
 }
@@ -93,13 +88,9 @@ fn add_symbols(alloc: Global, writer: &mut ObjectWriter, rows: &[SymbolRow]) -> 
     ensures memory { IfErr result (λ e. e ≡ Error.OutOfMemory alloc_error) }
 {
     for row in rows {
-        writer.add_symbol(Symbol {
-            name: String::from_str(alloc, row.name)?,
-            value: 0,
-            place: row.place,
-            class: row.class,
-            aux: row.aux,
-        })?;
+        let mut symbol = Symbol::new(alloc, row.name, row.place, row.class)?;
+        symbol.aux = row.aux;
+        writer.add_symbol(symbol)?;
     }
     Ok(())
 }

@@ -6,8 +6,7 @@ ghost use Rattle.std.specs.Prelude.{◌<◌, length};
 
 use super::{FIRST, HEAD, MACHINES, SECOND, TAIL, TWO, WIDE, chosen, members_of, symbols_of};
 use crate::linked::{Unlinked, link, refusal};
-use crate::objects::{section, symbol};
-use implib::coff::{ObjectWriter, Place, Relocation, class, relocation};
+use implib::coff::{ObjectWriter, Place, Relocation, Section, Symbol, class, relocation};
 use implib::{Error, MachineType};
 use std::alloc::Global;
 use std::test::Fail;
@@ -30,9 +29,9 @@ fn caller_of(alloc: Global, machine: MachineType, entry: &str, name: &str) -> Re
     requires name_ends { HasNoNul name.now }
 {
     let mut writer = ObjectWriter::new(alloc, machine);
-    writer.add_section(section(alloc, *b".text\0\0\0", 0x6030_0020, &[0; 8])?)?;
-    writer.add_symbol(symbol(alloc, entry, Place::Undefined, class::EXTERNAL, None)?)?;
-    writer.add_symbol(symbol(alloc, name, Place::Undefined, class::EXTERNAL, None)?)?;
+    writer.add_section(Section::new(alloc, *b".text\0\0\0", 0x6030_0020, &[0; 8])?)?;
+    writer.add_symbol(Symbol::new(alloc, entry, Place::Undefined, class::EXTERNAL)?)?;
+    writer.add_symbol(Symbol::new(alloc, name, Place::Undefined, class::EXTERNAL)?)?;
     let kind = image_relative(machine);
     let first = Relocation {
         offset: 0,
@@ -94,18 +93,18 @@ fn an_undefined_address_symbol_is_its_exports_own_entry(rt: HostRuntime) -> Resu
 // An object with an external symbol of this section or value.
 fn object_with(alloc: Global, place: Place) -> Result<Vec<u8>, Error> {
     let mut writer = ObjectWriter::new(alloc, MachineType::AMD64);
-    writer.add_section(section(alloc, *b".data\0\0\0", 0xC030_0040, &[0; 4])?)?;
+    writer.add_section(Section::new(alloc, *b".data\0\0\0", 0xC030_0040, &[0; 4])?)?;
     match place {
         Place::Section(_) => {
-            let own = symbol(alloc, "__imp_bar", Place::Section(1), class::EXTERNAL, None)?;
+            let own = Symbol::new(alloc, "__imp_bar", Place::Section(1), class::EXTERNAL)?;
             writer.add_symbol(own)?;
         }
         Place::Absolute => {
-            let own = symbol(alloc, "__imp_bar", Place::Absolute, class::EXTERNAL, None)?;
+            let own = Symbol::new(alloc, "__imp_bar", Place::Absolute, class::EXTERNAL)?;
             writer.add_symbol(own)?;
         }
         _ => {
-            let other = symbol(alloc, "__imp_zip", Place::Undefined, class::EXTERNAL, None)?;
+            let other = Symbol::new(alloc, "__imp_zip", Place::Undefined, class::EXTERNAL)?;
             writer.add_symbol(other)?;
         }
     }
@@ -135,7 +134,7 @@ fn objects_that_define_an_entry_or_name_no_export_are_refused(rt: HostRuntime) -
 // An object with a lookup table of its own.
 fn object_with_table(alloc: Global) -> Result<Vec<u8>, Error> {
     let mut writer = ObjectWriter::new(alloc, MachineType::AMD64);
-    writer.add_section(section(alloc, *b".idata$4", 0xC030_0040, &[0; 8])?)?;
+    writer.add_section(Section::new(alloc, *b".idata$4", 0xC030_0040, &[0; 8])?)?;
     writer.write()
 }
 
