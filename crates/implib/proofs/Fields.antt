@@ -9,7 +9,7 @@ use Rattle.implib.specs.declared.coff.object.Relocation.{Relocation}
 use Rattle.implib.specs.Bytes.{u16_bytes, u32_bytes}
 use Rattle.implib.specs.Object.{ObjectSection, data_at, each_at, relocation_at, relocation_of, section_at, section_of, u16_at, u32_at}
 use Rattle.implib.specs.Layout.{FitsRelocation, FitsSection, ObjectLayout, contents, contents_size, header_bytes, pointer_or_zero, records, relocation_bytes, section_header, symbol_table_offset}
-use Rattle.implib.proofs.Stands.{Stands, bytes_at-stands, each_at-stands, stands_first, stands_second}
+use Rattle.implib.proofs.Located.{LocatedAt, bytes_at-located, each_at-located, located_first, located_second}
 
 -- a field past a front of 8 bytes is that field of the rest
 
@@ -80,52 +80,52 @@ relocation_of-bytes : (r : Relocation) → FitsRelocation r → relocation_of (r
 unfolding relocation_of
 relocation_of-bytes r fits = rw (relocation-offset r fits, relocation-symbol r fits, relocation-kind r fits) refl
 
-pub relocation_at-stands : (bytes : List ℕ) (r : Relocation) (place : ℕ) → FitsRelocation r → Stands bytes place (relocation_bytes r) → relocation_at bytes place ≡ Some r
+pub relocation_at-located : (bytes : List ℕ) (r : Relocation) (position : ℕ) → FitsRelocation r → LocatedAt bytes position (relocation_bytes r) → relocation_at bytes position ≡ Some r
 unfolding relocation_at
-relocation_at-stands bytes r place fits s =
-    rw (bytes_at-stands 10 (length-relocation_bytes r) s) (ap Some (relocation_of-bytes r fits))
+relocation_at-located bytes r position fits s =
+    rw (bytes_at-located 10 (length-relocation_bytes r) s) (ap Some (relocation_of-bytes r fits))
 
-relocations_read : (bytes : List ℕ) (place : ℕ) (rs : List Relocation) → AllByRecursion FitsRelocation rs → Stands bytes place (flat_map relocation_bytes rs) → each_at (relocation_at bytes) place 10 (length rs) ≡ Some rs
-relocations_read bytes place rs all s =
-    each_at-stands relocation_bytes (relocation_at bytes) 10 bytes FitsRelocation
-    (λ r at fits stands. relocation_at-stands bytes r at fits stands)
+relocations_read : (bytes : List ℕ) (position : ℕ) (rs : List Relocation) → AllByRecursion FitsRelocation rs → LocatedAt bytes position (flat_map relocation_bytes rs) → each_at (relocation_at bytes) position 10 (length rs) ≡ Some rs
+relocations_read bytes position rs all s =
+    each_at-located relocation_bytes (relocation_at bytes) 10 bytes FitsRelocation
+    (λ r at fits located. relocation_at-located bytes r at fits located)
     (λ r fits. length-relocation_bytes r)
-    rs place all s
+    rs position all s
 
--- a place of nothing is 0
-pub pointer_or_zero-zero : (place : ℕ) → pointer_or_zero 0 place ≡ 0
+-- a position of nothing is 0
+pub pointer_or_zero-zero : (position : ℕ) → pointer_or_zero 0 position ≡ 0
 unfolding pointer_or_zero
-pointer_or_zero-zero place = refl
+pointer_or_zero-zero position = refl
 
--- a place of something is the place
-pub pointer_or_zero-suc : (count place : ℕ) → pointer_or_zero (suc count) place ≡ place
+-- a position of something is the position
+pub pointer_or_zero-suc : (count position : ℕ) → pointer_or_zero (suc count) position ≡ position
 unfolding pointer_or_zero
-pointer_or_zero-suc count place = let off : nat_eq (suc count) 0 ≡ false = ne_eqb (suc count) 0 (λ e. absurd (omega (arith, e))) in rw off refl
+pointer_or_zero-suc count position = let off : nat_eq (suc count) 0 ≡ false = ne_eqb (suc count) 0 (λ e. absurd (omega (arith, e))) in rw off refl
 
-pub pointer_or_zero-le : (count place : ℕ) → pointer_or_zero count place ≤ place
-pointer_or_zero-le zero place = rw pointer_or_zero-zero (omega arith)
-pointer_or_zero-le (suc count) place = rw pointer_or_zero-suc (omega arith)
+pub pointer_or_zero-le : (count position : ℕ) → pointer_or_zero count position ≤ position
+pointer_or_zero-le zero position = rw pointer_or_zero-zero (omega arith)
+pointer_or_zero-le (suc count) position = rw pointer_or_zero-suc (omega arith)
 
-relocations_at_place : (bytes : List ℕ) (place : ℕ) (rs : List Relocation) → AllByRecursion FitsRelocation rs → Stands bytes place (flat_map relocation_bytes rs) → each_at (relocation_at bytes) (pointer_or_zero (length rs) place) 10 (length rs) ≡ Some rs
+relocations_at_place : (bytes : List ℕ) (position : ℕ) (rs : List Relocation) → AllByRecursion FitsRelocation rs → LocatedAt bytes position (flat_map relocation_bytes rs) → each_at (relocation_at bytes) (pointer_or_zero (length rs) position) 10 (length rs) ≡ Some rs
 unfolding each_at
-relocations_at_place bytes place [] all s = refl
-relocations_at_place bytes place (r ∷ rs) all s = rw pointer_or_zero-suc (relocations_read bytes place (r ∷ rs) all s)
+relocations_at_place bytes position [] all s = refl
+relocations_at_place bytes position (r ∷ rs) all s = rw pointer_or_zero-suc (relocations_read bytes position (r ∷ rs) all s)
 
-data_at_place : (bytes : List ℕ) (place : ℕ) (xs : List ℕ) → 0 < place → Stands bytes place xs → data_at bytes (pointer_or_zero (length xs) place) (length xs) ≡ Some xs
+data_at_place : (bytes : List ℕ) (position : ℕ) (xs : List ℕ) → 0 < position → LocatedAt bytes position xs → data_at bytes (pointer_or_zero (length xs) position) (length xs) ≡ Some xs
 unfolding data_at
-data_at_place bytes place [] above s = rw pointer_or_zero-zero refl
-data_at_place bytes place (x ∷ xs) above s =
-    let off : nat_eq place 0 ≡ false = ne_eqb place 0 (λ e. absurd (omega (arith, e))) in
-    rw (pointer_or_zero-suc, off) (bytes_at-stands (length (x ∷ xs)) refl s)
+data_at_place bytes position [] above s = rw pointer_or_zero-zero refl
+data_at_place bytes position (x ∷ xs) above s =
+    let off : nat_eq position 0 ≡ false = ne_eqb position 0 (λ e. absurd (omega (arith, e))) in
+    rw (pointer_or_zero-suc, off) (bytes_at-located (length (x ∷ xs)) refl s)
 
 -- a section header
 
-module _ (place : ℕ) (s : ObjectSection) (fits : FitsSection s) (short : place + contents_size s < 2 ^ 32) where
-  pub length-section_header : length (section_header place s) ≡ 40
+module _ (position : ℕ) (s : ObjectSection) (fits : FitsSection s) (short : position + contents_size s < 2 ^ 32) where
+  pub length-section_header : length (section_header position s) ≡ 40
   unfolding section_header u16_bytes u32_bytes
   length-section_header = length-append s.name _ ∙ (rw fits.name refl)
 
-  header-name : take 8 (section_header place s) ≡ s.name
+  header-name : take 8 (section_header position s) ≡ s.name
   unfolding section_header
   header-name = take_at s.name _ 8 fits.name
 
@@ -133,37 +133,37 @@ module _ (place : ℕ) (s : ObjectSection) (fits : FitsSection s) (short : place
   unfolding contents_size
   size_below = omega arith
 
-  place_below : pointer_or_zero (length s.bytes) place < 2 ^ 32
+  place_below : pointer_or_zero (length s.bytes) position < 2 ^ 32
   unfolding contents_size
-  place_below = omega (arith, pointer_or_zero-le (length s.bytes) place)
+  place_below = omega (arith, pointer_or_zero-le (length s.bytes) position)
 
-  relocations_below : pointer_or_zero (length s.relocations) (place + length s.bytes) < 2 ^ 32
+  relocations_below : pointer_or_zero (length s.relocations) (position + length s.bytes) < 2 ^ 32
   unfolding contents_size
-  relocations_below = omega (arith, pointer_or_zero-le (length s.relocations) (place + length s.bytes))
+  relocations_below = omega (arith, pointer_or_zero-le (length s.relocations) (position + length s.bytes))
 
-  header-size : u32_at (section_header place s) 16 ≡ length s.bytes
+  header-size : u32_at (section_header position s) 16 ≡ length s.bytes
   unfolding section_header u16_bytes u32_bytes u32_at
   header-size = u32_at-after s.name _ 8 fits.name ∙ from_le_bytes-to_le_bytes_4 (length s.bytes) size_below
 
-  header-place : u32_at (section_header place s) 20 ≡ pointer_or_zero (length s.bytes) place
+  header-place : u32_at (section_header position s) 20 ≡ pointer_or_zero (length s.bytes) position
   unfolding section_header u16_bytes u32_bytes u32_at
   header-place = u32_at-after s.name _ 12 fits.name ∙ from_le_bytes-to_le_bytes_4 _ place_below
 
-  header-relocations : u32_at (section_header place s) 24 ≡ pointer_or_zero (length s.relocations) (place + length s.bytes)
+  header-relocations : u32_at (section_header position s) 24 ≡ pointer_or_zero (length s.relocations) (position + length s.bytes)
   unfolding section_header u16_bytes u32_bytes u32_at
   header-relocations = u32_at-after s.name _ 16 fits.name ∙ from_le_bytes-to_le_bytes_4 _ relocations_below
 
-  header-count : u16_at (section_header place s) 32 ≡ length s.relocations
+  header-count : u16_at (section_header position s) 32 ≡ length s.relocations
   unfolding section_header u16_bytes u32_bytes u16_at
   header-count = u16_at-after s.name _ 24 fits.name ∙ from_le_bytes-to_le_bytes_2 _ fits.count
 
-  header-flags : u32_at (section_header place s) 36 ≡ s.flags
+  header-flags : u32_at (section_header position s) 36 ≡ s.flags
   unfolding section_header u16_bytes u32_bytes u32_at
   header-flags = u32_at-after s.name _ 28 fits.name ∙ from_le_bytes-to_le_bytes_4 _ fits.flags
 
-  section_of-header : (bytes : List ℕ) → 0 < place → Stands bytes place (contents s) → section_of bytes (section_header place s) ≡ Some s
+  section_of-header : (bytes : List ℕ) → 0 < position → LocatedAt bytes position (contents s) → section_of bytes (section_header position s) ≡ Some s
   unfolding section_of contents
-  section_of-header bytes above stands =
+  section_of-header bytes above located =
       rw (
         header-place,
         header-size,
@@ -171,12 +171,12 @@ module _ (place : ℕ) (s : ObjectSection) (fits : FitsSection s) (short : place
         header-count,
         header-name,
         header-flags,
-        data_at_place bytes place s.bytes above (stands_first s.bytes (flat_map relocation_bytes s.relocations) stands),
-        relocations_at_place bytes (place + length s.bytes) s.relocations fits.relocations (stands_second s.bytes (flat_map relocation_bytes s.relocations) stands),
+        data_at_place bytes position s.bytes above (located_first s.bytes (flat_map relocation_bytes s.relocations) located),
+        relocations_at_place bytes (position + length s.bytes) s.relocations fits.relocations (located_second s.bytes (flat_map relocation_bytes s.relocations) located),
       )
       refl
 
-  pub section_at-stands : (bytes : List ℕ) (header : ℕ) → 0 < place → Stands bytes header (section_header place s) → Stands bytes place (contents s) → section_at bytes header ≡ Some s
+  pub section_at-located : (bytes : List ℕ) (header : ℕ) → 0 < position → LocatedAt bytes header (section_header position s) → LocatedAt bytes position (contents s) → section_at bytes header ≡ Some s
   unfolding section_at
-  section_at-stands bytes header above head stands =
-      rw (bytes_at-stands 40 length-section_header head) (section_of-header bytes above stands)
+  section_at-located bytes header above head located =
+      rw (bytes_at-located 40 length-section_header head) (section_of-header bytes above located)

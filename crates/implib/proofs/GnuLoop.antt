@@ -41,10 +41,10 @@ module _ (machine : MachineType) (dll : List ℕ) (all : List MemberView) (long 
   }
 
   -- after an export whose members are made
-  pub left_public : (grown : List MemberView) → e.private ≡ false → Left machine dll all long sound index number members (e ∷ exports) →
-      grown ≡ members ++ map member_of (numbered_specs_of machine dll number e) → list_any is_too_long (numbered_specs_of machine dll number e) ≡ false → has_u16_ordinal e ≡ true →
-      Left machine dll all long sound (index + 1) (number + 1) grown exports
-  left_public grown public left made short ordinal =
+  pub left_public : (extended : List MemberView) → e.private ≡ false → Left machine dll all long sound index number members (e ∷ exports) →
+      extended ≡ members ++ map member_of (numbered_specs_of machine dll number e) → list_any is_too_long (numbered_specs_of machine dll number e) ≡ false → has_u16_ordinal e ≡ true →
+      Left machine dll all long sound (index + 1) (number + 1) extended exports
+  left_public extended public left made short ordinal =
       let others = numbered_specs machine dll (number + 1) (filter (λ x. not x.private) exports) in
       record {
         named = rest_named left.named;

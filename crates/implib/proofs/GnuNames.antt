@@ -7,68 +7,68 @@ use Rattle.std.proofs.lemmas.Bool.{eqb-true, ltb-false}
 use Rattle.std.proofs.lemmas.List.{append-nil}
 use Rattle.std.proofs.lemmas.List.Quantifiers.{position-Some}
 use Rattle.implib.specs.Ascii.{underscore}
-use Rattle.implib.specs.Gnu.{five_digits, full_stop, stem}
+use Rattle.implib.specs.Gnu.{five_digits, full_stop, mangled_name}
 
 abbrev pub stops : ℕ → Bool
 stops byte = byte == full_stop
 
 first_step : (t : Bool) (b : ℕ) (text : List ℕ) (m : ℕ) →
-    (m < length text → stem text ≡ take m text ++ underscore ∷ stem (drop (suc m) text)) → cond (not t) (1 + m) 0 < suc (length text) →
-    (if t then underscore else b) ∷ stem text ≡ take (cond (not t) (1 + m) 0) (b ∷ text) ++ underscore ∷ stem (drop (suc (cond (not t) (1 + m) 0)) (b ∷ text))
+    (m < length text → mangled_name text ≡ take m text ++ underscore ∷ mangled_name (drop (suc m) text)) → cond (not t) (1 + m) 0 < suc (length text) →
+    (if t then underscore else b) ∷ mangled_name text ≡ take (cond (not t) (1 + m) 0) (b ∷ text) ++ underscore ∷ mangled_name (drop (suc (cond (not t) (1 + m) 0)) (b ∷ text))
 first_step true b text m rest within = refl
 first_step false b text m rest within = rw (one-add m) (ap (λ x. b ∷ x) (rest (omega arith)))
 
-stem_to : (text : List ℕ) → position_or_len stops text < length text →
-    stem text ≡ take (position_or_len stops text) text ++ underscore ∷ stem (drop (suc (position_or_len stops text)) text)
-unfolding stem
-stem_to [] within = absurd (omega (arith, within))
-stem_to (b ∷ text) within = first_step (stops b) b text (position_or_len stops text) (stem_to text) within
+mangled_name_to : (text : List ℕ) → position_or_len stops text < length text →
+    mangled_name text ≡ take (position_or_len stops text) text ++ underscore ∷ mangled_name (drop (suc (position_or_len stops text)) text)
+unfolding mangled_name
+mangled_name_to [] within = absurd (omega (arith, within))
+mangled_name_to (b ∷ text) within = first_step (stops b) b text (position_or_len stops text) (mangled_name_to text) within
 
 none_step : (t : Bool) (b : ℕ) (text : List ℕ) (m : ℕ) →
-    (length text ≤ m → stem text ≡ text) → suc (length text) ≤ cond (not t) (1 + m) 0 → (if t then underscore else b) ∷ stem text ≡ b ∷ text
+    (length text ≤ m → mangled_name text ≡ text) → suc (length text) ≤ cond (not t) (1 + m) 0 → (if t then underscore else b) ∷ mangled_name text ≡ b ∷ text
 none_step true b text m rest past = absurd (omega (arith, past))
 none_step false b text m rest past = ap (λ x. b ∷ x) (rest (omega arith))
 
-stem_past : (text : List ℕ) → length text ≤ position_or_len stops text → stem text ≡ text
-unfolding stem
-stem_past [] past = refl
-stem_past (b ∷ text) past = none_step (stops b) b text (position_or_len stops text) (stem_past text) past
+mangled_name_past : (text : List ℕ) → length text ≤ position_or_len stops text → mangled_name text ≡ text
+unfolding mangled_name
+mangled_name_past [] past = refl
+mangled_name_past (b ∷ text) past = none_step (stops b) b text (position_or_len stops text) (mangled_name_past text) past
 
 chosen : (t : Bool) (m n : ℕ) → cond t (Some m) None ≡ Some n → m ≡ n
 chosen true m n found = cc
 chosen false m n found = cc
 
--- up to its first full stop a name is its stem, and there an underscore stands in it
-pub stem_first : (text : List ℕ) (n : ℕ) → position stops text ≡ Some n → stem text ≡ take n text ++ underscore ∷ stem (drop (n + 1) text)
-stem_first text n found =
+-- up to its first full stop a name is its mangled name, and there an underscore stands in it
+pub mangled_name_first : (text : List ℕ) (n : ℕ) → position stops text ≡ Some n → mangled_name text ≡ take n text ++ underscore ∷ mangled_name (drop (n + 1) text)
+mangled_name_first text n found =
     let same : position_or_len stops text ≡ n = chosen (nat_lt (position_or_len stops text) (length text)) (position_or_len stops text) n found in
     let within : n < length text = (position-Some stops text n 0 found).0 in
-    subst (λ k. stem text ≡ take n text ++ underscore ∷ stem (drop k text)) (sym (add-one n))
-    (subst (λ k. stem text ≡ take k text ++ underscore ∷ stem (drop (suc k) text)) same (stem_to text (omega arith)))
+    subst (λ k. mangled_name text ≡ take n text ++ underscore ∷ mangled_name (drop k text)) (sym (add-one n))
+    (subst (λ k. mangled_name text ≡ take k text ++ underscore ∷ mangled_name (drop (suc k) text)) same (mangled_name_to text (omega arith)))
 
 -- where the first full stop is found, there stands one
-pub stop_stands : (text : List ℕ) (n : ℕ) → position stops text ≡ Some n → (n < length text) × (get_or text n 0 < 128)
-stop_stands text n found =
-    let stands = position-Some stops text n 0 found in
-    let stop : get_or text n 0 ≡ full_stop = eqb-true (get_or text n 0) full_stop stands.1 in
-    (stands.0, omega arith)
+pub stop_located : (text : List ℕ) (n : ℕ) → position stops text ≡ Some n → (n < length text) × (get_or text n 0 < 128)
+stop_located text n found =
+    let located = position-Some stops text n 0 found in
+    let stop : get_or text n 0 ≡ full_stop = eqb-true (get_or text n 0) full_stop located.1 in
+    (located.0, omega arith)
 
--- what stands before it, an underscore and the stem of what stands behind are the stem
-pub stem_step : (out text : List ℕ) (n : ℕ) → position stops text ≡ Some n → ((out ++ slice_range text 0 n) ++ underscore ∷ []) ++ stem (drop (n + 1) text) ≡ out ++ stem text
-stem_step out text n found =
+-- what stands before it, an underscore and the mangled name of what stands behind are the mangled name
+pub mangled_name_step : (out text : List ℕ) (n : ℕ) → position stops text ≡ Some n → ((out ++ slice_range text 0 n) ++ underscore ∷ []) ++ mangled_name (drop (n + 1) text) ≡ out ++ mangled_name text
+mangled_name_step out text n found =
     let whole : n - 0 ≡ n = omega arith in
-    ap (λ k. ((out ++ take k text) ++ underscore ∷ []) ++ stem (drop (n + 1) text)) whole
-    ∙ append_assoc (out ++ take n text) (underscore ∷ []) (stem (drop (n + 1) text))
-    ∙ (append_assoc out (take n text) (underscore ∷ stem (drop (n + 1) text)) ∙ ap (λ x. out ++ x) (sym (stem_first text n found)))
+    ap (λ k. ((out ++ take k text) ++ underscore ∷ []) ++ mangled_name (drop (n + 1) text)) whole
+    ∙ append_assoc (out ++ take n text) (underscore ∷ []) (mangled_name (drop (n + 1) text))
+    ∙ (append_assoc out (take n text) (underscore ∷ mangled_name (drop (n + 1) text)) ∙ ap (λ x. out ++ x) (sym (mangled_name_first text n found)))
 
 not_chosen : (t : Bool) (m : ℕ) → cond t (Some m) None ≡ None → t ≡ false
 not_chosen true m none = cc
 not_chosen false m none = refl
 
--- a name without a full stop is its stem
-pub stem_none : (text : List ℕ) → position stops text ≡ None → stem text ≡ text
-stem_none text none =
-    stem_past text (ltb-false (position_or_len stops text) (length text) (not_chosen (nat_lt (position_or_len stops text) (length text)) (position_or_len stops text) none))
+-- a name without a full stop is its mangled name
+pub mangled_name_none : (text : List ℕ) → position stops text ≡ None → mangled_name text ≡ text
+mangled_name_none text none =
+    mangled_name_past text (ltb-false (position_or_len stops text) (length text) (not_chosen (nat_lt (position_or_len stops text) (length text)) (position_or_len stops text) none))
 
 -- a number that is printed with five digits
 pub five_digits_printed : (n : ℕ) → styled_decimal (format_spec 32 0 4 5 18446744073709551615) n ≡ five_digits n

@@ -10,8 +10,8 @@ use Rattle.implib.specs.declared.machine.MachineType.{MachineType}
 use Rattle.implib.specs.declared.machine.MachineType.TheVariants.{I386, ARMNT, AMD64, ARM64}
 use Rattle.implib.specs.Constants.{class_external, class_static}
 use Rattle.implib.specs.Definition.{ExportView}
-use Rattle.implib.specs.Gnu.{added, empty_sections, export_object, export_symbols, file_symbol, full_stop, head_object, head_symbol, head_symbols, hint_name, prefixed_symbol, name_symbol, relocations_of_stub, relocations_of_thunk, section, stem, stub, stub_relocations, tail_object, tail_symbols, thunk, without_full_stop, stub_bytes}
-use Rattle.implib.specs.Import.{address_symbol, holds, is_empty_text, underscore}
+use Rattle.implib.specs.Gnu.{added, empty_sections, export_object, export_symbols, file_symbol, full_stop, head_object, head_symbol, head_symbols, hint_name, prefixed_symbol, iname_symbol, relocations_of_stub, relocations_of_thunk, section, mangled_name, stub, stub_relocations, tail_object, tail_symbols, thunk, without_full_stop, stub_bytes}
+use Rattle.implib.specs.Import.{imp_symbol, holds, is_empty_text, underscore}
 use Rattle.implib.specs.ImportTables.{relocation, thunk_width, zeros}
 use Rattle.implib.specs.Object.{ObjectSection}
 use Rattle.implib.specs.Layout.{Fits}
@@ -24,16 +24,16 @@ use Rattle.implib.proofs.WriterLayout.{layout_of-fits}
 
 -- Names.
 
-stem_byte : (stops : Bool) (b : ℕ) → nat_eq b 0 ≡ false → nat_eq (if stops then underscore else b) 0 ≡ false
-stem_byte true b free = refl
-stem_byte false b free = free
+mangled_name_byte : (stops : Bool) (b : ℕ) → nat_eq b 0 ≡ false → nat_eq (if stops then underscore else b) 0 ≡ false
+mangled_name_byte true b free = refl
+mangled_name_byte false b free = free
 
-pub holds-stem : (dll : List ℕ) → holds 0 dll ≡ false → holds 0 (stem dll) ≡ false
-unfolding stem
-holds-stem [] free = refl
-holds-stem (b ∷ dll) free =
+pub holds-mangled_name : (dll : List ℕ) → holds 0 dll ≡ false → holds 0 (mangled_name dll) ≡ false
+unfolding mangled_name
+holds-mangled_name [] free = refl
+holds-mangled_name (b ∷ dll) free =
     let parts = or_parts (nat_eq b 0) (holds 0 dll) free in
-    or_from (nat_eq (without_full_stop b) 0) (holds 0 (stem dll)) (stem_byte (b == full_stop) b parts.0) (holds-stem dll parts.1)
+    or_from (nat_eq (without_full_stop b) 0) (holds 0 (mangled_name dll)) (mangled_name_byte (b == full_stop) b parts.0) (holds-mangled_name dll parts.1)
 
 holds-prefixed_symbol : (machine : MachineType) (name : List ℕ) → holds 0 name ≡ false → holds 0 (prefixed_symbol machine name) ≡ false
 holds-prefixed_symbol I386 name free = free
@@ -49,21 +49,21 @@ filled-prefixed_symbol ARM64 name filled = filled
 
 pub holds-head_symbol : (machine : MachineType) (dll : List ℕ) → holds 0 dll ≡ false → holds 0 (head_symbol machine dll) ≡ false
 unfolding head_symbol
-holds-head_symbol machine dll free = holds-prefixed_symbol machine _ (holds-stem dll free)
+holds-head_symbol machine dll free = holds-prefixed_symbol machine _ (holds-mangled_name dll free)
 
 pub filled-head_symbol : (machine : MachineType) (dll : List ℕ) → 0 < length (head_symbol machine dll)
 unfolding head_symbol
 filled-head_symbol machine dll = filled-prefixed_symbol machine _ (omega arith)
 
-pub holds-name_symbol : (machine : MachineType) (dll : List ℕ) → holds 0 dll ≡ false → holds 0 (name_symbol machine dll) ≡ false
-unfolding name_symbol
+pub holds-name_symbol : (machine : MachineType) (dll : List ℕ) → holds 0 dll ≡ false → holds 0 (iname_symbol machine dll) ≡ false
+unfolding iname_symbol
 holds-name_symbol machine dll free =
-    holds-prefixed_symbol machine (stem dll ++ codes "_iname")
-    (list_any-append (λ b. nat_eq b 0) (stem dll) (codes "_iname") ∙ or_from (holds 0 (stem dll)) false (holds-stem dll free) refl)
+    holds-prefixed_symbol machine (mangled_name dll ++ codes "_iname")
+    (list_any-append (λ b. nat_eq b 0) (mangled_name dll) (codes "_iname") ∙ or_from (holds 0 (mangled_name dll)) false (holds-mangled_name dll free) refl)
 
-pub filled-name_symbol : (machine : MachineType) (dll : List ℕ) → 0 < length (name_symbol machine dll)
-unfolding name_symbol
-filled-name_symbol machine dll = filled-prefixed_symbol machine (stem dll ++ codes "_iname") (omega (arith, length-append (stem dll) (codes "_iname")))
+pub filled-name_symbol : (machine : MachineType) (dll : List ℕ) → 0 < length (iname_symbol machine dll)
+unfolding iname_symbol
+filled-name_symbol machine dll = filled-prefixed_symbol machine (mangled_name dll ++ codes "_iname") (omega (arith, length-append (mangled_name dll) (codes "_iname")))
 
 pub filled_text : (text : List ℕ) → is_empty_text text ≡ false → 0 < length text
 filled_text [] filled = cc
@@ -96,7 +96,7 @@ pub IsSound-head_object : (machine : MachineType) (dll : List ℕ) → holds 0 d
 unfolding head_object
 IsSound-head_object machine dll free =
     let head = head_symbol machine dll in
-    let name = name_symbol machine dll in
+    let name = iname_symbol machine dll in
     let symbols = head_symbols head name in
     record {
       few = omega arith;
@@ -148,7 +148,7 @@ CanBeHeld-head_object machine dll free =
 pub IsSound-tail_object : (machine : MachineType) (dll : List ℕ) → holds 0 dll ≡ false → IsSound (tail_object machine dll) 3
 unfolding tail_object
 IsSound-tail_object machine dll free =
-    let name = name_symbol machine dll in
+    let name = iname_symbol machine dll in
     let symbols = tail_symbols name in
     record {
       few = omega arith;
@@ -181,7 +181,7 @@ abbrev symbols_by : Bool → List ℕ → List ℕ → List AddedSymbol
 symbols_by is_data head name =
     added head Undefined class_external
     ∷ ((if is_data then [] else added name (Section 1) class_external ∷ [])
-    ++ added (address_symbol name) (Section 5) class_external
+    ++ added (imp_symbol name) (Section 5) class_external
     ∷ added (codes ".idata$6") (Section 7) class_static
     ∷ [])
 
@@ -239,7 +239,7 @@ symbols_sound : (is_data : Bool) (head name : List ℕ) → 0 < length head → 
 symbols_sound true head name head_filled head_free name_filled name_free = (
   symbol_sound 7 head Undefined class_external head_filled head_free tt,
   (
-    symbol_sound 7 (address_symbol name) (Section 5) class_external (omega arith) name_free (omega arith, omega arith),
+    symbol_sound 7 (imp_symbol name) (Section 5) class_external (omega arith) name_free (omega arith, omega arith),
     (symbol_sound 7 (codes ".idata$6") (Section 7) class_static (omega arith) refl (omega arith, omega arith), tt),
   ),
 )
@@ -248,7 +248,7 @@ symbols_sound false head name head_filled head_free name_filled name_free = (
   (
     symbol_sound 7 name (Section 1) class_external name_filled name_free (omega arith, omega arith),
     (
-      symbol_sound 7 (address_symbol name) (Section 5) class_external (omega arith) name_free (omega arith, omega arith),
+      symbol_sound 7 (imp_symbol name) (Section 5) class_external (omega arith) name_free (omega arith, omega arith),
       (symbol_sound 7 (codes ".idata$6") (Section 7) class_static (omega arith) refl (omega arith, omega arith), tt),
     ),
   ),

@@ -15,9 +15,9 @@ use Rattle.implib.specs.declared.machine.MachineType.TheVariants.{I386, ARMNT, A
 use Rattle.implib.specs.Bytes.{u16_bytes, u32_bytes}
 use Rattle.implib.specs.Definition.{DefinitionView, ExportView}
 use Rattle.implib.specs.File.{File, ObjectFile, Meaning, AnImport, AnAlias, alias_of_object, declared_by, file_in}
-use Rattle.implib.specs.Gnu.{export_object, export_listed, head_object, head_symbol, hint_name, name_symbol, relocations_of_stub, relocations_of_thunk, stub, tail_object, thunk}
+use Rattle.implib.specs.Gnu.{export_object, export_listed, head_object, head_symbol, hint_name, iname_symbol, relocations_of_stub, relocations_of_thunk, stub, tail_object, thunk}
 use Rattle.implib.specs.GnuReader.{CodeRelocation, alias_or_import, ask_of_export, code_of_export, code_relocations, dll_by_names, externals_in, import_of, meaning_with, text_section}
-use Rattle.implib.specs.Import.{Ordinal, Name, address_symbol, aliases_for, expected_ask, asked_name, has_underscore, holds, expected_import, import_symbols, is_alias, public_exports, without_first}
+use Rattle.implib.specs.Import.{Ordinal, Name, imp_symbol, aliases_for, expected_ask, asked_name, has_underscore, holds, expected_import, import_symbols, is_alias, public_exports, without_first}
 use Rattle.implib.specs.MemberSpec.{AnObject, MemberSpec, MemberView, file_bytes, file_size, member_of}
 use Rattle.implib.specs.Members.{AreMembersOf, is_too_long, member_specs}
 use Rattle.implib.specs.GnuMembers.{alias_specs, export_spec, head_spec, numbered_specs, numbered_specs_of, tail_spec}
@@ -44,16 +44,16 @@ held_reads h fits short = object_reads (layout_of h) fits (machine_number_nonzer
 
 module _ (machine : MachineType) (dll : List ℕ) (dll_free : holds 0 dll ≡ false) where
   chosen_read : (number : ℕ) (e : ExportView) → Sound e → (test : Bool) (first second : List ℕ) →
-      list_any is_too_long (if test then weak_spec machine first e.name e.alias_target ∷ weak_spec machine second (address_symbol e.name) (address_symbol e.alias_target) ∷ [] else []) ≡ false →
-      AllByRecursion (λ p. ReadsBack p.contents) (if test then weak_spec machine first e.name e.alias_target ∷ weak_spec machine second (address_symbol e.name) (address_symbol e.alias_target) ∷ [] else [])
+      list_any is_too_long (if test then weak_spec machine first e.name e.alias_target ∷ weak_spec machine second (imp_symbol e.name) (imp_symbol e.alias_target) ∷ [] else []) ≡ false →
+      AllByRecursion (λ p. ReadsBack p.contents) (if test then weak_spec machine first e.name e.alias_target ∷ weak_spec machine second (imp_symbol e.name) (imp_symbol e.alias_target) ∷ [] else [])
   chosen_read number e sound false first second short = tt
   chosen_read number e sound true first second short =
       let of_name = weak_spec machine first e.name e.alias_target in
-      let of_address = weak_spec machine second (address_symbol e.name) (address_symbol e.alias_target) in
+      let of_address = weak_spec machine second (imp_symbol e.name) (imp_symbol e.alias_target) in
       let one = or_parts (is_too_long of_name) _ short in
       let two = or_parts (is_too_long of_address) false one.1 in (
         weak_reads machine e.name e.alias_target sound.name sound.alias_target (short_enough of_name one.0),
-        (weak_reads machine (address_symbol e.name) (address_symbol e.alias_target) sound.name sound.alias_target (short_enough of_address two.0), tt),
+        (weak_reads machine (imp_symbol e.name) (imp_symbol e.alias_target) sound.name sound.alias_target (short_enough of_address two.0), tt),
       )
 
   of_export_read : (number : ℕ) (e : ExportView) → Sound e → list_any is_too_long (numbered_specs_of machine dll number e) ≡ false →
@@ -83,7 +83,7 @@ held_declares h listed declares = ap (λ o. declared_by (ObjectFile o)) (object_
 
 tail_declares : (machine : MachineType) (dll : List ℕ) → DeclaresListed (tail_spec machine dll)
 unfolding tail_spec tail_object
-tail_declares machine dll = held_declares (tail_object machine dll) (name_symbol machine dll ∷ []) refl
+tail_declares machine dll = held_declares (tail_object machine dll) (iname_symbol machine dll ∷ []) refl
 
 head_declares : (machine : MachineType) (dll : List ℕ) → DeclaresListed (head_spec machine dll)
 unfolding head_spec head_object
@@ -100,10 +100,10 @@ unfolding export_spec
 export_declares machine dll number e = held_declares (export_object machine dll e) (export_listed e) (export_declares_by machine dll e e.is_data)
 
 chosen_declare : (machine : MachineType) (e : ExportView) (test : Bool) (first second : List ℕ) →
-    AllByRecursion DeclaresListed (if test then weak_spec machine first e.name e.alias_target ∷ weak_spec machine second (address_symbol e.name) (address_symbol e.alias_target) ∷ [] else [])
+    AllByRecursion DeclaresListed (if test then weak_spec machine first e.name e.alias_target ∷ weak_spec machine second (imp_symbol e.name) (imp_symbol e.alias_target) ∷ [] else [])
 chosen_declare machine e false first second = tt
 chosen_declare machine e true first second =
-    (weak_declares machine first e.name e.alias_target, (weak_declares machine second (address_symbol e.name) (address_symbol e.alias_target), tt))
+    (weak_declares machine first e.name e.alias_target, (weak_declares machine second (imp_symbol e.name) (imp_symbol e.alias_target), tt))
 
 numbered_declare : (machine : MachineType) (dll : List ℕ) (number : ℕ) (exports : List ExportView) → AllByRecursion DeclaresListed (numbered_specs machine dll number exports)
 unfolding alias_specs
@@ -159,7 +159,7 @@ dll_found : (machine : MachineType) (dll : List ℕ) (e : ExportView) → holds 
     dll_by_names (written_object (export_object machine dll e)) (written_object (head_object machine dll)) (written_object (tail_object machine dll)) ≡ Some dll
 unfolding export_object head_object tail_object
 dll_found machine dll e free =
-    rw (same_bytes (head_symbol machine dll), same_bytes (name_symbol machine dll)) (before_nul-ended dll [] free)
+    rw (same_bytes (head_symbol machine dll), same_bytes (iname_symbol machine dll)) (before_nul-ended dll [] free)
 
 code_by : (machine : MachineType) (dll : List ℕ) (e : ExportView) (is_data : Bool) →
     code_relocations (written_object (export_object machine dll (record e { is_data = is_data }))) ≡ Some (expected_code machine (record e { is_data = is_data }))
@@ -215,13 +215,13 @@ module _ (machine : MachineType) (dll : List ℕ) (dll_free : holds 0 dll ≡ fa
   weak_specified weak target = refl
 
   chosen_specified : (e : ExportView) (test : Bool) (first second : List ℕ) →
-      map specified (if test then weak_spec machine first e.name e.alias_target ∷ weak_spec machine second (address_symbol e.name) (address_symbol e.alias_target) ∷ [] else [])
-      ≡ map (λ a. Some (AnAlias a)) (if test then record { weak = e.name; target = e.alias_target } ∷ record { weak = address_symbol e.name; target = address_symbol e.alias_target } ∷ [] else [])
+      map specified (if test then weak_spec machine first e.name e.alias_target ∷ weak_spec machine second (imp_symbol e.name) (imp_symbol e.alias_target) ∷ [] else [])
+      ≡ map (λ a. Some (AnAlias a)) (if test then record { weak = e.name; target = e.alias_target } ∷ record { weak = imp_symbol e.name; target = imp_symbol e.alias_target } ∷ [] else [])
   chosen_specified e false first second = refl
   chosen_specified e true first second =
       let one = weak_specified e.name e.alias_target in
-      let two = weak_specified (address_symbol e.name) (address_symbol e.alias_target) in
-      ap (λ x. x ∷ meaning_with head_file tail_file (ObjectFile (object_of (weak_object machine (address_symbol e.name) (address_symbol e.alias_target)))) ∷ []) one
+      let two = weak_specified (imp_symbol e.name) (imp_symbol e.alias_target) in
+      ap (λ x. x ∷ meaning_with head_file tail_file (ObjectFile (object_of (weak_object machine (imp_symbol e.name) (imp_symbol e.alias_target)))) ∷ []) one
       ∙ ap (λ x. Some (AnAlias (record { weak = e.name; target = e.alias_target })) ∷ x ∷ []) two
 
   of_export_specified : (number : ℕ) (e : ExportView) → Sound e → map specified (numbered_specs_of machine dll number e) ≡ map (λ m. Some m) (expected_meanings machine dll e)
@@ -251,9 +251,9 @@ module _ (machine : MachineType) (dll : List ℕ) (dll_free : holds 0 dll ≡ fa
   weak_code weak target = refl
 
   chosen_code : (e : ExportView) (test : Bool) (first second : List ℕ) →
-      filter_map specified_code (if test then weak_spec machine first e.name e.alias_target ∷ weak_spec machine second (address_symbol e.name) (address_symbol e.alias_target) ∷ [] else []) ≡ []
+      filter_map specified_code (if test then weak_spec machine first e.name e.alias_target ∷ weak_spec machine second (imp_symbol e.name) (imp_symbol e.alias_target) ∷ [] else []) ≡ []
   chosen_code e false first second = refl
-  chosen_code e true first second = rw (weak_code e.name e.alias_target, weak_code (address_symbol e.name) (address_symbol e.alias_target)) refl
+  chosen_code e true first second = rw (weak_code e.name e.alias_target, weak_code (imp_symbol e.name) (imp_symbol e.alias_target)) refl
 
   export_code : (number : ℕ) (e : ExportView) → specified_code (export_spec machine dll number e) ≡ Some (expected_code machine e)
   unfolding export_spec

@@ -31,21 +31,21 @@ unfolding symbol_bytes u16_bytes u32_bytes
 length-one_symbol offsets count s fits = length-append (name_field offsets s.name) _ ∙ (rw (length-field offsets count s.name fits) (omega arith))
 
 -- the header of one section more
-section_headers-push : (place : ℕ) (ss : List ObjectSection) (s : ObjectSection) → section_headers place (ss ++ s ∷ []) ≡ section_headers place ss ++ section_header (place + sum_by contents_size ss) s
+section_headers-push : (position : ℕ) (ss : List ObjectSection) (s : ObjectSection) → section_headers position (ss ++ s ∷ []) ≡ section_headers position ss ++ section_header (position + sum_by contents_size ss) s
 unfolding section_headers
-section_headers-push place [] s = append-nil (section_header place s) ∙ ap (λ n. section_header n s) (sym (add-zero place))
-section_headers-push place (x ∷ ss) s =
-    ap (λ t. section_header place x ++ t) (section_headers-push (place + contents_size x) ss s)
-    ∙ (sym (append_assoc (section_header place x) (section_headers (place + contents_size x) ss) (section_header ((place + contents_size x) + sum_by contents_size ss) s))
-    ∙ ap (λ n. (section_header place x ++ section_headers (place + contents_size x) ss) ++ section_header n s) (omega (arith, sum_by-cons contents_size x ss)))
+section_headers-push position [] s = append-nil (section_header position s) ∙ ap (λ n. section_header n s) (sym (add-zero position))
+section_headers-push position (x ∷ ss) s =
+    ap (λ t. section_header position x ++ t) (section_headers-push (position + contents_size x) ss s)
+    ∙ (sym (append_assoc (section_header position x) (section_headers (position + contents_size x) ss) (section_header ((position + contents_size x) + sum_by contents_size ss) s))
+    ∙ ap (λ n. (section_header position x ++ section_headers (position + contents_size x) ss) ++ section_header n s) (omega (arith, sum_by-cons contents_size x ss)))
 
-pub headers_more : (place : ℕ) (ss : List Section) (i : ℕ) (d : Section) → {a b c : Written} → i < length ss
-    → Puts a b (section_headers place (map section_view (take i ss)))
-    → Puts b c (section_header (place + sum_by contents_size (map section_view (take i ss))) (section_view (get_or ss i d)))
-    → Puts a c (section_headers place (map section_view (take (i + 1) ss)))
-headers_more place ss i d within before piece =
-    puts_same (section_headers place (map section_view (take (i + 1) ss)))
-    (sym (ap (λ t. section_headers place (map section_view t)) (take_more ss i d within)
-    ∙ (ap (section_headers place) (map-append section_view (take i ss) (get_or ss i d ∷ []))
-    ∙ section_headers-push place (map section_view (take i ss)) (section_view (get_or ss i d)))))
-    (puts_both before piece)
+pub headers_more : (position : ℕ) (ss : List Section) (i : ℕ) (d : Section) → {a b c : Written} → i < length ss
+    → Puts a b (section_headers position (map section_view (take i ss)))
+    → Puts b c (section_header (position + sum_by contents_size (map section_view (take i ss))) (section_view (get_or ss i d)))
+    → Puts a c (section_headers position (map section_view (take (i + 1) ss)))
+headers_more position ss i d within before chunk =
+    puts_same (section_headers position (map section_view (take (i + 1) ss)))
+    (sym (ap (λ t. section_headers position (map section_view t)) (take_more ss i d within)
+    ∙ (ap (section_headers position) (map-append section_view (take i ss) (get_or ss i d ∷ []))
+    ∙ section_headers-push position (map section_view (take i ss)) (section_view (get_or ss i d)))))
+    (puts_both before chunk)

@@ -30,7 +30,7 @@ boundary_after_second j k text small utf8 e f =
     let second : get_or text 1 0 ≡ k = ap (λ l. get_or l 1 0) whole in
     IsCharBoundary-after_ascii text 1 utf8 (omega (arith, ap length whole)) (omega (arith, second))
 
--- the first byte, by its place
+-- the first byte, by its position
 pub first_is : (k : ℕ) (text : List ℕ) → 0 < k → get_or text 0 0 ≡ k → text ≡ k ∷ drop 1 text
 first_is k [] positive e = absurd (omega (arith, e))
 first_is k (b ∷ rest) positive e = ap (λ x. x ∷ rest) e
@@ -39,7 +39,7 @@ pub TakesLexeme-comma : (text after : List ℕ) (at : ℕ) (token : TokenView) �
 TakesLexeme-comma text after at token e is rest = record {
   lexeme = CommaSign;
   spelled = e ∙ ap (λ l. 44 ∷ l) (sym rest);
-  stands = tt;
+  located = tt;
   given = ap (λ t. t ∷ []) (ap (λ l. record { kind = kind.Comma; value = take 1 l; at = at }) (sym e) ∙ sym is);
 }
 
@@ -47,7 +47,7 @@ pub TakesLexeme-equal : (text after : List ℕ) (at : ℕ) (token : TokenView) �
 TakesLexeme-equal text after at token e alone is rest = record {
   lexeme = EqualSign;
   spelled = e ∙ ap (λ l. 61 ∷ l) (sym rest);
-  stands = subst (λ l. begins is_equal_sign l ≡ false) (sym rest) alone;
+  located = subst (λ l. begins is_equal_sign l ≡ false) (sym rest) alone;
   given = ap (λ t. t ∷ []) (ap (λ l. record { kind = kind.Equal; value = take 1 l; at = at }) (sym e) ∙ sym is);
 }
 
@@ -58,7 +58,7 @@ TakesLexeme-equals text after at token e again is rest =
     record {
       lexeme = EqualSigns;
       spelled = whole ∙ ap (λ l. 61 ∷ 61 ∷ l) (sym left);
-      stands = tt;
+      located = tt;
       given = ap (λ t. t ∷ []) (ap (λ l. record { kind = kind.EqualEqual; value = take 2 l; at = at }) (sym whole) ∙ sym is);
     }
 
@@ -67,7 +67,7 @@ pub TakesLexeme-quoted : (text inside name after : List ℕ) (at : ℕ) (token :
 TakesLexeme-quoted text inside name after at token e parts none is = record {
   lexeme = Quoted name;
   spelled = e ∙ ap (λ l. 34 ∷ l) (parts ∙ sym (append_assoc name (34 ∷ []) after));
-  stands = none_from_places is_quote name (λ k h. ne_eqb (get_or name k 0) 34 (none k h));
+  located = none_from_places is_quote name (λ k h. ne_eqb (get_or name k 0) 34 (none k h));
   given = ap (λ t. t ∷ []) (sym is);
 }
 
@@ -75,7 +75,7 @@ pub TakesLexeme-unclosed : (text inside after : List ℕ) (at : ℕ) (token : To
 TakesLexeme-unclosed text inside after at token e none last is = record {
   lexeme = Unclosed inside;
   spelled = e ∙ ap (λ l. 34 ∷ l) (sym (append-nil inside) ∙ ap (λ l. inside ++ l) (sym last));
-  stands = (none_from_places is_quote inside (λ k h. ne_eqb (get_or inside k 0) 34 (none k h)), last);
+  located = (none_from_places is_quote inside (λ k h. ne_eqb (get_or inside k 0) 34 (none k h)), last);
   given = ap (λ t. t ∷ []) (sym is);
 }
 
@@ -99,9 +99,9 @@ begins_semicolon text e no_comment = let wrong : true ≡ false = sym (ap (begin
 
 word_front : (text : List ℕ) → StartsWord text → WordFront text
 word_front text starts =
-    let shown = starts.no_gap.no_space starts.nonempty in
+    let shown = starts.no_trivia.no_space starts.nonempty in
     let c = shown.0 in
-    let tail = starts.no_gap.tail in
+    let tail = starts.no_trivia.tail in
     let byte : c < 128 → get_or text 0 0 ≡ c = λ h. byte_from_char text tail c shown.2 h in
     let dark : is_whitespace c ≡ false = white_test (is_whitespace c) shown.1 in
     record {
@@ -112,7 +112,7 @@ word_front text starts =
       not_white = dark;
       not_nul = λ e. starts.not_nul (byte (omega arith) ∙ e);
       not_quote = λ e. starts.not_quote (byte (omega arith) ∙ e);
-      plain = no_delimiter c dark (λ e. begins_semicolon text (first_is 59 text (omega arith) (byte (omega arith) ∙ e)) starts.no_gap.no_comment) (λ e. starts.not_equal (byte (omega arith) ∙ e)) (λ e. starts.not_comma (byte (omega arith) ∙ e));
+      plain = no_delimiter c dark (λ e. begins_semicolon text (first_is 59 text (omega arith) (byte (omega arith) ∙ e)) starts.no_trivia.no_comment) (λ e. starts.not_equal (byte (omega arith) ∙ e)) (λ e. starts.not_comma (byte (omega arith) ∙ e));
     }
 
 -- the word's end is past its first character
@@ -151,7 +151,7 @@ TakesLexeme-word text run after value at end token starts is_end is_run is_after
     record {
       lexeme = Word run;
       spelled = sym (take-append-drop end text) ∙ ap (λ l. l ++ drop end text) (sym is_run) ∙ ap (λ l. run ++ l) (sym is_after);
-      stands = (
+      located = (
         record { character = c; tail = take (end - size) front.tail; spelled = first; scalar = front.scalar; not_white = front.not_white; not_nul = front.not_nul; not_quote = front.not_quote },
         none,
         subst (λ l. (l ≡ []) ⊎ (begins is_delimiter l ≡ true)) (sym is_after) (stops_at_end text end is_end),

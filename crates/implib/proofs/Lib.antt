@@ -5,7 +5,7 @@ pub mod Renaming
 pub mod MembersOfDefinition
 pub mod ShortImport
 pub mod Import
-pub mod Stands
+pub mod Located
 pub mod Fields
 pub mod Symbols
 pub mod TokenReader
@@ -72,7 +72,7 @@ pub mod Descriptors
 pub mod Linked
 pub mod LinkedBlocks
 pub mod LinkedMembers
-pub mod LinkedParts
+pub mod LinkedInputs
 pub mod Loading
 pub mod WorkedLinks
 pub mod GnuObjects

@@ -10,8 +10,8 @@ use Rattle.implib.specs.declared.machine.MachineType.{MachineType}
 use Rattle.implib.specs.declared.machine.MachineType.TheVariants.{I386, ARMNT, AMD64, ARM64}
 use Rattle.implib.specs.Bytes.{u32_bytes}
 use Rattle.implib.specs.Definition.{ExportView}
-use Rattle.implib.specs.Gnu.{export_object, head_object, head_symbol, hint_name_symbol, name_symbol, relocations_of_stub, relocations_of_thunk, stub_relocations, tail_object}
-use Rattle.implib.specs.Import.{address_symbol, expected_ask}
+use Rattle.implib.specs.Gnu.{export_object, head_object, head_symbol, hint_name_symbol, iname_symbol, relocations_of_stub, relocations_of_thunk, stub_relocations, tail_object}
+use Rattle.implib.specs.Import.{imp_symbol, expected_ask}
 use Rattle.implib.specs.Image.{Contribution, Range, filled, contributions, range_end, range_of, relocated, with_address}
 use Rattle.implib.specs.Placement.{Addresses, Bases, Descriptors, DllNames, HintNames, Lookups, Placed, next_multiple, placed_from}
 use Rattle.implib.specs.Resolution.{SymbolDefinition, definitions, definitions_of, first_address, symbol_address}
@@ -20,7 +20,7 @@ use Rattle.implib.specs.ImportTables.{relocation, thunk_width, zeros}
 use Rattle.implib.specs.Object.{Object, u32_at}
 use Rattle.implib.specs.Layout.{HasNoNul}
 use Rattle.implib.specs.Linked.{AllFind, EntriesAt, FindsTarget, IsDefinedAt, LinksStrictlyAt, undefined_names}
-use Rattle.implib.proofs.Ranges.{Among, among_back, among_first, among_later, stands_parts}
+use Rattle.implib.proofs.Ranges.{Among, among_back, among_first, among_later, located_parts}
 use Rattle.implib.proofs.Descriptors.{LoadsFrom, descriptor_loads}
 use Rattle.implib.proofs.Placement.{AreAligned, descriptors_end, address_definition, after_head, aligned_after, aligned_all, aligned_head, at_least, code_definition, defined_after, definitions-after, ends_of_all, ends_of_export, ends_of_exports, ends_of_head, ends_of_tail, head, placed-export, placed-head, placed-tail, placed_export, placed_head}
 use Rattle.implib.proofs.Tables.{CanBeAsked, addresses_end, addresses_filled, descriptors_filled, filled_first, hint_bytes, hint_names_end, hint_names_filled, lookups_end, lookups_filled, table_at, thunk_bytes}
@@ -29,15 +29,15 @@ use Rattle.implib.proofs.Thunks.{StrictTableAt, same_number}
 pub same_order : (n : ℕ) → n ≤ n
 same_order n = omega arith
 
--- the first contribution stands at its place, and the others after it
-pub contribution_stands : (image : List Range) (a : ℕ) (p : Contribution) (rest : List Contribution) → a ≤ p.address → BytesAt image a (filled a (p ∷ rest)) →
+-- the first contribution stands at its position, and the others after it
+pub contribution_located : (image : List Range) (a : ℕ) (p : Contribution) (rest : List Contribution) → a ≤ p.address → BytesAt image a (filled a (p ∷ rest)) →
     BytesAt image p.address p.bytes × BytesAt image (p.address + length p.bytes) (filled (p.address + length p.bytes) rest)
-contribution_stands image a p rest low stands =
+contribution_located image a p rest low located =
     let padding : List ℕ = zeros (p.address - a) in
-    let behind = stands_parts image padding (p.bytes ++ filled (p.address + length p.bytes) rest) a stands in
-    let place : a + length padding ≡ p.address = rw (length-replicate {A = ℕ} (p.address - a) 0) (omega arith) in
-    stands_parts image p.bytes (filled (p.address + length p.bytes) rest) p.address
-    (subst (λ n. BytesAt image n (p.bytes ++ filled (p.address + length p.bytes) rest)) place behind.1)
+    let behind = located_parts image padding (p.bytes ++ filled (p.address + length p.bytes) rest) a located in
+    let position : a + length padding ≡ p.address = rw (length-replicate {A = ℕ} (p.address - a) 0) (omega arith) in
+    located_parts image p.bytes (filled (p.address + length p.bytes) rest) p.address
+    (subst (λ n. BytesAt image n (p.bytes ++ filled (p.address + length p.bytes) rest)) position behind.1)
 
 -- the ranges of contributions are in the image, and begin at their bases
 pub bases_of_ranges : (base : ℕ) (ps : List Contribution) → 0 < base → AllByRecursion (λ r. 0 < r.start) (range_of base ps)
@@ -57,37 +57,37 @@ module _ (machine : MachineType) (dll : List ℕ) (linked : List Placed) where
   descriptor_linked : Bases → List ℕ
   descriptor_linked b = relocated machine linked (placed_head machine dll b) (relocation machine 0 3 ∷ relocation machine 16 2 ∷ relocation machine 12 5 ∷ []) (zeros 20)
 
-  descriptor_is : (b : Bases) (n : ℕ) → first_address (definitions_of (name_symbol machine dll) linked) ≡ Some (n + 0) →
+  descriptor_is : (b : Bases) (n : ℕ) → first_address (definitions_of (iname_symbol machine dll) linked) ≡ Some (n + 0) →
       descriptor_linked b ≡ u32_bytes ((0 + (b.lookups + 0)) % 2 ^ 32) ++ (zeros 4 ++ (zeros 4 ++ (u32_bytes ((0 + (n + 0)) % 2 ^ 32) ++ u32_bytes ((0 + (b.addresses + 0)) % 2 ^ 32))))
   unfolding descriptor_linked head_object with_address u32_bytes u32_at
   descriptor_is b n is = rw (same_number machine, is) refl
 
   -- where the DLL's name stands, and what is filled in after it
-  name_stands : (image : List Range) (es : List ExportView) (b : Bases) (rest : List Object) → AreAligned b →
+  name_located : (image : List Range) (es : List ExportView) (b : Bases) (rest : List Object) → AreAligned b →
       BytesAt image b.dll_names (filled b.dll_names (contributions machine linked DllNames (placed_from b (after_head machine dll es rest)))) →
       BytesAt image (next_multiple 4 (ends_of_exports machine dll b es).dll_names) (dll ++ 0 ∷ [])
       × BytesAt image (ends_of_all machine dll b es).dll_names (filled (ends_of_all machine dll b es).dll_names (contributions machine linked DllNames (placed_from (ends_of_all machine dll b es) rest)))
   unfolding ends_of_exports tail_object export_object with_address u32_bytes u32_at
-  name_stands image [] b rest even stands =
+  name_located image [] b rest even located =
       let others : List Contribution = contributions machine linked DllNames (placed_from (ends_of_tail machine dll b) rest) in
       let own : Contribution = record { address = next_multiple 4 b.dll_names; bytes = dll ++ 0 ∷ [] } in
       let here : BytesAt image b.dll_names (filled b.dll_names (own ∷ others)) =
-      subst (λ ps. BytesAt image b.dll_names (filled b.dll_names (contributions machine linked DllNames ps))) (placed-tail machine dll b rest even) stands in
-      contribution_stands image b.dll_names own others (at_least 4 b.dll_names) here
-  name_stands image (e ∷ es) b rest even stands =
+      subst (λ ps. BytesAt image b.dll_names (filled b.dll_names (contributions machine linked DllNames ps))) (placed-tail machine dll b rest even) located in
+      contribution_located image b.dll_names own others (at_least 4 b.dll_names) here
+  name_located image (e ∷ es) b rest even located =
       let later : Bases = ends_of_export machine dll b e in
       let others : List Contribution = contributions machine linked DllNames (placed_from later (after_head machine dll es rest)) in
       let bytes : List ℕ = relocated machine linked (placed_export machine dll b e) (relocation machine 0 0 ∷ []) (zeros 4) in
       let four : length bytes ≡ 4 = rw (same_number machine) refl in
       let here : BytesAt image b.dll_names (filled b.dll_names (record { address = next_multiple 4 b.dll_names; bytes = bytes } ∷ others)) =
-      subst (λ ps. BytesAt image b.dll_names (filled b.dll_names (contributions machine linked DllNames ps))) (placed-export machine dll b e (after_head machine dll es rest) even) stands in
-      let after = (contribution_stands image b.dll_names (record { address = next_multiple 4 b.dll_names; bytes = bytes }) others (at_least 4 b.dll_names) here).1 in
-      name_stands image es later rest (aligned_after machine dll b e even)
+      subst (λ ps. BytesAt image b.dll_names (filled b.dll_names (contributions machine linked DllNames ps))) (placed-export machine dll b e (after_head machine dll es rest) even) located in
+      let after = (contribution_located image b.dll_names (record { address = next_multiple 4 b.dll_names; bytes = bytes }) others (at_least 4 b.dll_names) here).1 in
+      name_located image es later rest (aligned_after machine dll b e even)
       (subst (λ n. BytesAt image (next_multiple 4 b.dll_names + n) (filled (next_multiple 4 b.dll_names + n) others)) four after)
 
   -- the name's definition is the last one
   name_defined : (es : List ExportView) (b : Bases) →
-      Among (record { name = name_symbol machine dll; address = Some (next_multiple 4 (ends_of_exports machine dll b es).dll_names + 0) }) (defined_after machine dll b es)
+      Among (record { name = iname_symbol machine dll; address = Some (next_multiple 4 (ends_of_exports machine dll b es).dll_names + 0) }) (defined_after machine dll b es)
   unfolding ends_of_exports defined_after
   name_defined [] b = among_first _ _
   name_defined (e ∷ es) b =
@@ -101,7 +101,7 @@ module _ (machine : MachineType) (dll : List ℕ) (linked : List Placed) where
   entries_at (e ∷ es) b only =
       let own : SymbolDefinition = address_definition machine dll b e in
       let plain : b.addresses + 0 ≡ b.addresses = omega arith in (
-        subst (λ n. definitions_of (address_symbol e.name) linked ≡ record { name = address_symbol e.name; address = Some n } ∷ []) plain
+        subst (λ n. definitions_of (imp_symbol e.name) linked ≡ record { name = imp_symbol e.name; address = Some n } ∷ []) plain
             (only own (among_back own (code_definition machine dll e) _ (among_first own _))),
         entries_at es (ends_of_export machine dll b e)
             (λ d m. only d (among_back d (code_definition machine dll e) _ (among_later d own _ m))),
@@ -196,7 +196,7 @@ pub record BlockLinks (machine : MachineType) (linked : List Placed) (image : Li
   pub addresses : strictly.loads.plain.addresses ≡ b.addresses
 
 -- what is filled in from ends on stands in an image
-pub record StandsFrom (machine : MachineType) (linked : List Placed) (image : List Range) (b : Bases) (objects : List Object) : Type 0 where
+pub record LocatedFrom (machine : MachineType) (linked : List Placed) (image : List Range) (b : Bases) (objects : List Object) : Type 0 where
   pub descriptors : BytesAt image b.descriptors (filled b.descriptors (contributions machine linked Descriptors (placed_from b objects)))
   pub lookups : BytesAt image b.lookups (filled b.lookups (contributions machine linked Lookups (placed_from b objects)))
   pub addresses : BytesAt image b.addresses (filled b.addresses (contributions machine linked Addresses (placed_from b objects)))
@@ -229,7 +229,7 @@ module _ (machine : MachineType) (dll : List ℕ) (es : List ExportView) (b : Ba
     (starts : AllByRecursion (λ r. 0 < r.start) image) (ends : AllByRecursion (λ r. range_end r < 2 ^ 31) image)
     (dll_text : HasNoNul dll) (fit : AllByRecursion (CanBeAsked machine) es) (even : AreAligned b)
     (only : (d : SymbolDefinition) → Among d (block_definitions machine dll b es) → definitions_of d.name linked ≡ d ∷ [])
-    (stands : StandsFrom machine linked image b (head machine dll ∷ after_head machine dll es rest)) where
+    (located : LocatedFrom machine linked image b (head machine dll ∷ after_head machine dll es rest)) where
   abbrev later : Bases
   later = ends_of_head machine dll b
 
@@ -250,13 +250,13 @@ module _ (machine : MachineType) (dll : List ℕ) (es : List ExportView) (b : Ba
       let others : List Contribution = contributions machine linked Lookups (placed_from later (after_head machine dll es rest)) in
       let after : List ℕ = filled last.lookups (contributions machine linked Lookups (placed_from last rest)) in
       let plain : b.lookups + 0 ≡ b.lookups = omega arith in
-      let parts = stands_parts image (thunk_bytes machine dll linked later es) after b.lookups
+      let parts = located_parts image (thunk_bytes machine dll linked later es) after b.lookups
       (subst (BytesAt image b.lookups)
       (ap (λ ps. filled b.lookups (contributions machine linked Lookups ps)) placed_is
       ∙ filled_first b.lookups 0 [] others refl
       ∙ ap (λ n. filled n others) plain
       ∙ lookups_filled machine dll linked later es rest later_even)
-      stands.lookups) in
+      located.lookups) in
       (parts.0, subst (λ n. BytesAt image n after) (lookups_end machine dll linked later es) parts.1)
 
   addresses_parts : BytesAt image b.addresses (thunk_bytes machine dll linked later es)
@@ -266,13 +266,13 @@ module _ (machine : MachineType) (dll : List ℕ) (es : List ExportView) (b : Ba
       let others : List Contribution = contributions machine linked Addresses (placed_from later (after_head machine dll es rest)) in
       let after : List ℕ = filled last.addresses (contributions machine linked Addresses (placed_from last rest)) in
       let plain : b.addresses + 0 ≡ b.addresses = omega arith in
-      let parts = stands_parts image (thunk_bytes machine dll linked later es) after b.addresses
+      let parts = located_parts image (thunk_bytes machine dll linked later es) after b.addresses
       (subst (BytesAt image b.addresses)
       (ap (λ ps. filled b.addresses (contributions machine linked Addresses ps)) placed_is
       ∙ filled_first b.addresses 0 [] others refl
       ∙ ap (λ n. filled n others) plain
       ∙ addresses_filled machine dll linked later es rest later_even)
-      stands.addresses) in
+      located.addresses) in
       (parts.0, subst (λ n. BytesAt image n after) (addresses_end machine dll linked later es) parts.1)
 
   hints_parts : BytesAt image b.hint_names (hint_bytes machine dll linked later es)
@@ -280,11 +280,11 @@ module _ (machine : MachineType) (dll : List ℕ) (es : List ExportView) (b : Ba
   unfolding head_object
   hints_parts =
       let after : List ℕ = filled last.hint_names (contributions machine linked HintNames (placed_from last rest)) in
-      let parts = stands_parts image (hint_bytes machine dll linked later es) after b.hint_names
+      let parts = located_parts image (hint_bytes machine dll linked later es) after b.hint_names
       (subst (BytesAt image b.hint_names)
       (ap (λ ps. filled b.hint_names (contributions machine linked HintNames ps)) placed_is
       ∙ hint_names_filled machine dll linked later es rest later_even)
-      stands.hint_names) in
+      located.hint_names) in
       (parts.0, subst (λ n. BytesAt image n after) (hint_names_end machine dll linked later es) parts.1)
 
   name_place : ℕ
@@ -294,14 +294,14 @@ module _ (machine : MachineType) (dll : List ℕ) (es : List ExportView) (b : Ba
       × BytesAt image last.dll_names (filled last.dll_names (contributions machine linked DllNames (placed_from last rest)))
   unfolding head_object name_place
   name_parts =
-      name_stands machine dll linked image es later rest later_even
-      (subst (BytesAt image b.dll_names) (ap (λ ps. filled b.dll_names (contributions machine linked DllNames ps)) placed_is) stands.dll_names)
+      name_located machine dll linked image es later rest later_even
+      (subst (BytesAt image b.dll_names) (ap (λ ps. filled b.dll_names (contributions machine linked DllNames ps)) placed_is) located.dll_names)
 
-  name_once : definitions_of (name_symbol machine dll) linked ≡ record { name = name_symbol machine dll; address = Some (name_place + 0) } ∷ []
+  name_once : definitions_of (iname_symbol machine dll) linked ≡ record { name = iname_symbol machine dll; address = Some (name_place + 0) } ∷ []
   unfolding name_place block_definitions
   name_once = only _ (among_later _ _ _ (name_defined machine dll linked es later))
 
-  name_address : first_address (definitions_of (name_symbol machine dll) linked) ≡ Some (name_place + 0)
+  name_address : first_address (definitions_of (iname_symbol machine dll) linked) ≡ Some (name_place + 0)
   name_address = ap first_address name_once
 
   length-descriptor : length (descriptor_linked machine dll linked b) ≡ 20
@@ -314,8 +314,8 @@ module _ (machine : MachineType) (dll : List ℕ) (es : List ExportView) (b : Ba
   descriptor_parts =
       let others : List Contribution = contributions machine linked Descriptors (placed_from later (after_head machine dll es rest)) in
       let own : Contribution = record { address = b.descriptors; bytes = descriptor_linked machine dll linked b } in
-      let parts = contribution_stands image b.descriptors own others (same_order b.descriptors)
-      (subst (BytesAt image b.descriptors) (ap (λ ps. filled b.descriptors (contributions machine linked Descriptors ps)) placed_is) stands.descriptors) in
+      let parts = contribution_located image b.descriptors own others (same_order b.descriptors)
+      (subst (BytesAt image b.descriptors) (ap (λ ps. filled b.descriptors (contributions machine linked Descriptors ps)) placed_is) located.descriptors) in
       let behind : BytesAt image later.descriptors (filled later.descriptors others) =
       subst (λ n. BytesAt image (b.descriptors + n) (filled (b.descriptors + n) others)) length-descriptor parts.1 in
       let same : later.descriptors ≡ last.descriptors = descriptors_end machine dll later es in (
@@ -324,8 +324,8 @@ module _ (machine : MachineType) (dll : List ℕ) (es : List ExportView) (b : Ba
             (subst (BytesAt image later.descriptors) (descriptors_filled machine dll linked later es rest later_even) behind),
       )
 
-  pub rest_stands : StandsFrom machine linked image last rest
-  rest_stands = record {
+  pub rest_located : LocatedFrom machine linked image last rest
+  rest_located = record {
     descriptors = descriptor_parts.1;
     lookups = lookups_parts.1;
     addresses = addresses_parts.1;
@@ -340,7 +340,7 @@ module _ (machine : MachineType) (dll : List ℕ) (es : List ExportView) (b : Ba
   address_table = table_at machine dll linked image starts ends es later b.addresses fit addresses_parts.0 hints_parts.0
 
   name_text : TextAt image name_place dll
-  name_text = record { no_nul = dll_text; stands = name_parts.0 }
+  name_text = record { no_nul = dll_text; located = name_parts.0 }
 
   block_loads : LoadsFrom image (thunk_width machine) b.descriptors b.addresses dll (map (expected_ask machine) es)
   block_loads =
@@ -363,9 +363,9 @@ module _ (machine : MachineType) (dll : List ℕ) (es : List ExportView) (b : Ba
     strictly = record {
       head = block_head;
       loads = block_loads.loads;
-      entries = subst (λ n. EntriesAt linked (thunk_width machine) n es) (sym block_loads.table_stands) block_entries;
+      entries = subst (λ n. EntriesAt linked (thunk_width machine) n es) (sym block_loads.table_located) block_entries;
     };
-    addresses = block_loads.table_stands;
+    addresses = block_loads.table_located;
   }
 
   -- what the block needs is defined, if what the others need is

@@ -5,7 +5,7 @@ use Rattle.std.specs.List.{AllByRecursion, IsDistinct, filter, flat_map}
 use Rattle.std.proofs.lemmas.List.{append-nil, append_assoc, map-append}
 use Rattle.implib.specs.declared.machine.MachineType.{MachineType}
 use Rattle.implib.specs.Definition.{ExportView}
-use Rattle.implib.specs.Gnu.{export_listed, head_symbol, name_symbol}
+use Rattle.implib.specs.Gnu.{export_listed, head_symbol, iname_symbol}
 use Rattle.implib.specs.Image.{AllApart, IsAdmissible, Range, filled, image_of, contributions, range_end, range_of}
 use Rattle.implib.specs.Placement.{Addresses, Bases, Descriptors, DllNames, HintNames, Group, Lookups, Placed, base_of, groups, placed_from}
 use Rattle.implib.specs.Resolution.{SymbolDefinition, definitions, definitions_of}
@@ -13,11 +13,11 @@ use Rattle.implib.specs.Load.{BytesAt}
 use Rattle.implib.specs.Object.{Object}
 use Rattle.implib.specs.Layout.{HasNoNul}
 use Rattle.implib.specs.Linked.{AllFind, IsDefinedAt, IsDefinedOnce, Links, LinksAt, LinksStrictlyAt, undefined_names}
-use Rattle.implib.proofs.Ranges.{Among, among_back, among_flat, among_front, filled_stands}
+use Rattle.implib.proofs.Ranges.{Among, among_back, among_flat, among_front, filled_located}
 use Rattle.implib.proofs.Placement.{AreAligned, after_head, head, names-after}
 use Rattle.implib.proofs.Definitions.{only_definition}
 use Rattle.implib.proofs.Tables.{CanBeAsked}
-use Rattle.implib.proofs.Linked.{BlockLinks, StandsFrom, aligned_block, all_append, bases_of_ranges, block_defined, block_definitions, block_links, block_targets, definitions-block, ends_of_block, head_definition, rest_stands}
+use Rattle.implib.proofs.Linked.{BlockLinks, LocatedFrom, aligned_block, all_append, bases_of_ranges, block_defined, block_definitions, block_links, block_targets, definitions-block, ends_of_block, head_definition, rest_located}
 
 -- what a DLL's objects are made of
 pub record Block : Type 0 where
@@ -26,7 +26,7 @@ pub record Block : Type 0 where
 
 -- the symbols that a DLL's members are listed for
 abbrev pub linked_symbols : MachineType → List ℕ → List ExportView → List (List ℕ)
-linked_symbols machine dll es = head_symbol machine dll ∷ (flat_map export_listed es ++ name_symbol machine dll ∷ [])
+linked_symbols machine dll es = head_symbol machine dll ∷ (flat_map export_listed es ++ iname_symbol machine dll ∷ [])
 
 -- the objects of DLLs, and others behind them
 abbrev pub blocks_objects : MachineType → List Block → List Object → List Object
@@ -86,28 +86,28 @@ pub record EachLinks (machine : MachineType) (linked : List Placed) (image : Lis
       AllByRecursion (IsDefinedAt linked) (undefined_names (placed_from b (blocks_objects machine blocks rest)))
   pub targets : AllByRecursion (AllFind linked) (placed_from (ends_of_blocks machine b blocks) rest) →
       AllByRecursion (AllFind linked) (placed_from b (blocks_objects machine blocks rest))
-  pub stands : StandsFrom machine linked image (ends_of_blocks machine b blocks) rest
+  pub located : LocatedFrom machine linked image (ends_of_blocks machine b blocks) rest
 
 -- each block links, wherever it stands among all that is linked
 module _ (machine : MachineType) (linked : List Placed) (image : List Range) (rest : List Object)
     (starts : AllByRecursion (λ r. 0 < r.start) image) (ends : AllByRecursion (λ r. range_end r < 2 ^ 31) image) where
   pub each_links : (blocks : List Block) (b : Bases) → AllByRecursion (CanBeLinked machine) blocks → AreAligned b →
       ((d : SymbolDefinition) → Among d (blocks_definitions machine b blocks) → definitions_of d.name linked ≡ d ∷ []) →
-      StandsFrom machine linked image b (blocks_objects machine blocks rest) → EachLinks machine linked image b blocks rest
+      LocatedFrom machine linked image b (blocks_objects machine blocks rest) → EachLinks machine linked image b blocks rest
   unfolding blocks_definitions ends_of_blocks BlocksLink
-  each_links [] b fit even only stands = record { imports = tt; defined = λ all. all; targets = λ all. all; stands = stands }
-  each_links (k ∷ blocks) b fit even only stands =
+  each_links [] b fit even only located = record { imports = tt; defined = λ all. all; targets = λ all. all; located = located }
+  each_links (k ∷ blocks) b fit even only located =
       let behind : List Object = blocks_objects machine blocks rest in
       let later : Bases = ends_of_block machine k.dll b k.exports in
       let own_only = λ (d : SymbolDefinition) (m : Among d (block_definitions machine k.dll b k.exports)). only d (among_front d (block_definitions machine k.dll b k.exports) (blocks_definitions machine later blocks) m) in
       let others = each_links blocks later fit.1 (aligned_block machine k.dll b k.exports even)
       (λ d m. only d (among_back d (block_definitions machine k.dll b k.exports) (blocks_definitions machine later blocks) m))
-      (rest_stands machine k.dll k.exports b behind linked image starts ends fit.0.dll fit.0.exports even own_only stands) in
+      (rest_located machine k.dll k.exports b behind linked image starts ends fit.0.dll fit.0.exports even own_only located) in
       record {
-        imports = (block_links machine k.dll k.exports b behind linked image starts ends fit.0.dll fit.0.exports even own_only stands, others.imports);
-        defined = λ all. block_defined machine k.dll k.exports b behind linked image starts ends fit.0.dll fit.0.exports even own_only stands (others.defined all);
-        targets = λ all. block_targets machine k.dll k.exports b behind linked image starts ends fit.0.dll fit.0.exports even own_only stands (others.targets all);
-        stands = others.stands;
+        imports = (block_links machine k.dll k.exports b behind linked image starts ends fit.0.dll fit.0.exports even own_only located, others.imports);
+        defined = λ all. block_defined machine k.dll k.exports b behind linked image starts ends fit.0.dll fit.0.exports even own_only located (others.defined all);
+        targets = λ all. block_targets machine k.dll k.exports b behind linked image starts ends fit.0.dll fit.0.exports even own_only located (others.targets all);
+        located = others.located;
       }
 
 -- objects that are placed admissibly stand in their image
@@ -136,19 +136,19 @@ module _ (machine : MachineType) (b : Bases) (objects : List Object) (admissible
   apart : AllApart (image_of machine b (placed_from b objects))
   apart = admissible.apart
 
-  pub group_stands : (k : Group) → Among k groups → BytesAt image (base_of k b) (filled (base_of k b) (contributions machine placed k placed))
-  group_stands k m =
-      filled_stands (base_of k b) (contributions machine placed k placed) (image_of machine b placed)
+  pub group_located : (k : Group) → Among k groups → BytesAt image (base_of k b) (filled (base_of k b) (contributions machine placed k placed))
+  group_located k m =
+      filled_located (base_of k b) (contributions machine placed k placed) (image_of machine b placed)
       (λ r held. among_flat (λ k. range_of (base_of k b) (contributions machine placed k placed)) k groups r m held) apart
 
-  pub all_stand : StandsFrom machine (placed_from b objects) (image_of machine b (placed_from b objects)) b objects
+  pub each_located : LocatedFrom machine (placed_from b objects) (image_of machine b (placed_from b objects)) b objects
   unfolding Among
-  all_stand = record {
-    descriptors = group_stands Descriptors (inl refl);
-    lookups = group_stands Lookups (inr (inr (inl refl)));
-    addresses = group_stands Addresses (inr (inr (inr (inl refl))));
-    hint_names = group_stands HintNames (inr (inr (inr (inr (inl refl)))));
-    dll_names = group_stands DllNames (inr (inr (inr (inr (inr (inl refl))))));
+  each_located = record {
+    descriptors = group_located Descriptors (inl refl);
+    lookups = group_located Lookups (inr (inr (inl refl)));
+    addresses = group_located Addresses (inr (inr (inr (inl refl))));
+    hint_names = group_located HintNames (inr (inr (inr (inr (inl refl)))));
+    dll_names = group_located DllNames (inr (inr (inr (inr (inr (inl refl))))));
   }
 
 -- the objects of DLLs link by themselves
@@ -186,7 +186,7 @@ module _ (machine : MachineType) (b : Bases) (blocks : List Block) (fit : AllByR
   each : EachLinks machine (placed_from b objects) (image_of machine b (placed_from b objects)) b blocks []
   each =
       each_links machine (placed_from b objects) (image_of machine b (placed_from b objects)) [] (starts machine b objects admissible) (ends machine b objects admissible)
-      blocks b fit (even machine b objects admissible) only (all_stand machine b objects admissible)
+      blocks b fit (even machine b objects admissible) only (each_located machine b objects admissible)
 
   pub blocks_link : AllByRecursion (λ (k : Block). LinksAt machine (image_of machine b (placed_from b (blocks_objects machine blocks []))) (placed_from b (blocks_objects machine blocks [])) k.dll k.exports) blocks
       × AllByRecursion (IsDefinedOnce (placed_from b (blocks_objects machine blocks []))) (undefined_names (placed_from b (blocks_objects machine blocks [])))

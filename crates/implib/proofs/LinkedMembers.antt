@@ -11,7 +11,7 @@ use Rattle.std.proofs.lemmas.List.{append_assoc, reverse-append}
 use Rattle.implib.specs.declared.members.Flavor.TheVariants.{Gnu}
 use Rattle.implib.specs.declared.machine.MachineType.{MachineType}
 use Rattle.implib.specs.Definition.{DefinitionView, ExportView}
-use Rattle.implib.specs.Gnu.{head_symbol, name_symbol, export_listed, export_name, export_object, head_name, head_object, numbered_name, stem, tail_name, tail_object}
+use Rattle.implib.specs.Gnu.{head_symbol, iname_symbol, export_listed, export_name, export_object, head_name, head_object, numbered_name, mangled_name, tail_name, tail_object}
 use Rattle.implib.specs.Import.{holds, has_underscore, public_exports, without_first}
 use Rattle.implib.specs.Image.{IsAdmissible}
 use Rattle.implib.specs.Placement.{Bases}
@@ -40,7 +40,7 @@ held_reads h fits short =
     let below : encoded_size (layout_of h) < 2 ^ 32 = omega arith in
     object_in-encoded (layout_of h) fits below ∙ ap Some (object_of-layout_of h)
 
--- what holds of each holds of the one at a place
+-- what holds of each holds of the one at a position
 pub all_at : {X : Type 0} (P : X → Type 0) (xs : List X) (n : ℕ) (x : X) → AllByRecursion P xs → slice_get xs n ≡ Some x → P x
 all_at P [] n x all is = cc
 all_at P (y ∷ xs) zero x all is = subst P (let same : y ≡ x = cc in same) all.0
@@ -95,15 +95,15 @@ numbered_among : (machine : MachineType) (dll : List ℕ) (exports : List Export
 numbered_among machine dll [] start n e is = cc
 numbered_among machine dll (x ∷ exports) start zero e is =
     let same : x ≡ e = cc in
-    let place : start ≡ start + 0 = omega arith in
+    let position : start ≡ start + 0 = omega arith in
     among_front _ (numbered_specs_of machine dll start x) (numbered_specs machine dll (start + 1) exports)
     (among_back _ (alias_specs machine dll start x) (export_spec machine dll start x ∷ [])
     (subst (λ y. Among (export_spec machine dll (start + 0) y) (export_spec machine dll start x ∷ [])) same
-    (subst (λ n. Among (export_spec machine dll n x) (export_spec machine dll start x ∷ [])) place (among_first _ []))))
+    (subst (λ n. Among (export_spec machine dll n x) (export_spec machine dll start x ∷ [])) position (among_first _ []))))
 numbered_among machine dll (x ∷ exports) start (suc n) e is =
-    let place : start + 1 + n ≡ start + suc n = omega arith in
+    let position : start + 1 + n ≡ start + suc n = omega arith in
     among_back _ (numbered_specs_of machine dll start x) (numbered_specs machine dll (start + 1) exports)
-    (subst (λ n. Among (export_spec machine dll n e) (numbered_specs machine dll (start + 1) exports)) place (numbered_among machine dll exports (start + 1) n e is))
+    (subst (λ n. Among (export_spec machine dll n e) (numbered_specs machine dll (start + 1) exports)) position (numbered_among machine dll exports (start + 1) n e is))
 
 pub among_contains : {X : Type 0} (x : X) (xs : List X) → Among x xs → Contains xs x
 unfolding Among
@@ -124,9 +124,9 @@ module _ (machine : MachineType) (dll : List ℕ) (exports : List ExportView) (d
 
   pub export_among : (n : ℕ) (e : ExportView) → slice_get exports n ≡ Some e → Among (export_spec machine dll n e) (gnu_specs machine dll exports)
   export_among n e is =
-      let place : 0 + n ≡ n = omega arith in
+      let position : 0 + n ≡ n = omega arith in
       among_later _ _ _ (among_later _ _ _ (among_reverse _ _
-      (subst (λ m. Among (export_spec machine dll m e) (numbered_specs machine dll 0 exports)) place (numbered_among machine dll exports 0 n e is))))
+      (subst (λ m. Among (export_spec machine dll m e) (numbered_specs machine dll 0 exports)) position (numbered_among machine dll exports 0 n e is))))
 
   size_of : (p : MemberSpec) → Among p (gnu_specs machine dll exports) → file_size p.contents ≤ 0xFFFF_FFFF
   size_of p m = short_enough p (none_among is_too_long p (gnu_specs machine dll exports) m short)
@@ -160,7 +160,7 @@ module _ (machine : MachineType) (dll : List ℕ) (exports : List ExportView) (d
   abbrev chosen_of : List ℕ → List ExportView
   chosen_of ns = filter_map (slice_get exports) ns
 
-  -- a fact of what stands at a place, from what it is
+  -- a fact of what stands at a position, from what it is
   by_place : (P : Option ExportView → Type 0) (n : ℕ) (o : Option ExportView) → slice_get exports n ≡ o → (slice_get exports n ≡ None → P None) →
       ((e : ExportView) → slice_get exports n ≡ Some e → P (Some e)) → P o
   by_place P n None is none some = none is
@@ -180,14 +180,14 @@ module _ (machine : MachineType) (dll : List ℕ) (exports : List ExportView) (d
       (λ is. chosen_read ns)
       (λ e is. ap (λ o. o ∷ map (λ (p : MemberSpec). object_in (member_of p).bytes) (member_specs_after ns)) (export_reads n e is) ∙ ap (λ rest. Some (export machine dll e) ∷ rest) (chosen_read ns))
 
-  chosen_listed : (ns : List ℕ) → flat_map (λ (p : MemberSpec). p.listed) (member_specs_after ns) ≡ flat_map export_listed (chosen_of ns) ++ name_symbol machine dll ∷ []
+  chosen_listed : (ns : List ℕ) → flat_map (λ (p : MemberSpec). p.listed) (member_specs_after ns) ≡ flat_map export_listed (chosen_of ns) ++ iname_symbol machine dll ∷ []
   unfolding tail_spec export_spec
   chosen_listed [] = refl
   chosen_listed (n ∷ ns) =
       by_place (λ o. flat_map (λ (p : MemberSpec). p.listed) (cons_option (option_map (export_spec machine dll n) o) (filter_map (numbered_spec machine dll exports) ns) ++ tail_spec machine dll ∷ [])
-      ≡ flat_map export_listed (cons_option o (chosen_of ns)) ++ name_symbol machine dll ∷ []) n (slice_get exports n) refl
+      ≡ flat_map export_listed (cons_option o (chosen_of ns)) ++ iname_symbol machine dll ∷ []) n (slice_get exports n) refl
       (λ is. chosen_listed ns)
-      (λ e is. ap (λ rest. export_listed e ++ rest) (chosen_listed ns) ∙ sym (append_assoc (export_listed e) (flat_map export_listed (chosen_of ns)) (name_symbol machine dll ∷ [])))
+      (λ e is. ap (λ rest. export_listed e ++ rest) (chosen_listed ns) ∙ sym (append_assoc (export_listed e) (flat_map export_listed (chosen_of ns)) (iname_symbol machine dll ∷ [])))
 
   chosen_names : (ns : List ℕ) → AllByRecursion (λ n. n < length exports) ns → map (λ (p : MemberSpec). p.name) (member_specs_after ns) ≡ map (export_name dll) ns ++ tail_name dll ∷ []
   unfolding tail_spec export_spec
@@ -218,15 +218,15 @@ after_same (byte ∷ front) xs ys = rw (same_cmp byte) (after_same front xs ys)
 
 pub head_first : (dll : List ℕ) (n : ℕ) → ComesBefore (head_name dll) (export_name dll n)
 unfolding head_name numbered_name
-head_first dll n = after_same (stem dll) _ _
+head_first dll n = after_same (mangled_name dll) _ _
 
 pub tail_last : (dll : List ℕ) (n : ℕ) → ComesBefore (export_name dll n) (tail_name dll)
 unfolding tail_name numbered_name
-tail_last dll n = after_same (stem dll) _ _
+tail_last dll n = after_same (mangled_name dll) _ _
 
 pub head_before_tail : (dll : List ℕ) → ComesBefore (head_name dll) (tail_name dll)
 unfolding head_name tail_name
-head_before_tail dll = after_same (stem dll) _ _
+head_before_tail dll = after_same (mangled_name dll) _ _
 
 rise_to_tail : (dll : List ℕ) (n : ℕ) (ns : List ℕ) → AllRise (export_name dll n ∷ map (export_name dll) ns) →
     AllRise (export_name dll n ∷ (map (export_name dll) ns ++ tail_name dll ∷ []))

@@ -24,7 +24,7 @@ bytes_once image (x ∷ xs) (y ∷ ys) a first second long =
 
 pub number_once : (image : List Range) (width a n m : ℕ) → NumberAt image width a n → NumberAt image width a m → n ≡ m
 number_once image width a n m first second =
-    sym first.value ∙ ap number_in (bytes_once image first.bytes second.bytes a first.stands second.stands (first.count ∙ sym second.count)) ∙ second.value
+    sym first.value ∙ ap number_in (bytes_once image first.bytes second.bytes a first.located second.located (first.count ∙ sym second.count)) ∙ second.value
 
 no_nul_first : (y : ℕ) (ys : List ℕ) → HasNoNul (y ∷ ys) → 0 ≡ y → ⊥
 no_nul_first zero ys free is = false≢true (sym free)
@@ -48,7 +48,7 @@ ask_once image width thunk (Ordinal n) (Ordinal m) first second = ap Ordinal (sy
 ask_once image width thunk (Ordinal n) (Name text hint) first second = let high = first.0 in let low = second.0 in absurd (omega arith)
 ask_once image width thunk (Name text hint) (Ordinal n) first second = let low = first.0 in let high = second.0 in absurd (omega arith)
 ask_once image width thunk (Name text hint) (Name other number) first second =
-    let same_text : text ≡ other = text_once image text other (thunk % 2 ^ 31 + 2) first.2.no_nul second.2.no_nul first.2.stands second.2.stands in
+    let same_text : text ≡ other = text_once image text other (thunk % 2 ^ 31 + 2) first.2.no_nul second.2.no_nul first.2.located second.2.located in
     let same_hint : hint ≡ number = number_once image 2 (thunk % 2 ^ 31) hint number first.1 second.1 in
     cc
 
@@ -58,10 +58,10 @@ same_asks x y xs ys first rest = cc
 pub table_once : (image : List Range) (width : ℕ) (xs ys : List Ask) (a : ℕ) → TableAt image width a xs → TableAt image width a ys → xs ≡ ys
 unfolding TableAt
 table_once image width [] [] a first second = refl
-table_once image width [] (y ∷ ys) a first second = absurd (second.0.goes_on (number_once image width a second.0.thunk 0 second.0.stands first))
-table_once image width (x ∷ xs) [] a first second = absurd (first.0.goes_on (number_once image width a first.0.thunk 0 first.0.stands second))
+table_once image width [] (y ∷ ys) a first second = absurd (second.0.goes_on (number_once image width a second.0.thunk 0 second.0.located first))
+table_once image width (x ∷ xs) [] a first second = absurd (first.0.goes_on (number_once image width a first.0.thunk 0 first.0.located second))
 table_once image width (x ∷ xs) (y ∷ ys) a first second =
-    let thunks : first.0.thunk ≡ second.0.thunk = number_once image width a first.0.thunk second.0.thunk first.0.stands second.0.stands in
+    let thunks : first.0.thunk ≡ second.0.thunk = number_once image width a first.0.thunk second.0.thunk first.0.located second.0.located in
     same_asks x y xs ys
     (ask_once image width second.0.thunk x y (subst (λ t. ThunkAsksFor image width t x) thunks first.0.asks) second.0.asks)
     (table_once image width xs ys (a + width) first.1 second.1)
@@ -69,12 +69,12 @@ table_once image width (x ∷ xs) (y ∷ ys) a first second =
 pub dll_once : (image : List Range) (width descriptor : ℕ) (dll other : List ℕ) (asks others : List Ask) →
     Loads image width descriptor dll asks → Loads image width descriptor other others → dll ≡ other
 dll_once image width descriptor dll other asks others first second =
-    let places : first.name ≡ second.name = number_once image 4 (descriptor + 12) first.name second.name first.name_field second.name_field in
+    let section_addresses : first.name ≡ second.name = number_once image 4 (descriptor + 12) first.name second.name first.name_field second.name_field in
     text_once image dll other second.name first.name_text.no_nul second.name_text.no_nul
-    (subst (λ n. BytesAt image n (dll ++ 0 ∷ [])) places first.name_text.stands) second.name_text.stands
+    (subst (λ n. BytesAt image n (dll ++ 0 ∷ [])) section_addresses first.name_text.located) second.name_text.located
 
 pub asks_once : (image : List Range) (width descriptor : ℕ) (dll other : List ℕ) (asks others : List Ask) →
     Loads image width descriptor dll asks → Loads image width descriptor other others → asks ≡ others
 asks_once image width descriptor dll other asks others first second =
-    let places : first.lookups ≡ second.lookups = number_once image 4 descriptor first.lookups second.lookups first.lookups_field second.lookups_field in
-    table_once image width asks others second.lookups (subst (λ n. TableAt image width n asks) places first.lookup_table) second.lookup_table
+    let section_addresses : first.lookups ≡ second.lookups = number_once image 4 descriptor first.lookups second.lookups first.lookups_field second.lookups_field in
+    table_once image width asks others second.lookups (subst (λ n. TableAt image width n asks) section_addresses first.lookup_table) second.lookup_table

@@ -10,7 +10,7 @@ use Rattle.std.proofs.lemmas.Slice.Eq.{bytes_eq-Decides}
 use Rattle.implib.specs.Layout.{InStringTable, InRecord, LayoutSymbol, SymbolName}
 use Rattle.implib.specs.Writer.{AddedSymbol, is_long, long_names, name_location, section_number, symbol_written, with_long_name, with_name}
 
--- the place of a name among names
+-- the position of a name among names
 
 found_step : (b any : Bool) (n m : ℕ) → (b || any) ≡ true → (any ≡ true → n ≡ m) → cond (not b) (1 + n) 0 ≡ cond (not b) (1 + m) 0
 found_step true any n m there rest = refl
@@ -72,7 +72,7 @@ with_name-listed names name = elim (cases_Bool (list_any (bytes_eq name) names))
   | inr absent ↦ rw (with_name-absent names name absent, list_any-append (bytes_eq name) names (name ∷ []), absent, same_name name) refl
 ]
 
--- a name that was there keeps its place
+-- a name that was there keeps its position
 position-with_name : (p : List ℕ → Bool) (names : List (List ℕ)) (name : List ℕ) → list_any p names ≡ true → position_or_len p (with_name names name) ≡ position_or_len p names
 position-with_name p names name there = elim (cases_Bool (list_any (bytes_eq name) names)) [
   | inl present ↦ rw (with_name-present names name present) refl
@@ -177,10 +177,10 @@ symbols_written-push ss s done next so_far here =
     refl
 
 -- a symbol whose name is found where it is written
-pub symbol_written-is : (names : List (List ℕ)) (s : AddedSymbol) (place : SymbolName) (number : ℕ) → place ≡ name_location names s.name → number ≡ section_number s.place
-    → record { name = place; value = s.value; section = number; class = s.class; aux = s.aux } ≡ symbol_written names s
+pub symbol_written-is : (names : List (List ℕ)) (s : AddedSymbol) (position : SymbolName) (number : ℕ) → position ≡ name_location names s.name → number ≡ section_number s.place
+    → record { name = position; value = s.value; section = number; class = s.class; aux = s.aux } ≡ symbol_written names s
 unfolding symbol_written
-symbol_written-is names s place number e f = rw (e, f) refl
+symbol_written-is names s position number e f = rw (e, f) refl
 
 -- a set of texts that are borrowed, by the test that finds one
 

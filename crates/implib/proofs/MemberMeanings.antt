@@ -12,7 +12,7 @@ use Rattle.implib.specs.declared.machine.MachineType.{MachineType}
 use Rattle.implib.specs.Bytes.{u32_bytes}
 use Rattle.implib.specs.Definition.{DefinitionView, ExportView}
 use Rattle.implib.specs.File.{ObjectFile, AnImport, AnAlias, declared_by, dll_in, dll_of, file_in, meaning_in, meaning_of}
-use Rattle.implib.specs.Import.{Alias, address_symbol, aliases_for, holds, expected_import, import_symbols, is_alias, is_empty_text, public_exports}
+use Rattle.implib.specs.Import.{Alias, imp_symbol, aliases_for, holds, expected_import, import_symbols, is_alias, is_empty_text, public_exports}
 use Rattle.implib.specs.MemberSpec.{AShortImport, AnObject, MemberSpec, MemberView, member_of, file_bytes}
 use Rattle.implib.specs.Members.{AreMembersOf, member_specs}
 use Rattle.implib.specs.MsvcMembers.{descriptor_spec, null_descriptor_spec, null_thunk_spec, header_specs, weak_specs, export_specs, short_import_spec}
@@ -48,10 +48,10 @@ record_declares : (machine : MachineType) (dll : List ℕ) (e : ExportView) → 
 record_declares machine dll e = ap (λ is_data. import_symbols is_data (short_import_symbol e)) (kind_is_data e.is_data e.constant)
 
 chosen_declare : (machine : MachineType) (dll : List ℕ) (e : ExportView) (test : Bool) →
-    AllByRecursion DeclaresListed (if test then weak_spec machine dll (short_import_symbol e) e.alias_target ∷ weak_spec machine dll (address_symbol (short_import_symbol e)) (address_symbol e.alias_target) ∷ [] else [])
+    AllByRecursion DeclaresListed (if test then weak_spec machine dll (short_import_symbol e) e.alias_target ∷ weak_spec machine dll (imp_symbol (short_import_symbol e)) (imp_symbol e.alias_target) ∷ [] else [])
 chosen_declare machine dll e false = tt
 chosen_declare machine dll e true =
-    (weak_declares machine dll (short_import_symbol e) e.alias_target, (weak_declares machine dll (address_symbol (short_import_symbol e)) (address_symbol e.alias_target), tt))
+    (weak_declares machine dll (short_import_symbol e) e.alias_target, (weak_declares machine dll (imp_symbol (short_import_symbol e)) (imp_symbol e.alias_target), tt))
 
 exports_declare : (machine : MachineType) (dll : List ℕ) (exports : List ExportView) → AllByRecursion DeclaresListed (flat_map (export_specs machine dll) exports)
 unfolding weak_specs
@@ -94,12 +94,12 @@ record_means : (machine : MachineType) (dll : List ℕ) (e : ExportView) → mea
 record_means machine dll e = ap (option_map AnImport) (import_of_short_import-short_import_of machine dll e)
 
 chosen_mean : (machine : MachineType) (dll : List ℕ) (e : ExportView) (test : Bool) →
-    map (λ (p : MemberSpec). meaning_of (file_of p.contents)) (if test then weak_spec machine dll (short_import_symbol e) e.alias_target ∷ weak_spec machine dll (address_symbol (short_import_symbol e)) (address_symbol e.alias_target) ∷ [] else [])
-    ≡ map (λ a. Some (AnAlias a)) (if test then record { weak = short_import_symbol e; target = e.alias_target } ∷ record { weak = address_symbol (short_import_symbol e); target = address_symbol e.alias_target } ∷ [] else [])
+    map (λ (p : MemberSpec). meaning_of (file_of p.contents)) (if test then weak_spec machine dll (short_import_symbol e) e.alias_target ∷ weak_spec machine dll (imp_symbol (short_import_symbol e)) (imp_symbol e.alias_target) ∷ [] else [])
+    ≡ map (λ a. Some (AnAlias a)) (if test then record { weak = short_import_symbol e; target = e.alias_target } ∷ record { weak = imp_symbol (short_import_symbol e); target = imp_symbol e.alias_target } ∷ [] else [])
 chosen_mean machine dll e false = refl
 chosen_mean machine dll e true =
     let first = weak_means machine (short_import_symbol e) e.alias_target in
-    let second = weak_means machine (address_symbol (short_import_symbol e)) (address_symbol e.alias_target) in
+    let second = weak_means machine (imp_symbol (short_import_symbol e)) (imp_symbol e.alias_target) in
     rw (first, second) refl
 
 export_means : (machine : MachineType) (dll : List ℕ) (e : ExportView) →

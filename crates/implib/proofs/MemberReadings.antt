@@ -12,7 +12,7 @@ use Rattle.implib.specs.declared.machine.MachineType.TheVariants.{I386, ARMNT, A
 use Rattle.implib.specs.Bytes.{u16_bytes}
 use Rattle.implib.specs.Definition.{DefinitionView, ExportView}
 use Rattle.implib.specs.File.{ObjectFile, file_in, short_import_or_object}
-use Rattle.implib.specs.Import.{address_symbol, holds, is_alias, public_exports}
+use Rattle.implib.specs.Import.{imp_symbol, holds, is_alias, public_exports}
 use Rattle.implib.specs.Machine.{machine_number}
 use Rattle.implib.specs.MemberSpec.{Contents, AShortImport, AnObject, MemberSpec, MemberView, member_of, file_bytes, file_size}
 use Rattle.implib.specs.Members.{AreMembersOf, member_specs, is_too_long}
@@ -88,15 +88,15 @@ weak_reads machine weak target weak_free target_free short =
 -- what the specifications of a list of exports are read as, one after another
 module _ (machine : MachineType) (dll : List ℕ) (dll_free : holds 0 dll ≡ false) where
   weak_plans_read : (e : ExportView) → Sound e → (test : Bool) →
-      list_any is_too_long (if test then weak_spec machine dll (short_import_symbol e) e.alias_target ∷ weak_spec machine dll (address_symbol (short_import_symbol e)) (address_symbol e.alias_target) ∷ [] else []) ≡ false →
-      AllByRecursion (λ p. ReadsBack p.contents) (if test then weak_spec machine dll (short_import_symbol e) e.alias_target ∷ weak_spec machine dll (address_symbol (short_import_symbol e)) (address_symbol e.alias_target) ∷ [] else [])
+      list_any is_too_long (if test then weak_spec machine dll (short_import_symbol e) e.alias_target ∷ weak_spec machine dll (imp_symbol (short_import_symbol e)) (imp_symbol e.alias_target) ∷ [] else []) ≡ false →
+      AllByRecursion (λ p. ReadsBack p.contents) (if test then weak_spec machine dll (short_import_symbol e) e.alias_target ∷ weak_spec machine dll (imp_symbol (short_import_symbol e)) (imp_symbol e.alias_target) ∷ [] else [])
   weak_plans_read e sound false short = tt
   weak_plans_read e sound true short =
       let first = or_parts (is_too_long (weak_spec machine dll (short_import_symbol e) e.alias_target)) _ short in
-      let second = or_parts (is_too_long (weak_spec machine dll (address_symbol (short_import_symbol e)) (address_symbol e.alias_target))) false first.1 in
+      let second = or_parts (is_too_long (weak_spec machine dll (imp_symbol (short_import_symbol e)) (imp_symbol e.alias_target))) false first.1 in
       let symbol_free : holds 0 (short_import_symbol e) ≡ false = symbol_without_nul e.symbol_name e.name sound.symbol_name sound.name in (
         weak_reads machine (short_import_symbol e) e.alias_target symbol_free sound.alias_target (short_enough (weak_spec machine dll (short_import_symbol e) e.alias_target) first.0),
-        (weak_reads machine (address_symbol (short_import_symbol e)) (address_symbol e.alias_target) symbol_free sound.alias_target (short_enough (weak_spec machine dll (address_symbol (short_import_symbol e)) (address_symbol e.alias_target)) second.0), tt),
+        (weak_reads machine (imp_symbol (short_import_symbol e)) (imp_symbol e.alias_target) symbol_free sound.alias_target (short_enough (weak_spec machine dll (imp_symbol (short_import_symbol e)) (imp_symbol e.alias_target)) second.0), tt),
       )
 
   export_plans_read : (e : ExportView) → Sound e → list_any is_too_long (export_specs machine dll e) ≡ false → AllByRecursion (λ p. ReadsBack p.contents) (export_specs machine dll e)

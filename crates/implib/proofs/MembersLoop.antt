@@ -43,10 +43,10 @@ module _ (machine : MachineType) (dll : List ℕ) (all : List MemberView) (long 
   }
 
   -- after an export whose members are made
-  pub left_public : (grown : List MemberView) → e.private ≡ false → Left machine dll all long sound index members (e ∷ exports) →
-      grown ≡ members ++ map member_of (export_specs machine dll e) → list_any is_too_long (export_specs machine dll e) ≡ false → has_u16_ordinal e ≡ true →
-      Left machine dll all long sound (index + 1) grown exports
-  left_public grown public left made short ordinal =
+  pub left_public : (extended : List MemberView) → e.private ≡ false → Left machine dll all long sound index members (e ∷ exports) →
+      extended ≡ members ++ map member_of (export_specs machine dll e) → list_any is_too_long (export_specs machine dll e) ≡ false → has_u16_ordinal e ≡ true →
+      Left machine dll all long sound (index + 1) extended exports
+  left_public extended public left made short ordinal =
       let others = flat_map (export_specs machine dll) (filter (λ x. not x.private) exports) in
       record {
         named = rest_named left.named;

@@ -64,7 +64,7 @@ refused_by_length d machine flavor (Err (Invalid fault)) same names too_long =
     ∙ ap (λ test. if test then Some MemberTooLong else None) too_long.1
     ∙ ap (λ (x : Cause). Some x) (sym too_long.0)
 
--- where the names are in order, nothing is owed of a refusal by names
+-- where the names are in order, no name is refused
 pub no_refusal_by_names : {T : Type 0} (d : DefinitionView) (machine : MachineType) (flavor : Flavor) (result : Result T Error) →
     renamed d ≡ d → None ≡ definition_names_refusal d machine flavor → RefusesAlways d machine flavor result
 no_refusal_by_names d machine flavor result same names = λ cause refused.

@@ -7,8 +7,8 @@ use Rattle.implib.specs.declared.machine.MachineType.{MachineType}
 use Rattle.implib.specs.declared.machine.MachineType.TheVariants.{I386, ARMNT, AMD64, ARM64}
 use Rattle.implib.specs.Bytes.{u16_bytes}
 use Rattle.implib.specs.Definition.{ExportView}
-use Rattle.implib.specs.Gnu.{export_listed, export_object, head_object, hint_name, name_symbol, tail_object, thunk}
-use Rattle.implib.specs.Import.{address_symbol}
+use Rattle.implib.specs.Gnu.{export_listed, export_object, head_object, hint_name, iname_symbol, tail_object, thunk}
+use Rattle.implib.specs.Import.{imp_symbol}
 use Rattle.implib.specs.Placement.{Addresses, At, Bases, Descriptors, DllNames, HintNames, Lookups, Unplaced, Placed, next_multiple, placed_from}
 use Rattle.implib.specs.Resolution.{SymbolDefinition, defined_by, definitions}
 use Rattle.implib.specs.ImportTables.{thunk_width, zeros}
@@ -68,7 +68,7 @@ module _ (machine : MachineType) (dll : List ℕ) where
   abbrev pub placed_head : Bases → Placed
   placed_head b = record {
     object = head;
-    places = Unplaced ∷ Unplaced ∷ Unplaced ∷ At Descriptors b.descriptors ∷ At Addresses b.addresses ∷ At Lookups b.lookups ∷ [];
+    section_addresses = Unplaced ∷ Unplaced ∷ Unplaced ∷ At Descriptors b.descriptors ∷ At Addresses b.addresses ∷ At Lookups b.lookups ∷ [];
   }
 
   abbrev pub ends_of_head : Bases → Bases
@@ -77,7 +77,7 @@ module _ (machine : MachineType) (dll : List ℕ) where
   abbrev pub placed_export : Bases → ExportView → Placed
   placed_export b e = record {
     object = export e;
-    places = Unplaced ∷ Unplaced ∷ Unplaced ∷ At DllNames (next_multiple 4 b.dll_names) ∷ At Addresses b.addresses ∷ At Lookups b.lookups ∷ At HintNames (next_multiple 2 b.hint_names) ∷ [];
+    section_addresses = Unplaced ∷ Unplaced ∷ Unplaced ∷ At DllNames (next_multiple 4 b.dll_names) ∷ At Addresses b.addresses ∷ At Lookups b.lookups ∷ At HintNames (next_multiple 2 b.hint_names) ∷ [];
   }
 
   abbrev pub ends_of_export : Bases → ExportView → Bases
@@ -93,7 +93,7 @@ module _ (machine : MachineType) (dll : List ℕ) where
   abbrev pub placed_tail : Bases → Placed
   placed_tail b = record {
     object = tail;
-    places = Unplaced ∷ Unplaced ∷ Unplaced ∷ At Lookups b.lookups ∷ At Addresses b.addresses ∷ At DllNames (next_multiple 4 b.dll_names) ∷ [];
+    section_addresses = Unplaced ∷ Unplaced ∷ Unplaced ∷ At Lookups b.lookups ∷ At Addresses b.addresses ∷ At DllNames (next_multiple 4 b.dll_names) ∷ [];
   }
 
   abbrev pub ends_of_tail : Bases → Bases
@@ -156,10 +156,10 @@ module _ (machine : MachineType) (dll : List ℕ) where
   code_definition e = if e.is_data then [] else record { name = e.name; address = None } ∷ []
 
   abbrev pub address_definition : Bases → ExportView → SymbolDefinition
-  address_definition b e = record { name = address_symbol e.name; address = Some (b.addresses + 0) }
+  address_definition b e = record { name = imp_symbol e.name; address = Some (b.addresses + 0) }
 
   unfoldable pub defined_after : Bases → List ExportView → List SymbolDefinition
-  defined_after b [] = record { name = name_symbol machine dll; address = Some (next_multiple 4 b.dll_names + 0) } ∷ []
+  defined_after b [] = record { name = iname_symbol machine dll; address = Some (next_multiple 4 b.dll_names + 0) } ∷ []
   defined_after b (e ∷ es) = code_definition e ++ address_definition b e ∷ defined_after (ends_of_export b e) es
 
   defined_by_export : (b : Bases) (e : ExportView) (rest : List SymbolDefinition) →
@@ -178,11 +178,11 @@ module _ (machine : MachineType) (dll : List ℕ) where
       ∙ ap (λ others. code_definition e ++ address_definition b e ∷ others) (definitions-after (ends_of_export b e) es rest (aligned_after b e even))
       ∙ sym (append_assoc (code_definition e) (address_definition b e ∷ defined_after (ends_of_export b e) es) (definitions (placed_from (ends_of_all (ends_of_export b e) es) rest)))
 
-  pub names-after : (b : Bases) (es : List ExportView) → map (λ (d : SymbolDefinition). d.name) (defined_after b es) ≡ flat_map export_listed es ++ name_symbol machine dll ∷ []
+  pub names-after : (b : Bases) (es : List ExportView) → map (λ (d : SymbolDefinition). d.name) (defined_after b es) ≡ flat_map export_listed es ++ iname_symbol machine dll ∷ []
   unfolding defined_after hint_name
   names-after b [] = refl
   names-after b (e ∷ es) =
       elim (cases_Bool e.is_data) [
-        | inl is ↦ rw is (ap (λ rest. address_symbol e.name ∷ rest) (names-after (ends_of_export b e) es))
-        | inr is ↦ rw is (ap (λ rest. e.name ∷ address_symbol e.name ∷ rest) (names-after (ends_of_export b e) es))
+        | inl is ↦ rw is (ap (λ rest. imp_symbol e.name ∷ rest) (names-after (ends_of_export b e) es))
+        | inr is ↦ rw is (ap (λ rest. e.name ∷ imp_symbol e.name ∷ rest) (names-after (ends_of_export b e) es))
       ]

@@ -89,40 +89,40 @@ ends_below limit (r ∷ rs) h =
     let later = and_parts (list_all (λ later. nat_le (range_end r) later.start) rs) (rise_below limit rs) parts.1 in
     (ltb-true (range_end r) limit parts.0, ends_below limit rs later.1)
 
--- what a range holds from a place on stands there
-rest_stands : (r : Range) (ranges : List Range) → Among r ranges → AllApart ranges → (bytes front : List ℕ) (a : ℕ) →
+-- what a range holds from a position on stands there
+rest_located : (r : Range) (ranges : List Range) → Among r ranges → AllApart ranges → (bytes front : List ℕ) (a : ℕ) →
     r.bytes ≡ front ++ bytes → a ≡ r.start + length front → BytesAt ranges a bytes
 unfolding BytesAt
-rest_stands r ranges m apart [] front a is at = tt
-rest_stands r ranges m apart (b ∷ bytes) front a is at =
+rest_located r ranges m apart [] front a is at = tt
+rest_located r ranges m apart (b ∷ bytes) front a is at =
     let long : length r.bytes ≡ length front + (length bytes + 1) = ap length is ∙ length-append front (b ∷ bytes) ∙ omega arith in
     let within : is_in a r ≡ true = is_in_from a r (omega arith) (omega arith) in
-    let place : a - r.start ≡ length front = omega arith in
-    let first : slice_index r.bytes (a - r.start) ≡ b = rw (place, is) (get_or_at front b bytes 0 (length front) refl) in (
+    let position : a - r.start ≡ length front = omega arith in
+    let first : slice_index r.bytes (a - r.start) ≡ b = rw (position, is) (get_or_at front b bytes 0 (length front) refl) in (
       byte_of r ranges a m apart within ∙ ap Some first,
-      rest_stands r ranges m apart bytes (front ++ b ∷ []) (a + 1) (is ∙ sym (append_assoc front (b ∷ []) bytes)) (rw (length-append front (b ∷ [])) (omega arith)),
+      rest_located r ranges m apart bytes (front ++ b ∷ []) (a + 1) (is ∙ sym (append_assoc front (b ∷ []) bytes)) (rw (length-append front (b ∷ [])) (omega arith)),
     )
 
-pub range_stands : (r : Range) (ranges : List Range) → Among r ranges → AllApart ranges → BytesAt ranges r.start r.bytes
-range_stands r ranges m apart = rest_stands r ranges m apart r.bytes [] r.start refl (omega arith)
+pub range_located : (r : Range) (ranges : List Range) → Among r ranges → AllApart ranges → BytesAt ranges r.start r.bytes
+range_located r ranges m apart = rest_located r ranges m apart r.bytes [] r.start refl (omega arith)
 
 -- the contributions of a range stand
-pub filled_stands : (base : ℕ) (ps : List Contribution) (ranges : List Range) → ((r : Range) → Among r (range_of base ps) → Among r ranges) → AllApart ranges →
+pub filled_located : (base : ℕ) (ps : List Contribution) (ranges : List Range) → ((r : Range) → Among r (range_of base ps) → Among r ranges) → AllApart ranges →
     BytesAt ranges base (filled base ps)
 unfolding BytesAt
-filled_stands base [] ranges sub apart = tt
-filled_stands base (p ∷ ps) ranges sub apart =
+filled_located base [] ranges sub apart = tt
+filled_located base (p ∷ ps) ranges sub apart =
     let r : Range = record { start = base; bytes = filled base (p ∷ ps) } in
-    range_stands r ranges (sub r (among_first r [])) apart
+    range_located r ranges (sub r (among_first r [])) apart
 
 -- bytes that stand one after another
-pub stands_parts : (ranges : List Range) (xs ys : List ℕ) (a : ℕ) → BytesAt ranges a (xs ++ ys) → BytesAt ranges a xs × BytesAt ranges (a + length xs) ys
+pub located_parts : (ranges : List Range) (xs ys : List ℕ) (a : ℕ) → BytesAt ranges a (xs ++ ys) → BytesAt ranges a xs × BytesAt ranges (a + length xs) ys
 unfolding BytesAt
-stands_parts ranges [] ys a stands = (tt, subst (λ n. BytesAt ranges n ys) (omega arith) stands)
-stands_parts ranges (x ∷ xs) ys a stands =
-    let parts = stands_parts ranges xs ys (a + 1) stands.1 in
+located_parts ranges [] ys a located = (tt, subst (λ n. BytesAt ranges n ys) (omega arith) located)
+located_parts ranges (x ∷ xs) ys a located =
+    let parts = located_parts ranges xs ys (a + 1) located.1 in
     let same : a + 1 + length xs ≡ a + length (x ∷ xs) = omega arith in
-    ((stands.0, parts.0), subst (λ n. BytesAt ranges n ys) same parts.1)
+    ((located.0, parts.0), subst (λ n. BytesAt ranges n ys) same parts.1)
 
 -- an address with a byte is one of a range
 pub address_bounds : (ranges : List Range) (a b : ℕ) → AllByRecursion (λ r. 0 < r.start) ranges → AllByRecursion (λ r. range_end r < 2 ^ 31) ranges →

@@ -54,8 +54,8 @@ ordinal_outcome (t ∷ rest) = ordinal_by_outcome t.kind t rest refl
 -- ---- attributes
 
 -- an attribute that stands before what follows it
-abbrev pub AttributeStands : List TokenView → Attribute → List TokenView → Type 0
-AttributeStands tokens a rest = StartsWith tokens (attribute_terminals a) rest × IsAfter (follow_attribute a) rest
+abbrev pub AttributeLocated : List TokenView → Attribute → List TokenView → Type 0
+AttributeLocated tokens a rest = StartsWith tokens (attribute_terminals a) rest × IsAfter (follow_attribute a) rest
 
 -- the first word, if a word comes first, begins no attribute
 abbrev pub PlainFront : List TokenView → Type 0
@@ -71,7 +71,7 @@ abbrev pub AttributeCut : List TokenView → Refusal → Type 0
 AttributeCut tokens refusal = CutAfter tokens (Of EqualEqual ∷ []) IsNotIdentifier refusal ⊎ CutAfter tokens (Word (at_sign ∷ []) ∷ []) OrdinalRefused refusal
 
 abbrev pub AttributeRead : List TokenView → Option Attribute × List TokenView → Type 0
-AttributeRead tokens found = ItemRead AttributeStands NoAttribute tokens found
+AttributeRead tokens found = ItemRead AttributeLocated NoAttribute tokens found
 
 apart_outcome : (t : TokenView) (rest : List TokenView) → IsWord t (at_sign ∷ []) → MatchResult (ordinal_read rest >>= apart_from) (AttributeRead (t ∷ rest)) (AttributeCut (t ∷ rest))
 apart_outcome t rest word =
@@ -109,25 +109,25 @@ attribute_spelled Constant = omega arith
 attribute_spelled Private = omega arith
 attribute_spelled (Alias value) = omega arith
 
-pub attribute_shorter : (tokens : List TokenView) (a : Attribute) (rest : List TokenView) → AttributeStands tokens a rest → length rest < length tokens
+pub attribute_shorter : (tokens : List TokenView) (a : Attribute) (rest : List TokenView) → AttributeLocated tokens a rest → length rest < length tokens
 attribute_shorter tokens a rest h = StartsWith-shorter tokens (attribute_terminals a) rest (attribute_spelled a) h.0
 
 abbrev pub AttributesRead : List TokenView → List Attribute × List TokenView → Type 0
-AttributesRead tokens found = AllRead AttributeStands NoAttribute tokens found
+AttributesRead tokens found = AllRead AttributeLocated NoAttribute tokens found
 
 abbrev pub AttributesCut : List TokenView → Refusal → Type 0
-AttributesCut tokens refusal = Stopped AttributeStands NoAttribute AttributeCut tokens refusal
+AttributesCut tokens refusal = Stopped AttributeLocated NoAttribute AttributeCut tokens refusal
 
 pub attributes_outcome : (tokens : List TokenView) → MatchResult (attributes_read tokens) (AttributesRead tokens) (AttributesCut tokens)
 unfolding attributes_read
-attributes_outcome tokens = all_outcome AttributeStands NoAttribute AttributeCut attribute_read attribute_outcome attribute_shorter (tt, tt) tokens
+attributes_outcome tokens = all_outcome AttributeLocated NoAttribute AttributeCut attribute_read attribute_outcome attribute_shorter (tt, tt) tokens
 
-pub attributes_begin : (items : List Attribute) (tokens rest : List TokenView) → Chain AttributeStands NoAttribute items tokens rest → StartsWith tokens (flat_map attribute_terminals items) rest
+pub attributes_begin : (items : List Attribute) (tokens rest : List TokenView) → Chain AttributeLocated NoAttribute items tokens rest → StartsWith tokens (flat_map attribute_terminals items) rest
 attributes_begin [] tokens rest h = h
 attributes_begin (a ∷ items) tokens rest h =
     StartsWith-append tokens (attribute_terminals a) (flat_map attribute_terminals items) h.0 rest h.1.0 (attributes_begin items h.0 rest h.2)
 
-pub attributes_end : (items : List Attribute) (tokens rest : List TokenView) → Chain AttributeStands NoAttribute items tokens rest → IsAfter (follow_attributes items) rest
+pub attributes_end : (items : List Attribute) (tokens rest : List TokenView) → Chain AttributeLocated NoAttribute items tokens rest → IsAfter (follow_attributes items) rest
 attributes_end [] tokens rest h = IsAfter-none rest
 attributes_end (a ∷ []) tokens rest h = subst (IsAfter (follow_attribute a)) h.2 h.1.1
 attributes_end (a ∷ b ∷ items) tokens rest h = attributes_end (b ∷ items) h.0 rest h.2

@@ -12,7 +12,7 @@ use Rattle.implib.specs.Token.{TokenView}
 use Rattle.implib.proofs.StartsWith.{IsAfter-append, StartsWith-append, StartsWith-shorter, IsAfter, AtFront}
 use Rattle.implib.proofs.Many.{bind_outcome, Chain, ItemRead, AllRead, Stopped, all_outcome}
 use Rattle.implib.proofs.ReadTerminals.{IsAfter-none}
-use Rattle.implib.proofs.ReadAttributes.{OrdinalRefused, TargetRefused, AttributeStands, NoAttribute, AttributeCut, AttributesRead, AttributesCut, PlainFront, attributes_outcome, attributes_begin, attributes_end, goes_on_no_target, TargetRead, TargetCut, target_outcome}
+use Rattle.implib.proofs.ReadAttributes.{OrdinalRefused, TargetRefused, AttributeLocated, NoAttribute, AttributeCut, AttributesRead, AttributesCut, PlainFront, attributes_outcome, attributes_begin, attributes_end, goes_on_no_target, TargetRead, TargetCut, target_outcome}
 use Rattle.implib.proofs.TokenKinds.{none_at}
 use Rattle.implib.proofs.Words.{IsAtWord}
 
@@ -57,23 +57,23 @@ pub record ExportEnds (e : Export) (rest : List TokenView) : Type 0 where
   pub kinds : IsAfter (follow_export e) rest
   pub plain : PlainFront rest
 
-abbrev pub ExportStands : List TokenView → Export → List TokenView → Type 0
-ExportStands tokens e rest = StartsWith tokens (export_terminals Word e) rest × ExportEnds e rest
+abbrev pub ExportLocated : List TokenView → Export → List TokenView → Type 0
+ExportLocated tokens e rest = StartsWith tokens (export_terminals Word e) rest × ExportEnds e rest
 
 -- no export begins here
 abbrev pub NoExport : List TokenView → Type 0
 NoExport tokens = IsAfter (Identifier ∷ []) tokens
 
 abbrev pub ExportRead : List TokenView → Option Export × List TokenView → Type 0
-ExportRead tokens found = ItemRead ExportStands NoExport tokens found
+ExportRead tokens found = ItemRead ExportLocated NoExport tokens found
 
-after_target : (target : Option (List ℕ)) (items : List Attribute) (mid rest : List TokenView) → IsAfter (goes_on_no_target target) mid → Chain AttributeStands NoAttribute items mid rest → IsAfter (follow_target target items) rest
+after_target : (target : Option (List ℕ)) (items : List Attribute) (mid rest : List TokenView) → IsAfter (goes_on_no_target target) mid → Chain AttributeLocated NoAttribute items mid rest → IsAfter (follow_target target items) rest
 after_target None [] mid rest h chain = subst (IsAfter (Equal ∷ [])) chain h
 after_target None (a ∷ items) mid rest h chain = IsAfter-none rest
 after_target (Some value) items mid rest h chain = IsAfter-none rest
 
 whole_export : (t : TokenView) (tokens : List TokenView) (target : Option (List ℕ) × List TokenView) (found : List Attribute × List TokenView) → t.kind ≡ Identifier → TargetRead tokens target → AttributesRead target.1 found
-    → ExportStands (t ∷ tokens) (record { word = t.value; target = target.0; attributes = found.0 }) found.1
+    → ExportLocated (t ∷ tokens) (record { word = t.value; target = target.0; attributes = found.0 }) found.1
 whole_export t tokens target found e h k = (
   (record { kind = e; value_is = refl }, StartsWith-append tokens (target_terminals target.0) (flat_map attribute_terminals found.0) target.1 found.1 h.0 (attributes_begin found.0 target.1 found.1 k.0)),
   record {
@@ -83,7 +83,7 @@ whole_export t tokens target found e h k = (
   },
 )
 
-cut_attribute : (t : TokenView) (tokens : List TokenView) (target : Option (List ℕ) × List TokenView) (refusal : Refusal) → t.kind ≡ Identifier → TargetRead tokens target → (items : List Attribute) (mid : List TokenView) → Chain AttributeStands NoAttribute items target.1 mid → AttributeCut mid refusal
+cut_attribute : (t : TokenView) (tokens : List TokenView) (target : Option (List ℕ) × List TokenView) (refusal : Refusal) → t.kind ≡ Identifier → TargetRead tokens target → (items : List Attribute) (mid : List TokenView) → Chain AttributeLocated NoAttribute items target.1 mid → AttributeCut mid refusal
     → PartCut (t ∷ tokens) refusal
 cut_attribute t tokens target refusal e h items mid chain (inl c) = record {
   part = AliasPart (record { word = t.value; target = target.0; attributes = items });
@@ -130,20 +130,20 @@ unfolding export_read
 export_outcome [] = (refl, tt)
 export_outcome (t ∷ rest) = export_by_outcome t.kind t rest refl
 
-pub export_shorter : (tokens : List TokenView) (e : Export) (rest : List TokenView) → ExportStands tokens e rest → length rest < length tokens
+pub export_shorter : (tokens : List TokenView) (e : Export) (rest : List TokenView) → ExportLocated tokens e rest → length rest < length tokens
 export_shorter tokens e rest h = StartsWith-shorter tokens (export_terminals Word e) rest (omega arith) h.0
 
 -- ---- exports
 
 abbrev pub ExportsRead : List TokenView → List Export × List TokenView → Type 0
-ExportsRead tokens found = AllRead ExportStands NoExport tokens found
+ExportsRead tokens found = AllRead ExportLocated NoExport tokens found
 
 abbrev pub ExportsCut : List TokenView → Refusal → Type 0
-ExportsCut tokens refusal = Stopped ExportStands NoExport PartCut tokens refusal
+ExportsCut tokens refusal = Stopped ExportLocated NoExport PartCut tokens refusal
 
 pub exports_outcome : (tokens : List TokenView) → MatchResult (exports_read tokens) (ExportsRead tokens) (ExportsCut tokens)
 unfolding exports_read
-exports_outcome tokens = all_outcome ExportStands NoExport PartCut export_read export_outcome export_shorter tt tokens
+exports_outcome tokens = all_outcome ExportLocated NoExport PartCut export_read export_outcome export_shorter tt tokens
 
 -- a plain word can be the name of a later export
 pub as_later : (tokens : List TokenView) (e : Export) (rest : List TokenView) → PlainFront tokens → StartsWith tokens (export_terminals Word e) rest → StartsWith tokens (export_terminals Later e) rest
@@ -153,31 +153,31 @@ as_later (t ∷ tokens) e rest plain h =
     (record { word = h.0; not_lone = is.0; not_ordinal = is.1 }, h.1)
 
 -- exports one after another, and one more of which nothing is asked where it ends
-later_exports : (items : List Export) (e : Export) (tokens mid rest : List TokenView) → PlainFront tokens → Chain ExportStands NoExport items tokens mid → StartsWith mid (export_terminals Word e) rest
+later_exports : (items : List Export) (e : Export) (tokens mid rest : List TokenView) → PlainFront tokens → Chain ExportLocated NoExport items tokens mid → StartsWith mid (export_terminals Word e) rest
     → StartsWith tokens (exports_terminals Later (items ++ e ∷ [])) rest
 later_exports [] e tokens mid rest plain chain h =
     StartsWith-append tokens (export_terminals Later e) [] rest rest (as_later tokens e rest plain (subst (λ (s : List TokenView). StartsWith s (export_terminals Word e) rest) (sym chain) h)) refl
 later_exports (x ∷ items) e tokens mid rest plain chain h =
     StartsWith-append tokens (export_terminals Later x) (exports_terminals Later (items ++ e ∷ [])) chain.0 rest (as_later tokens x chain.0 plain chain.1.0) (later_exports items e chain.0 mid rest chain.1.1.plain chain.2 h)
 
-pub exports_then : (items : List Export) (e : Export) (tokens mid rest : List TokenView) → Chain ExportStands NoExport items tokens mid → StartsWith mid (export_terminals Word e) rest
+pub exports_then : (items : List Export) (e : Export) (tokens mid rest : List TokenView) → Chain ExportLocated NoExport items tokens mid → StartsWith mid (export_terminals Word e) rest
     → StartsWith tokens (exports_terminals Word (items ++ e ∷ [])) rest
 exports_then [] e tokens mid rest chain h =
     StartsWith-append tokens (export_terminals Word e) [] rest rest (subst (λ (s : List TokenView). StartsWith s (export_terminals Word e) rest) (sym chain) h) refl
 exports_then (x ∷ items) e tokens mid rest chain h =
     StartsWith-append tokens (export_terminals Word x) (exports_terminals Later (items ++ e ∷ [])) chain.0 rest chain.1.0 (later_exports items e chain.0 mid rest chain.1.1.plain chain.2 h)
 
-later_begin : (items : List Export) (tokens rest : List TokenView) → PlainFront tokens → Chain ExportStands NoExport items tokens rest → StartsWith tokens (exports_terminals Later items) rest
+later_begin : (items : List Export) (tokens rest : List TokenView) → PlainFront tokens → Chain ExportLocated NoExport items tokens rest → StartsWith tokens (exports_terminals Later items) rest
 later_begin [] tokens rest plain chain = chain
 later_begin (x ∷ items) tokens rest plain chain =
     StartsWith-append tokens (export_terminals Later x) (exports_terminals Later items) chain.0 rest (as_later tokens x chain.0 plain chain.1.0) (later_begin items chain.0 rest chain.1.1.plain chain.2)
 
-pub exports_begin : (items : List Export) (tokens rest : List TokenView) → Chain ExportStands NoExport items tokens rest → StartsWith tokens (exports_terminals Word items) rest
+pub exports_begin : (items : List Export) (tokens rest : List TokenView) → Chain ExportLocated NoExport items tokens rest → StartsWith tokens (exports_terminals Word items) rest
 exports_begin [] tokens rest chain = chain
 exports_begin (x ∷ items) tokens rest chain =
     StartsWith-append tokens (export_terminals Word x) (exports_terminals Later items) chain.0 rest chain.1.0 (later_begin items chain.0 rest chain.1.1.plain chain.2)
 
-pub exports_end : (items : List Export) (tokens rest : List TokenView) → Chain ExportStands NoExport items tokens rest → IsAfter (follow_exports items) rest
+pub exports_end : (items : List Export) (tokens rest : List TokenView) → Chain ExportLocated NoExport items tokens rest → IsAfter (follow_exports items) rest
 exports_end [] tokens rest chain = IsAfter-none rest
 exports_end (x ∷ []) tokens rest chain = subst (IsAfter (follow_export x)) chain.2 chain.1.1.kinds
 exports_end (x ∷ y ∷ items) tokens rest chain = exports_end (y ∷ items) chain.0 rest chain.2

@@ -11,12 +11,12 @@ use Rattle.implib.specs.Token.{TokenView}
 use Rattle.implib.proofs.StartsWith.{IsAfter-append, StartsWith-append, StartsWith-shorter, IsAfter, AtFront}
 use Rattle.implib.proofs.Many.{bind_outcome, Chain, ItemRead, AllRead, Stopped, all_outcome}
 use Rattle.implib.proofs.ReadTerminals.{IsAfter-none, SizesRead, SizesCut, sizes_outcome, VersionRead, VersionRefused, version_outcome, NameRead, NameCut, BaseCut, name_outcome}
-use Rattle.implib.proofs.ReadExports.{Part, TargetPart, AliasPart, OrdinalPart, part_export, part_wanted, part_refused, ExportStands, NoExport, ExportsRead, ExportsCut, exports_outcome, exports_then, exports_begin, exports_end}
+use Rattle.implib.proofs.ReadExports.{Part, TargetPart, AliasPart, OrdinalPart, part_export, part_wanted, part_refused, ExportLocated, NoExport, ExportsRead, ExportsCut, exports_outcome, exports_then, exports_begin, exports_end}
 use Rattle.implib.proofs.TokenKinds.{none_at, not_at}
 
 -- a statement that stands before what follows it
-abbrev pub StatementStands : List TokenView → Statement → List TokenView → Type 0
-StatementStands tokens s rest = StartsWith tokens (statement_terminals s) rest × IsAfter (follow s) rest
+abbrev pub StatementLocated : List TokenView → Statement → List TokenView → Type 0
+StatementLocated tokens s rest = StartsWith tokens (statement_terminals s) rest × IsAfter (follow s) rest
 
 -- the end stands here
 abbrev pub NoStatement : List TokenView → Type 0
@@ -24,7 +24,7 @@ NoStatement [] = Unit {0}
 NoStatement (t ∷ rest) = t.kind ≡ Eof
 
 abbrev pub StatementRead : List TokenView → Option Statement × List TokenView → Type 0
-StatementRead tokens found = ItemRead StatementStands NoStatement tokens found
+StatementRead tokens found = ItemRead StatementLocated NoStatement tokens found
 
 -- a token that begins no statement
 pub record BeginsNone (t : TokenView) (cause : Cause) : Type 0 where
@@ -44,7 +44,7 @@ StatementCut tokens refusal = AtFront BeginsNone tokens refusal ⊎ StartedCut t
 
 -- ---- each kind of statement
 
-cut_part : (t : TokenView) (rest : List TokenView) (items : List Export) (next : List TokenView) (refusal : Refusal) → t.kind ≡ KwExports → Chain ExportStands NoExport items rest next
+cut_part : (t : TokenView) (rest : List TokenView) (items : List Export) (next : List TokenView) (refusal : Refusal) → t.kind ≡ KwExports → Chain ExportLocated NoExport items rest next
     → (part : Part) (whole mid : List TokenView) → StartsWith next (export_terminals Word (part_export part)) whole → StartsWith whole (part_wanted part ∷ []) mid → AtFront (part_refused part) mid refusal
     → StatementCut (t ∷ rest) refusal
 cut_part t rest items next refusal e chain (TargetPart word) whole mid begins begun refused = inr (record {
@@ -122,25 +122,25 @@ statement_spelled Nameless = omega arith
 statement_spelled (Named name base) = omega arith
 statement_spelled (Version major minor) = omega arith
 
-pub statement_shorter : (tokens : List TokenView) (s : Statement) (rest : List TokenView) → StatementStands tokens s rest → length rest < length tokens
+pub statement_shorter : (tokens : List TokenView) (s : Statement) (rest : List TokenView) → StatementLocated tokens s rest → length rest < length tokens
 statement_shorter tokens s rest h = StartsWith-shorter tokens (statement_terminals s) rest (statement_spelled s) h.0
 
 abbrev pub StatementsRead : List TokenView → List Statement × List TokenView → Type 0
-StatementsRead tokens found = AllRead StatementStands NoStatement tokens found
+StatementsRead tokens found = AllRead StatementLocated NoStatement tokens found
 
 abbrev pub StatementsCut : List TokenView → Refusal → Type 0
-StatementsCut tokens refusal = Stopped StatementStands NoStatement StatementCut tokens refusal
+StatementsCut tokens refusal = Stopped StatementLocated NoStatement StatementCut tokens refusal
 
 pub statements_outcome : (tokens : List TokenView) → MatchResult (statements_read tokens) (StatementsRead tokens) (StatementsCut tokens)
 unfolding statements_read
-statements_outcome tokens = all_outcome StatementStands NoStatement StatementCut statement_read statement_outcome statement_shorter tt tokens
+statements_outcome tokens = all_outcome StatementLocated NoStatement StatementCut statement_read statement_outcome statement_shorter tt tokens
 
-pub statements_begin : (items : List Statement) (tokens rest : List TokenView) → Chain StatementStands NoStatement items tokens rest → StartsWith tokens (terminals items) rest
+pub statements_begin : (items : List Statement) (tokens rest : List TokenView) → Chain StatementLocated NoStatement items tokens rest → StartsWith tokens (terminals items) rest
 statements_begin [] tokens rest chain = chain
 statements_begin (s ∷ items) tokens rest chain =
     StartsWith-append tokens (statement_terminals s) (terminals items) chain.0 rest chain.1.0 (statements_begin items chain.0 rest chain.2)
 
-pub statements_end : (items : List Statement) (tokens rest : List TokenView) → Chain StatementStands NoStatement items tokens rest → IsAfter (follow_last items) rest
+pub statements_end : (items : List Statement) (tokens rest : List TokenView) → Chain StatementLocated NoStatement items tokens rest → IsAfter (follow_last items) rest
 statements_end [] tokens rest chain = IsAfter-none rest
 statements_end (s ∷ []) tokens rest chain = subst (IsAfter (follow s)) chain.2 chain.1.1
 statements_end (s ∷ u ∷ items) tokens rest chain = statements_end (u ∷ items) chain.0 rest chain.2

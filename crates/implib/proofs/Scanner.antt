@@ -22,7 +22,7 @@ cut_finds test (x ∷ front) after none stops =
     let none_first : test x ≡ false = none.0 in
     rw (none_first, cut_finds test front after none.1 stops) refl
 
--- at a character that begins no other piece, white space or a word is found
+-- at a character that begins no other lexeme, white space or a word is found
 first_other : (text after : List ℕ) (c : ℕ) → text ≡ encode_utf8 c ++ after → c ≢ 0 → c ≢ 59 → c ≢ 61 → c ≢ 44 → c ≢ 34 → first_lexeme text ≡ Some (other_lexeme text)
 first_other [] after c e n0 n59 n61 n44 n34 =
     let bounds = len_utf8_bounds c in
@@ -60,26 +60,26 @@ delimiter_starts_no_word run tail c k e none small stops same =
     cc
 
 -- what stands at the front of a text is found there
-pub first_piece_stands : (lexeme : Lexeme) (after : List ℕ) → IsLexemeBefore lexeme after → IsUtf8 (lexeme_text lexeme ++ after) → first_lexeme (lexeme_text lexeme ++ after) ≡ Some lexeme
-first_piece_stands (Blank c) after white utf8 =
+pub first_lexeme_located : (lexeme : Lexeme) (after : List ℕ) → IsLexemeBefore lexeme after → IsUtf8 (lexeme_text lexeme ++ after) → first_lexeme (lexeme_text lexeme ++ after) ≡ Some lexeme
+first_lexeme_located (Blank c) after white utf8 =
     first_other (encode_utf8 c ++ after) after c refl (white_is_no c 0 white refl) (white_is_no c 59 white refl) (white_is_no c 61 white refl) (white_is_no c 44 white refl) (white_is_no c 34 white refl)
     ∙ ap Some (other_blank (encode_utf8 c ++ after) after c utf8 refl white)
-first_piece_stands (Comment line) after none utf8 =
+first_lexeme_located (Comment line) after none utf8 =
     let cut : cut_before is_line_feed (line ++ (10 ∷ after)) ≡ (line, 10 ∷ after) = cut_finds is_line_feed line (10 ∷ after) none (inr refl) in
     ap (λ l. first_lexeme (59 ∷ l)) (append_assoc line (10 ∷ []) after) ∙ ap (λ p. Some (comment_lexeme p)) cut
-first_piece_stands (LastComment line) after (none, last) utf8 =
+first_lexeme_located (LastComment line) after (none, last) utf8 =
     let cut : cut_before is_line_feed (line ++ after) ≡ (line, after) = cut_finds is_line_feed line after none (inl last) in
     ap (λ p. Some (comment_lexeme p)) cut ∙ ap (λ l. Some (comment_lexeme (line, l))) last
-first_piece_stands EqualSign after alone utf8 = rw alone refl
-first_piece_stands EqualSigns after holds utf8 = refl
-first_piece_stands CommaSign after holds utf8 = refl
-first_piece_stands (Quoted inside) after none utf8 =
+first_lexeme_located EqualSign after alone utf8 = rw alone refl
+first_lexeme_located EqualSigns after holds utf8 = refl
+first_lexeme_located CommaSign after holds utf8 = refl
+first_lexeme_located (Quoted inside) after none utf8 =
     let cut : cut_before is_quote (inside ++ (34 ∷ after)) ≡ (inside, 34 ∷ after) = cut_finds is_quote inside (34 ∷ after) none (inr refl) in
     ap (λ l. first_lexeme (34 ∷ l)) (append_assoc inside (34 ∷ []) after) ∙ ap (λ p. Some (quoted_lexeme p)) cut
-first_piece_stands (Unclosed inside) after (none, last) utf8 =
+first_lexeme_located (Unclosed inside) after (none, last) utf8 =
     let cut : cut_before is_quote (inside ++ after) ≡ (inside, after) = cut_finds is_quote inside after none (inl last) in
     ap (λ p. Some (quoted_lexeme p)) cut ∙ ap (λ l. Some (quoted_lexeme (inside, l))) last
-first_piece_stands (Word run) after (starts, none, stops) utf8 =
+first_lexeme_located (Word run) after (starts, none, stops) utf8 =
     let c = starts.character in
     let e : run ++ after ≡ encode_utf8 c ++ (starts.tail ++ after) =
     ap (λ l. l ++ after) starts.spelled ∙ append_assoc (encode_utf8 c) starts.tail after in
@@ -89,11 +89,11 @@ first_piece_stands (Word run) after (starts, none, stops) utf8 =
     ∙ ap (λ p. Some (Word p.0)) (cut_finds is_delimiter run after none stops)
 
 -- at the end nothing is found
-pub first_piece_end : (end : List ℕ) → IsEnd end → first_lexeme end ≡ None
-first_piece_end [] ends = refl
-first_piece_end (b ∷ ignored) nul = rw nul refl
+pub first_lexeme_end : (end : List ℕ) → IsEnd end → first_lexeme end ≡ None
+first_lexeme_end [] ends = refl
+first_lexeme_end (b ∷ ignored) nul = rw nul refl
 
--- each piece is at least a byte
+-- each lexeme is at least a byte
 spelling_nonempty : (lexeme : Lexeme) (after : List ℕ) → IsLexemeBefore lexeme after → 0 < length (lexeme_text lexeme)
 spelling_nonempty (Blank c) after white = let bounds = len_utf8_bounds c in omega (arith, length-encode c, bounds.0)
 spelling_nonempty (Comment line) after none = omega arith
@@ -134,42 +134,42 @@ utf8_at_stop front [] stops utf8 = IsUtf8-nil
 utf8_at_stop front (b ∷ after) stops utf8 =
     elim stops [ inl e ↦ cc | inr ends ↦ utf8_from_ascii front after b (delimiter_ascii b ends) utf8 ]
 
--- what follows a piece is text
-pub utf8_after_piece : (lexeme : Lexeme) (after : List ℕ) → IsLexemeBefore lexeme after → IsUtf8 (lexeme_text lexeme ++ after) → IsUtf8 after
-utf8_after_piece (Blank c) after white utf8 = IsUtf8-past_char (encode_utf8 c ++ after) after c utf8 refl
-utf8_after_piece (Comment line) after none utf8 =
+-- what follows a lexeme is text
+pub utf8_after_lexeme : (lexeme : Lexeme) (after : List ℕ) → IsLexemeBefore lexeme after → IsUtf8 (lexeme_text lexeme ++ after) → IsUtf8 after
+utf8_after_lexeme (Blank c) after white utf8 = IsUtf8-past_char (encode_utf8 c ++ after) after c utf8 refl
+utf8_after_lexeme (Comment line) after none utf8 =
     utf8_after_ascii (59 ∷ line) after 10 (omega arith) (subst IsUtf8 (append_assoc (59 ∷ line) (10 ∷ []) after) utf8)
-utf8_after_piece (LastComment line) after (none, last) utf8 = subst IsUtf8 (sym last) IsUtf8-nil
-utf8_after_piece EqualSign after alone utf8 = utf8_after_ascii [] after 61 (omega arith) utf8
-utf8_after_piece EqualSigns after holds utf8 = utf8_after_ascii (61 ∷ []) after 61 (omega arith) utf8
-utf8_after_piece CommaSign after holds utf8 = utf8_after_ascii [] after 44 (omega arith) utf8
-utf8_after_piece (Quoted inside) after none utf8 =
+utf8_after_lexeme (LastComment line) after (none, last) utf8 = subst IsUtf8 (sym last) IsUtf8-nil
+utf8_after_lexeme EqualSign after alone utf8 = utf8_after_ascii [] after 61 (omega arith) utf8
+utf8_after_lexeme EqualSigns after holds utf8 = utf8_after_ascii (61 ∷ []) after 61 (omega arith) utf8
+utf8_after_lexeme CommaSign after holds utf8 = utf8_after_ascii [] after 44 (omega arith) utf8
+utf8_after_lexeme (Quoted inside) after none utf8 =
     utf8_after_ascii (34 ∷ inside) after 34 (omega arith) (subst IsUtf8 (append_assoc (34 ∷ inside) (34 ∷ []) after) utf8)
-utf8_after_piece (Unclosed inside) after (none, last) utf8 = subst IsUtf8 (sym last) IsUtf8-nil
-utf8_after_piece (Word run) after (starts, none, stops) utf8 = utf8_at_stop run after stops utf8
+utf8_after_lexeme (Unclosed inside) after (none, last) utf8 = subst IsUtf8 (sym last) IsUtf8-nil
+utf8_after_lexeme (Word run) after (starts, none, stops) utf8 = utf8_at_stop run after stops utf8
 
--- a piece in front, with room for it
-pub pieces_within_piece : (n : ℕ) (lexeme : Lexeme) (after : List ℕ) → IsLexemeBefore lexeme after → IsUtf8 (lexeme_text lexeme ++ after) → lexemes_within (suc n) (lexeme_text lexeme ++ after) ≡ lexeme ∷ lexemes_within n after
+-- a lexeme in front, with room for it
+pub lexemes_within_lexeme : (n : ℕ) (lexeme : Lexeme) (after : List ℕ) → IsLexemeBefore lexeme after → IsUtf8 (lexeme_text lexeme ++ after) → lexemes_within (suc n) (lexeme_text lexeme ++ after) ≡ lexeme ∷ lexemes_within n after
 unfolding lexemes_within
-pieces_within_piece n lexeme after stands utf8 =
-    let found = first_piece_stands lexeme after stands utf8 in
+lexemes_within_lexeme n lexeme after located utf8 =
+    let found = first_lexeme_located lexeme after located utf8 in
     rw (found, lexemes_within) (ap (λ l. lexeme ∷ lexemes_within n l) (drop_at (lexeme_text lexeme) after (length (lexeme_text lexeme)) refl))
 
-pieces_within_end : (n : ℕ) (end : List ℕ) → IsEnd end → lexemes_within n end ≡ []
+lexemes_within_end : (n : ℕ) (end : List ℕ) → IsEnd end → lexemes_within n end ≡ []
 unfolding lexemes_within
-pieces_within_end zero end ends = refl
-pieces_within_end (suc n) end ends = rw (first_piece_end end ends, lexemes_within) refl
+lexemes_within_end zero end ends = refl
+lexemes_within_end (suc n) end ends = rw (first_lexeme_end end ends, lexemes_within) refl
 
--- the witness finds the pieces that divide a text
-pub pieces_within_division : (n : ℕ) (lexemes : List Lexeme) (end : List ℕ) → EachIsLexeme lexemes end → IsEnd end → IsUtf8 (text_of lexemes end) → length (text_of lexemes end) ≤ n → lexemes_within n (text_of lexemes end) ≡ lexemes
-pieces_within_division n [] end stand ends utf8 fits = pieces_within_end n end ends
-pieces_within_division zero (lexeme ∷ lexemes) end stand ends utf8 fits =
-    absurd (omega (arith, length-append (lexeme_text lexeme) (text_of lexemes end), spelling_nonempty lexeme (text_of lexemes end) stand.0))
-pieces_within_division (suc n) (lexeme ∷ lexemes) end stand ends utf8 fits =
+-- the witness finds the lexemes that divide a text
+pub lexemes_within_division : (n : ℕ) (lexemes : List Lexeme) (end : List ℕ) → EachIsLexeme lexemes end → IsEnd end → IsUtf8 (text_of lexemes end) → length (text_of lexemes end) ≤ n → lexemes_within n (text_of lexemes end) ≡ lexemes
+lexemes_within_division n [] end are_located ends utf8 fits = lexemes_within_end n end ends
+lexemes_within_division zero (lexeme ∷ lexemes) end are_located ends utf8 fits =
+    absurd (omega (arith, length-append (lexeme_text lexeme) (text_of lexemes end), spelling_nonempty lexeme (text_of lexemes end) are_located.0))
+lexemes_within_division (suc n) (lexeme ∷ lexemes) end are_located ends utf8 fits =
     let after = text_of lexemes end in
-    let shorter : length after ≤ n = omega (arith, length-append (lexeme_text lexeme) after, spelling_nonempty lexeme after stand.0) in
-    pieces_within_piece n lexeme after stand.0 utf8
-    ∙ ap (λ l. lexeme ∷ l) (pieces_within_division n lexemes end stand.1 ends (utf8_after_piece lexeme after stand.0 utf8) shorter)
+    let shorter : length after ≤ n = omega (arith, length-append (lexeme_text lexeme) after, spelling_nonempty lexeme after are_located.0) in
+    lexemes_within_lexeme n lexeme after are_located.0 utf8
+    ∙ ap (λ l. lexeme ∷ l) (lexemes_within_division n lexemes end are_located.1 ends (utf8_after_lexeme lexeme after are_located.0 utf8) shorter)
 
 -- what `cut_before` gives: the front has no byte that passes, and what follows begins with one, if it is not empty
 record IsCut (test : ℕ → Bool) (text front after : List ℕ) : Type 0 where
@@ -188,12 +188,12 @@ cut_gives : (test : ℕ → Bool) (text : List ℕ) → CutGives test text
 cut_gives test [] = record { spelled = refl; none = tt; stops = inl refl }
 cut_gives test (b ∷ rest) = cut_step test b rest (test b) refl (cut_gives test rest)
 
--- a piece at the front of a text
+-- a lexeme at the front of a text
 pub record Front (text : List ℕ) : Type 0 where
   pub lexeme : Lexeme
   pub after : List ℕ
   pub spelled : text ≡ lexeme_text lexeme ++ after
-  pub stands : IsLexemeBefore lexeme after
+  pub located : IsLexemeBefore lexeme after
 
 abbrev EndOrFront : List ℕ → Type 0
 EndOrFront text = IsEnd text ⊎ Front text
@@ -203,7 +203,7 @@ front_comment rest line [] cut = record {
   lexeme = LastComment line;
   after = [];
   spelled = ap (λ l. 59 ∷ l) cut.spelled;
-  stands = (cut.none, refl);
+  located = (cut.none, refl);
 }
 front_comment rest line (b ∷ after) cut =
     elim cut.stops [
@@ -214,7 +214,7 @@ front_comment rest line (b ∷ after) cut =
             lexeme = Comment line;
             after = after;
             spelled = ap (λ l. 59 ∷ l) (cut.spelled ∙ ap (λ c. line ++ (c ∷ after)) is_feed ∙ sym (append_assoc line (10 ∷ []) after));
-            stands = cut.none;
+            located = cut.none;
           }
     ]
 
@@ -223,7 +223,7 @@ front_quote rest inside [] cut = record {
   lexeme = Unclosed inside;
   after = [];
   spelled = ap (λ l. 34 ∷ l) cut.spelled;
-  stands = (cut.none, refl);
+  located = (cut.none, refl);
 }
 front_quote rest inside (b ∷ after) cut =
     elim cut.stops [
@@ -234,18 +234,18 @@ front_quote rest inside (b ∷ after) cut =
             lexeme = Quoted inside;
             after = after;
             spelled = ap (λ l. 34 ∷ l) (cut.spelled ∙ ap (λ c. inside ++ (c ∷ after)) is_mark ∙ sym (append_assoc inside (34 ∷ []) after));
-            stands = cut.none;
+            located = cut.none;
           }
     ]
 
 front_equal : (rest : List ℕ) (two : Bool) → begins is_equal_sign rest ≡ two → Front (61 ∷ rest)
-front_equal rest false alone = record { lexeme = EqualSign; after = rest; spelled = refl; stands = alone }
+front_equal rest false alone = record { lexeme = EqualSign; after = rest; spelled = refl; located = alone }
 front_equal [] true sign = cc
 front_equal (b ∷ rest) true sign = record {
   lexeme = EqualSigns;
   after = rest;
   spelled = ap (λ c. 61 ∷ c ∷ rest) (eqb-true b 61 sign);
-  stands = tt;
+  located = tt;
 }
 
 pub none_from_places : (test : ℕ → Bool) (xs : List ℕ) → ((k : ℕ) → k < length xs → test (get_or xs k 0) ≡ false) → NonePass test xs
@@ -277,7 +277,7 @@ front_word c rest is_scalar dark n0 n34 plain =
       lexeme = Word (encode_utf8 c ++ tail);
       after = after;
       spelled = ap (λ l. encode_utf8 c ++ l) cut.spelled ∙ sym (append_assoc (encode_utf8 c) tail after);
-      stands = (
+      located = (
         record { character = c; tail = tail; spelled = refl; scalar = is_scalar; not_white = dark; not_nul = n0; not_quote = n34 },
         none_append is_delimiter (encode_utf8 c) tail (none_in_character c plain) cut.none,
         cut.stops,
@@ -287,7 +287,7 @@ front_word c rest is_scalar dark n0 n34 plain =
 front_character : (c : ℕ) (rest : List ℕ) → IsScalar c → c ≢ 0 → c ≢ 59 → c ≢ 61 → c ≢ 44 → c ≢ 34 → Front (encode_utf8 c ++ rest)
 front_character c rest is_scalar n0 n59 n61 n44 n34 =
     ⊎_elim
-    (λ white. record { lexeme = Blank c; after = rest; spelled = refl; stands = white })
+    (λ white. record { lexeme = Blank c; after = rest; spelled = refl; located = white })
     (λ dark. front_word c rest is_scalar dark n0 n34 (no_delimiter c dark n59 n61 n44))
     (cases_Bool (is_whitespace c))
 
@@ -305,7 +305,7 @@ front_byte b rest utf8 =
     ⊎_elim (at 0 (inl refl)) (λ n0.
     ⊎_elim (at 59 (inr (front_comment rest _ _ (cut_gives is_line_feed rest)))) (λ n59.
     ⊎_elim (at 61 (inr (front_equal rest (begins is_equal_sign rest) refl))) (λ n61.
-    ⊎_elim (at 44 (inr (record { lexeme = CommaSign; after = rest; spelled = refl; stands = tt }))) (λ n44.
+    ⊎_elim (at 44 (inr (record { lexeme = CommaSign; after = rest; spelled = refl; located = tt }))) (λ n44.
     ⊎_elim (at 34 (inr (front_quote rest _ _ (cut_gives is_quote rest)))) (λ n34.
     inr (front_other b rest utf8.0 utf8.1.0 utf8.1.1 n0.1 n59.1 n61.1 n44.1 n34.1))
     (eqb_tells b 34)) (eqb_tells b 44)) (eqb_tells b 61)) (eqb_tells b 59)) (eqb_tells b 0)
@@ -331,7 +331,7 @@ division_after text front rest =
       end = rest.end;
       divides = record {
         spelled = front.spelled ∙ ap (λ l. lexeme_text front.lexeme ++ l) same;
-        each_is_lexeme = (subst (IsLexemeBefore front.lexeme) same front.stands, rest.divides.each_is_lexeme);
+        each_is_lexeme = (subst (IsLexemeBefore front.lexeme) same front.located, rest.divides.each_is_lexeme);
         ends = rest.divides.ends;
       };
     }
@@ -342,9 +342,9 @@ division_within zero (b ∷ rest) utf8 fits = absurd (omega arith)
 division_within (suc n) text utf8 fits = ⊎_elim
     (λ ends. ends_here text ends)
     (λ (front : Front text).
-    let nonempty = spelling_nonempty front.lexeme front.after front.stands in
+    let nonempty = spelling_nonempty front.lexeme front.after front.located in
     let shorter : length front.after ≤ n = omega (arith, ap length front.spelled, length-append (lexeme_text front.lexeme) front.after, nonempty) in
-    division_after text front (division_within n front.after (utf8_after_piece front.lexeme front.after front.stands (subst IsUtf8 front.spelled utf8)) shorter))
+    division_after text front (division_within n front.after (utf8_after_lexeme front.lexeme front.after front.located (subst IsUtf8 front.spelled utf8)) shorter))
     (front_of text utf8)
 
 -- each text has a division
@@ -355,4 +355,4 @@ division text utf8 = division_within (length text) text utf8 (omega arith)
 pub Divides-lexemes_in : (text : List ℕ) (lexemes : List Lexeme) (end : List ℕ) → IsUtf8 text → Divides text lexemes end → lexemes_in text ≡ lexemes
 Divides-lexemes_in text lexemes end utf8 d =
     ap (λ l. lexemes_in l) d.spelled
-    ∙ pieces_within_division (length (text_of lexemes end)) lexemes end d.each_is_lexeme d.ends (subst IsUtf8 d.spelled utf8) (omega arith)
+    ∙ lexemes_within_division (length (text_of lexemes end)) lexemes end d.each_is_lexeme d.ends (subst IsUtf8 d.spelled utf8) (omega arith)

@@ -46,7 +46,7 @@ same_record : (r : ShortImport) (version machine time ordinal kind name_type : �
     Some record { version = version; machine = machine; time = time; ordinal = ordinal; kind = kind; name_type = name_type; symbol = r.symbol; dll = r.dll } ≡ Some r
 same_record r version machine time ordinal kind name_type v m t o k n = rw (v, m, t, o, k, n) refl
 
--- the fields of a record, read at their places
+-- the fields of a record, read at their positions
 fields_read : (r : ShortImport) → FitsRecord r → short_import_with (short_import_bytes r) r.symbol (Some (r.dll, [])) ≡ Some r
 unfolding u16_at u32_at u16_bytes u32_bytes
 fields_read r fits =

@@ -5,14 +5,14 @@ use Rattle.std.proofs.lemmas.Str.{IsCharBoundary-after_ascii, IsCharBoundary-bef
 use Rattle.std.specs.List.{AllByRecursion}
 use Rattle.std.specs.Str.{IsUtf8, trim, trim_end}
 use Rattle.implib.specs.Token.{begins, is_delimiter, lexeme_text, text_of, tokens_of_lexeme, tokens_of, value_start, Blank, Comment, CommaSign, EachIsLexeme, EqualSign, EqualSigns, IsSliceOf, LastComment, Lexed, Lexeme, Quoted, TokenView, IsLexemeBefore, Unclosed, Word}
-use Rattle.implib.proofs.Scanner.{delimiter_ascii, utf8_after_piece}
+use Rattle.implib.proofs.Scanner.{delimiter_ascii, utf8_after_lexeme}
 use Rattle.implib.proofs.Trivia.{AllByRecursion-append}
 use Rattle.implib.proofs.Trimmed.{take-trim_end, take-value, value_within}
 
 -- what stands between a front and the rest is the slice there
 slice_between : (text front value after : List ℕ) (at : ℕ) → text ≡ front ++ (value ++ after) → at ≡ length front → take (length value) (drop at text) ≡ value
-slice_between text front value after at e place =
-    ap (λ n. take (length value) (drop n text)) place
+slice_between text front value after at e position =
+    ap (λ n. take (length value) (drop n text)) position
     ∙ ap (λ l. take (length value) (drop (length front) l)) e
     ∙ ap (take (length value)) (drop_at front (value ++ after) (length front) refl)
     ∙ take_at value after (length value) refl
@@ -61,32 +61,32 @@ slice_of_name text front inside after e utf8 =
     slice_between text opened value (back ++ after) (length front + 1 + start) (e ∙ spelled)
     (omega (arith, length-append front (34 ∷ before), length-take-le start inside bound))
 
--- the token of a piece, if it has one
-piece_slices : (text front : List ℕ) (lexeme : Lexeme) (after : List ℕ) → text ≡ front ++ (lexeme_text lexeme ++ after) → IsLexemeBefore lexeme after → IsUtf8 (lexeme_text lexeme ++ after) → AllByRecursion (IsSliceOf text) (tokens_of_lexeme (length front) lexeme)
-piece_slices text front (Blank c) after e stands utf8 = tt
-piece_slices text front (Comment line) after e stands utf8 = tt
-piece_slices text front (LastComment line) after e stands utf8 = tt
-piece_slices text front EqualSign after e stands utf8 = (slice_between text front (61 ∷ []) after (length front) e refl, tt)
-piece_slices text front EqualSigns after e stands utf8 = (slice_between text front (61 ∷ 61 ∷ []) after (length front) e refl, tt)
-piece_slices text front CommaSign after e stands utf8 = (slice_between text front (44 ∷ []) after (length front) e refl, tt)
-piece_slices text front (Quoted inside) after e stands utf8 =
+-- the token of a lexeme, if it has one
+lexeme_slices : (text front : List ℕ) (lexeme : Lexeme) (after : List ℕ) → text ≡ front ++ (lexeme_text lexeme ++ after) → IsLexemeBefore lexeme after → IsUtf8 (lexeme_text lexeme ++ after) → AllByRecursion (IsSliceOf text) (tokens_of_lexeme (length front) lexeme)
+lexeme_slices text front (Blank c) after e located utf8 = tt
+lexeme_slices text front (Comment line) after e located utf8 = tt
+lexeme_slices text front (LastComment line) after e located utf8 = tt
+lexeme_slices text front EqualSign after e located utf8 = (slice_between text front (61 ∷ []) after (length front) e refl, tt)
+lexeme_slices text front EqualSigns after e located utf8 = (slice_between text front (61 ∷ 61 ∷ []) after (length front) e refl, tt)
+lexeme_slices text front CommaSign after e located utf8 = (slice_between text front (44 ∷ []) after (length front) e refl, tt)
+lexeme_slices text front (Quoted inside) after e located utf8 =
     let closed = append_assoc (34 ∷ inside) (34 ∷ []) after in
     let inner = utf8_before_ascii inside after 34 (omega arith) (utf8_after_first 34 (inside ++ (34 ∷ after)) (omega arith) (subst IsUtf8 closed utf8)) in
     (slice_of_name text front inside (34 ∷ after) (e ∙ ap (λ l. front ++ l) closed) inner, tt)
-piece_slices text front (Unclosed inside) after e stands utf8 = (refl, tt)
-piece_slices text front (Word run) after e (starts, none, stops) utf8 = (slice_of_word text front run after e (utf8_before_stop run after stops utf8), tt)
+lexeme_slices text front (Unclosed inside) after e located utf8 = (refl, tt)
+lexeme_slices text front (Word run) after e (starts, none, stops) utf8 = (slice_of_word text front run after e (utf8_before_stop run after stops utf8), tt)
 
-pieces_slices : (text front : List ℕ) (lexemes : List Lexeme) (end : List ℕ) → text ≡ front ++ text_of lexemes end → EachIsLexeme lexemes end → IsUtf8 (text_of lexemes end) → AllByRecursion (IsSliceOf text) (tokens_of (length front) lexemes)
-pieces_slices text front [] end e stand utf8 = (refl, tt)
-pieces_slices text front (lexeme ∷ lexemes) end e stand utf8 =
+lexemes_slices : (text front : List ℕ) (lexemes : List Lexeme) (end : List ℕ) → text ≡ front ++ text_of lexemes end → EachIsLexeme lexemes end → IsUtf8 (text_of lexemes end) → AllByRecursion (IsSliceOf text) (tokens_of (length front) lexemes)
+lexemes_slices text front [] end e are_located utf8 = (refl, tt)
+lexemes_slices text front (lexeme ∷ lexemes) end e are_located utf8 =
     let after = text_of lexemes end in
-    let rest = pieces_slices text (front ++ lexeme_text lexeme) lexemes end (e ∙ sym (append_assoc front (lexeme_text lexeme) after)) stand.1 (utf8_after_piece lexeme after stand.0 utf8) in
+    let rest = lexemes_slices text (front ++ lexeme_text lexeme) lexemes end (e ∙ sym (append_assoc front (lexeme_text lexeme) after)) are_located.1 (utf8_after_lexeme lexeme after are_located.0 utf8) in
     AllByRecursion-append (IsSliceOf text) (tokens_of_lexeme (length front) lexeme) (tokens_of (length front + length (lexeme_text lexeme)) lexemes)
-    (piece_slices text front lexeme after e stand.0 utf8)
+    (lexeme_slices text front lexeme after e are_located.0 utf8)
     (subst (λ n. AllByRecursion (IsSliceOf text) (tokens_of n lexemes)) (length-append front (lexeme_text lexeme)) rest)
 
--- the values of tokens are cut from the text, each from its place on
+-- the values of tokens are cut from the text, each from its position on
 pub Lexed-slices : (text : List ℕ) (tokens : List TokenView) → IsUtf8 text → Lexed text tokens → AllByRecursion (IsSliceOf text) tokens
 Lexed-slices text tokens utf8 lexed =
     let d = lexed.divides in
-    subst (AllByRecursion (IsSliceOf text)) (sym lexed.given) (pieces_slices text [] lexed.lexemes lexed.end d.spelled d.each_is_lexeme (subst IsUtf8 d.spelled utf8))
+    subst (AllByRecursion (IsSliceOf text)) (sym lexed.given) (lexemes_slices text [] lexed.lexemes lexed.end d.spelled d.each_is_lexeme (subst IsUtf8 d.spelled utf8))

@@ -21,7 +21,7 @@ module _ {X Y : Type 0} (f : Y → ℕ) (v : X → Y) (xs : List X) (i : ℕ) wh
   pub sum_room : (d : X) → i < length xs → sum_by f (map v (take i xs)) + f (v (get_or xs i d)) ≤ sum_by f (map v xs)
   sum_room d within = omega (arith, sum_fewer d within, sum_parts)
 
--- the pieces that views of the elements make
+-- the chunks that views of the elements make
 pub flat_map-map : {X Y : Type 0} {A : Type 0} (f : Y → List A) (v : X → Y) (xs : List X) → flat_map f (map v xs) ≡ flat_map (λ x. f (v x)) xs
 flat_map-map f v [] = refl
 flat_map-map f v (x ∷ xs) = ap (λ t. f (v x) ++ t) (flat_map-map f v xs)

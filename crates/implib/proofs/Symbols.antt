@@ -12,8 +12,8 @@ use Rattle.implib.specs.Bytes.{u16_bytes, u32_bytes}
 use Rattle.implib.specs.Object.{ObjectSection, ObjectSymbol, before_nul, each_at, name_of, section_at, strings_at, symbol_of, u16_at, u32_at, up_to_nul}
 use Rattle.implib.specs.Layout.{FitsName, FitsSection, FitsSymbol, HasNoNul, InRecord, InStringTable, LayoutSymbol, SymbolName, auxiliary_bytes, contents, contents_size, name_field, name_text, auxiliary_count, section_header, section_headers, string_bytes_of, string_offsets, offsets_from, string_size, string_table, strings_size, symbol_bytes}
 use Rattle.implib.proofs.Bytes.{length-u32_bytes}
-use Rattle.implib.proofs.Fields.{length-relocation_bytes, length-section_header, section_at-stands, u16_at-after, u32_at-after}
-use Rattle.implib.proofs.Stands.{Stands, bytes_at-stands, stands_first, stands_next}
+use Rattle.implib.proofs.Fields.{length-relocation_bytes, length-section_header, section_at-located, u16_at-after, u32_at-after}
+use Rattle.implib.proofs.Located.{LocatedAt, bytes_at-located, located_first, located_next}
 use Rattle.implib.specs.declared.coff.object.Relocation.{Relocation}
 use Rattle.implib.specs.Layout.{relocation_bytes}
 
@@ -31,29 +31,29 @@ pub length-all_contents : (ss : List ObjectSection) → length (flat_map content
 length-all_contents [] = refl
 length-all_contents (s ∷ ss) = omega (arith, length-append (contents s) (flat_map contents ss), length-contents s, length-all_contents ss, sum_by-cons contents_size s ss)
 
-pub length-section_headers : (place : ℕ) (ss : List ObjectSection) → AllByRecursion FitsSection ss → place + sum_by contents_size ss < 2 ^ 32 → length (section_headers place ss) ≡ 40 * length ss
+pub length-section_headers : (position : ℕ) (ss : List ObjectSection) → AllByRecursion FitsSection ss → position + sum_by contents_size ss < 2 ^ 32 → length (section_headers position ss) ≡ 40 * length ss
 unfolding section_headers
-length-section_headers place [] all below = refl
-length-section_headers place (s ∷ ss) all below =
+length-section_headers position [] all below = refl
+length-section_headers position (s ∷ ss) all below =
     let total : sum_by contents_size (s ∷ ss) ≡ contents_size s + sum_by contents_size ss = sum_by-cons contents_size s ss in
-    omega (arith, length-append (section_header place s) (section_headers (place + contents_size s) ss), length-section_header place s all.0 (omega arith), length-section_headers (place + contents_size s) ss all.1 (omega arith))
+    omega (arith, length-append (section_header position s) (section_headers (position + contents_size s) ss), length-section_header position s all.0 (omega arith), length-section_headers (position + contents_size s) ss all.1 (omega arith))
 
 -- the sections
 
-pub sections_read : (bytes : List ℕ) (header place : ℕ) (ss : List ObjectSection) → AllByRecursion FitsSection ss → 0 < place → place + sum_by contents_size ss < 2 ^ 32 → Stands bytes header (section_headers place ss) → Stands bytes place (flat_map contents ss) → each_at (section_at bytes) header 40 (length ss) ≡ Some ss
+pub sections_read : (bytes : List ℕ) (header position : ℕ) (ss : List ObjectSection) → AllByRecursion FitsSection ss → 0 < position → position + sum_by contents_size ss < 2 ^ 32 → LocatedAt bytes header (section_headers position ss) → LocatedAt bytes position (flat_map contents ss) → each_at (section_at bytes) header 40 (length ss) ≡ Some ss
 unfolding each_at section_headers
-sections_read bytes header place [] all above below heads stands = refl
-sections_read bytes header place (s ∷ ss) all above below heads stands =
+sections_read bytes header position [] all above below heads located = refl
+sections_read bytes header position (s ∷ ss) all above below heads located =
     let total : sum_by contents_size (s ∷ ss) ≡ contents_size s + sum_by contents_size ss = sum_by-cons contents_size s ss in
-    let short : place + contents_size s < 2 ^ 32 = omega arith in
-    let others : (place + contents_size s) + sum_by contents_size ss < 2 ^ 32 = omega arith in
+    let short : position + contents_size s < 2 ^ 32 = omega arith in
+    let others : (position + contents_size s) + sum_by contents_size ss < 2 ^ 32 = omega arith in
     rw (
-      section_at-stands place s all.0 short bytes header above
-          (stands_first (section_header place s) (section_headers (place + contents_size s) ss) heads)
-          (stands_first (contents s) (flat_map contents ss) stands),
-      sections_read bytes (header + 40) (place + contents_size s) ss all.1 (omega arith) others
-          (stands_next (section_header place s) (section_headers (place + contents_size s) ss) 40 (length-section_header place s all.0 short) heads)
-          (stands_next (contents s) (flat_map contents ss) (contents_size s) (length-contents s) stands),
+      section_at-located position s all.0 short bytes header above
+          (located_first (section_header position s) (section_headers (position + contents_size s) ss) heads)
+          (located_first (contents s) (flat_map contents ss) located),
+      sections_read bytes (header + 40) (position + contents_size s) ss all.1 (omega arith) others
+          (located_next (section_header position s) (section_headers (position + contents_size s) ss) 40 (length-section_header position s all.0 short) heads)
+          (located_next (contents s) (flat_map contents ss) (contents_size s) (length-contents s) located),
     )
     refl
 
@@ -94,15 +94,15 @@ u32_at-bytes : (n : ℕ) → n < 2 ^ 32 → u32_at (u32_bytes n) 0 ≡ n
 unfolding u32_at u32_bytes
 u32_at-bytes n below = from_le_bytes-to_le_bytes_4 n below
 
-size_stands : (bytes : List ℕ) (place : ℕ) (strings : List (List ℕ)) → Stands bytes place (string_table strings) → Stands bytes place (u32_bytes (strings_size strings))
+size_located : (bytes : List ℕ) (position : ℕ) (strings : List (List ℕ)) → LocatedAt bytes position (string_table strings) → LocatedAt bytes position (u32_bytes (strings_size strings))
 unfolding string_table
-size_stands bytes place strings stands = stands_first (u32_bytes (strings_size strings)) (flat_map string_bytes_of strings) stands
+size_located bytes position strings located = located_first (u32_bytes (strings_size strings)) (flat_map string_bytes_of strings) located
 
-pub strings_read : (bytes : List ℕ) (place : ℕ) (strings : List (List ℕ)) → strings_size strings < 2 ^ 32 → Stands bytes place (string_table strings) → strings_at bytes place ≡ Some (string_table strings)
+pub strings_read : (bytes : List ℕ) (position : ℕ) (strings : List (List ℕ)) → strings_size strings < 2 ^ 32 → LocatedAt bytes position (string_table strings) → strings_at bytes position ≡ Some (string_table strings)
 unfolding strings_at
-strings_read bytes place strings below stands =
-    rw (bytes_at-stands 4 (length-u32_bytes (strings_size strings)) (size_stands bytes place strings stands), u32_at-bytes (strings_size strings) below)
-    (bytes_at-stands (strings_size strings) (length-string_table strings) stands)
+strings_read bytes position strings below located =
+    rw (bytes_at-located 4 (length-u32_bytes (strings_size strings)) (size_located bytes position strings located), u32_at-bytes (strings_size strings) below)
+    (bytes_at-located (strings_size strings) (length-string_table strings) located)
 
 strings_split : (strings : List (List ℕ)) (index : ℕ) → flat_map string_bytes_of strings ≡ flat_map string_bytes_of (take index strings) ++ flat_map string_bytes_of (drop index strings)
 strings_split strings index = ap (flat_map string_bytes_of) (sym (take-append-drop index strings)) ∙ flat_map-append string_bytes_of (take index strings) (drop index strings)

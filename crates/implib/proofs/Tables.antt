@@ -15,16 +15,16 @@ use Rattle.implib.specs.Load.{BytesAt, TableAt, WholeTableAt}
 use Rattle.implib.specs.ImportTables.{thunk_width, zeros}
 use Rattle.implib.specs.Object.{Object}
 use Rattle.implib.specs.Layout.{HasNoNul}
-use Rattle.implib.proofs.Ranges.{stands_parts}
+use Rattle.implib.proofs.Ranges.{located_parts}
 use Rattle.implib.proofs.Placement.{AreAligned, after_head, aligned_after, at_least, ends_of_all, ends_of_export, ends_of_exports, ends_of_tail, length-thunk_of, placed-export, placed-tail, placed_export}
-use Rattle.implib.proofs.Thunks.{StrictTableAt, StrictThunkAt, length-address, name_stands, ordinal_stands, ordinal_thunk, same_number, with_address-zeros, zeros_number}
+use Rattle.implib.proofs.Thunks.{StrictTableAt, StrictThunkAt, length-address, name_located, ordinal_located, ordinal_thunk, same_number, with_address-zeros, zeros_number}
 
 -- an export whose ordinal is a 16-bit number and whose asked name has no NUL
 pub record CanBeAsked (machine : MachineType) (e : ExportView) : Type 0 where
   pub ordinal : e.ordinal < 2 ^ 16
   pub name : HasNoNul (asked_name machine e.name)
 
--- bytes at their place are what is filled in first
+-- bytes at their position are what is filled in first
 pub filled_first : (a n : ℕ) (bytes : List ℕ) (rest : List Contribution) → length bytes ≡ n →
     filled a (record { address = a; bytes = bytes } ∷ rest) ≡ bytes ++ filled (a + n) rest
 filled_first a n bytes rest long =
@@ -170,33 +170,33 @@ module _ (machine : MachineType) (dll : List ℕ) (linked : List Placed) where
 
     thunk_at : (b : Bases) (e : ExportView) (a : ℕ) → CanBeAsked machine e → BytesAt image a (thunk_linked b e) →
         BytesAt image (next_multiple 2 b.hint_names) (hint_name machine e) → StrictThunkAt image (thunk_width machine) a (expected_ask machine e)
-    thunk_at b e a fits stands hint_stands =
+    thunk_at b e a fits located hint_located =
         elim (cases_Bool e.no_name) [
           | inl is ↦ subst (λ test. StrictThunkAt image (thunk_width machine) a (if test then Ordinal e.ordinal else Name (asked_name machine e.name) e.ordinal)) (sym is)
-              (ordinal_stands machine image e.ordinal a fits.ordinal (subst (BytesAt image a) (thunk_of_ordinal b e is) stands))
+              (ordinal_located machine image e.ordinal a fits.ordinal (subst (BytesAt image a) (thunk_of_ordinal b e is) located))
           | inr is ↦ subst (λ test. StrictThunkAt image (thunk_width machine) a (if test then Ordinal e.ordinal else Name (asked_name machine e.name) e.ordinal)) (sym is)
-              (name_stands machine image starts ends (asked_name machine e.name) e.ordinal (next_multiple 2 b.hint_names) a fits.ordinal fits.name
-              (subst (BytesAt image a) (thunk_of_name b e is) stands)
-              (subst (BytesAt image (next_multiple 2 b.hint_names)) (hint_is e is) hint_stands))
+              (name_located machine image starts ends (asked_name machine e.name) e.ordinal (next_multiple 2 b.hint_names) a fits.ordinal fits.name
+              (subst (BytesAt image a) (thunk_of_name b e is) located)
+              (subst (BytesAt image (next_multiple 2 b.hint_names)) (hint_is e is) hint_located))
         ]
 
     -- a table asks for what is meant
     pub table_at : (es : List ExportView) (b : Bases) (a : ℕ) → AllByRecursion (CanBeAsked machine) es → BytesAt image a (thunk_bytes b es) →
         BytesAt image b.hint_names (hint_bytes b es) → StrictTableAt image (thunk_width machine) a (map (expected_ask machine) es)
     unfolding TableAt WholeTableAt thunk_bytes hint_bytes
-    table_at [] b a fit stands hints = record {
-      plain = record { bytes = zeros (thunk_width machine); stands = stands; count = length-replicate {A = ℕ} (thunk_width machine) 0; value = zeros_number machine };
+    table_at [] b a fit located hints = record {
+      plain = record { bytes = zeros (thunk_width machine); located = located; count = length-replicate {A = ℕ} (thunk_width machine) 0; value = zeros_number machine };
       whole = tt;
     }
-    table_at (e ∷ es) b a fit stands hints =
+    table_at (e ∷ es) b a fit located hints =
         let later : Bases = ends_of_export machine dll b e in
-        let parts = stands_parts image (thunk_linked b e) (thunk_bytes later es) a stands in
+        let parts = located_parts image (thunk_linked b e) (thunk_bytes later es) a located in
         let padding : List ℕ = zeros (next_multiple 2 b.hint_names - b.hint_names) in
-        let behind = stands_parts image padding (hint_name machine e ++ hint_bytes later es) b.hint_names hints in
+        let behind = located_parts image padding (hint_name machine e ++ hint_bytes later es) b.hint_names hints in
         let below : b.hint_names ≤ next_multiple 2 b.hint_names = at_least 2 b.hint_names in
-        let place : b.hint_names + length padding ≡ next_multiple 2 b.hint_names = rw (length-replicate {A = ℕ} (next_multiple 2 b.hint_names - b.hint_names) 0) (omega arith) in
-        let hint_parts = stands_parts image (hint_name machine e) (hint_bytes later es) (next_multiple 2 b.hint_names)
-        (subst (λ n. BytesAt image n (hint_name machine e ++ hint_bytes later es)) place behind.1) in
+        let position : b.hint_names + length padding ≡ next_multiple 2 b.hint_names = rw (length-replicate {A = ℕ} (next_multiple 2 b.hint_names - b.hint_names) 0) (omega arith) in
+        let hint_parts = located_parts image (hint_name machine e) (hint_bytes later es) (next_multiple 2 b.hint_names)
+        (subst (λ n. BytesAt image n (hint_name machine e ++ hint_bytes later es)) position behind.1) in
         let first = thunk_at b e a fit.0 parts.0 hint_parts.0 in
         let others = table_at es later (a + thunk_width machine) fit.1
         (subst (λ n. BytesAt image (a + n) (thunk_bytes later es)) (length-thunk_linked b e) parts.1) hint_parts.1 in

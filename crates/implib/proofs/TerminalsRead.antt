@@ -97,9 +97,9 @@ unfolding sizes_read
 second_size_refused n [] t rest cause h refused = absurd h
 second_size_refused n (u ∷ []) t rest cause h refused = absurd h.1
 second_size_refused n (u ∷ comma ∷ tokens) t rest cause h refused =
-    let owed = ap (λ (s : List TokenView). number_read s >>= some_number) h.1.1 ∙ bind_err (number_read (t ∷ rest)) some_number (refusal_of cause t) (number_refused t rest cause refused) in
+    let expected = ap (λ (s : List TokenView). number_read s >>= some_number) h.1.1 ∙ bind_err (number_read (t ∷ rest)) some_number (refusal_of cause t) (number_refused t rest cause refused) in
     bind_ok (number_read (u ∷ comma ∷ tokens)) sizes_from (n, comma ∷ tokens) (Err (refusal_of cause t)) (number_again u n (comma ∷ tokens) h.0.0 h.0.1)
-    (bind_err (commit_read (comma ∷ tokens)) (sizes_of n) (refusal_of cause t) (after_comma comma tokens h.1.0 ∙ owed))
+    (bind_err (commit_read (comma ∷ tokens)) (sizes_of n) (refusal_of cause t) (after_comma comma tokens h.1.0 ∙ expected))
 
 -- ---- names
 
@@ -134,9 +134,9 @@ base_again (Some n) [] rest h after = absurd h
 base_again (Some n) (t ∷ []) rest h after = absurd h.1
 base_again (Some n) (t ∷ sign ∷ []) rest h after = absurd h.1.1
 base_again (Some n) (t ∷ sign ∷ u ∷ tokens) rest h after =
-    let owed = bind_ok (sign_read (sign ∷ u ∷ tokens)) number_read (u ∷ tokens) (Ok (n, tokens)) (sign_again sign (u ∷ tokens) h.1.0) (number_again u n tokens h.1.1.0.0 h.1.1.0.1) in
+    let expected = bind_ok (sign_read (sign ∷ u ∷ tokens)) number_read (u ∷ tokens) (Ok (n, tokens)) (sign_again sign (u ∷ tokens) h.1.0) (number_again u n tokens h.1.1.0.0 h.1.1.0.1) in
     after_base t (sign ∷ u ∷ tokens) h.0
-    ∙ bind_ok (sign_read (sign ∷ u ∷ tokens) >>= number_read) some_number (n, tokens) (Ok (Some n, rest)) owed (ap (λ (s : List TokenView). Ok (Some n, s)) h.1.1.1)
+    ∙ bind_ok (sign_read (sign ∷ u ∷ tokens) >>= number_read) some_number (n, tokens) (Ok (Some n, rest)) expected (ap (λ (s : List TokenView). Ok (Some n, s)) h.1.1.1)
 
 base_sign_refused : (base t : TokenView) (rest : List TokenView) (cause : Cause) → base.kind ≡ KwBase → IsNotEqualSign t cause → base_read (base ∷ t ∷ rest) ≡ Err (refusal_of cause t)
 base_sign_refused base t rest cause e h =

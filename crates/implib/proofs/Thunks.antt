@@ -12,7 +12,7 @@ use Rattle.implib.specs.Load.{ThunkAsksFor, BytesAt, IsWhole, NumberAt, TableAt,
 use Rattle.implib.specs.ImportTables.{thunk_width, zeros}
 use Rattle.implib.specs.Object.{u32_at}
 use Rattle.implib.specs.Layout.{HasNoNul}
-use Rattle.implib.proofs.Ranges.{address_bounds, stands_parts}
+use Rattle.implib.proofs.Ranges.{address_bounds, located_parts}
 use Rattle.implib.proofs.Placement.{length-thunk_of}
 
 -- a thunk for a loader that is strict
@@ -108,65 +108,65 @@ unfolding u16_bytes
 length-u16 n = refl
 
 -- a thunk of an ordinal asks for it
-pub ordinal_stands : (machine : MachineType) (image : List Range) (n a : ℕ) → n < 2 ^ 16 → BytesAt image a (ordinal_thunk machine n) →
+pub ordinal_located : (machine : MachineType) (image : List Range) (n a : ℕ) → n < 2 ^ 16 → BytesAt image a (ordinal_thunk machine n) →
     StrictThunkAt image (thunk_width machine) a (Ordinal n)
 unfolding ThunkAsksFor IsWhole
-ordinal_stands machine image n a small stands =
+ordinal_located machine image n a small located =
     let high = ordinal_top machine n in
     let here : NumberAt image (thunk_width machine) a (number_in (ordinal_thunk machine n)) = record {
       bytes = ordinal_thunk machine n;
-      stands = stands;
+      located = located;
       count = length-thunk_of machine n true;
       value = refl;
     } in
     record {
       plain = record {
         thunk = number_in (ordinal_thunk machine n);
-        stands = here;
+        located = here;
         goes_on = top_nonzero machine (number_in (ordinal_thunk machine n)) high;
         asks = (high, ordinal_low machine n small);
       };
-      whole = record { thunk = number_in (ordinal_thunk machine n); stands = here; whole = ordinal_whole machine n small };
+      whole = record { thunk = number_in (ordinal_thunk machine n); located = here; whole = ordinal_whole machine n small };
     }
 
 module _ (machine : MachineType) (image : List Range) (starts : AllByRecursion (λ r. 0 < r.start) image) (ends : AllByRecursion (λ r. range_end r < 2 ^ 31) image) where
   first_bounds : (a first : ℕ) (rest : List ℕ) → BytesAt image a (first ∷ rest) → (0 < a) × (a < 2 ^ 31)
   unfolding BytesAt
-  first_bounds a first rest stands = address_bounds image a first starts ends stands.0
+  first_bounds a first rest located = address_bounds image a first starts ends located.0
 
   hint_bounds : (a n : ℕ) (rest : List ℕ) → BytesAt image a (u16_bytes n ++ rest) → (0 < a) × (a < 2 ^ 31)
   unfolding u16_bytes
-  hint_bounds a n rest stands = first_bounds a _ _ stands
+  hint_bounds a n rest located = first_bounds a _ _ located
 
   -- a thunk with the address of a hint and a name asks for them
-  pub name_stands : (text : List ℕ) (hint place a : ℕ) → hint < 2 ^ 16 → HasNoNul text →
+  pub name_located : (text : List ℕ) (hint place a : ℕ) → hint < 2 ^ 16 → HasNoNul text →
       BytesAt image a (u32_bytes ((0 + (place + 0)) % 2 ^ 32) ++ zeros (thunk_width machine - 4)) → BytesAt image place (u16_bytes hint ++ (text ++ 0 ∷ [])) →
       StrictThunkAt image (thunk_width machine) a (Name text hint)
   unfolding ThunkAsksFor IsWhole
-  name_stands text hint place a hint_small free stands hint_stands =
-      let bounds = hint_bounds place hint (text ++ 0 ∷ []) hint_stands in
+  name_located text hint place a hint_small free located hint_located =
+      let bounds = hint_bounds place hint (text ++ 0 ∷ []) hint_located in
       let nonzero = bounds.0 in
       let small = bounds.1 in
-      let parts = stands_parts image (u16_bytes hint) (text ++ 0 ∷ []) place hint_stands in
+      let parts = located_parts image (u16_bytes hint) (text ++ 0 ∷ []) place hint_located in
       let low : place ≡ place % 2 ^ 31 = omega arith in
-      let text_stands : BytesAt image (place + 2) (text ++ 0 ∷ []) =
+      let text_located : BytesAt image (place + 2) (text ++ 0 ∷ []) =
       subst (λ n. BytesAt image (place + n) (text ++ 0 ∷ [])) (length-u16 hint) parts.1 in
       let here : NumberAt image (thunk_width machine) a place = record {
         bytes = u32_bytes place ++ zeros (thunk_width machine - 4);
-        stands = subst (λ n. BytesAt image a (u32_bytes n ++ zeros (thunk_width machine - 4))) (small_mod place small) stands;
+        located = subst (λ n. BytesAt image a (u32_bytes n ++ zeros (thunk_width machine - 4))) (small_mod place small) located;
         count = length-address machine place;
         value = number-address machine place small;
       } in
       record {
         plain = record {
           thunk = place;
-          stands = here;
+          located = here;
           goes_on = λ none. omega arith;
           asks = (
             below_top machine place small,
-            subst (λ n. NumberAt image 2 n hint) low (record { bytes = u16_bytes hint; stands = parts.0; count = length-u16 hint; value = number-u16 hint hint_small }),
-            subst (λ n. TextAt image (n + 2) text) low (record { no_nul = free; stands = text_stands }),
+            subst (λ n. NumberAt image 2 n hint) low (record { bytes = u16_bytes hint; located = parts.0; count = length-u16 hint; value = number-u16 hint hint_small }),
+            subst (λ n. TextAt image (n + 2) text) low (record { no_nul = free; located = text_located }),
           );
         };
-        whole = record { thunk = place; stands = here; whole = small };
+        whole = record { thunk = place; located = here; whole = small };
       }

@@ -43,27 +43,27 @@ EndsInEof-cons : (k : TokenKind) (value : List ℕ) (at : ℕ) (rest : List Toke
 EndsInEof-cons k value at [] differs ends = absurd ends
 EndsInEof-cons k value at (next ∷ rest) differs ends = (differs, ends)
 
-EndsInEof-lexeme : (place : ℕ) (lexeme : Lexeme) (rest : List TokenView) → EndsInEof rest → EndsInEof (tokens_of_lexeme place lexeme ++ rest)
-EndsInEof-lexeme place (Blank c) rest ends = ends
-EndsInEof-lexeme place (Comment line) rest ends = ends
-EndsInEof-lexeme place (LastComment line) rest ends = ends
-EndsInEof-lexeme place EqualSign rest ends = EndsInEof-cons kind.Equal (61 ∷ []) place rest (λ e. cc) ends
-EndsInEof-lexeme place EqualSigns rest ends = EndsInEof-cons kind.EqualEqual (61 ∷ 61 ∷ []) place rest (λ e. cc) ends
-EndsInEof-lexeme place CommaSign rest ends = EndsInEof-cons kind.Comma (44 ∷ []) place rest (λ e. cc) ends
-EndsInEof-lexeme place (Quoted inside) rest ends = EndsInEof-cons kind.Identifier (trim inside) (place + 1 + value_start inside) rest (λ e. cc) ends
-EndsInEof-lexeme place (Unclosed inside) rest ends = EndsInEof-cons kind.Identifier [] (place + 1) rest (λ e. cc) ends
-EndsInEof-lexeme place (Word run) rest ends = EndsInEof-cons (kind_of_word (trim_end run)) (trim_end run) place rest (kind_of_word_not_eof (trim_end run)) ends
+EndsInEof-lexeme : (position : ℕ) (lexeme : Lexeme) (rest : List TokenView) → EndsInEof rest → EndsInEof (tokens_of_lexeme position lexeme ++ rest)
+EndsInEof-lexeme position (Blank c) rest ends = ends
+EndsInEof-lexeme position (Comment line) rest ends = ends
+EndsInEof-lexeme position (LastComment line) rest ends = ends
+EndsInEof-lexeme position EqualSign rest ends = EndsInEof-cons kind.Equal (61 ∷ []) position rest (λ e. cc) ends
+EndsInEof-lexeme position EqualSigns rest ends = EndsInEof-cons kind.EqualEqual (61 ∷ 61 ∷ []) position rest (λ e. cc) ends
+EndsInEof-lexeme position CommaSign rest ends = EndsInEof-cons kind.Comma (44 ∷ []) position rest (λ e. cc) ends
+EndsInEof-lexeme position (Quoted inside) rest ends = EndsInEof-cons kind.Identifier (trim inside) (position + 1 + value_start inside) rest (λ e. cc) ends
+EndsInEof-lexeme position (Unclosed inside) rest ends = EndsInEof-cons kind.Identifier [] (position + 1) rest (λ e. cc) ends
+EndsInEof-lexeme position (Word run) rest ends = EndsInEof-cons (kind_of_word (trim_end run)) (trim_end run) position rest (kind_of_word_not_eof (trim_end run)) ends
 
-EndsInEof-tokens_of : (place : ℕ) (lexemes : List Lexeme) → EndsInEof (tokens_of place lexemes)
-EndsInEof-tokens_of place [] = refl
-EndsInEof-tokens_of place (lexeme ∷ lexemes) =
-    EndsInEof-lexeme place lexeme _ (EndsInEof-tokens_of (place + length (lexeme_text lexeme)) lexemes)
+EndsInEof-tokens_of : (position : ℕ) (lexemes : List Lexeme) → EndsInEof (tokens_of position lexemes)
+EndsInEof-tokens_of position [] = refl
+EndsInEof-tokens_of position (lexeme ∷ lexemes) =
+    EndsInEof-lexeme position lexeme _ (EndsInEof-tokens_of (position + length (lexeme_text lexeme)) lexemes)
 
 -- Eof comes once, last
 pub EndsInEof-from_Lexed : (text : List ℕ) (tokens : List TokenView) → Lexed text tokens → EndsInEof tokens
 EndsInEof-from_Lexed text tokens lexed = subst EndsInEof (sym lexed.given) (EndsInEof-tokens_of 0 lexed.lexemes)
 
--- the tokens of a text are those of the pieces that the witness finds
+-- the tokens of a text are those of the lexemes that the witness finds
 Lexed-tokens : (text : List ℕ) (tokens : List TokenView) → IsUtf8 text → Lexed text tokens → tokens ≡ tokens_of 0 (lexemes_in text)
 Lexed-tokens text tokens utf8 lexed =
     lexed.given ∙ ap (tokens_of 0) (sym (Divides-lexemes_in text lexed.lexemes lexed.end utf8 lexed.divides))
@@ -90,7 +90,7 @@ Lexed-tokens_left text utf8 =
     let none : length text - length text ≡ 0 = omega arith in
     subst (λ n. Lexed text (tokens_of n (lexemes_in text))) (sym none) (Lexed-exists text utf8)
 
--- pieces determine the end after them
+-- lexemes determine the end after them
 same_end : (lexemes : List Lexeme) (a b : List ℕ) → text_of lexemes a ≡ text_of lexemes b → a ≡ b
 same_end [] a b e = e
 same_end (lexeme ∷ lexemes) a b e = same_end lexemes a b (append_cancel_left (lexeme_text lexeme) (text_of lexemes a) (text_of lexemes b) e)
@@ -116,23 +116,23 @@ LexedOnce-of_text text utf8 = record {
   only = λ others lexed. Lexed-unique text others (tokens_of 0 (lexemes_in text)) utf8 lexed (Lexed-exists text utf8);
 }
 
-piece_known : (place : ℕ) (lexeme : Lexeme) → AllByRecursion IsKnown (tokens_of_lexeme place lexeme)
-piece_known place (Blank c) = tt
-piece_known place (Comment line) = tt
-piece_known place (LastComment line) = tt
-piece_known place EqualSign = (λ e. cc, tt)
-piece_known place EqualSigns = (λ e. cc, tt)
-piece_known place CommaSign = (λ e. cc, tt)
-piece_known place (Quoted inside) = (λ e. cc, tt)
-piece_known place (Unclosed inside) = (λ e. cc, tt)
-piece_known place (Word run) = (kind_of_word_known (trim_end run), tt)
+lexeme_known : (position : ℕ) (lexeme : Lexeme) → AllByRecursion IsKnown (tokens_of_lexeme position lexeme)
+lexeme_known position (Blank c) = tt
+lexeme_known position (Comment line) = tt
+lexeme_known position (LastComment line) = tt
+lexeme_known position EqualSign = (λ e. cc, tt)
+lexeme_known position EqualSigns = (λ e. cc, tt)
+lexeme_known position CommaSign = (λ e. cc, tt)
+lexeme_known position (Quoted inside) = (λ e. cc, tt)
+lexeme_known position (Unclosed inside) = (λ e. cc, tt)
+lexeme_known position (Word run) = (kind_of_word_known (trim_end run), tt)
 
-pieces_known : (place : ℕ) (lexemes : List Lexeme) → AllByRecursion IsKnown (tokens_of place lexemes)
-pieces_known place [] = (λ e. cc, tt)
-pieces_known place (lexeme ∷ lexemes) =
-    let next = place + length (lexeme_text lexeme) in
-    AllByRecursion-append IsKnown (tokens_of_lexeme place lexeme) (tokens_of next lexemes) (piece_known place lexeme) (pieces_known next lexemes)
+lexemes_known : (position : ℕ) (lexemes : List Lexeme) → AllByRecursion IsKnown (tokens_of position lexemes)
+lexemes_known position [] = (λ e. cc, tt)
+lexemes_known position (lexeme ∷ lexemes) =
+    let next = position + length (lexeme_text lexeme) in
+    AllByRecursion-append IsKnown (tokens_of_lexeme position lexeme) (tokens_of next lexemes) (lexeme_known position lexeme) (lexemes_known next lexemes)
 
 -- no token is Unknown
 pub Lexed-known : (text : List ℕ) (tokens : List TokenView) → Lexed text tokens → AllByRecursion IsKnown tokens
-Lexed-known text tokens lexed = subst (AllByRecursion IsKnown) (sym lexed.given) (pieces_known 0 lexed.lexemes)
+Lexed-known text tokens lexed = subst (AllByRecursion IsKnown) (sym lexed.given) (lexemes_known 0 lexed.lexemes)

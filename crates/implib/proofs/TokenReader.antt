@@ -14,7 +14,7 @@ use Rattle.implib.specs.Token.{Lexed, TokenView, EndsInEof}
 use Rattle.implib.proofs.StartsWith.{StartsWith-append, StartsWith-ends, EndsInEof-last, EndsInEof-some, AtFront}
 use Rattle.implib.proofs.Many.{Chain}
 use Rattle.implib.proofs.Meaning.{with_statements-meaning}
-use Rattle.implib.proofs.ReadStatements.{StatementStands, NoStatement, BeginsNone, StartedCut, StatementCut, StatementsRead, StatementsCut, statements_outcome, statements_begin, statements_end}
+use Rattle.implib.proofs.ReadStatements.{StatementLocated, NoStatement, BeginsNone, StartedCut, StatementCut, StatementsRead, StatementsCut, statements_outcome, statements_begin, statements_end}
 use Rattle.implib.proofs.Token.{EndsInEof-from_Lexed}
 use Rattle.implib.proofs.Statements.{statements_want_no_end, started_wants_no_end}
 
@@ -69,7 +69,7 @@ broken_started tokens mid refusal statements ends begins c =
       token_is_at = sym front.1;
     }
 
-broken_unknown : (tokens mid : List TokenView) (refusal : Refusal) (statements : List Statement) → EndsInEof tokens → Chain StatementStands NoStatement statements tokens mid → AtFront BeginsNone mid refusal → IsSyntaxErrorAt tokens refusal.cause refusal.at
+broken_unknown : (tokens mid : List TokenView) (refusal : Refusal) (statements : List Statement) → EndsInEof tokens → Chain StatementLocated NoStatement statements tokens mid → AtFront BeginsNone mid refusal → IsSyntaxErrorAt tokens refusal.cause refusal.at
 broken_unknown tokens [] refusal statements ends chain h =
     let some = EndsInEof-some [] (ends_after tokens [] statements ends (statements_begin statements tokens [] chain)) in absurd cc
 broken_unknown tokens (t ∷ rest) refusal statements ends chain h = record {
@@ -86,7 +86,7 @@ broken_unknown tokens (t ∷ rest) refusal statements ends chain h = record {
   token_is_at = sym h.1;
 }
 
-broken_from : (tokens mid : List TokenView) (refusal : Refusal) (statements : List Statement) → EndsInEof tokens → Chain StatementStands NoStatement statements tokens mid → StatementCut mid refusal → IsSyntaxErrorAt tokens refusal.cause refusal.at
+broken_from : (tokens mid : List TokenView) (refusal : Refusal) (statements : List Statement) → EndsInEof tokens → Chain StatementLocated NoStatement statements tokens mid → StatementCut mid refusal → IsSyntaxErrorAt tokens refusal.cause refusal.at
 broken_from tokens mid refusal statements ends chain (inl h) = broken_unknown tokens mid refusal statements ends chain h
 broken_from tokens mid refusal statements ends chain (inr c) = broken_started tokens mid refusal statements ends (statements_begin statements tokens mid chain) c
 

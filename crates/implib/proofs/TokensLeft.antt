@@ -7,70 +7,70 @@ use Rattle.implib.specs.declared.def.lexer.TokenKind.{TokenKind}
 use Rattle.implib.specs.declared.def.lexer.TokenKind.TheVariants as kind
 use Rattle.implib.specs.Token.{eof, lexeme_text, text_of, tokens_of_lexeme, tokens_of, Blank, Comment, CommaSign, EachIsLexeme, EqualSign, EqualSigns, IsEnd, LastComment, Lexeme, Quoted, TokenView, IsLexemeBefore, Unclosed, Word}
 use Rattle.implib.specs.Scanner.{lexemes_in, tokens_left, IsTrivia, PassesTrivia, TakesLexeme, TakesToken}
-use Rattle.implib.proofs.Scanner.{division, Divides-lexemes_in, utf8_after_piece}
+use Rattle.implib.proofs.Scanner.{division, Divides-lexemes_in, utf8_after_lexeme}
 use Rattle.implib.proofs.Token.{kind_of_word_not_eof}
 
--- a piece in front of a text is found first
-pieces_in_piece : (lexeme : Lexeme) (after : List ℕ) → IsLexemeBefore lexeme after → IsUtf8 (lexeme_text lexeme ++ after) → lexemes_in (lexeme_text lexeme ++ after) ≡ lexeme ∷ lexemes_in after
-pieces_in_piece lexeme after stands utf8 =
-    let rest_utf8 = utf8_after_piece lexeme after stands utf8 in
+-- a lexeme in front of a text is found first
+lexemes_in_lexeme : (lexeme : Lexeme) (after : List ℕ) → IsLexemeBefore lexeme after → IsUtf8 (lexeme_text lexeme ++ after) → lexemes_in (lexeme_text lexeme ++ after) ≡ lexeme ∷ lexemes_in after
+lexemes_in_lexeme lexeme after located utf8 =
+    let rest_utf8 = utf8_after_lexeme lexeme after located utf8 in
     let d = division after rest_utf8 in
     let e = d.divides.spelled in
     Divides-lexemes_in (lexeme_text lexeme ++ after) (lexeme ∷ d.lexemes) d.end utf8 (record {
       spelled = ap (λ l. lexeme_text lexeme ++ l) e;
-      each_is_lexeme = (subst (IsLexemeBefore lexeme) e stands, d.divides.each_is_lexeme);
+      each_is_lexeme = (subst (IsLexemeBefore lexeme) e located, d.divides.each_is_lexeme);
       ends = d.divides.ends;
     })
     ∙ ap (λ l. lexeme ∷ l) (sym (Divides-lexemes_in after d.lexemes d.end rest_utf8 d.divides))
 
--- a piece in front of what is left gives its token, if it has one
-left_after_piece : (text : List ℕ) (lexeme : Lexeme) (after : List ℕ) → IsLexemeBefore lexeme after → IsUtf8 (lexeme_text lexeme ++ after) → length (lexeme_text lexeme ++ after) ≤ length text → tokens_left text (lexeme_text lexeme ++ after) false ≡ tokens_of_lexeme (length text - length (lexeme_text lexeme ++ after)) lexeme ++ tokens_left text after false
+-- a lexeme in front of what is left gives its token, if it has one
+left_after_lexeme : (text : List ℕ) (lexeme : Lexeme) (after : List ℕ) → IsLexemeBefore lexeme after → IsUtf8 (lexeme_text lexeme ++ after) → length (lexeme_text lexeme ++ after) ≤ length text → tokens_left text (lexeme_text lexeme ++ after) false ≡ tokens_of_lexeme (length text - length (lexeme_text lexeme ++ after)) lexeme ++ tokens_left text after false
 unfolding tokens_left
-left_after_piece text lexeme after stands utf8 fits =
-    let place = length text - length (lexeme_text lexeme ++ after) in
-    let next : place + length (lexeme_text lexeme) ≡ length text - length after = omega (arith, length-append (lexeme_text lexeme) after) in
-    ap (tokens_of place) (pieces_in_piece lexeme after stands utf8)
-    ∙ ap (λ n. tokens_of_lexeme place lexeme ++ tokens_of n (lexemes_in after)) next
+left_after_lexeme text lexeme after located utf8 fits =
+    let position = length text - length (lexeme_text lexeme ++ after) in
+    let next : position + length (lexeme_text lexeme) ≡ length text - length after = omega (arith, length-append (lexeme_text lexeme) after) in
+    ap (tokens_of position) (lexemes_in_lexeme lexeme after located utf8)
+    ∙ ap (λ n. tokens_of_lexeme position lexeme ++ tokens_of n (lexemes_in after)) next
 
-left_after_gap : (text : List ℕ) (gap : List Lexeme) (rest : List ℕ) → EachIsLexeme gap rest → AllByRecursion IsTrivia gap → IsUtf8 (text_of gap rest) → length (text_of gap rest) ≤ length text → tokens_left text (text_of gap rest) false ≡ tokens_left text rest false
-left_after_gap text [] rest stand each utf8 fits = refl
-left_after_gap text (lexeme ∷ gap) rest stand each utf8 fits =
-    let after = text_of gap rest in
+left_after_trivia : (text : List ℕ) (trivia : List Lexeme) (rest : List ℕ) → EachIsLexeme trivia rest → AllByRecursion IsTrivia trivia → IsUtf8 (text_of trivia rest) → length (text_of trivia rest) ≤ length text → tokens_left text (text_of trivia rest) false ≡ tokens_left text rest false
+left_after_trivia text [] rest are_located each utf8 fits = refl
+left_after_trivia text (lexeme ∷ trivia) rest are_located each utf8 fits =
+    let after = text_of trivia rest in
     let shorter : length after ≤ length text = omega (arith, length-append (lexeme_text lexeme) after) in
-    left_after_piece text lexeme after stand.0 utf8 fits
+    left_after_lexeme text lexeme after are_located.0 utf8 fits
     ∙ ap (λ l. l ++ tokens_left text after false) (each.0 (length text - length (lexeme_text lexeme ++ after)))
-    ∙ left_after_gap text gap rest stand.1 each.1 (utf8_after_piece lexeme after stand.0 utf8) shorter
+    ∙ left_after_trivia text trivia rest are_located.1 each.1 (utf8_after_lexeme lexeme after are_located.0 utf8) shorter
 
-text_of_longer : (gap : List Lexeme) (rest : List ℕ) → length rest ≤ length (text_of gap rest)
+text_of_longer : (trivia : List Lexeme) (rest : List ℕ) → length rest ≤ length (text_of trivia rest)
 text_of_longer [] rest = omega arith
-text_of_longer (lexeme ∷ gap) rest = omega (arith, text_of_longer gap rest, length-append (lexeme_text lexeme) (text_of gap rest))
+text_of_longer (lexeme ∷ trivia) rest = omega (arith, text_of_longer trivia rest, length-append (lexeme_text lexeme) (text_of trivia rest))
 
--- what follows a gap is no longer than before
+-- what follows trivia is no longer than before
 pub PassesTrivia-shorter : (text rest : List ℕ) → PassesTrivia text rest → length rest ≤ length text
-PassesTrivia-shorter text rest passed = omega (arith, ap length passed.spelled, text_of_longer passed.gap rest)
+PassesTrivia-shorter text rest passed = omega (arith, ap length passed.spelled, text_of_longer passed.trivia rest)
 
-pub TakesToken-shorter : (text : List ℕ) (place : ℕ) (token : TokenView) (after : List ℕ) → TakesToken text place token after → length after ≤ length text
-TakesToken-shorter text place token after taken = ⊎_elim
-    (λ (taken : TakesLexeme text place token after). omega (arith, ap length taken.spelled, length-append (lexeme_text taken.lexeme) after))
-    (λ (ended : IsEnd text × (token ≡ eof place) × (after ≡ text)). omega (arith, ap length ended.2))
+pub TakesToken-shorter : (text : List ℕ) (position : ℕ) (token : TokenView) (after : List ℕ) → TakesToken text position token after → length after ≤ length text
+TakesToken-shorter text position token after taken = ⊎_elim
+    (λ (taken : TakesLexeme text position token after). omega (arith, ap length taken.spelled, length-append (lexeme_text taken.lexeme) after))
+    (λ (ended : IsEnd text × (token ≡ eof position) × (after ≡ text)). omega (arith, ap length ended.2))
     taken
 
 first_kind : List TokenView → TokenKind
 first_kind [] = kind.Unknown
 first_kind (token ∷ rest) = token.kind
 
--- no piece is Eof
-token_of_not_eof : (place : ℕ) (lexeme : Lexeme) (token : TokenView) (rest : List TokenView) → tokens_of_lexeme place lexeme ≡ token ∷ rest → token.kind ≢ kind.Eof
+-- no lexeme is Eof
+token_of_not_eof : (position : ℕ) (lexeme : Lexeme) (token : TokenView) (rest : List TokenView) → tokens_of_lexeme position lexeme ≡ token ∷ rest → token.kind ≢ kind.Eof
 unfolding first_kind
-token_of_not_eof place (Blank c) token rest e = λ same. cc
-token_of_not_eof place (Comment line) token rest e = λ same. cc
-token_of_not_eof place (LastComment line) token rest e = λ same. cc
-token_of_not_eof place EqualSign token rest e = λ same. let first = ap first_kind e in cc
-token_of_not_eof place EqualSigns token rest e = λ same. let first = ap first_kind e in cc
-token_of_not_eof place CommaSign token rest e = λ same. let first = ap first_kind e in cc
-token_of_not_eof place (Quoted inside) token rest e = λ same. let first = ap first_kind e in cc
-token_of_not_eof place (Unclosed inside) token rest e = λ same. let first = ap first_kind e in cc
-token_of_not_eof place (Word run) token rest e = λ same. kind_of_word_not_eof (trim_end run) (ap first_kind e ∙ same)
+token_of_not_eof position (Blank c) token rest e = λ same. cc
+token_of_not_eof position (Comment line) token rest e = λ same. cc
+token_of_not_eof position (LastComment line) token rest e = λ same. cc
+token_of_not_eof position EqualSign token rest e = λ same. let first = ap first_kind e in cc
+token_of_not_eof position EqualSigns token rest e = λ same. let first = ap first_kind e in cc
+token_of_not_eof position CommaSign token rest e = λ same. let first = ap first_kind e in cc
+token_of_not_eof position (Quoted inside) token rest e = λ same. let first = ap first_kind e in cc
+token_of_not_eof position (Unclosed inside) token rest e = λ same. let first = ap first_kind e in cc
+token_of_not_eof position (Word run) token rest e = λ same. kind_of_word_not_eof (trim_end run) (ap first_kind e ∙ same)
 
 -- whether the lexer is done is whether the token was Eof
 not_done : (k : TokenKind) (done : Bool) → Decides done (k ≡ kind.Eof) → k ≢ kind.Eof → done ≡ false
@@ -87,17 +87,17 @@ left_at_end text rest after done ends utf8 is_done =
 pub tokens_left_next : (text rest start after : List ℕ) (token : TokenView) (done : Bool) → length rest ≤ length text → IsUtf8 rest → IsUtf8 start → PassesTrivia rest start → TakesToken start (length text - length start) token after → Decides done (token.kind ≡ kind.Eof) → tokens_left text rest false ≡ token ∷ tokens_left text after done
 tokens_left_next text rest start after token done fits rest_utf8 start_utf8 passed taken decides =
     let shorter : length start ≤ length text = omega (arith, PassesTrivia-shorter rest start passed) in
-    let gap = passed.spelled in
+    let trivia = passed.spelled in
     let skipped : tokens_left text rest false ≡ tokens_left text start false =
-    ap (λ l. tokens_left text l false) gap
-    ∙ left_after_gap text passed.gap start passed.each_is_lexeme passed.each_gap (subst IsUtf8 gap rest_utf8) (omega (arith, ap length gap)) in
+    ap (λ l. tokens_left text l false) trivia
+    ∙ left_after_trivia text passed.trivia start passed.each_is_lexeme passed.each_trivia (subst IsUtf8 trivia rest_utf8) (omega (arith, ap length trivia)) in
     skipped ∙ ⊎_elim
     (λ (taken : TakesLexeme start (length text - length start) token after).
     let e = taken.spelled in
     let here = λ (l : List ℕ). tokens_of_lexeme (length text - length l) taken.lexeme ++ tokens_left text after false in
     let is_done = not_done token.kind done decides (token_of_not_eof (length text - length start) taken.lexeme token [] taken.given) in
     ap (λ l. tokens_left text l false) e
-    ∙ left_after_piece text taken.lexeme after taken.stands (subst IsUtf8 e start_utf8) (omega (arith, ap length e))
+    ∙ left_after_lexeme text taken.lexeme after taken.located (subst IsUtf8 e start_utf8) (omega (arith, ap length e))
     ∙ ap here (sym e)
     ∙ ap (λ l. l ++ tokens_left text after false) taken.given
     ∙ ap (λ d. token ∷ tokens_left text after d) (sym is_done))

@@ -80,7 +80,7 @@ take-trim_end text utf8 = IsHead-take text (trim_end text) (trim_end_head text u
 pub trim_end_shorter : (text : List ℕ) → IsUtf8 text → length (trim_end text) ≤ length text
 trim_end_shorter text utf8 = let head = trim_end_head text utf8 in omega (arith, ap length head.spelled, length-append (trim_end text) head.back)
 
--- a trimmed text stands at the first of its bytes
+-- a trimmed text is at the first of its bytes
 pub take-trim : (text : List ℕ) → IsUtf8 text → take (length (trim text)) (drop (length text - length (trim_start text)) text) ≡ trim text
 take-trim text utf8 = ap (take (length (trim text))) (IsTail-drop text (trim_start text) (trim_start_tail text utf8)) ∙ take-trim_end (trim_start text) (trim_start_utf8 text utf8)
 

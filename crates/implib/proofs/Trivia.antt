@@ -13,19 +13,19 @@ use Rattle.implib.proofs.Scanner.{none_from_places}
 -- a line that a line feed ends
 pub PassesTrivia-comment : (comment line after : List ℕ) → comment ≡ line ++ (10 ∷ after) → ((i : ℕ) → i < length line → get_or line i 0 ≢ 10) → PassesTrivia (59 ∷ comment) after
 PassesTrivia-comment comment line after e none = record {
-  gap = Comment line ∷ [];
+  trivia = Comment line ∷ [];
   spelled = ap (λ l. 59 ∷ l) (e ∙ sym (append_assoc line (10 ∷ []) after));
   each_is_lexeme = (none_from_places is_line_feed line (λ k h. ne_eqb (get_or line k 0) 10 (none k h)), tt);
-  each_gap = (λ place. refl, tt);
+  each_trivia = (λ position. refl, tt);
 }
 
 -- a line that the text ends
 pub PassesTrivia-last_comment : (comment after : List ℕ) → ((i : ℕ) → i < length comment → get_or comment i 0 ≢ 10) → after ≡ [] → PassesTrivia (59 ∷ comment) after
 PassesTrivia-last_comment comment after none last = record {
-  gap = LastComment comment ∷ [];
+  trivia = LastComment comment ∷ [];
   spelled = ap (λ l. 59 ∷ l) (sym (append-nil comment) ∙ ap (λ l. comment ++ l) (sym last));
   each_is_lexeme = ((none_from_places is_line_feed comment (λ k h. ne_eqb (get_or comment k 0) 10 (none k h)), last), tt);
-  each_gap = (λ place. refl, tt);
+  each_trivia = (λ position. refl, tt);
 }
 
 text_of-append : (first second : List Lexeme) (end : List ℕ) → text_of (first ++ second) end ≡ text_of first (text_of second end)
@@ -33,21 +33,21 @@ text_of-append [] second end = refl
 text_of-append (lexeme ∷ first) second end = ap (λ l. lexeme_text lexeme ++ l) (text_of-append first second end)
 
 EachIsLexeme-append : (first second : List Lexeme) (end : List ℕ) → EachIsLexeme first (text_of second end) → EachIsLexeme second end → EachIsLexeme (first ++ second) end
-EachIsLexeme-append [] second end stand more = more
-EachIsLexeme-append (lexeme ∷ first) second end stand more =
-    (subst (IsLexemeBefore lexeme) (sym (text_of-append first second end)) stand.0, EachIsLexeme-append first second end stand.1 more)
+EachIsLexeme-append [] second end are_located more = more
+EachIsLexeme-append (lexeme ∷ first) second end are_located more =
+    (subst (IsLexemeBefore lexeme) (sym (text_of-append first second end)) are_located.0, EachIsLexeme-append first second end are_located.1 more)
 
 pub AllByRecursion-append : {X : Type 0} (P : X → Type 0) (xs ys : List X) → AllByRecursion P xs → AllByRecursion P ys → AllByRecursion P (xs ++ ys)
 AllByRecursion-append P [] ys first second = second
 AllByRecursion-append P (x ∷ xs) ys first second = (first.0, AllByRecursion-append P xs ys first.1 second)
 
--- one gap and then another
+-- trivia and then more
 pub PassesTrivia-trans : (a b c : List ℕ) → PassesTrivia a b → PassesTrivia b c → PassesTrivia a c
 PassesTrivia-trans a b c first second = record {
-  gap = first.gap ++ second.gap;
-  spelled = first.spelled ∙ ap (text_of first.gap) second.spelled ∙ sym (text_of-append first.gap second.gap c);
-  each_is_lexeme = EachIsLexeme-append first.gap second.gap c (subst (EachIsLexeme first.gap) second.spelled first.each_is_lexeme) second.each_is_lexeme;
-  each_gap = AllByRecursion-append IsTrivia first.gap second.gap first.each_gap second.each_gap;
+  trivia = first.trivia ++ second.trivia;
+  spelled = first.spelled ∙ ap (text_of first.trivia) second.spelled ∙ sym (text_of-append first.trivia second.trivia c);
+  each_is_lexeme = EachIsLexeme-append first.trivia second.trivia c (subst (EachIsLexeme first.trivia) second.spelled first.each_is_lexeme) second.each_is_lexeme;
+  each_trivia = AllByRecursion-append IsTrivia first.trivia second.trivia first.each_trivia second.each_trivia;
 }
 
 -- white space, character by character
@@ -63,21 +63,21 @@ EachIsLexeme-blanks : (cs after : List ℕ) → NonePass is_not_whitespace cs �
 EachIsLexeme-blanks [] after none = tt
 EachIsLexeme-blanks (c ∷ cs) after none = (white_from_not (is_whitespace c) none.0, EachIsLexeme-blanks cs after none.1)
 
-each_gap_blanks : (cs : List ℕ) → AllByRecursion IsTrivia (map Blank cs)
-each_gap_blanks [] = tt
-each_gap_blanks (c ∷ cs) = (λ place. refl, each_gap_blanks cs)
+each_trivia_blanks : (cs : List ℕ) → AllByRecursion IsTrivia (map Blank cs)
+each_trivia_blanks [] = tt
+each_trivia_blanks (c ∷ cs) = (λ position. refl, each_trivia_blanks cs)
 
 pub PassesTrivia-trim_start : (text rest : List ℕ) → IsTrimStart text rest → PassesTrivia text rest
 PassesTrivia-trim_start text rest trimmed =
     let white = trimmed.2 in
     record {
-      gap = map Blank white.0;
+      trivia = map Blank white.0;
       spelled = sym (take-append-drop trimmed.0 text) ∙ ap (λ l. l ++ drop trimmed.0 text) (sym white.1) ∙ ap (λ l. encode_utf8_all white.0 ++ l) (sym trimmed.1) ∙ sym (text_of-blanks white.0 rest);
       each_is_lexeme = EachIsLexeme-blanks white.0 rest white.2;
-      each_gap = each_gap_blanks white.0;
+      each_trivia = each_trivia_blanks white.0;
     }
 
--- pieces without a token are passed, and no white space follows
+-- lexemes without a token are passed, and no white space follows
 pub record PassesSpace (text rest : List ℕ) : Type 0 where
   pub passes : PassesTrivia text rest
   pub tail : List ℕ

@@ -4,7 +4,7 @@ use Rattle.std.specs.Prelude.{slice_index}
 use Rattle.std.specs.Fmt.{digits}
 use Rattle.std.specs.List.{IsDistinct}
 use Rattle.implib.specs.Bytes.{u16_bytes, u32_bytes}
-use Rattle.implib.specs.Gnu.{export_object, five_digits, head_name, head_object, head_symbol, hint_name, name_symbol, numbered_name, relocations_of_stub, relocations_of_thunk, stem, stub, tail_name, tail_object, thunk}
+use Rattle.implib.specs.Gnu.{export_object, five_digits, head_name, head_object, head_symbol, hint_name, iname_symbol, numbered_name, relocations_of_stub, relocations_of_thunk, mangled_name, stub, tail_name, tail_object, thunk}
 use Rattle.implib.specs.Image.{with_address}
 use Rattle.implib.specs.Placement.{next_multiple}
 use Rattle.implib.specs.GnuMembers.{alias_specs, export_spec, head_spec, tail_spec}
@@ -12,14 +12,14 @@ use Rattle.implib.specs.Members.{refusal, renamed_refusal}
 use Rattle.implib.specs.Object.{before_nul, bytes_at, data_at, each_at, entries_at, name_of, object_in, object_of_header, relocation_at, relocation_of, section_at, section_of, strings_at, symbol_of, u16_at, u32_at, up_to_nul}
 use Rattle.implib.specs.Layout.{auxiliary_bytes, auxiliary_count, contents, contents_offset, contents_size, header_bytes, encoded, encoded_size, name_field, offsets_from, pointer_or_zero, record_count, records, relocation_bytes, section_header, section_headers, string_bytes_of, string_offsets, string_size, string_table, strings_size, symbol_bytes, symbol_table_offset}
 use Rattle.implib.specs.Writer.{long_names, name_location, layout_of, symbol_written, with_long_name, with_name}
-use Rattle.implib.specs.WorkedLinks.{MayLink, PartsMayLink, WorkedLinks, bases_64, bases_of_two, foo, placed, placed_two, two_parts}
+use Rattle.implib.specs.WorkedLinks.{MayLink, InputsMayLink, WorkedLinks, bases_64, bases_of_two, foo, placed, placed_two, two_parts}
 use Rattle.implib.specs.declared.machine.MachineType.TheVariants.{AMD64}
 use Rattle.implib.specs.Image.{Range, image_of}
 use Rattle.implib.proofs.Ranges.{apart_as_they_rise, ends_below}
 
 -- what the computing has to open
 abbrev opened : Unit {0}
-unfolding digits u16_bytes u32_bytes export_object five_digits head_name head_object head_symbol hint_name name_symbol numbered_name relocations_of_stub relocations_of_thunk stem stub tail_name tail_object thunk next_multiple with_address export_spec head_spec tail_spec before_nul bytes_at data_at each_at entries_at name_of object_in object_of_header relocation_at relocation_of section_at section_of strings_at symbol_of u16_at u32_at up_to_nul auxiliary_bytes auxiliary_count contents contents_offset contents_size header_bytes encoded name_field offsets_from pointer_or_zero record_count records relocation_bytes section_header section_headers string_bytes_of string_offsets string_size string_table strings_size symbol_bytes symbol_table_offset long_names name_location layout_of symbol_written with_long_name with_name
+unfolding digits u16_bytes u32_bytes export_object five_digits head_name head_object head_symbol hint_name iname_symbol numbered_name relocations_of_stub relocations_of_thunk mangled_name stub tail_name tail_object thunk next_multiple with_address export_spec head_spec tail_spec before_nul bytes_at data_at each_at entries_at name_of object_in object_of_header relocation_at relocation_of section_at section_of strings_at symbol_of u16_at u32_at up_to_nul auxiliary_bytes auxiliary_count contents contents_offset contents_size header_bytes encoded name_field offsets_from pointer_or_zero record_count records relocation_bytes section_header section_headers string_bytes_of string_offsets string_size string_table strings_size symbol_bytes symbol_table_offset long_names name_location layout_of symbol_written with_long_name with_name
 opened = tt
 
 abbrev both_image : List Range
@@ -45,7 +45,7 @@ both_may_link = record {
 abbrev two_image : List Range
 two_image = image_of AMD64 bases_of_two placed_two
 
-two_may_link : PartsMayLink AMD64 bases_of_two two_parts
+two_may_link : InputsMayLink AMD64 bases_of_two two_parts
 unfolding opened refusal renamed_refusal alias_specs encoded_size IsDistinct
 two_may_link = record {
   made = (
@@ -82,12 +82,12 @@ worked_links = record {
   two_may_link = two_may_link;
   both_may_link = both_may_link;
   two = record { descriptors = refl; lookups = refl; addresses = refl; bar = refl; qux = refl };
-  both = record { descriptor = refl; lookups = refl; addresses = refl; hints = refl; dll = refl; places = refl };
-  none = record { descriptor = refl; lookups = refl; addresses = refl; hints = refl; dll = refl; places = refl };
-  both_32 = record { descriptor = refl; lookups = refl; addresses = refl; hints = refl; dll = refl; places = refl };
-  second_32 = record { descriptor = refl; lookups = refl; addresses = refl; hints = refl; dll = refl; places = refl };
+  both = record { descriptor = refl; lookups = refl; addresses = refl; hints = refl; dll = refl; section_addresses = refl };
+  none = record { descriptor = refl; lookups = refl; addresses = refl; hints = refl; dll = refl; section_addresses = refl };
+  both_32 = record { descriptor = refl; lookups = refl; addresses = refl; hints = refl; dll = refl; section_addresses = refl };
+  second_32 = record { descriptor = refl; lookups = refl; addresses = refl; hints = refl; dll = refl; section_addresses = refl };
   number_zero = refl;
   no_hint = refl;
-  number_zero_links = record { descriptor = refl; lookups = refl; addresses = refl; hints = refl; dll = refl; places = refl };
+  number_zero_links = record { descriptor = refl; lookups = refl; addresses = refl; hints = refl; dll = refl; section_addresses = refl };
   six_digits_first = refl;
 }

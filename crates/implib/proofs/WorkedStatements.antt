@@ -119,5 +119,5 @@ worked_fronts = record {
   two_exports = (has_exports 2 30 refl refl, (has_exports 2 31 refl refl, (has_exports 2 32 refl refl, (has_exports 2 33 refl refl, (has_exports 2 34 refl refl, tt)))));
   part_of_directive = (refuses (front 1) _ refl refl, (refuses (front 2) _ refl refl, (refuses (front 3) _ refl refl, (refuses (front 4) _ refl refl, (refuses (front 5) _ refl refl, (refuses (front 6) _ refl refl, tt))))));
   second_sign = refuses _ _ refl refl;
-  word_or_ordinal_owed = (refuses (front 13) _ refl refl, (refuses (front 14) _ refl refl, (refuses (front 20) _ refl refl, (refuses (front 21) _ refl refl, (refuses (front 26) _ refl refl, (refuses (front 27) _ refl refl, tt))))));
+  word_or_ordinal_expected = (refuses (front 13) _ refl refl, (refuses (front 14) _ refl refl, (refuses (front 20) _ refl refl, (refuses (front 21) _ refl refl, (refuses (front 26) _ refl refl, (refuses (front 27) _ refl refl, tt))))));
 }

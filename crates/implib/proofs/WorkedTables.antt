@@ -4,7 +4,7 @@ use Rattle.std.specs.Fmt.{digits}
 use Rattle.implib.specs.declared.machine.MachineType.{MachineType}
 use Rattle.implib.specs.declared.machine.MachineType.TheVariants.{I386, ARMNT, AMD64, ARM64}
 use Rattle.implib.specs.Bytes.{u16_bytes, u32_bytes}
-use Rattle.implib.specs.Gnu.{export_object, five_digits, head_object, head_symbol, hint_name, name_symbol, relocations_of_stub, relocations_of_thunk, stem, stub, tail_object, thunk}
+use Rattle.implib.specs.Gnu.{export_object, five_digits, head_object, head_symbol, hint_name, iname_symbol, relocations_of_stub, relocations_of_thunk, mangled_name, stub, tail_object, thunk}
 use Rattle.implib.specs.MsvcObjects.{base_name, descriptor, descriptor_symbol, null_descriptor, null_descriptor_symbol, null_thunk, null_thunk_symbol}
 use Rattle.implib.specs.WeakExternal.{weak_object}
 use Rattle.implib.specs.Writer.{long_names, name_location, layout_of, symbol_written, with_long_name, with_name}
@@ -14,7 +14,7 @@ use Rattle.implib.specs.WorkedTables.{WorkedMsvcTables, WorkedGnuTables, WorkedG
 
 -- what the computing has to open
 unfoldable pub opened : Unit {0}
-unfolding bytes_of_digits base_name descriptor_symbol null_descriptor_symbol null_thunk_symbol descriptor null_descriptor null_thunk weak_object export_object head_object tail_object head_symbol name_symbol stem stub relocations_of_stub thunk relocations_of_thunk hint_name five_digits digits long_names name_location layout_of symbol_written with_long_name with_name u16_bytes u32_bytes worked.descriptor worked.null_descriptor worked.null_thunk worked.weak worked.head worked.tail worked.function worked.function_asking worked.function_by_ordinal worked.variable worked.variable_by_ordinal
+unfolding bytes_of_digits base_name descriptor_symbol null_descriptor_symbol null_thunk_symbol descriptor null_descriptor null_thunk weak_object export_object head_object tail_object head_symbol iname_symbol mangled_name stub relocations_of_stub thunk relocations_of_thunk hint_name five_digits digits long_names name_location layout_of symbol_written with_long_name with_name u16_bytes u32_bytes worked.descriptor worked.null_descriptor worked.null_thunk worked.weak worked.head worked.tail worked.function worked.function_asking worked.function_by_ordinal worked.variable worked.variable_by_ordinal
 opened = tt
 
 pub worked_msvc_tables : (machine : MachineType) → WorkedMsvcTables machine
@@ -50,10 +50,10 @@ worked_names = record {
   base_in_capitals = refl;
   base_without_full_stop = refl;
   base_of_extension = refl;
-  stem_of_sys = refl;
-  stem_of_dll = refl;
-  stem_of_two = refl;
-  stem_of_underscore = refl;
+  mangled_name_of_sys = refl;
+  mangled_name_of_dll = refl;
+  mangled_name_of_two = refl;
+  mangled_name_of_underscore = refl;
   first_number = refl;
   greatest_number_of_five = refl;
   number_of_six = refl;

@@ -15,7 +15,7 @@ use Rattle.implib.specs.Constants.{class_external, class_static, class_file, i38
 use Rattle.implib.specs.Constants.{arm_rel32, arm64_pagebase_rel21, arm64_pageoffset_12l}
 use Rattle.implib.specs.Definition.{ExportView}
 use Rattle.implib.specs.Machine.{has_leading_underscore}
-use Rattle.implib.specs.Import.{address_symbol, asked_name, underscore}
+use Rattle.implib.specs.Import.{imp_symbol, asked_name, underscore}
 use Rattle.implib.specs.ImportTables.{address_table_offset, descriptor_size, lookup_table_offset, name_offset}
 use Rattle.implib.specs.ImportTables.{relocation, table_flags, thunk_width, zeros}
 use Rattle.implib.specs.Object.{ObjectSection}
@@ -27,8 +27,8 @@ without_full_stop byte = if byte == full_stop then underscore else byte
 
 -- What the names of a DLL's members and symbols are made of: its name with each `.` as `_`. For example,
 -- `a_b_dll_dll` of a.b.dll.dll.
-unfoldable pub stem : List ℕ → List ℕ
-stem dll = map without_full_stop dll
+unfoldable pub mangled_name : List ℕ → List ℕ
+mangled_name dll = map without_full_stop dll
 
 -- the leading underscore of the machine's C symbols, or nothing
 abbrev pub leading_underscore : MachineType → List ℕ
@@ -41,11 +41,11 @@ prefixed_symbol machine name = leading_underscore machine ++ name
 -- The symbol of the import descriptor. For example, `_head_foo_dll` of foo.dll, and on I386
 -- `__head_foo_dll`.
 unfoldable pub head_symbol : MachineType → List ℕ → List ℕ
-head_symbol machine dll = prefixed_symbol machine (codes "_head_" ++ stem dll)
+head_symbol machine dll = prefixed_symbol machine (codes "_head_" ++ mangled_name dll)
 
 -- The symbol of the DLL's name. For example, `foo_dll_iname` of foo.dll, and on I386 `_foo_dll_iname`.
-unfoldable pub name_symbol : MachineType → List ℕ → List ℕ
-name_symbol machine dll = prefixed_symbol machine (stem dll ++ codes "_iname")
+unfoldable pub iname_symbol : MachineType → List ℕ → List ℕ
+iname_symbol machine dll = prefixed_symbol machine (mangled_name dll ++ codes "_iname")
 
 -- A number with at least five digits. For example, 0 is `00000`, and 100000 is `100000`.
 unfoldable pub five_digits : ℕ → List ℕ
@@ -55,13 +55,13 @@ five_digits n = replicate (5 - length (decimal n)) 0x30 ++ decimal n
 -- its symbol and of its address. For example, `foo_dll_a_h.o`, `foo_dll_a_t.o`, `foo_dll_a_s00000.o`,
 -- `foo_dll_a_w00000.o` and `foo_dll_a_x00000.o` of foo.dll.
 unfoldable pub head_name : List ℕ → List ℕ
-head_name dll = stem dll ++ codes "_a_h.o"
+head_name dll = mangled_name dll ++ codes "_a_h.o"
 
 unfoldable pub tail_name : List ℕ → List ℕ
-tail_name dll = stem dll ++ codes "_a_t.o"
+tail_name dll = mangled_name dll ++ codes "_a_t.o"
 
 unfoldable pub numbered_name : List ℕ → List ℕ → ℕ → List ℕ
-numbered_name dll letter n = stem dll ++ (codes "_a_" ++ (letter ++ (five_digits n ++ codes ".o")))
+numbered_name dll letter n = mangled_name dll ++ (codes "_a_" ++ (letter ++ (five_digits n ++ codes ".o")))
 
 abbrev pub export_name : List ℕ → ℕ → List ℕ
 export_name dll n = numbered_name dll (codes "s") n
@@ -143,7 +143,7 @@ unfoldable pub head_object : MachineType → List ℕ → WriterState
 head_object machine dll = record {
   machine = machine;
   sections = head_sections machine;
-  symbols = head_symbols (head_symbol machine dll) (name_symbol machine dll);
+  symbols = head_symbols (head_symbol machine dll) (iname_symbol machine dll);
 }
 
 -- the sections of the tail: the thunks that end the lookup table and the address table, and the DLL's name
@@ -167,7 +167,7 @@ unfoldable pub tail_object : MachineType → List ℕ → WriterState
 tail_object machine dll = record {
   machine = machine;
   sections = tail_sections machine dll;
-  symbols = tail_symbols (name_symbol machine dll);
+  symbols = tail_symbols (iname_symbol machine dll);
 }
 
 -- the instructions that jump to the address of an import (this project's choice)
@@ -247,7 +247,7 @@ abbrev pub export_symbols : List ℕ → ExportView → List AddedSymbol
 export_symbols head e =
     added head Undefined class_external  -- 0
     ∷ (code_symbol e  -- 1; not for data
-    ++ added (address_symbol e.name) (Section 5) class_external  -- 2; for data 1
+    ++ added (imp_symbol e.name) (Section 5) class_external  -- 2; for data 1
     ∷ added (codes ".idata$6") (Section 7) class_static  -- 3; for data 2
     ∷ [])
 
@@ -261,4 +261,4 @@ export_object machine dll e = record {
 
 -- the archive symbols of an export
 abbrev pub export_listed : ExportView → List (List ℕ)
-export_listed e = if e.is_data then address_symbol e.name ∷ [] else e.name ∷ address_symbol e.name ∷ []
+export_listed e = if e.is_data then imp_symbol e.name ∷ [] else e.name ∷ imp_symbol e.name ∷ []

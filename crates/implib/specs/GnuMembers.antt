@@ -3,8 +3,8 @@ use Rattle.std.specs.Prelude.{ℕ, ◌+◌, List, [], ◌∷◌, ◌++◌, rever
 use Rattle.implib.specs.declared.machine.MachineType.{MachineType}
 use Rattle.implib.specs.Definition.{ExportView}
 use Rattle.implib.specs.Gnu.{export_listed, export_name, export_object, head_name, head_object, head_symbol}
-use Rattle.implib.specs.Gnu.{name_symbol, tail_name, tail_object, weak_address_name, weak_name}
-use Rattle.implib.specs.Import.{address_symbol, is_alias}
+use Rattle.implib.specs.Gnu.{iname_symbol, tail_name, tail_object, weak_address_name, weak_name}
+use Rattle.implib.specs.Import.{imp_symbol, is_alias}
 use Rattle.implib.specs.WeakExternal.{weak_spec}
 use Rattle.implib.specs.Writer.{layout_of}
 use Rattle.implib.specs.MemberSpec.{AnObject, MemberSpec}
@@ -14,7 +14,7 @@ unfoldable pub tail_spec : MachineType → List ℕ → MemberSpec
 tail_spec machine dll = record {
   name = tail_name dll;
   contents = AnObject (layout_of (tail_object machine dll));
-  listed = name_symbol machine dll ∷ [];
+  listed = iname_symbol machine dll ∷ [];
 }
 
 -- the specification of the head
@@ -38,7 +38,7 @@ unfoldable pub alias_specs : MachineType → List ℕ → ℕ → ExportView →
 alias_specs machine dll number e =
     if is_alias e.alias_target e.name then
     weak_spec machine (weak_name dll number) e.name e.alias_target
-    ∷ weak_spec machine (weak_address_name dll number) (address_symbol e.name) (address_symbol e.alias_target)
+    ∷ weak_spec machine (weak_address_name dll number) (imp_symbol e.name) (imp_symbol e.alias_target)
     ∷ []
     else []
 

@@ -74,8 +74,8 @@ dll_by_names export head tail =
     let to_head = section_named export (codes ".idata$7") in
     let head_symbol = option_and_then (relocated_to export 0) to_head in
     let descriptor = option_and_then (section_defining head (codes ".idata$2")) head_symbol in
-    let name_symbol = option_and_then (relocated_to head 12) descriptor in
-    let dll_name = option_and_then (section_defining tail (codes ".idata$7")) name_symbol in
+    let iname_symbol = option_and_then (relocated_to head 12) descriptor in
+    let dll_name = option_and_then (section_defining tail (codes ".idata$7")) iname_symbol in
     option_and_then (λ section. before_nul section.bytes) dll_name
 
 -- A hint and a name, ended by NUL. For example, `00 00 62 61 72 00` asks for the name bar with the hint 0.

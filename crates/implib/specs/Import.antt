@@ -42,12 +42,12 @@ abbrev pub asked_name : MachineType → List ℕ → List ℕ
 asked_name machine name = if has_underscore machine name then without_first name else name
 
 -- the symbol of the address that the loader fills in
-abbrev pub address_symbol : List ℕ → List ℕ
-address_symbol name = codes "__imp_" ++ name
+abbrev pub imp_symbol : List ℕ → List ℕ
+imp_symbol name = codes "__imp_" ++ name
 
 -- the symbols of an import: its address, and for what is no data the name itself
 abbrev pub import_symbols : Bool → List ℕ → List (List ℕ)
-import_symbols is_data name = address_symbol name ∷ (if is_data then [] else name ∷ [])
+import_symbols is_data name = imp_symbol name ∷ (if is_data then [] else name ∷ [])
 
 -- what an export asks for
 abbrev pub expected_ask : MachineType → ExportView → Ask
@@ -83,7 +83,7 @@ abbrev pub aliases_for : List ℕ → List ℕ → List Alias
 aliases_for symbol target =
     if is_alias target symbol then
     record { weak = symbol; target = target }
-    ∷ record { weak = address_symbol symbol; target = address_symbol target }
+    ∷ record { weak = imp_symbol symbol; target = imp_symbol target }
     ∷ []
     else []
 

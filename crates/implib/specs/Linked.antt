@@ -8,7 +8,7 @@ use Rattle.implib.specs.declared.machine.MachineType.{MachineType}
 use Rattle.implib.specs.Definition.{ExportView}
 use Rattle.implib.specs.Gnu.{head_symbol}
 use Rattle.implib.specs.Image.{Range, image_of}
-use Rattle.implib.specs.Import.{address_symbol, expected_ask}
+use Rattle.implib.specs.Import.{imp_symbol, expected_ask}
 use Rattle.implib.specs.LinkedMembers.{LinkInput, chosen_exports, linked_members, objects_in}
 use Rattle.implib.specs.Load.{Loads, LoadsStrictly}
 use Rattle.implib.specs.ImportTables.{thunk_width}
@@ -21,8 +21,8 @@ use Rattle.implib.specs.Resolution.{SymbolDefinition, definitions_of, is_undefin
 unfoldable pub EntriesAt : List Placed → ℕ → ℕ → List ExportView → Type 0
 EntriesAt linked width address [] = Unit {0}
 EntriesAt linked width address (e ∷ exports) =
-    (definitions_of (address_symbol e.name) linked
-    ≡ record { name = address_symbol e.name; address = Some address } ∷ [])
+    (definitions_of (imp_symbol e.name) linked
+    ≡ record { name = imp_symbol e.name; address = Some address } ∷ [])
     × EntriesAt linked width (address + width) exports
 
 -- the name of a symbol that is to be found in another object

@@ -10,7 +10,7 @@ use Rattle.std.specs.declared.cmp.Ordering.TheVariants.{Less}
 use Rattle.implib.specs.declared.members.Flavor.TheVariants.{Gnu}
 use Rattle.implib.specs.declared.machine.MachineType.{MachineType}
 use Rattle.implib.specs.Definition.{DefinitionView, ExportView}
-use Rattle.implib.specs.Gnu.{export_name, stem}
+use Rattle.implib.specs.Gnu.{export_name, mangled_name}
 use Rattle.implib.specs.Import.{public_exports}
 use Rattle.implib.specs.Members.{AreMembersOf}
 use Rattle.implib.specs.MemberSpec.{MemberView, MemberSpec, member_of}
@@ -92,7 +92,7 @@ pub record IsLinkInput (machine : MachineType) (p : LinkInput) : Type 0 where
 
 -- What the names of a definition's members begin with. For example, `foo_dll_a_` of foo.dll.
 abbrev pub member_prefix : DefinitionView → List ℕ
-member_prefix d = stem d.import_name ++ codes "_a_"
+member_prefix d = mangled_name d.import_name ++ codes "_a_"
 
 -- a text is the beginning of another
 abbrev pub IsPrefixOf : List ℕ → List ℕ → Type 0

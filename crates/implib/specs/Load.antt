@@ -18,14 +18,14 @@ number_in (byte ∷ bytes) = byte + 256 * number_in bytes
 -- the image has a number of `width` bytes at an address
 pub record NumberAt (image : List Range) (width : ℕ) (address : ℕ) (number : ℕ) : Type 0 where
   pub bytes : List ℕ
-  pub stands : BytesAt image address bytes
+  pub located : BytesAt image address bytes
   pub count : length bytes ≡ width
   pub value : number_in bytes ≡ number
 
 -- the image has a text, ended by NUL, at an address
 pub record TextAt (image : List Range) (address : ℕ) (text : List ℕ) : Type 0 where
   pub no_nul : HasNoNul text
-  pub stands : BytesAt image address (text ++ 0 ∷ [])
+  pub located : BytesAt image address (text ++ 0 ∷ [])
 
 -- A thunk asks for this ("Import Lookup Table", "Hint/Name Table"): with its top bit set for the ordinal in
 -- its low 16 bits, otherwise for the hint and the name at the address in its low 31 bits. For example,
@@ -39,7 +39,7 @@ ThunkAsksFor image width thunk (Name text hint) =
 -- a thunk at an address that ends no table and asks for this
 pub record ThunkAt (image : List Range) (width : ℕ) (address : ℕ) (ask : Ask) : Type 0 where
   pub thunk : ℕ
-  pub stands : NumberAt image width address thunk
+  pub located : NumberAt image width address thunk
   pub goes_on : thunk ≢ 0
   pub asks : ThunkAsksFor image width thunk ask
 
@@ -59,7 +59,7 @@ IsWhole width thunk (Name text hint) = thunk < 2 ^ 31
 -- a thunk at an address is written whole for an ask
 pub record WholeThunkAt (image : List Range) (width : ℕ) (address : ℕ) (ask : Ask) : Type 0 where
   pub thunk : ℕ
-  pub stands : NumberAt image width address thunk
+  pub located : NumberAt image width address thunk
   pub whole : IsWhole width thunk ask
 
 -- thunks one after another are written whole for these asks

@@ -2,7 +2,7 @@
 use Rattle.std.specs.Prelude.{ℕ, List, [], ◌∷◌, ◌++◌, if◌then◌else◌}
 use Rattle.implib.specs.declared.machine.MachineType.{MachineType}
 use Rattle.implib.specs.Definition.{ExportView}
-use Rattle.implib.specs.Import.{address_symbol, is_alias}
+use Rattle.implib.specs.Import.{imp_symbol, is_alias}
 use Rattle.implib.specs.Msvc.{short_import_of, short_import_listed, short_import_symbol}
 use Rattle.implib.specs.MsvcObjects.{descriptor, descriptor_symbol, null_descriptor, null_descriptor_symbol}
 use Rattle.implib.specs.MsvcObjects.{null_thunk, null_thunk_symbol}
@@ -43,7 +43,7 @@ unfoldable pub weak_specs : MachineType → List ℕ → ExportView → List Mem
 weak_specs machine dll e =
     if is_alias e.alias_target (short_import_symbol e) then
     weak_spec machine dll (short_import_symbol e) e.alias_target
-    ∷ weak_spec machine dll (address_symbol (short_import_symbol e)) (address_symbol e.alias_target)
+    ∷ weak_spec machine dll (imp_symbol (short_import_symbol e)) (imp_symbol e.alias_target)
     ∷ []
     else []
 

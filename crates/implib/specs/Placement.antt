@@ -85,9 +85,9 @@ pub data SectionAddress : Type 0 where
   At : Group → ℕ → SectionAddress
 
 -- the address behind the ends of what is placed already
-abbrev pub place_after : Bases → ℕ → Option Group → SectionAddress
-place_after ends flags None = Unplaced
-place_after ends flags (Some group) = At group (next_multiple (alignment flags) (base_of group ends))
+abbrev pub address_after : Bases → ℕ → Option Group → SectionAddress
+address_after ends flags None = Unplaced
+address_after ends flags (Some group) = At group (next_multiple (alignment flags) (base_of group ends))
 
 -- the ends, when `size` bytes are at this address too
 abbrev pub end_after : Bases → SectionAddress → ℕ → Bases
@@ -96,14 +96,14 @@ end_after ends (At group address) size = with_base group (address + size) ends
 
 -- the address of a section, behind these ends
 abbrev pub section_address_of : Bases → ObjectSection → SectionAddress
-section_address_of ends s = place_after ends s.flags (group_named s.name)
+section_address_of ends s = address_after ends s.flags (group_named s.name)
 
 -- the addresses of sections that are placed one after another
-abbrev pub places_of : Bases → List ObjectSection → List SectionAddress
-places_of ends [] = []
-places_of ends (s ∷ sections) =
+abbrev pub section_addresses_of : Bases → List ObjectSection → List SectionAddress
+section_addresses_of ends [] = []
+section_addresses_of ends (s ∷ sections) =
     section_address_of ends s
-    ∷ places_of (end_after ends (section_address_of ends s) (length s.bytes)) sections
+    ∷ section_addresses_of (end_after ends (section_address_of ends s) (length s.bytes)) sections
 
 -- the ends after them
 abbrev pub ends_after : Bases → List ObjectSection → Bases
@@ -114,7 +114,7 @@ ends_after ends (s ∷ sections) =
 -- an object with the addresses of its sections
 pub record Placed : Type 0 where
   pub object : Object
-  pub places : List SectionAddress
+  pub section_addresses : List SectionAddress
 
 -- Objects that are placed in their order. Each group has an address from which on it is free: its base, and
 -- then the end of the last section placed. A section goes there, or as far behind it as its alignment makes
@@ -123,5 +123,5 @@ pub record Placed : Type 0 where
 abbrev pub placed_from : Bases → List Object → List Placed
 placed_from ends [] = []
 placed_from ends (o ∷ objects) =
-    record { object = o; places = places_of ends o.sections }
+    record { object = o; section_addresses = section_addresses_of ends o.sections }
     ∷ placed_from (ends_after ends o.sections) objects

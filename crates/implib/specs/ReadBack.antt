@@ -11,7 +11,7 @@ use Rattle.implib.specs.File.{File, ShortImportFile, ObjectFile, Meaning, AnImpo
 use Rattle.implib.specs.File.{dll_in, file_in, meaning_in}
 use Rattle.implib.specs.Gnu.{stub_relocations}
 use Rattle.implib.specs.GnuReader.{CodeRelocation, code_of_export, meaning_with}
-use Rattle.implib.specs.Import.{Alias, address_symbol, expected_import, Ask, Ordinal, Name, Import}
+use Rattle.implib.specs.Import.{Alias, imp_symbol, expected_import, Ask, Ordinal, Name, Import}
 use Rattle.implib.specs.Import.{aliases_for, aliases_of, imports_of, is_empty_text, public_exports}
 use Rattle.implib.specs.MemberSpec.{Contents, AShortImport, AnObject, MemberView, file_size}
 use Rattle.implib.specs.Members.{member_specs}
@@ -114,7 +114,7 @@ expected_meanings machine dll e =
 abbrev pub expected_code : MachineType → ExportView → List CodeRelocation
 expected_code machine e =
     if e.is_data then []
-    else map (λ r. record { offset = r.offset; kind = r.kind; target = Some (address_symbol e.name) })
+    else map (λ r. record { offset = r.offset; kind = r.kind; target = Some (imp_symbol e.name) })
     (stub_relocations machine 0)
 
 -- the file of the member of an index

@@ -34,7 +34,7 @@ defined_by_entry addresses (ASymbol s) =
 
 -- the symbols that an object defines for others
 abbrev pub defined_by : Placed → List SymbolDefinition
-defined_by p = filter_map (defined_by_entry p.places) p.object.entries
+defined_by p = filter_map (defined_by_entry p.section_addresses) p.object.entries
 
 -- all that objects define for one another
 abbrev pub definitions : List Placed → List SymbolDefinition
@@ -59,7 +59,7 @@ symbol_address linked p (Auxiliary bytes) = None
 symbol_address linked p (ASymbol s) =
     if is_undefined_external s
     then first_address (definitions_of s.name linked)
-    else address_in p.places s.section s.value
+    else address_in p.section_addresses s.section s.value
 
 -- an address, or 0 where there is none
 abbrev pub address_or_zero : Option ℕ → ℕ

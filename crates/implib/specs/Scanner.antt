@@ -81,7 +81,7 @@ pub record BeginsNoTrivia (text : List ℕ) : Type 0 where
 -- the text begins with a word, as nothing else begins so
 pub record StartsWord (text : List ℕ) : Type 0 where
   pub nonempty : 0 < length text
-  pub no_gap : BeginsNoTrivia text
+  pub no_trivia : BeginsNoTrivia text
   pub not_nul : slice_index text 0 ≢ 0
   pub not_equal : slice_index text 0 ≢ 61
   pub not_comma : slice_index text 0 ≢ 44
@@ -89,10 +89,10 @@ pub record StartsWord (text : List ℕ) : Type 0 where
 
 -- the text is trivia, and then `rest`
 pub record PassesTrivia (text rest : List ℕ) : Type 0 where
-  pub gap : List Lexeme
-  pub spelled : text ≡ text_of gap rest
-  pub each_is_lexeme : EachIsLexeme gap rest
-  pub each_gap : AllByRecursion IsTrivia gap
+  pub trivia : List Lexeme
+  pub spelled : text ≡ text_of trivia rest
+  pub each_is_lexeme : EachIsLexeme trivia rest
+  pub each_trivia : AllByRecursion IsTrivia trivia
 
 -- the same, and no further trivia follows
 pub record SkipsTrivia (text rest : List ℕ) : Type 0 where
@@ -103,7 +103,7 @@ pub record SkipsTrivia (text rest : List ℕ) : Type 0 where
 pub record TakesLexeme (text : List ℕ) (offset : ℕ) (token : TokenView) (after : List ℕ) : Type 0 where
   pub lexeme : Lexeme
   pub spelled : text ≡ lexeme_text lexeme ++ after
-  pub stands : IsLexemeBefore lexeme after
+  pub located : IsLexemeBefore lexeme after
   pub given : tokens_of_lexeme offset lexeme ≡ token ∷ []
 
 -- this, or the text is at its end

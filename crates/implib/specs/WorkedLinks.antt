@@ -52,7 +52,7 @@ pub record Found : Type 0 where
   pub descriptor : List ℕ
   pub thunks : List ℕ
   pub hints : List ℕ
-  pub places : List (List (Option ℕ))
+  pub section_addresses : List (List (Option ℕ))
 
 -- the linked members of chosen exports of a definition of foo.dll answer so
 pub record Answers (d : DefinitionView) (machine : MachineType) (l : Layout) (chosen : List ℕ)
@@ -67,7 +67,7 @@ pub record Answers (d : DefinitionView) (machine : MachineType) (l : Layout) (ch
       l.bases.hint_names ≡ Some found.hints
   pub dll : bytes_from (image_of machine l.bases (placed d machine l.bases chosen)) 8 l.dll
       ≡ Some (codes "foo.dll" ++ 0 ∷ [])
-  pub places : map (λ name. addresses_of name (placed d machine l.bases chosen)) symbols ≡ found.places
+  pub section_addresses : map (λ name. addresses_of name (placed d machine l.bases chosen)) symbols ≡ found.section_addresses
 
 -- an export that is asked for by its number
 abbrev pub nameless : List ℕ → ℕ → ExportView
@@ -144,7 +144,7 @@ pub record MayLink (d : DefinitionView) (machine : MachineType) (bases : Bases) 
   pub admissible : IsAdmissible machine bases (objects_in (linked_members d machine chosen))
 
 -- and so does the law of linking several
-pub record PartsMayLink (machine : MachineType) (bases : Bases) (inputs : List LinkInput) : Type 0 where
+pub record InputsMayLink (machine : MachineType) (bases : Bases) (inputs : List LinkInput) : Type 0 where
   pub made : AllByRecursion (IsLinkInput machine) inputs
   pub rising : AllRise (map (λ p. member_prefix p.definition) inputs)
   pub apart : NoneIsPrefix (map (λ p. member_prefix p.definition) inputs)
@@ -153,7 +153,7 @@ pub record PartsMayLink (machine : MachineType) (bases : Bases) (inputs : List L
 
 -- linked by hand
 pub record WorkedLinks : Type 0 where
-  pub two_may_link : PartsMayLink AMD64 bases_of_two two_parts
+  pub two_may_link : InputsMayLink AMD64 bases_of_two two_parts
   pub both_may_link : MayLink (foo (codes "bar") (codes "baz")) AMD64 bases_64 (0 ∷ 1 ∷ [])
   pub two : TwoLink
   pub both : Answers (foo (codes "bar") (codes "baz")) AMD64
@@ -163,7 +163,7 @@ pub record WorkedLinks : Type 0 where
         descriptor = 0x1020 ∷ 0 ∷ 0 ∷ 0x1088 ∷ 0x1040 ∷ [];
         thunks = 0x1060 ∷ 0x8000_0000_0000_0005 ∷ 0 ∷ [];
         hints = 0 ∷ 0 ∷ (codes "bar" ++ 0 ∷ []);
-        places = (Some 0x1040 ∷ []) ∷ (Some 0x1048 ∷ []) ∷ (None ∷ []) ∷ (Some 0x1000 ∷ []) ∷ [];
+        section_addresses = (Some 0x1040 ∷ []) ∷ (Some 0x1048 ∷ []) ∷ (None ∷ []) ∷ (Some 0x1000 ∷ []) ∷ [];
       })
   pub none : Answers (foo (codes "bar") (codes "baz")) AMD64
       (record { bases = bases_64; width = 8; thunks = 1; hints = 0; dll = 0x1080 }) []
@@ -172,7 +172,7 @@ pub record WorkedLinks : Type 0 where
         descriptor = 0x1020 ∷ 0 ∷ 0 ∷ 0x1080 ∷ 0x1040 ∷ [];
         thunks = 0 ∷ [];
         hints = [];
-        places = [] ∷ [];
+        section_addresses = [] ∷ [];
       })
   pub both_32 : Answers (foo (codes "_bar") (codes "_baz")) I386
       (record { bases = bases_32; width = 4; thunks = 3; hints = 6; dll = 0x103C }) (0 ∷ 1 ∷ [])
@@ -181,7 +181,7 @@ pub record WorkedLinks : Type 0 where
         descriptor = 0x1014 ∷ 0 ∷ 0 ∷ 0x103C ∷ 0x1020 ∷ [];
         thunks = 0x102C ∷ 0x8000_0005 ∷ 0 ∷ [];
         hints = 0 ∷ 0 ∷ (codes "bar" ++ 0 ∷ []);
-        places = (Some 0x1020 ∷ []) ∷ (Some 0x1024 ∷ []) ∷ [];
+        section_addresses = (Some 0x1020 ∷ []) ∷ (Some 0x1024 ∷ []) ∷ [];
       })
   pub second_32 : Answers (foo (codes "_bar") (codes "_baz")) I386
       (record { bases = bases_32; width = 4; thunks = 2; hints = 0; dll = 0x1038 }) (1 ∷ [])
@@ -190,7 +190,7 @@ pub record WorkedLinks : Type 0 where
         descriptor = 0x1014 ∷ 0 ∷ 0 ∷ 0x1038 ∷ 0x1020 ∷ [];
         thunks = 0x8000_0005 ∷ 0 ∷ [];
         hints = [];
-        places = [] ∷ (Some 0x1020 ∷ []) ∷ [];
+        section_addresses = [] ∷ (Some 0x1020 ∷ []) ∷ [];
       })
   -- the number 0 keeps its top bit, and so ends no table
   pub number_zero : thunk I386 (nameless (codes "_foo") 0) ≡ 0 ∷ 0 ∷ 0 ∷ 0x80 ∷ []
@@ -202,7 +202,7 @@ pub record WorkedLinks : Type 0 where
         descriptor = 0x1014 ∷ 0 ∷ 0 ∷ 0x1038 ∷ 0x1020 ∷ [];
         thunks = 0x8000_0000 ∷ 0 ∷ [];
         hints = [];
-        places = (Some 0x1020 ∷ []) ∷ [];
+        section_addresses = (Some 0x1020 ∷ []) ∷ [];
       })
   -- from six digits on, the order of names is not that of numbers
   pub six_digits_first : ComesBefore (export_name (codes "foo.dll") 100000)

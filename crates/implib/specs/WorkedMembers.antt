@@ -96,8 +96,8 @@ header base extension descriptor thunk =
 abbrev pub foo_header : List Outline
 foo_header = header (codes "foo") (codes ".dll") 358 159
 
-abbrev pub foo_heading_32 : List Outline
-foo_heading_32 = header (codes "foo") (codes ".dll") 358 151
+abbrev pub foo_header_members_32 : List Outline
+foo_header_members_32 = header (codes "foo") (codes ".dll") 358 151
 
 -- a member of foo.dll
 abbrev pub of_foo : ℕ → List (List ℕ) → Outline
@@ -125,10 +125,10 @@ self_text = codes "LIBRARY foo.dll\nEXPORTS\nfoo == foo"
 -- members by name, length and archive symbols
 pub record WorkedOutlines : Type 0 where
   pub one_function : TextHasMembers bar_text AMD64 (foo_header ++ foo_record (codes "bar") ∷ [])
-  pub one_function_32 : TextHasMembers bar_text ARMNT (foo_heading_32 ++ foo_record (codes "bar") ∷ [])
+  pub one_function_32 : TextHasMembers bar_text ARMNT (foo_header_members_32 ++ foo_record (codes "bar") ∷ [])
   pub one_function_arm64 : TextHasMembers bar_text ARM64 (foo_header ++ foo_record (codes "bar") ∷ [])
   pub with_underscore : TextHasMembers bar_text I386
-      (foo_heading_32 ++ of_foo 33 (codes "__imp__bar" ∷ codes "_bar" ∷ []) ∷ [])
+      (foo_header_members_32 ++ of_foo 33 (codes "__imp__bar" ∷ codes "_bar" ∷ []) ∷ [])
   pub no_export : TextHasMembers (codes "LIBRARY a.dll " ++ nul ++ codes "EXPORTS x") AMD64
       (header (codes "a") (codes ".dll") 352 157)
   pub data_alone : TextHasMembers (codes "LIBRARY foo.dll\nEXPORTS\nbar DATA") AMD64
@@ -141,7 +141,7 @@ pub record WorkedOutlines : Type 0 where
       ∷ [])
   pub own_alias : TextHasMembers self_text AMD64 (foo_header ++ foo_record (codes "foo") ∷ [])
   pub own_alias_with_underscore : TextHasMembers self_text I386
-      (foo_heading_32
+      (foo_header_members_32
       ++ of_foo 163 (codes "_foo" ∷ [])
       ∷ of_foo 175 (codes "__imp__foo" ∷ [])
       ∷ of_foo 33 (codes "__imp__foo" ∷ codes "_foo" ∷ [])
@@ -169,7 +169,7 @@ pub record WorkedOutlines : Type 0 where
   pub underscore_by_ordinal : HasMembers
       (of_dll (codes "foo.dll") (record empty_export { name = codes "_"; no_name = true; ordinal = 3 } ∷ []))
       I386
-      (foo_heading_32 ++ of_foo 30 (codes "__imp__" ∷ codes "_" ∷ []) ∷ [])
+      (foo_header_members_32 ++ of_foo 30 (codes "__imp__" ∷ codes "_" ∷ []) ∷ [])
   -- only a last extension in lower case is cut off a library's name
   pub upper_case : HasMembers (of_dll (codes "foo.DLL") []) AMD64 (header (codes "foo.DLL") [] 366 163)
   pub two_extensions : HasMembers (of_dll (codes "a.dll.exe") []) AMD64

@@ -27,9 +27,9 @@ abbrev pub zeros : ℕ → List ℕ
 zeros count = replicate count 0
 
 -- where the contents of sections begin that follow one another
-unfoldable pub places_from : ℕ → List ObjectSection → List ℕ
-places_from offset [] = []
-places_from offset (s ∷ rest) = offset ∷ places_from (offset + contents_size s) rest
+unfoldable pub data_offsets_from : ℕ → List ObjectSection → List ℕ
+data_offsets_from offset [] = []
+data_offsets_from offset (s ∷ rest) = offset ∷ data_offsets_from (offset + contents_size s) rest
 
 -- two undefined externals, of 8 and of 9 bytes
 unfoldable pub two_names : ObjectLayout
@@ -252,11 +252,11 @@ variable_by_ordinal n = without_code n (export_sections n [] [] n.thunk_of_258 [
 pub record WorkedObjects : Type 0 where
   pub two_names_size : encoded_size two_names ≡ 70
   pub one_section_size : encoded_size one_section ≡ 112
-  pub one_section_places : places_from (contents_offset one_section) one_section.sections ≡ 60 ∷ []
+  pub one_section_offsets : data_offsets_from (contents_offset one_section) one_section.sections ≡ 60 ∷ []
   pub one_section_symbols : symbol_table_offset one_section ≡ 90
   pub function_size : encoded_size (function (numbers AMD64)) ≡ 474
-  pub function_places :
-      places_from (contents_offset (function (numbers AMD64))) (function (numbers AMD64)).sections
+  pub function_offsets :
+      data_offsets_from (contents_offset (function (numbers AMD64))) (function (numbers AMD64)).sections
       ≡ 300 ∷ 318 ∷ 318 ∷ 318 ∷ 332 ∷ 350 ∷ 368 ∷ []
   pub function_symbols : symbol_table_offset (function (numbers AMD64)) ≡ 374
   pub function_strings : strings_size (function (numbers AMD64)).strings ≡ 28

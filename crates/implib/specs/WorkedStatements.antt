@@ -151,5 +151,5 @@ pub record WorkedFronts : Type 0 where
   pub part_of_directive : AllByRecursion (λ n. Refuses (front n) (UnknownDirective (front n)))
       (1 ∷ 2 ∷ 3 ∷ 4 ∷ 5 ∷ 6 ∷ [])
   pub second_sign : Refuses (front 19) (UnknownDirective (codes "="))
-  pub word_or_ordinal_owed : AllByRecursion (λ n. Refuses (front n) (ExpectedIdentifier kind.Eof))
+  pub word_or_ordinal_expected : AllByRecursion (λ n. Refuses (front n) (ExpectedIdentifier kind.Eof))
       (13 ∷ 14 ∷ 20 ∷ 21 ∷ 26 ∷ 27 ∷ [])

@@ -3,7 +3,7 @@ use Rattle.std.specs.Prelude.{◌≡◌, ℕ, true, List, [], ◌∷◌, ◌++�
 use Rattle.implib.specs.declared.machine.MachineType.{MachineType}
 use Rattle.implib.specs.declared.machine.MachineType.TheVariants.{I386, ARMNT, AMD64, ARM64}
 use Rattle.implib.specs.Definition.{ExportView, empty_export}
-use Rattle.implib.specs.Gnu.{export_object, five_digits, head_object, stem, tail_object}
+use Rattle.implib.specs.Gnu.{export_object, five_digits, head_object, mangled_name, tail_object}
 use Rattle.implib.specs.Msvc.{asked_by_short_import, short_import_bytes, short_import_of}
 use Rattle.implib.specs.MsvcObjects.{base_name}
 use Rattle.implib.specs.WeakExternal.{weak_object}
@@ -68,10 +68,10 @@ pub record WorkedNames : Type 0 where
   pub base_in_capitals : base_name (codes "a.DLL") ≡ codes "a.DLL"
   pub base_without_full_stop : base_name (codes "dll") ≡ codes "dll"
   pub base_of_extension : base_name (codes ".dll") ≡ []
-  pub stem_of_sys : stem (codes "a.sys") ≡ codes "a_sys"
-  pub stem_of_dll : stem (codes "a-b.dll") ≡ codes "a-b_dll"
-  pub stem_of_two : stem (codes "a.b.dll.dll") ≡ codes "a_b_dll_dll"
-  pub stem_of_underscore : stem (codes "A_b/@.Dll") ≡ codes "A_b/@_Dll"
+  pub mangled_name_of_sys : mangled_name (codes "a.sys") ≡ codes "a_sys"
+  pub mangled_name_of_dll : mangled_name (codes "a-b.dll") ≡ codes "a-b_dll"
+  pub mangled_name_of_two : mangled_name (codes "a.b.dll.dll") ≡ codes "a_b_dll_dll"
+  pub mangled_name_of_underscore : mangled_name (codes "A_b/@.Dll") ≡ codes "A_b/@_Dll"
   pub first_number : five_digits 0 ≡ codes "00000"
   pub greatest_number_of_five : five_digits 99999 ≡ codes "99999"
   pub number_of_six : five_digits 100000 ≡ codes "100000"

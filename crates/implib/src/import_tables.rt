@@ -1,7 +1,7 @@
 //! What the import tables of an object are made of, for either linker (docs/FORMATS.md, "Import tables").
 
 ghost use Rattle.implib.specs.Constants.{image_relative};
-ghost use Rattle.implib.specs.Import.{address_symbol};
+ghost use Rattle.implib.specs.Import.{imp_symbol};
 ghost use Rattle.implib.specs.ImportTables.{relocation, thunk_width, zeros};
 ghost use Rattle.std.specs.Prelude.{[], string_bytes, ◌++◌, ◌∷◌, ◌≡◌, IfOk};
 
@@ -68,8 +68,8 @@ pub(crate) fn image_relocation(machine: MachineType, offset: u32, symbol: u32) -
 }
 
 /// The `__imp_` symbol of a symbol: the address that a loader fills in.
-pub(crate) fn address_symbol(alloc: Global, symbol: &str) -> Result<String, AllocError>
-    ensures { IfOk result (λ address. string_bytes address ≡ address_symbol symbol.now) }
+pub(crate) fn imp_symbol(alloc: Global, symbol: &str) -> Result<String, AllocError>
+    ensures { IfOk result (λ address. string_bytes address ≡ imp_symbol symbol.now) }
 {
     let length = symbol.len().saturating_add(ADDRESS_PREFIX.len());
     let mut address = String::with_capacity(alloc, length)?;

@@ -1,4 +1,4 @@
--- A buffer that is filled piece by piece.
+-- A buffer that is filled chunk by chunk.
 use Rattle.std.proofs.Common.{◌≡◌, ℕ, ◌+◌, ◌<◌, ◌≤◌, List, ◌∷◌, ◌++◌, length, map, flat_map, take, drop, set, get_or, refl, sym, ap, ◌∙◌, append_assoc, arith, length-append}
 use Rattle.std.proofs.Math.Seq.{set-append_seam}
 use Rattle.std.proofs.lemmas.Bool.{lt-ltb}
@@ -14,7 +14,7 @@ fills_as {old} {new} {a} {b} y e fills = record {
   new_is = fills.new_is ∙ ap (λ t. take a old ++ (t ++ drop b old)) e;
 }
 
--- what is before the end of a piece, and what is behind it
+-- what is before the end of a chunk, and what is behind it
 module _ {old mid : List ℕ} {a b : ℕ} {x : List ℕ} (room : b ≤ length old) (fills : Fills old mid a b x) where
   whole : mid ≡ (take a old ++ x) ++ drop b old
   whole = fills.new_is ∙ sym (append_assoc (take a old) x (drop b old))
@@ -28,7 +28,7 @@ module _ {old mid : List ℕ} {a b : ℕ} {x : List ℕ} (room : b ≤ length ol
   behind : drop b mid ≡ drop b old
   behind = ap (drop b) whole ∙ drop_at (take a old ++ x) (drop b old) b begins
 
--- one piece, then another
+-- one chunk, then another
 pub fills_both : {old mid new : List ℕ} → {a b c : ℕ} → {x y : List ℕ} → b ≤ length old → Fills old mid a b x → Fills mid new b c y → Fills old new a c (x ++ y)
 fills_both {old} {mid} {new} {a} {b} {c} {x} {y} room first second =
     let far : drop c mid ≡ drop c old
@@ -45,7 +45,7 @@ fills_both {old} {mid} {new} {a} {b} {c} {x} {y} room first second =
           ∙ ap (λ t. take a old ++ t) (sym (append_assoc x y (drop c old))))));
     }
 
--- the items of a list, behind a first piece
+-- the items of a list, behind a first chunk
 
 module _ {T V : Type 0} (f : V → List ℕ) (view : T → V) (items : List T) (index : ℕ) (front : List ℕ) {old mid : List ℕ} {a b : ℕ} (fills : Fills old mid a b (front ++ flat_map f (map view (take index items)))) where
   -- the next item fits where they all do
@@ -62,11 +62,11 @@ module _ {T V : Type 0} (f : V → List ℕ) (view : T → V) (items : List T) (
   -- one item more
   pub fills_more : {new : List ℕ} → {c : ℕ} → (item : T) → index < length items → item ≡ get_or items index item → b ≤ length old
       → Fills mid new b c (f (view item)) → Fills old new a c (front ++ flat_map f (map view (take (index + 1) items)))
-  fills_more item within is room piece =
+  fills_more item within is room chunk =
       fills_as (front ++ flat_map f (map view (take (index + 1) items)))
       (append_assoc front (flat_map f (map view (take index items))) (f (view item))
       ∙ ap (λ t. front ++ t) (mapped_more f view items index item within is))
-      (fills_both room fills piece)
+      (fills_both room fills chunk)
 
   -- all items
   pub fills_all : length items ≤ index → Fills old mid a b (front ++ flat_map f (map view items))

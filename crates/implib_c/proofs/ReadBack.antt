@@ -12,8 +12,8 @@ use Rattle.implib_c.proofs.Lengths.{list_size, member_size, number_size, text_si
 abbrev pub ReadsItem : {X : Type 0} → (X → List ℕ) → (List ℕ → Option (X × List ℕ)) → Type 0
 ReadsItem {X} f read = (x : X) (rest : List ℕ) → length (f x) < 2 ^ 64 → read (f x ++ rest) ≡ Some (x, rest)
 
-within : (piece rest : List ℕ) (count : ℕ) → length piece ≡ count → nat_le count (length (piece ++ rest)) ≡ true
-within piece rest count e = le-leb count (length (piece ++ rest)) (omega (arith, e, length-append piece rest))
+within : (chunk rest : List ℕ) (count : ℕ) → length chunk ≡ count → nat_le count (length (chunk ++ rest)) ≡ true
+within chunk rest count e = le-leb count (length (chunk ++ rest)) (omega (arith, e, length-append chunk rest))
 
 number_value : (n : ℕ) → n < 2 ^ 64 → from_le_bytes w64 (encoded_number n) ≡ n
 unfolding encoded_number

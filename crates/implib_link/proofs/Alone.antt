@@ -10,7 +10,7 @@ use Rattle.implib.specs.LinkedMembers.{IsMade, LinkInput, all_linked, objects_in
 use Rattle.implib.specs.Object.{Object}
 use Rattle.implib.specs.Placement.{Bases}
 use Rattle.implib.proofs.LinkedBlocks.{Block, blocks_objects}
-use Rattle.implib.proofs.LinkedParts.{block_of, parts_objects}
+use Rattle.implib.proofs.LinkedInputs.{block_of, parts_objects}
 use Rattle.implib.proofs.Placement.{export, head, tail}
 use Rattle.implib_link.specs.Program.{ClaimsNone, IsProgram, has_tables, linked_symbols, null_descriptor}
 use Rattle.implib_link.proofs.Blocks.{objects_behind}

@@ -8,10 +8,10 @@ use Rattle.std.proofs.lemmas.List.{append-nil, map-append, reverse-append}
 use Rattle.std.proofs.lemmas.Grind.{flat_map-append}
 use Rattle.implib.specs.declared.machine.MachineType.{MachineType}
 use Rattle.implib.specs.Definition.{ExportView}
-use Rattle.implib.specs.Gnu.{head_symbol, name_symbol, weak_address_name, weak_name}
+use Rattle.implib.specs.Gnu.{head_symbol, iname_symbol, weak_address_name, weak_name}
 use Rattle.implib.specs.GnuMembers.{export_spec, head_spec, numbered_specs, numbered_specs_of, tail_spec}
 use Rattle.implib.specs.WeakExternal.{weak_spec}
-use Rattle.implib.specs.Import.{address_symbol}
+use Rattle.implib.specs.Import.{imp_symbol}
 use Rattle.implib.specs.MemberSpec.{MemberSpec, MemberView, member_of}
 use Rattle.implib.proofs.Ranges.{Among, among_back, among_first, among_front, among_later}
 use Rattle.implib_link.specs.Archives.{IsLibrary, Library, archive_of, exports_of, symbols_of_export, symbols_of_library}
@@ -125,10 +125,10 @@ module _ (machine : MachineType) where
 
   abbrev pub weak_address_of : Library → ℕ → ExportView → MemberView
   weak_address_of l n e =
-      member_of (weak_spec machine (weak_address_name l.definition.import_name n) (address_symbol e.name) (address_symbol e.alias_target))
+      member_of (weak_spec machine (weak_address_name l.definition.import_name n) (imp_symbol e.name) (imp_symbol e.alias_target))
 
   abbrev pub tail_group : Library → Group
-  tail_group l = record { members = tail_of l ∷ []; symbols = name_symbol machine l.definition.import_name ∷ [] }
+  tail_group l = record { members = tail_of l ∷ []; symbols = iname_symbol machine l.definition.import_name ∷ [] }
 
   abbrev pub head_group : Library → Group
   head_group l = record { members = head_of l ∷ []; symbols = head_symbol machine l.definition.import_name ∷ [] }
@@ -187,7 +187,7 @@ module _ (machine : MachineType) where
   symbols_groups (l ∷ libraries) =
       let dll : List ℕ = l.definition.import_name in
       flat_map-append (λ (g : Group). g.symbols) (groups_of l) (all_groups libraries)
-      ∙ ap (λ names. name_symbol machine dll ∷ head_symbol machine dll ∷ (names ++ symbols_of_groups (all_groups libraries))) (symbols_of_exports l 0 (exports_of l))
+      ∙ ap (λ names. iname_symbol machine dll ∷ head_symbol machine dll ∷ (names ++ symbols_of_groups (all_groups libraries))) (symbols_of_exports l 0 (exports_of l))
       ∙ ap (λ names. symbols_of_library machine l ++ names) (symbols_groups libraries)
 
   -- which group a group is
@@ -204,10 +204,10 @@ module _ (machine : MachineType) where
       elim (among_either g (export_groups l (start + 1) exports) (export_group l start x ∷ []) held) [
         | inl behind ↦
             let later = export_group_is l exports (start + 1) g behind in
-            let place : start + 1 + later.0 ≡ start + suc later.0 = omega arith in
-            (suc later.0, later.1, later.2, later.3 ∙ ap (λ n. export_group l n later.1) place)
+            let position : start + 1 + later.0 ≡ start + suc later.0 = omega arith in
+            (suc later.0, later.1, later.2, later.3 ∙ ap (λ n. export_group l n later.1) position)
         | inr last ↦ elim last [
-          | inl e ↦ (let place : start ≡ start + 0 = omega arith in (0, x, refl, e ∙ ap (λ n. export_group l n x) place))
+          | inl e ↦ (let position : start ≡ start + 0 = omega arith in (0, x, refl, e ∙ ap (λ n. export_group l n x) position))
           | inr nothing ↦ absurd nothing
         ]
       ]
@@ -217,13 +217,13 @@ module _ (machine : MachineType) where
   group_is_export l [] start n e is = cc
   group_is_export l (x ∷ exports) start zero e is =
       let same : e ≡ x = cc in
-      let place : start + 0 ≡ start = omega arith in
+      let position : start + 0 ≡ start = omega arith in
       among_back _ (export_groups l (start + 1) exports) (export_group l start x ∷ [])
-      (inl (ap (λ n. export_group l n e) place ∙ ap (export_group l start) same))
+      (inl (ap (λ n. export_group l n e) position ∙ ap (export_group l start) same))
   group_is_export l (x ∷ exports) start (suc n) e is =
-      let place : start + 1 + n ≡ start + suc n = omega arith in
+      let position : start + 1 + n ≡ start + suc n = omega arith in
       among_front _ (export_groups l (start + 1) exports) (export_group l start x ∷ [])
-      (subst (λ k. Among (export_group l k e) (export_groups l (start + 1) exports)) place (group_is_export l exports (start + 1) n e is))
+      (subst (λ k. Among (export_group l k e) (export_groups l (start + 1) exports)) position (group_is_export l exports (start + 1) n e is))
 
   -- a library further back
   further : (l : Library) (libraries : List Library) (g : Group) → Kind libraries g → Kind (l ∷ libraries) g
@@ -246,8 +246,8 @@ module _ (machine : MachineType) where
       first (inr (inl e)) = OfHead l (inl refl) e
       first (inr (inr there)) =
           let found = export_group_is l (exports_of l) 0 g there in
-          let place : 0 + found.0 ≡ found.0 = omega arith in
-          OfExport l (inl refl) found.0 found.1 found.2 (found.3 ∙ ap (λ n. export_group l n found.1) place)
+          let position : 0 + found.0 ≡ found.0 = omega arith in
+          OfExport l (inl refl) found.0 found.1 found.2 (found.3 ∙ ap (λ n. export_group l n found.1) position)
 
   own_groups : (libraries : List Library) (l : Library) (g : Group) → Among l libraries → Among g (groups_of l) → Among g (all_groups libraries)
   unfolding Among
@@ -264,6 +264,6 @@ module _ (machine : MachineType) where
   pub export_group_held : (libraries : List Library) (l : Library) (n : ℕ) (e : ExportView) → Among l libraries → slice_get (exports_of l) n ≡ Some e →
       Among (export_group l n e) (all_groups libraries)
   export_group_held libraries l n e held is =
-      let place : 0 + n ≡ n = omega arith in
+      let position : 0 + n ≡ n = omega arith in
       own_groups libraries l (export_group l n e) held
-      (among_later _ _ _ (among_later _ _ _ (subst (λ k. Among (export_group l k e) (export_groups l 0 (exports_of l))) place (group_is_export l (exports_of l) 0 n e is))))
+      (among_later _ _ _ (among_later _ _ _ (subst (λ k. Among (export_group l k e) (export_groups l 0 (exports_of l))) position (group_is_export l (exports_of l) 0 n e is))))

@@ -5,10 +5,10 @@ use Rattle.std.specs.List.{AllByRecursion, IsDistinct, list_any}
 use Rattle.std.proofs.lemmas.Bool.{cases_Bool, false_from_ne_true, or_parts}
 use Rattle.implib.specs.declared.machine.MachineType.{MachineType}
 use Rattle.implib.specs.Definition.{ExportView}
-use Rattle.implib.specs.Gnu.{export_listed, export_object, head_object, head_symbol, name_symbol, tail_object, weak_name}
+use Rattle.implib.specs.Gnu.{export_listed, export_object, head_object, head_symbol, iname_symbol, tail_object, weak_name}
 use Rattle.implib.specs.GnuMembers.{alias_specs, gnu_specs, numbered_specs, numbered_specs_of}
 use Rattle.implib.specs.WeakExternal.{weak_spec, weak_object}
-use Rattle.implib.specs.Import.{address_symbol, is_alias}
+use Rattle.implib.specs.Import.{imp_symbol, is_alias}
 use Rattle.implib.specs.Layout.{encoded_size, entries_of, name_text, object_of}
 use Rattle.implib.specs.MemberSpec.{MemberSpec, MemberView}
 use Rattle.implib.specs.Members.{is_too_long}
@@ -31,24 +31,24 @@ use Rattle.implib_link.proofs.SearchLists.{among_any, any_among}
 longer : (n m : ℕ) → n ≡ m → m ≡ 6 + n → ⊥
 longer n m same more = omega arith
 
-no_address : (name : List ℕ) → name ≡ address_symbol name → ⊥
-no_address name same = longer (length name) (length (address_symbol name)) (ap length same) (omega arith)
+no_address : (name : List ℕ) → name ≡ imp_symbol name → ⊥
+no_address name same = longer (length name) (length (imp_symbol name)) (ap length same) (omega arith)
 
 own_symbols : (e : ExportView) (name : List ℕ) → Among name (export_listed e) → Among name (symbols_of_export e)
 unfolding Among
 own_symbols e name held =
     elim (cases_Bool e.is_data) [
       | inl is ↦
-          let address : Among name (address_symbol e.name ∷ []) = rw is at held in
+          let address : Among name (imp_symbol e.name ∷ []) = rw is at held in
           elim (cases_Bool (is_alias e.alias_target e.name)) [
             | inl alias ↦ rw (is, alias) (inr address)
             | inr none ↦ rw (is, none) address
           ]
-      | inr is ↦ let both : Among name (e.name ∷ address_symbol e.name ∷ []) = rw is at held in rw is both
+      | inr is ↦ let both : Among name (e.name ∷ imp_symbol e.name ∷ []) = rw is at held in rw is both
     ]
 
-address_symbols : (e : ExportView) → Among (address_symbol e.name) (symbols_of_export e)
-address_symbols e = own_symbols e (address_symbol e.name) (address_listed e)
+imp_symbols : (e : ExportView) → Among (imp_symbol e.name) (symbols_of_export e)
+imp_symbols e = own_symbols e (imp_symbol e.name) (address_listed e)
 
 alias_symbols : (e : ExportView) → is_alias e.alias_target e.name ≡ true → Among e.name (symbols_of_export e)
 unfolding Among
@@ -61,8 +61,8 @@ code_listed e is = rw is (inl refl)
 data_not_listed : (e : ExportView) → e.is_data ≡ true → Among e.name (export_listed e) → ⊥
 unfolding Among
 data_not_listed e is held =
-    let address : Among e.name (address_symbol e.name ∷ []) = rw is at held in
-    no_address e.name (only_one e.name (address_symbol e.name) address)
+    let address : Among e.name (imp_symbol e.name ∷ []) = rw is at held in
+    no_address e.name (only_one e.name (imp_symbol e.name) address)
 
 module _ (machine : MachineType) where
   -- The members of one export.
@@ -114,7 +114,7 @@ module _ (machine : MachineType) where
       data_not_listed e is_data (subst (Among e.name) (listed_export machine l.definition.import_name n e) (any_among e.name (export_of machine l n e).symbols is))) in
       let address : is_listed_for e.name (weak_address_of machine l n e) ≡ false =
       false_from_ne_true (is_listed_for e.name (weak_address_of machine l n e)) (λ is.
-      no_address e.name (only_one e.name (address_symbol e.name) (any_among e.name (weak_address_of machine l n e).symbols is))) in
+      no_address e.name (only_one e.name (imp_symbol e.name) (any_among e.name (weak_address_of machine l n e).symbols is))) in
       let weak : is_listed_for e.name (weak_of machine l n e) ≡ true = among_any e.name (weak_of machine l n e).symbols (inl refl) in
       rw (alias_members l n e alias, own, address, weak) refl
 
@@ -138,7 +138,7 @@ module _ (machine : MachineType) where
       by (Own is) listed =
           FindsOwn is (subst (Among name) (listed_export machine l.definition.import_name n e) (subst (λ (y : MemberView). Among name y.symbols) is listed))
       by (WeakAddress is) listed =
-          let same : name ≡ address_symbol e.name = only_one name (address_symbol e.name) (subst (λ (y : MemberView). Among name y.symbols) is listed) in
+          let same : name ≡ imp_symbol e.name = only_one name (imp_symbol e.name) (subst (λ (y : MemberView). Among name y.symbols) is listed) in
           finds_own l n e name m found (subst (λ n. Among n (export_listed e)) (sym same) (address_listed e))
       by (Weak alias is) listed =
           let same : name ≡ e.name = only_one name e.name (subst (λ (y : MemberView). Among name y.symbols) is listed) in
@@ -155,7 +155,7 @@ module _ (machine : MachineType) where
       by : Member l n e m → Among name (symbols_of_export e)
       by (Own is) = own_symbols e name (subst (Among name) (listed_export machine l.definition.import_name n e) (subst (λ (y : MemberView). Among name y.symbols) is listed))
       by (WeakAddress is) =
-          subst (λ n. Among n (symbols_of_export e)) (sym (only_one name (address_symbol e.name) (subst (λ (y : MemberView). Among name y.symbols) is listed))) (address_symbols e)
+          subst (λ n. Among n (symbols_of_export e)) (sym (only_one name (imp_symbol e.name) (subst (λ (y : MemberView). Among name y.symbols) is listed))) (imp_symbols e)
       by (Weak alias is) =
           subst (λ n. Among n (symbols_of_export e)) (sym (only_one name e.name (subst (λ (y : MemberView). Among name y.symbols) is listed))) (alias_symbols e alias)
 
@@ -218,10 +218,10 @@ module _ (machine : MachineType) where
         let dll : List ℕ = l.definition.import_name in
         let p : MemberSpec = weak_spec machine (weak_name dll n) e.name e.alias_target in
         let good : Sound e = export_sound (exports_of l) n e (sound l.definition machine l.members [] made) is in
-        let place : 0 + n ≡ n = omega arith in
+        let position : 0 + n ≡ n = omega arith in
         let there : Among p (gnu_specs machine dll (exports_of l)) =
         among_later _ _ _ (among_later _ _ _ (among_reverse p (numbered_specs machine dll 0 (exports_of l))
-        (numbered_in machine dll (exports_of l) 0 n e p is (subst (λ k. Among p (numbered_specs_of machine dll k e)) (sym place) (weak_there n e alias))))) in
+        (numbered_in machine dll (exports_of l) 0 n e p is (subst (λ k. Among p (numbered_specs_of machine dll k e)) (sym position) (weak_there n e alias))))) in
         let short : encoded_size (weak_object machine e.name e.alias_target) ≤ 0xFFFF_FFFF =
         short_enough p (none_long p (gnu_specs machine dll (exports_of l)) there (not_long l.definition machine l.members [] made)) in
         object_in-encoded (weak_object machine e.name e.alias_target) (Fits-weak_object machine e.name e.alias_target good.name good.alias_target) (omega arith)
@@ -264,11 +264,11 @@ module _ (machine : MachineType) where
     alone_first : (name : List ℕ) (m : MemberView) → Among name m.symbols → first_listed (m ∷ []) name ≡ Some m
     alone_first name m listed = rw (among_any name m.symbols listed) refl
 
-    pub tail_found : (l : Library) → Among l libraries → first_listed (archive_of libraries) (name_symbol machine l.definition.import_name) ≡ Some (tail_of machine l)
+    pub tail_found : (l : Library) → Among l libraries → first_listed (archive_of libraries) (iname_symbol machine l.definition.import_name) ≡ Some (tail_of machine l)
     tail_found l held =
         let dll : List ℕ = l.definition.import_name in
-        in_archive (tail_group machine l) (name_symbol machine dll) (tail_of machine l) (tail_group_held machine libraries l held) (among_first _ _)
-        (alone_first (name_symbol machine dll) (tail_of machine l) (subst (Among (name_symbol machine dll)) (sym (listed_tail machine dll)) (among_first _ _)))
+        in_archive (tail_group machine l) (iname_symbol machine dll) (tail_of machine l) (tail_group_held machine libraries l held) (among_first _ _)
+        (alone_first (iname_symbol machine dll) (tail_of machine l) (subst (Among (iname_symbol machine dll)) (sym (listed_tail machine dll)) (among_first _ _)))
 
     pub head_found : (l : Library) → Among l libraries → first_listed (archive_of libraries) (head_symbol machine l.definition.import_name) ≡ Some (head_of machine l)
     head_found l held =
@@ -288,7 +288,7 @@ module _ (machine : MachineType) where
 
     -- what a name finds
     pub data Found (name : List ℕ) (m : MemberView) : Type 0 where
-      FoundTail : (l : Library) → Among l libraries → m ≡ tail_of machine l → name ≡ name_symbol machine l.definition.import_name → Found name m
+      FoundTail : (l : Library) → Among l libraries → m ≡ tail_of machine l → name ≡ iname_symbol machine l.definition.import_name → Found name m
       FoundHead : (l : Library) → Among l libraries → m ≡ head_of machine l → name ≡ head_symbol machine l.definition.import_name → Found name m
       FoundExport : (l : Library) → Among l libraries → (n : ℕ) (e : ExportView) → slice_get (exports_of l) n ≡ Some e → m ≡ export_of machine l n e →
           Among name (export_listed e) → Found name m

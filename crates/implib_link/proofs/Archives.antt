@@ -5,7 +5,7 @@ use Rattle.std.specs.List.{AllByRecursion, cons_option, filter, flat_map, list_a
 use Rattle.std.proofs.lemmas.Bool.{cases_Bool, false_from_ne_true, true≢false}
 use Rattle.implib.specs.declared.machine.MachineType.{MachineType}
 use Rattle.implib.specs.Definition.{ExportView}
-use Rattle.implib.specs.Gnu.{export_listed, head_symbol, name_symbol}
+use Rattle.implib.specs.Gnu.{export_listed, head_symbol, iname_symbol}
 use Rattle.implib.specs.Import.{is_alias}
 use Rattle.implib.specs.Layout.{object_of}
 use Rattle.implib.specs.LinkedMembers.{IsMade, LinkInput, all_linked, objects_in}
@@ -152,7 +152,7 @@ module _ (machine : MachineType) (libraries : List Library) (archive : IsArchive
   -- A name that a needed member is listed for finds it.
   finds_itself : (names : List (List ℕ)) (m : MemberView) (name : List ℕ) → IsNeeded names m → Among name m.symbols → first_listed (archive_of libraries) name ≡ Some m
   finds_itself names m name (ForExport l held (TheTail same any)) listed =
-      let is : name ≡ name_symbol machine l.definition.import_name =
+      let is : name ≡ iname_symbol machine l.definition.import_name =
       only_one name _ (subst (Among name) (listed_tail machine l.definition.import_name) (subst (λ (y : MemberView). Among name y.symbols) same listed)) in
       ap (first_listed (archive_of libraries)) is ∙ tail_found machine libraries archive l held ∙ ap Some (sym same)
   finds_itself names m name (ForExport l held (TheHead same any)) listed =
@@ -191,7 +191,7 @@ module _ (machine : MachineType) (libraries : List Library) (archive : IsArchive
     -- a member that a wanted name finds
     needed_by_wanted : (name : List ℕ) (m : MemberView) → Found machine libraries archive name m → Among name all_wanted → IsNeeded all_wanted m
     needed_by_wanted name m (FoundTail l held same is) want =
-        absurd (true≢false (sym (among_any (name_symbol machine l.definition.import_name) all_wanted (subst (λ n. Among n all_wanted) is want)) ∙ (plain_of l held).name))
+        absurd (true≢false (sym (among_any (iname_symbol machine l.definition.import_name) all_wanted (subst (λ n. Among n all_wanted) is want)) ∙ (plain_of l held).name))
     needed_by_wanted name m (FoundHead l held same is) want =
         absurd (true≢false (sym (among_any (head_symbol machine l.definition.import_name) all_wanted (subst (λ n. Among n all_wanted) is want)) ∙ (plain_of l held).head))
     needed_by_wanted name m (FoundExport l held n e is same listed) want =
@@ -210,8 +210,8 @@ module _ (machine : MachineType) (libraries : List Library) (archive : IsArchive
         absurd (in_nothing name (names_of left_by [] name x (tail_of machine l) o (tail machine l.definition.import_name) same (tail_object_is machine l (made_of l held)) read
         (left_tail machine l.definition.import_name) left))
     needed_by_left x (ForExport l held (TheHead same any)) there o read name left m is =
-        let named : name ≡ name_symbol machine l.definition.import_name =
-        only_one name _ (names_of left_by (name_symbol machine l.definition.import_name ∷ []) name x (head_of machine l) o (head machine l.definition.import_name) same
+        let named : name ≡ iname_symbol machine l.definition.import_name =
+        only_one name _ (names_of left_by (iname_symbol machine l.definition.import_name ∷ []) name x (head_of machine l) o (head machine l.definition.import_name) same
         (head_object_is machine l (made_of l held)) read (left_head machine l.definition.import_name) left) in
         ForExport l held (TheTail (same_first name m (tail_of machine l) is (ap (first_listed (archive_of libraries)) named ∙ tail_found machine libraries archive l held)) any)
     needed_by_left x (ForExport l held (AnExport own want)) there o read name left m is =
@@ -292,10 +292,10 @@ module _ (machine : MachineType) (libraries : List Library) (archive : IsArchive
       tail_taken : (l : Library) → Among l libraries → AnyWanted (exports_of l) all_wanted → Among (tail_of machine l) taken
       unfolding names_left
       tail_taken l held any =
-          reached (name_symbol machine l.definition.import_name) (tail_of machine l) (tail_found machine libraries archive l held)
+          reached (iname_symbol machine l.definition.import_name) (tail_of machine l) (tail_found machine libraries archive l held)
           (among_back _ wanted (flat_map left_by (objects_in taken)) (read_name left_by _ taken (head_of machine l) (head machine l.definition.import_name)
           (head_taken l held any) (head_object_is machine l (made_of l held))
-          (subst (Among (name_symbol machine l.definition.import_name)) (sym (left_head machine l.definition.import_name)) (among_first _ _))))
+          (subst (Among (iname_symbol machine l.definition.import_name)) (sym (left_head machine l.definition.import_name)) (among_first _ _))))
 
       taken_if_needed : (l : Library) → Among l libraries → (m : MemberView) → Needed machine l.definition.import_name (exports_of l) all_wanted m → Among m taken
       taken_if_needed l held m (TheTail same any) = subst (λ x. Among x taken) (sym same) (tail_taken l held any)

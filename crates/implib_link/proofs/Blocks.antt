@@ -12,8 +12,8 @@ use Rattle.implib.specs.ImportTables.{thunk_width, zeros}
 use Rattle.implib.specs.Object.{Object}
 use Rattle.implib.specs.Placement.{Bases, Placed, next_multiple}
 use Rattle.implib.proofs.LinkedBlocks.{Block, BlocksLink, blocks_objects, ends_of_blocks}
-use Rattle.implib.proofs.LinkedParts.{block_of}
-use Rattle.implib.proofs.Linked.{BlockLinks, StandsFrom, aligned_block, ends_of_block}
+use Rattle.implib.proofs.LinkedInputs.{block_of}
+use Rattle.implib.proofs.Linked.{BlockLinks, LocatedFrom, aligned_block, ends_of_block}
 use Rattle.implib.proofs.Placement.{AreAligned, aligned, descriptors_end, ends_of_all, ends_of_export, ends_of_exports, ends_of_head, export, head, tail}
 use Rattle.implib_link.specs.Directory.{DirectoryAt, imported}
 use Rattle.implib_link.specs.Program.{null_descriptor, thunks_before}
@@ -54,14 +54,14 @@ aligned_blocks machine b [] even = even
 aligned_blocks machine b (k ∷ blocks) even = aligned_blocks machine (ends_of_block machine k.dll b k.exports) blocks (aligned_block machine k.dll b k.exports even)
 
 -- the null descriptor stands where the descriptors end
-pub null_stands : (machine : MachineType) (linked : List Placed) (image : List Range) (b : Bases) → AreAligned b →
-    StandsFrom machine linked image b (null_descriptor ∷ []) → BytesAt image b.descriptors (zeros 20)
-null_stands machine linked image b even stands =
-    let place : next_multiple 4 b.descriptors ≡ b.descriptors = aligned b.descriptors even.descriptors in
+pub null_located : (machine : MachineType) (linked : List Placed) (image : List Range) (b : Bases) → AreAligned b →
+    LocatedFrom machine linked image b (null_descriptor ∷ []) → BytesAt image b.descriptors (zeros 20)
+null_located machine linked image b even located =
+    let position : next_multiple 4 b.descriptors ≡ b.descriptors = aligned b.descriptors even.descriptors in
     let none : b.descriptors - b.descriptors ≡ 0 = omega arith in
     let all : List ℕ = zeros (next_multiple 4 b.descriptors - b.descriptors) ++ (zeros 20 ++ []) in
-    let same : all ≡ zeros 20 = rw (place, none) refl in
-    subst (BytesAt image b.descriptors) same stands.descriptors
+    let same : all ≡ zeros 20 = rw (position, none) refl in
+    subst (BytesAt image b.descriptors) same located.descriptors
 
 plus_sum : (a n m : ℕ) → a + 20 + 20 * n ≡ a + 20 * suc n
 plus_sum a n m = omega arith

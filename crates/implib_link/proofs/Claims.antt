@@ -5,14 +5,14 @@ use Rattle.std.proofs.lemmas.Bool.{cases_Bool}
 use Rattle.std.proofs.lemmas.List.{append_assoc}
 use Rattle.implib.specs.declared.machine.MachineType.{MachineType}
 use Rattle.implib.specs.Definition.{ExportView}
-use Rattle.implib.specs.Gnu.{export_listed, export_object, head_object, head_symbol, name_symbol, tail_object}
+use Rattle.implib.specs.Gnu.{export_listed, export_object, head_object, head_symbol, iname_symbol, tail_object}
 use Rattle.implib.specs.Object.{Object}
 use Rattle.implib.specs.Placement.{Bases, ends_after, placed_from}
 use Rattle.implib.proofs.LinkedBlocks.{Block, blocks_objects}
 use Rattle.implib.proofs.Placement.{after_head, export, head, tail}
 use Rattle.implib_link.specs.Program.{claimed_names, names_claimed_in, null_descriptor}
 
-pub claimed_tail : (machine : MachineType) (dll : List ℕ) → claimed_names (tail machine dll) ≡ name_symbol machine dll ∷ []
+pub claimed_tail : (machine : MachineType) (dll : List ℕ) → claimed_names (tail machine dll) ≡ iname_symbol machine dll ∷ []
 unfolding tail_object
 claimed_tail machine dll = refl
 
@@ -25,16 +25,16 @@ unfolding export_object
 claimed_export machine dll e = elim (cases_Bool e.is_data) [ inl is ↦ rw is refl | inr is ↦ rw is refl ]
 
 pub claimed_after : (machine : MachineType) (dll : List ℕ) (es : List ExportView) (rest : List Object) →
-    flat_map claimed_names (after_head machine dll es rest) ≡ (flat_map export_listed es ++ name_symbol machine dll ∷ []) ++ flat_map claimed_names rest
+    flat_map claimed_names (after_head machine dll es rest) ≡ (flat_map export_listed es ++ iname_symbol machine dll ∷ []) ++ flat_map claimed_names rest
 claimed_after machine dll [] rest = ap (λ names. names ++ flat_map claimed_names rest) (claimed_tail machine dll)
 claimed_after machine dll (e ∷ es) rest =
     ap (λ names. names ++ flat_map claimed_names (after_head machine dll es rest)) (claimed_export machine dll e)
     ∙ ap (λ names. export_listed e ++ names) (claimed_after machine dll es rest)
-    ∙ sym (append_assoc (export_listed e) (flat_map export_listed es ++ name_symbol machine dll ∷ []) (flat_map claimed_names rest))
-    ∙ ap (λ names. names ++ flat_map claimed_names rest) (sym (append_assoc (export_listed e) (flat_map export_listed es) (name_symbol machine dll ∷ [])))
+    ∙ sym (append_assoc (export_listed e) (flat_map export_listed es ++ iname_symbol machine dll ∷ []) (flat_map claimed_names rest))
+    ∙ ap (λ names. names ++ flat_map claimed_names rest) (sym (append_assoc (export_listed e) (flat_map export_listed es) (iname_symbol machine dll ∷ [])))
 
 abbrev listed_of : MachineType → Block → List (List ℕ)
-listed_of machine k = head_symbol machine k.dll ∷ (flat_map export_listed k.exports ++ name_symbol machine k.dll ∷ [])
+listed_of machine k = head_symbol machine k.dll ∷ (flat_map export_listed k.exports ++ iname_symbol machine k.dll ∷ [])
 
 -- the names that blocks claim, with the null descriptor behind them, which claims none
 pub claimed_blocks : (machine : MachineType) (blocks : List Block) →
@@ -43,7 +43,7 @@ claimed_blocks machine [] = refl
 claimed_blocks machine (k ∷ blocks) =
     ap (λ names. names ++ flat_map claimed_names (after_head machine k.dll k.exports (blocks_objects machine blocks (null_descriptor ∷ [])))) (claimed_head machine k.dll)
     ∙ ap (λ names. head_symbol machine k.dll ∷ names) (claimed_after machine k.dll k.exports (blocks_objects machine blocks (null_descriptor ∷ []))
-    ∙ ap (λ names. (flat_map export_listed k.exports ++ name_symbol machine k.dll ∷ []) ++ names) (claimed_blocks machine blocks))
+    ∙ ap (λ names. (flat_map export_listed k.exports ++ iname_symbol machine k.dll ∷ []) ++ names) (claimed_blocks machine blocks))
 
 -- the names that placed objects claim are those of the objects
 pub claimed_placed : (b : Bases) (objects : List Object) → names_claimed_in (placed_from b objects) ≡ flat_map claimed_names objects

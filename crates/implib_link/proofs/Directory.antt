@@ -4,15 +4,15 @@ use Rattle.implib.specs.Image.{Range}
 use Rattle.implib.specs.Load.{BytesAt, LoadsStrictly, NumberAt}
 use Rattle.implib.specs.ImportTables.{zeros}
 use Rattle.implib.proofs.Loading.{asks_once, dll_once, number_once}
-use Rattle.implib.proofs.Ranges.{stands_parts}
+use Rattle.implib.proofs.Ranges.{located_parts}
 use Rattle.implib_link.specs.Directory.{DirectoryAt, GoesOnBy, Imported, StopsAt, WalkFinds}
 
 -- the null descriptor stops a walk
 null_stops : (image : List Range) (address : ℕ) → BytesAt image address (zeros 20) → NumberAt image 4 (address + 12) 0
 null_stops image address null =
-    let front = stands_parts image (zeros 12) (zeros 8) address null in
-    let name = stands_parts image (zeros 4) (zeros 4) (address + 12) front.1 in
-    record { bytes = zeros 4; stands = name.0; count = refl; value = refl }
+    let front = located_parts image (zeros 12) (zeros 8) address null in
+    let name = located_parts image (zeros 4) (zeros 4) (address + 12) front.1 in
+    record { bytes = zeros 4; located = name.0; count = refl; value = refl }
 
 pub directory_walk : (image : List Range) (width address : ℕ) (imports : List Imported) → DirectoryAt image width address imports → WalkFinds image width address imports
 unfolding DirectoryAt WalkFinds

@@ -6,9 +6,9 @@ use Rattle.implib.specs.declared.machine.MachineType.{MachineType}
 use Rattle.implib.specs.declared.members.Flavor.{Flavor}
 use Rattle.implib.specs.declared.members.Flavor.TheVariants.{Gnu, Msvc}
 use Rattle.implib.specs.Definition.{ExportView}
-use Rattle.implib.specs.Gnu.{export_listed, head_symbol, name_symbol}
+use Rattle.implib.specs.Gnu.{export_listed, head_symbol, iname_symbol}
 use Rattle.implib.specs.Image.{Range, range_end}
-use Rattle.implib.specs.Import.{Ask, Name, Ordinal, address_symbol}
+use Rattle.implib.specs.Import.{Ask, Name, Ordinal, imp_symbol}
 use Rattle.implib.specs.ImportTables.{thunk_width, zeros}
 use Rattle.implib.specs.Layout.{HasNoNul, entries_of, name_text, object_of}
 use Rattle.implib.specs.Linked.{AllFind, EntriesAt, FindsTarget, IsDefinedAt, undefined_names}
@@ -19,7 +19,7 @@ use Rattle.implib.specs.Object.{Object}
 use Rattle.implib.specs.Placement.{Bases, Placed, next_multiple, placed_from}
 use Rattle.implib.specs.Resolution.{SymbolDefinition, defined_by, definitions, definitions_of}
 use Rattle.implib.proofs.Descriptors.{descriptor_loads}
-use Rattle.implib.proofs.Linked.{StandsFrom, all_of_stub, block_defined, block_definitions, block_links, block_targets, definitions-block, ends_of_block, head_definition, rest_stands}
+use Rattle.implib.proofs.Linked.{LocatedFrom, all_of_stub, block_defined, block_definitions, block_links, block_targets, definitions-block, ends_of_block, head_definition, rest_located}
 use Rattle.implib.proofs.Placement.{after_head, ends_of_all, ends_of_export, ends_of_exports, ends_of_head, head, names-after}
 use Rattle.implib.proofs.Ranges.{Among, among_back, among_first, among_later}
 use Rattle.implib.proofs.Tables.{CanBeAsked}
@@ -27,7 +27,7 @@ use Rattle.implib.proofs.Thunks.{StrictTableAt, zeros_number}
 use Rattle.implib_link.specs.Expansion.{Code, Constant, Data, Use, asking_object, descriptor_wanted, stub_relocations_for}
 use Rattle.implib_link.specs.FlavorProgram.{IsFoundByName, SymbolsAt, ask_in, descriptor_in, symbol_in}
 use Rattle.implib_link.specs.SectionSymbols.{with_section_symbols}
-use Rattle.implib_link.proofs.Taken.{AreWide, AskFits, asking_stands, descriptor_stands, ends_of_asking, ends_of_descriptor, ends_of_null_thunk, null_thunk_stands, placed-asking, placed-descriptor, placed-null_thunk, placed_asking, placed_descriptor, taken_descriptor, taken_null_thunk, wide_aligned, wide_asking, wide_descriptor, wide_next, wide_null_thunk}
+use Rattle.implib_link.proofs.Taken.{AreWide, AskFits, asking_located, descriptor_located, ends_of_asking, ends_of_descriptor, ends_of_null_thunk, null_thunk_located, placed-asking, placed-descriptor, placed-null_thunk, placed_asking, placed_descriptor, taken_descriptor, taken_null_thunk, wide_aligned, wide_asking, wide_descriptor, wide_next, wide_null_thunk}
 
 -- what an export is used for
 abbrev pub use_for : ExportView → Use
@@ -60,7 +60,7 @@ use_definitions address symbol Data = []
 use_definitions address symbol Constant = record { name = symbol; address = Some (address + 0) } ∷ []
 
 abbrev pub imp_definition : Bases → List ℕ → SymbolDefinition
-imp_definition b symbol = record { name = address_symbol symbol; address = Some (b.addresses + 0) }
+imp_definition b symbol = record { name = imp_symbol symbol; address = Some (b.addresses + 0) }
 
 unfoldable pub defined_behind : MachineType → List ℕ → Bases → List ExportView → List SymbolDefinition
 defined_behind machine dll b [] = record { name = null_thunk_symbol dll; address = Some (b.addresses + 0) } ∷ []
@@ -106,7 +106,7 @@ names-behind machine dll b (e ∷ es) =
     let symbol : List ℕ = short_import_symbol e in
     let later : Bases = ends_of_asking machine b (ask_in Msvc machine e) in
     let own : List (List ℕ) = if e.is_data then [] else symbol ∷ [] in
-    ap (λ names. address_symbol symbol ∷ names) (
+    ap (λ names. imp_symbol symbol ∷ names) (
     names_of_use b.addresses symbol e.is_data e.constant (defined_behind machine dll later es)
     ∙ ap (λ names. own ++ names) (names-behind machine dll later es)
     ∙ sym (append_assoc own (flat_map short_import_listed es) (null_thunk_symbol dll ∷ [])))
@@ -131,7 +131,7 @@ definitions_in machine Gnu dll b es = block_definitions machine dll b es
 -- the symbols that its members are listed for
 abbrev pub symbols_of : MachineType → Flavor → List ℕ → List ExportView → List (List ℕ)
 symbols_of machine Msvc dll es = descriptor_symbol dll ∷ (flat_map short_import_listed es ++ null_thunk_symbol dll ∷ [])
-symbols_of machine Gnu dll es = head_symbol machine dll ∷ (flat_map export_listed es ++ name_symbol machine dll ∷ [])
+symbols_of machine Gnu dll es = head_symbol machine dll ∷ (flat_map export_listed es ++ iname_symbol machine dll ∷ [])
 
 pub definitions-in : (machine : MachineType) (flavor : Flavor) (dll : List ℕ) (b : Bases) (es : List ExportView) (rest : List Object) → AreWide machine b →
     definitions (placed_from b (objects_of machine flavor dll es rest)) ≡ definitions_in machine flavor dll b es ++ definitions (placed_from (ends_in machine flavor dll b es) rest)
@@ -177,7 +177,7 @@ length_zeros machine = length-replicate {A = ℕ} (thunk_width machine) 0
 
 -- the symbols of GNU's entries
 symbols_from : (linked : List Placed) (width address : ℕ) (es : List ExportView) → EntriesAt linked width address es →
-    SymbolsAt linked width address (map (λ e. address_symbol (symbol_in Gnu e)) es)
+    SymbolsAt linked width address (map (λ e. imp_symbol (symbol_in Gnu e)) es)
 unfolding EntriesAt SymbolsAt
 symbols_from linked width address [] entries = tt
 symbols_from linked width address (e ∷ es) entries = (entries.0, symbols_from linked width (address + width) es entries.1)
@@ -186,9 +186,9 @@ symbols_from linked width address (e ∷ es) entries = (entries.0, symbols_from 
 pub record OneLinks (machine : MachineType) (linked : List Placed) (image : List Range) (flavor : Flavor) (dll : List ℕ) (es : List ExportView) (b : Bases) (rest : List Object) : Type 0 where
   pub top : definitions_of (descriptor_in flavor machine dll) linked ≡ record { name = descriptor_in flavor machine dll; address = Some b.descriptors } ∷ []
   pub loads : LoadsStrictly image (thunk_width machine) b.descriptors dll (map (ask_in flavor machine) es)
-  pub table_stands : loads.plain.addresses ≡ b.addresses
-  pub entries : SymbolsAt linked (thunk_width machine) b.addresses (map (λ e. address_symbol (symbol_in flavor e)) es)
-  pub rest_stands : StandsFrom machine linked image (ends_in machine flavor dll b es) rest
+  pub table_located : loads.plain.addresses ≡ b.addresses
+  pub entries : SymbolsAt linked (thunk_width machine) b.addresses (map (λ e. imp_symbol (symbol_in flavor e)) es)
+  pub rest_located : LocatedFrom machine linked image (ends_in machine flavor dll b es) rest
   pub defined : AllByRecursion (IsDefinedAt linked) (undefined_names (placed_from (ends_in machine flavor dll b es) rest)) →
       AllByRecursion (IsDefinedAt linked) (undefined_names (placed_from b (objects_of machine flavor dll es rest)))
   pub targets : AllByRecursion (AllFind linked) (placed_from (ends_in machine flavor dll b es) rest) →
@@ -200,26 +200,26 @@ module _ (machine : MachineType) (dll : List ℕ) (linked : List Placed) (image 
   record AskingsStand (b : Bases) (es : List ExportView) (rest : List Object) : Type 0 where
     lookups : StrictTableAt image (thunk_width machine) b.lookups (map (ask_in Msvc machine) es)
     addresses : StrictTableAt image (thunk_width machine) b.addresses (map (ask_in Msvc machine) es)
-    behind : StandsFrom machine linked image (ends_of_askings machine b es) rest
+    behind : LocatedFrom machine linked image (ends_of_askings machine b es) rest
 
   zero_thunk : (a : ℕ) → NumberAt image (thunk_width machine) a 0 → StrictTableAt image (thunk_width machine) a []
   unfolding TableAt WholeTableAt
   zero_thunk a none = record { plain = none; whole = tt }
 
-  askings_stand : (es : List ExportView) (b : Bases) (rest : List Object) → AllByRecursion (FitsIn Msvc machine) es → AreWide machine b →
-      StandsFrom machine linked image b (behind_descriptor machine dll es rest) → AskingsStand b es rest
+  askings_located : (es : List ExportView) (b : Bases) (rest : List Object) → AllByRecursion (FitsIn Msvc machine) es → AreWide machine b →
+      LocatedFrom machine linked image b (behind_descriptor machine dll es rest) → AskingsStand b es rest
   unfolding TableAt WholeTableAt ends_of_askings FitsIn
-  askings_stand [] b rest fit even stands =
-      let null = null_thunk_stands machine dll linked image starts ends b rest even stands in
+  askings_located [] b rest fit even located =
+      let null = null_thunk_located machine dll linked image starts ends b rest even located in
       record {
-        lookups = zero_thunk b.lookups (record { bytes = zeros (thunk_width machine); stands = null.lookup; count = length_zeros machine; value = zeros_number machine });
-        addresses = zero_thunk b.addresses (record { bytes = zeros (thunk_width machine); stands = null.address; count = length_zeros machine; value = zeros_number machine });
-        behind = null.rest_stands;
+        lookups = zero_thunk b.lookups (record { bytes = zeros (thunk_width machine); located = null.lookup; count = length_zeros machine; value = zeros_number machine });
+        addresses = zero_thunk b.addresses (record { bytes = zeros (thunk_width machine); located = null.address; count = length_zeros machine; value = zeros_number machine });
+        behind = null.rest_located;
       }
-  askings_stand (e ∷ es) b rest fit even stands =
+  askings_located (e ∷ es) b rest fit even located =
       let ask : Ask = ask_in Msvc machine e in
-      let one = asking_stands machine dll linked image starts ends b (short_import_symbol e) ask (use_for e) (behind_descriptor machine dll es rest) fit.0 even stands in
-      let others = askings_stand es (ends_of_asking machine b ask) rest fit.1 (wide_asking machine b ask even) one.rest_stands in
+      let one = asking_located machine dll linked image starts ends b (short_import_symbol e) ask (use_for e) (behind_descriptor machine dll es rest) fit.0 even located in
+      let others = askings_located es (ends_of_asking machine b ask) rest fit.1 (wide_asking machine b ask even) one.rest_located in
       record {
         lookups = record { plain = (one.lookup.plain, others.lookups.plain); whole = (one.lookup.whole, others.lookups.whole) };
         addresses = record { plain = (one.address.plain, others.addresses.plain); whole = (one.address.whole, others.addresses.whole) };
@@ -228,13 +228,13 @@ module _ (machine : MachineType) (dll : List ℕ) (linked : List Placed) (image 
 
   -- each export's address is its own entry
   imps_at : (es : List ExportView) (b : Bases) → ((d : SymbolDefinition) → Among d (defined_behind machine dll b es) → definitions_of d.name linked ≡ d ∷ []) →
-      SymbolsAt linked (thunk_width machine) b.addresses (map (λ e. address_symbol (symbol_in Msvc e)) es)
+      SymbolsAt linked (thunk_width machine) b.addresses (map (λ e. imp_symbol (symbol_in Msvc e)) es)
   unfolding SymbolsAt defined_behind
   imps_at [] b only = tt
   imps_at (e ∷ es) b only =
       let own : SymbolDefinition = imp_definition b (short_import_symbol e) in
       let plain : b.addresses + 0 ≡ b.addresses = omega arith in (
-        subst (λ n. definitions_of (address_symbol (short_import_symbol e)) linked ≡ record { name = address_symbol (short_import_symbol e); address = Some n } ∷ []) plain
+        subst (λ n. definitions_of (imp_symbol (short_import_symbol e)) linked ≡ record { name = imp_symbol (short_import_symbol e); address = Some n } ∷ []) plain
             (only own (among_first own _)),
         imps_at es (ends_of_asking machine b (ask_in Msvc machine e))
             (λ d m. only d (among_later d own _ (among_back d (use_definitions b.addresses (short_import_symbol e) (use_for e)) _ m))),
@@ -315,28 +315,28 @@ module _ (machine : MachineType) (dll : List ℕ) (linked : List Placed) (image 
   msvc_links : (es : List ExportView) (b : Bases) (rest : List Object) → AllByRecursion (FitsIn Msvc machine) es → AreWide machine b →
       descriptor_wanted dll ≡ descriptor_symbol dll → IsDefinedAt linked null_descriptor_symbol →
       ((d : SymbolDefinition) → Among d (definitions_in machine Msvc dll b es) → definitions_of d.name linked ≡ d ∷ []) →
-      StandsFrom machine linked image b (objects_of machine Msvc dll es rest) → OneLinks machine linked image Msvc dll es b rest
+      LocatedFrom machine linked image b (objects_of machine Msvc dll es rest) → OneLinks machine linked image Msvc dll es b rest
   unfolding descriptor_definition
-  msvc_links es b rest fit even found null only stands =
+  msvc_links es b rest fit even found null only located =
       let later : Bases = ends_of_descriptor dll b in
       let wide : AreWide machine (ends_of_descriptor dll b) = wide_descriptor machine dll b even in
-      let one = descriptor_stands machine dll linked image starts ends b (behind_descriptor machine dll es rest) even stands in
-      let tables = askings_stand es later rest fit wide one.rest_stands in
+      let one = descriptor_located machine dll linked image starts ends b (behind_descriptor machine dll es rest) even located in
+      let tables = askings_located es later rest fit wide one.rest_located in
       let plain : b.descriptors + 0 ≡ b.descriptors = omega arith in
       let own : SymbolDefinition = descriptor_definition dll b in
       let behind_only = λ (d : SymbolDefinition) (m : Among d (defined_behind machine dll (ends_of_descriptor dll b) es)). only d (among_later d own (defined_behind machine dll (ends_of_descriptor dll b) es) m) in
       let top : definitions_of (descriptor_symbol dll) linked ≡ record { name = descriptor_symbol dll; address = Some b.descriptors } ∷ [] =
       only own (among_first own _) ∙ ap (λ n. record { name = descriptor_symbol dll; address = Some n } ∷ []) plain in
       let thunk = thunk_defined es later in
-      let name_text : TextAt image (next_multiple 2 b.hint_names) dll = record { no_nul = dll_text; stands = one.name } in
+      let name_text : TextAt image (next_multiple 2 b.hint_names) dll = record { no_nul = dll_text; located = one.name } in
       let loaded = descriptor_loads machine image starts ends b.descriptors b.lookups b.addresses (next_multiple 2 b.hint_names) dll (map (ask_in Msvc machine) es)
       one.bytes tables.lookups tables.addresses name_text in
       record {
         top = top;
         loads = loaded.loads;
-        table_stands = loaded.table_stands;
+        table_located = loaded.table_located;
         entries = imps_at es later behind_only;
-        rest_stands = tables.behind;
+        rest_located = tables.behind;
         defined = λ others.
             subst (AllByRecursion (IsDefinedAt linked))
             (sym (ap undefined_names (placed-descriptor machine dll b (behind_descriptor machine dll es rest) even)
@@ -355,24 +355,24 @@ module _ (machine : MachineType) (dll : List ℕ) (linked : List Placed) (image 
   -- one DLL's members for GNU's linker
   gnu_links : (es : List ExportView) (b : Bases) (rest : List Object) → AllByRecursion (FitsIn Gnu machine) es → AreWide machine b →
       ((d : SymbolDefinition) → Among d (definitions_in machine Gnu dll b es) → definitions_of d.name linked ≡ d ∷ []) →
-      StandsFrom machine linked image b (objects_of machine Gnu dll es rest) → OneLinks machine linked image Gnu dll es b rest
+      LocatedFrom machine linked image b (objects_of machine Gnu dll es rest) → OneLinks machine linked image Gnu dll es b rest
   unfolding FitsIn
-  gnu_links es b rest fit even only stands =
-      let block = block_links machine dll es b rest linked image starts ends dll_text fit (wide_aligned machine b even) only stands in
+  gnu_links es b rest fit even only located =
+      let block = block_links machine dll es b rest linked image starts ends dll_text fit (wide_aligned machine b even) only located in
       record {
         top = block.strictly.head;
         loads = block.strictly.loads;
-        table_stands = block.addresses;
+        table_located = block.addresses;
         entries = symbols_from linked (thunk_width machine) b.addresses es (subst (λ n. EntriesAt linked (thunk_width machine) n es) block.addresses block.strictly.entries);
-        rest_stands = rest_stands machine dll es b rest linked image starts ends dll_text fit (wide_aligned machine b even) only stands;
-        defined = block_defined machine dll es b rest linked image starts ends dll_text fit (wide_aligned machine b even) only stands;
-        targets = block_targets machine dll es b rest linked image starts ends dll_text fit (wide_aligned machine b even) only stands;
+        rest_located = rest_located machine dll es b rest linked image starts ends dll_text fit (wide_aligned machine b even) only located;
+        defined = block_defined machine dll es b rest linked image starts ends dll_text fit (wide_aligned machine b even) only located;
+        targets = block_targets machine dll es b rest linked image starts ends dll_text fit (wide_aligned machine b even) only located;
       }
 
   -- one DLL's members in a flavour
   pub one_links : (flavor : Flavor) (es : List ExportView) (b : Bases) (rest : List Object) → AllByRecursion (FitsIn flavor machine) es → AreWide machine b →
       IsFoundByName flavor dll → IsDefinedAt linked null_descriptor_symbol →
       ((d : SymbolDefinition) → Among d (definitions_in machine flavor dll b es) → definitions_of d.name linked ≡ d ∷ []) →
-      StandsFrom machine linked image b (objects_of machine flavor dll es rest) → OneLinks machine linked image flavor dll es b rest
-  one_links Msvc es b rest fit even found null only stands = msvc_links es b rest fit even found null only stands
-  one_links Gnu es b rest fit even found null only stands = gnu_links es b rest fit even only stands
+      LocatedFrom machine linked image b (objects_of machine flavor dll es rest) → OneLinks machine linked image flavor dll es b rest
+  one_links Msvc es b rest fit even found null only located = msvc_links es b rest fit even found null only located
+  one_links Gnu es b rest fit even found null only located = gnu_links es b rest fit even only located

@@ -17,7 +17,7 @@ use Rattle.implib.specs.MsvcObjects.{null_descriptor_symbol}
 use Rattle.implib.specs.Object.{Object}
 use Rattle.implib.specs.Placement.{Bases, Placed, placed_from}
 use Rattle.implib.specs.Resolution.{SymbolDefinition, definitions, definitions_of}
-use Rattle.implib.proofs.Linked.{StandsFrom}
+use Rattle.implib.proofs.Linked.{LocatedFrom}
 use Rattle.implib.proofs.Placement.{ends_of_head}
 use Rattle.implib.proofs.Ranges.{Among, among_back, among_front}
 use Rattle.implib_link.specs.Directory.{DirectoryAt, Imported}
@@ -125,28 +125,28 @@ pub record EachIn (machine : MachineType) (linked : List Placed) (image : List R
       AllByRecursion (IsDefinedAt linked) (undefined_names (placed_from b (all_objects machine blocks rest)))
   pub targets : AllByRecursion (AllFind linked) (placed_from (ends_all machine b blocks) rest) →
       AllByRecursion (AllFind linked) (placed_from b (all_objects machine blocks rest))
-  pub stands : StandsFrom machine linked image (ends_all machine b blocks) rest
+  pub located : LocatedFrom machine linked image (ends_all machine b blocks) rest
 
 module _ (machine : MachineType) (linked : List Placed) (image : List Range) (rest : List Object)
     (starts : AllByRecursion (λ r. 0 < r.start) image) (ends : AllByRecursion (λ r. range_end r < 2 ^ 31) image) (null : IsDefinedAt linked null_descriptor_symbol) where
   pub each_in : (blocks : List FlavorBlock) (b : Bases) → AllByRecursion (CanLink machine) blocks → AreWide machine b →
       ((d : SymbolDefinition) → Among d (definitions_all machine b blocks) → definitions_of d.name linked ≡ d ∷ []) →
-      StandsFrom machine linked image b (all_objects machine blocks rest) → EachIn machine linked image b blocks rest
+      LocatedFrom machine linked image b (all_objects machine blocks rest) → EachIn machine linked image b blocks rest
   unfolding definitions_all ends_all BlocksIn
-  each_in [] b fit even only stands = record { imports = tt; defined = λ all. all; targets = λ all. all; stands = stands }
-  each_in (k ∷ blocks) b fit even only stands =
+  each_in [] b fit even only located = record { imports = tt; defined = λ all. all; targets = λ all. all; located = located }
+  each_in (k ∷ blocks) b fit even only located =
       let behind : List Object = all_objects machine blocks rest in
       let later : Bases = ends_one machine b k in
       let own : List SymbolDefinition = definitions_in machine k.flavor k.dll b k.exports in
       let one = one_links machine k.dll linked image starts ends fit.0.dll k.flavor k.exports b behind fit.0.exports even fit.0.found null
-      (λ d m. only d (among_front d own (definitions_all machine later blocks) m)) stands in
+      (λ d m. only d (among_front d own (definitions_all machine later blocks) m)) located in
       let others = each_in blocks later fit.1 (wide_in machine k.flavor k.dll b k.exports even)
-      (λ d m. only d (among_back d own (definitions_all machine later blocks) m)) one.rest_stands in
+      (λ d m. only d (among_back d own (definitions_all machine later blocks) m)) one.rest_located in
       record {
         imports = (one, others.imports);
         defined = λ all. one.defined (others.defined all);
         targets = λ all. one.targets (others.targets all);
-        stands = others.stands;
+        located = others.located;
       }
 
 plus_sum : (a n : ℕ) → a + 20 + 20 * n ≡ a + 20 * suc n

@@ -8,7 +8,7 @@ use Rattle.implib.specs.declared.members.Flavor.{Flavor}
 use Rattle.implib.specs.declared.members.Flavor.TheVariants.{Gnu, Msvc}
 use Rattle.implib.specs.Definition.{ExportView}
 use Rattle.implib.specs.Gnu.{head_symbol}
-use Rattle.implib.specs.Import.{Ask, Name, Ordinal, address_symbol}
+use Rattle.implib.specs.Import.{Ask, Name, Ordinal, imp_symbol}
 use Rattle.implib.specs.Layout.{entries_of, name_text, object_of}
 use Rattle.implib.specs.Msvc.{short_import_listed, short_import_symbol}
 use Rattle.implib.specs.MsvcObjects.{descriptor, descriptor_symbol, null_descriptor, null_descriptor_symbol, null_thunk, null_thunk_symbol}
@@ -40,7 +40,7 @@ unfolding with_section_symbols object_of null_thunk entries_of name_text
 claims_thunk machine dll = refl
 
 pub claims_asking : (machine : MachineType) (dll symbol : List ℕ) (ask : Ask) (is_data constant : Bool) →
-    claimed_names (asking_object machine dll symbol ask (if is_data then Data else if constant then Constant else Code)) ≡ address_symbol symbol ∷ (if is_data then [] else symbol ∷ [])
+    claimed_names (asking_object machine dll symbol ask (if is_data then Data else if constant then Constant else Code)) ≡ imp_symbol symbol ∷ (if is_data then [] else symbol ∷ [])
 unfolding asking_object
 claims_asking machine dll symbol (Ordinal n) true constant = refl
 claims_asking machine dll symbol (Ordinal n) false true = refl

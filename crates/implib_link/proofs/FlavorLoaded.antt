@@ -7,7 +7,7 @@ use Rattle.std.proofs.lemmas.Option.{slice_get-map}
 use Rattle.implib.specs.declared.machine.MachineType.{MachineType}
 use Rattle.implib.specs.Definition.{ExportView}
 use Rattle.implib.specs.Image.{Range, image_of, range_end}
-use Rattle.implib.specs.Import.{Ask, address_symbol}
+use Rattle.implib.specs.Import.{Ask, imp_symbol}
 use Rattle.implib.specs.ImportTables.{thunk_width}
 use Rattle.implib.specs.Load.{BytesAt, NumberAt}
 use Rattle.implib.specs.Object.{Object}
@@ -15,10 +15,10 @@ use Rattle.implib.specs.Placement.{Bases, Placed, placed_from}
 use Rattle.implib.specs.Resolution.{definitions_of}
 use Rattle.implib_link.specs.Directory.{Imported}
 use Rattle.implib_link.specs.FlavorLoaded.{AreLoaded}
-use Rattle.implib_link.specs.FlavorProgram.{FlavorInput, FlavorsLink, IsFlavorProgram, IsMadeFor, SymbolsAt, address_symbols, ask_in, dll_of, exports_chosen, imported_in, symbol_in, thunks_of}
+use Rattle.implib_link.specs.FlavorProgram.{FlavorInput, FlavorsLink, IsFlavorProgram, IsMadeFor, SymbolsAt, imp_symbols, ask_in, dll_of, exports_chosen, imported_in, symbol_in, thunks_of}
 use Rattle.implib_link.specs.Loaded.{Writes}
 use Rattle.implib_link.proofs.FlavorProgram.{flavors_link}
-use Rattle.implib_link.proofs.Loaded.{Fields, kept_outside, mapped_at, tables_stand, tables_within, tables_written, thunks_asked, times_next, times_none, writes_are, writes_stand}
+use Rattle.implib_link.proofs.Loaded.{Fields, kept_outside, mapped_at, tables_located, tables_within, tables_written, thunks_asked, times_next, times_none, writes_are, writes_located}
 
 thunks_are : (machine : MachineType) (i : ℕ) (inputs : List FlavorInput) → thunks_asked i (map (imported_in machine) inputs) ≡ thunks_of i inputs
 thunks_are machine zero inputs = refl
@@ -35,7 +35,7 @@ fields_of machine bases inputs objects gives links i p is =
     let found = mapped_at (imported_in machine) inputs i p is in
     let one = links.imports i found.0 found.1.0 in
     subst (NumberAt image 4 (bases.descriptors + 20 * i + 16))
-    (one.table_stands ∙ ap (λ n. bases.addresses + thunk_width machine * n) (sym (thunks_are machine i inputs))) one.loads.plain.addresses_field
+    (one.table_located ∙ ap (λ n. bases.addresses + thunk_width machine * n) (sym (thunks_are machine i inputs))) one.loads.plain.addresses_field
 
 -- the j-th entry is the only definition of its symbol
 pub nth_symbol : (linked : List Placed) (width a : ℕ) (names : List (List ℕ)) (j : ℕ) (name : List ℕ) → SymbolsAt linked width a names → slice_get names j ≡ Some name →
@@ -52,12 +52,12 @@ nth_symbol linked width a (x ∷ names) (suc j) name entries is =
 -- the entry of the j-th chosen export
 pub entry_of : (machine : MachineType) (bases : Bases) (inputs : List FlavorInput) (objects : List Object) (i j : ℕ) (p : FlavorInput) (e : ExportView) → FlavorsLink machine bases inputs objects →
     slice_get inputs i ≡ Some p → slice_get (exports_chosen p) j ≡ Some e →
-    definitions_of (address_symbol (symbol_in p.flavor e)) (placed_from bases objects)
-    ≡ record { name = address_symbol (symbol_in p.flavor e); address = Some (bases.addresses + thunk_width machine * thunks_of i inputs + thunk_width machine * j) } ∷ []
+    definitions_of (imp_symbol (symbol_in p.flavor e)) (placed_from bases objects)
+    ≡ record { name = imp_symbol (symbol_in p.flavor e); address = Some (bases.addresses + thunk_width machine * thunks_of i inputs + thunk_width machine * j) } ∷ []
 entry_of machine bases inputs objects i j p e links input chosen =
-    nth_symbol (placed_from bases objects) (thunk_width machine) (bases.addresses + thunk_width machine * thunks_of i inputs) (address_symbols p) j (address_symbol (symbol_in p.flavor e))
+    nth_symbol (placed_from bases objects) (thunk_width machine) (bases.addresses + thunk_width machine * thunks_of i inputs) (imp_symbols p) j (imp_symbol (symbol_in p.flavor e))
     (links.imports i p input).entries
-    (slice_get-map (λ e. address_symbol (symbol_in p.flavor e)) (exports_chosen p) j ∙ ap (option_map (λ e. address_symbol (symbol_in p.flavor e))) chosen)
+    (slice_get-map (λ e. imp_symbol (symbol_in p.flavor e)) (exports_chosen p) j ∙ ap (option_map (λ e. imp_symbol (symbol_in p.flavor e))) chosen)
 
 pub flavors_load : (machine : MachineType) (bases : Bases) (inputs : List FlavorInput) (objects : List Object) (gives : List ℕ → Ask → List ℕ) (written : List Range) →
     AllByRecursion (IsMadeFor machine) inputs → IsFlavorProgram machine bases inputs objects → ((dll : List ℕ) (ask : Ask) → length (gives dll ask) ≡ thunk_width machine) →
@@ -77,10 +77,10 @@ flavors_load machine bases inputs objects gives written made program wide writes
           record {
             address = table + thunk_width machine * j;
             once = entry_of machine bases inputs objects i j p e links input chosen;
-            stands = subst (λ rs. BytesAt (rs ++ image) (table + thunk_width machine * j) (gives (dll_of p) (ask_in p.flavor machine e))) (sym is)
+            located = subst (λ rs. BytesAt (rs ++ image) (table + thunk_width machine * j) (gives (dll_of p) (ask_in p.flavor machine e))) (sym is)
                 (subst (λ n. BytesAt (tables_written machine gives bases.addresses imports ++ image) (bases.addresses + thunk_width machine * n + thunk_width machine * j) (gives (dll_of p) (ask_in p.flavor machine e)))
                 (thunks_are machine i inputs)
-                (tables_stand machine gives wide imports bases.addresses image i j (imported_in machine p) (ask_in p.flavor machine e)
+                (tables_located machine gives wide imports bases.addresses image i j (imported_in machine p) (ask_in p.flavor machine e)
                 (slice_get-map (imported_in machine) inputs i ∙ ap (option_map (imported_in machine)) input) asked));
           };
       within = subst (AllByRecursion (λ r. (bases.addresses ≤ r.start) × (range_end r ≤ bases.addresses + thunk_width machine * thunks_of (length inputs) inputs))) (sym is)
@@ -97,4 +97,4 @@ flavors_write machine bases inputs objects gives made program =
     let links = flavors_link machine bases inputs objects made program in
     let image : List Range = image_of machine bases (placed_from bases objects) in
     let imports : List Imported = map (imported_in machine) inputs in
-    (tables_written machine gives bases.addresses imports, writes_stand machine gives image imports bases.descriptors bases.addresses (fields_of machine bases inputs objects gives links))
+    (tables_written machine gives bases.addresses imports, writes_located machine gives image imports bases.descriptors bases.addresses (fields_of machine bases inputs objects gives links))

@@ -11,7 +11,7 @@ use Rattle.implib.specs.declared.members.Flavor.TheVariants.{Gnu, Msvc}
 use Rattle.implib.specs.Definition.{ExportView}
 use Rattle.implib.specs.Gnu.{export_object, head_object, tail_object}
 use Rattle.implib.specs.Image.{Range, contributions, filled, image_of}
-use Rattle.implib.specs.Import.{Ask, Name, Ordinal, address_symbol}
+use Rattle.implib.specs.Import.{Ask, Name, Ordinal, imp_symbol}
 use Rattle.implib.specs.ImportTables.{thunk_width, zeros}
 use Rattle.implib.specs.Layout.{entries_of, name_text, object_of}
 use Rattle.implib.specs.Linked.{AllFind, IsDefinedAt, IsDefinedOnce, undefined_names}
@@ -22,14 +22,14 @@ use Rattle.implib.specs.Object.{Object}
 use Rattle.implib.specs.Placement.{Addresses, Bases, Descriptors, DirectoryEnds, DllNames, Group, HintNames, Lookups, Placed, base_of, placed_from}
 use Rattle.implib.specs.Resolution.{SymbolDefinition, definitions, definitions_of}
 use Rattle.implib.proofs.Definitions.{not_same_turned, only_definition}
-use Rattle.implib.proofs.Linked.{StandsFrom}
-use Rattle.implib.proofs.LinkedBlocks.{all_stand, ends, group_stands, starts}
+use Rattle.implib.proofs.Linked.{LocatedFrom}
+use Rattle.implib.proofs.LinkedBlocks.{each_located, ends, group_located, starts}
 use Rattle.implib.proofs.LinkedMembers.{among_map}
 use Rattle.implib.proofs.Placement.{aligned, export, tail}
 use Rattle.implib.proofs.Ranges.{Among, all_among, among_first, among_later}
 use Rattle.implib_link.specs.Directory.{DirectoryAt}
 use Rattle.implib_link.specs.Expansion.{asking_object, taken_in}
-use Rattle.implib_link.specs.FlavorProgram.{AreFlavorObjects, FlavorInput, FlavorsLink, InputImports, IsFlavorProgram, IsMadeFor, SymbolsAt, SymbolsGet, address_symbols, all_members, ask_in, dll_of, exports_chosen, imported_in, null_member, objects_taken, symbol_in, symbols_listed, thunks_of}
+use Rattle.implib_link.specs.FlavorProgram.{AreFlavorObjects, FlavorInput, FlavorsLink, InputImports, IsFlavorProgram, IsMadeFor, SymbolsAt, SymbolsGet, imp_symbols, all_members, ask_in, dll_of, exports_chosen, imported_in, null_member, objects_taken, symbol_in, symbols_listed, thunks_of}
 use Rattle.implib_link.specs.Packed.{group_end, sections_end}
 use Rattle.implib_link.specs.Program.{claimed_names, has_tables, names_claimed_in, with_tables}
 use Rattle.implib_link.specs.Search.{HaveSame}
@@ -136,14 +136,14 @@ imports_of : (machine : MachineType) (image : List Range) (linked : List Placed)
     b.descriptors ≡ descriptor → b.addresses ≡ table → OneLinks machine linked image p.flavor (dll_of p) (exports_chosen p) b behind →
     InputImports machine image linked descriptor table p
 imports_of machine image linked p b descriptor table behind place begins one =
-    let entries : SymbolsAt linked (thunk_width machine) b.addresses (map (λ e. address_symbol (symbol_in p.flavor e)) (exports_chosen p)) = one.entries in
+    let entries : SymbolsAt linked (thunk_width machine) b.addresses (map (λ e. imp_symbol (symbol_in p.flavor e)) (exports_chosen p)) = one.entries in
     subst (λ n. InputImports machine image linked n table p) place
     (subst (λ n. InputImports machine image linked b.descriptors n p) begins (record {
       top = one.top;
       loads = one.loads;
-      table_stands = one.table_stands;
+      table_located = one.table_located;
       entries = entries;
-      gets = symbols_get linked (thunk_width machine) b.addresses (address_symbols p) entries;
+      gets = symbols_get linked (thunk_width machine) b.addresses (imp_symbols p) entries;
     }))
 
 contained_at : {X : Type 0} (P : X → Type 0) (xs : List X) (x : X) → AllByRecursion P xs → Contains xs x → P x
@@ -205,14 +205,14 @@ module _ (machine : MachineType) (b : Bases) (inputs : List FlavorInput) (object
   group_from : (group : Group) → BytesAt image (base_of group b) (filled (base_of group b) (contributions machine linked group linked)) →
       contributions machine linked group (placed_from b (front ++ taken_null machine ∷ back)) ≡ contributions machine linked group (placed_from b (front ++ back)) →
       BytesAt image (base_of group b) (filled (base_of group b) (contributions machine linked group (placed_from b (all_objects machine dlls []))))
-  group_from group stands same =
+  group_from group located same =
       subst (λ os. BytesAt image (base_of group b) (filled (base_of group b) (contributions machine linked group (placed_from b os)))) (parts_are machine inputs objects made program.held)
       (subst (λ cs. BytesAt image (base_of group b) (filled (base_of group b) cs))
-      (contributions_kept machine linked group b objects ∙ ap (λ os. contributions machine linked group (placed_from b os)) (kept_are machine inputs objects made program.held) ∙ same) stands)
+      (contributions_kept machine linked group b objects ∙ ap (λ os. contributions machine linked group (placed_from b os)) (kept_are machine inputs objects made program.held) ∙ same) located)
 
-  stands : StandsFrom machine linked image b (all_objects machine dlls [])
-  stands =
-      let all = all_stand machine b objects program.admissible in
+  located : LocatedFrom machine linked image b (all_objects machine dlls [])
+  located =
+      let all = each_located machine b objects program.admissible in
       record {
         descriptors = group_from Descriptors all.descriptors (descriptors_same machine b front back none ends_even linked);
         lookups = group_from Lookups all.lookups (lookups_same machine b front back none ends_even linked);
@@ -222,13 +222,13 @@ module _ (machine : MachineType) (b : Bases) (inputs : List FlavorInput) (object
       }
 
   -- the null descriptor stands at its base
-  null_stands : BytesAt image b.directory_ends (zeros 20)
+  null_located : BytesAt image b.directory_ends (zeros 20)
   unfolding Among
-  null_stands =
+  null_located =
       subst (BytesAt image b.directory_ends)
       (ap (filled b.directory_ends) (contributions_kept machine linked DirectoryEnds b objects ∙ ap (λ os. contributions machine linked DirectoryEnds (placed_from b os)) (kept_are machine inputs objects made program.held))
       ∙ null_filled machine b front back none ends_even linked)
-      (group_stands machine b objects program.admissible DirectoryEnds (inr (inl refl)))
+      (group_located machine b objects program.admissible DirectoryEnds (inr (inl refl)))
 
   follows : b.directory_ends ≡ b.descriptors + 20 * length inputs
   follows = program.follows ∙ directory_end machine inputs objects made program.held b.descriptors program.admissible.descriptors.1
@@ -272,7 +272,7 @@ module _ (machine : MachineType) (b : Bases) (inputs : List FlavorInput) (object
   pub each : EachIn machine (placed_from b objects) (image_of machine b (placed_from b objects)) b (map block_in inputs) []
   each =
       each_in machine linked image [] (starts machine b objects program.admissible) (ends machine b objects program.admissible) (b.directory_ends, null_only)
-      dlls b (inputs_link machine inputs made program.held.found) even only stands
+      dlls b (inputs_link machine inputs made program.held.found) even only located
 
   nth_imports : (i : ℕ) (p : FlavorInput) → slice_get inputs i ≡ Some p →
       InputImports machine (image_of machine b (placed_from b objects)) (placed_from b objects) (b.descriptors + 20 * i) (b.addresses + thunk_width machine * thunks_of i inputs) p
@@ -299,7 +299,7 @@ module _ (machine : MachineType) (b : Bases) (inputs : List FlavorInput) (object
       let same : b.directory_ends ≡ (ends_all machine b dlls).descriptors =
       follows ∙ ap (λ n. b.descriptors + 20 * n) (sym (length-map inputs block_in)) ∙ sym (descriptors_all machine b dlls) in
       subst (DirectoryAt image (thunk_width machine) b.descriptors) (imported_are machine inputs)
-      (directory_in machine linked image [] dlls b each.imports (subst (λ n. BytesAt image n (zeros 20)) same null_stands))
+      (directory_in machine linked image [] dlls b each.imports (subst (λ n. BytesAt image n (zeros 20)) same null_located))
 
   targets : AllByRecursion (AllFind linked) (with_tables linked)
   targets =

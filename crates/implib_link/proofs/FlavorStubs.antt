@@ -10,7 +10,7 @@ use Rattle.implib.specs.Constants.{align_4bytes, class_external, cnt_code, mem_e
 use Rattle.implib.specs.Definition.{ExportView}
 use Rattle.implib.specs.Gnu.{export_listed, relocations_of_stub, section, stub_bytes, stub_relocations, text_name}
 use Rattle.implib.specs.Image.{Range, image_of}
-use Rattle.implib.specs.Import.{Ask, Name, Ordinal, address_symbol}
+use Rattle.implib.specs.Import.{Ask, Name, Ordinal, imp_symbol}
 use Rattle.implib.specs.ImportTables.{thunk_width}
 use Rattle.implib.specs.Linked.{IsDefinedOnce}
 use Rattle.implib.specs.Load.{BytesAt, TableAt}
@@ -213,7 +213,7 @@ stubs_of_flavors_jump machine image_base bases inputs objects i j p e made progr
     let small : table + thunk_width machine * j < 2 ^ 31 =
     thunk_below image (starts machine bases objects program.admissible) (ends machine bases objects program.admissible) (thunk_width machine) (wide_thunk machine)
     (map (ask_in p.flavor machine) (exports_chosen p)) table j (ask_in p.flavor machine e)
-    (subst (λ n. TableAt image (thunk_width machine) n (map (ask_in p.flavor machine) (exports_chosen p))) one.table_stands one.loads.plain.address_table)
+    (subst (λ n. TableAt image (thunk_width machine) n (map (ask_in p.flavor machine) (exports_chosen p))) one.table_located one.loads.plain.address_table)
     (slice_get-map (ask_in p.flavor machine) (exports_chosen p) j ∙ ap (option_map (ask_in p.flavor machine)) chosen) in
     record {
       once = all_among (IsDefinedOnce linked) (symbol_in p.flavor e) (symbols_listed (all_members machine inputs)) (name_listed machine inputs i j p e made input chosen is) all.listed;
@@ -238,7 +238,7 @@ pub calls_of_flavors_reach : (machine : MachineType) (image_base : ℕ) (bases :
     CallReaches machine image_base (written ++ image_of machine bases (placed_from bases objects)) (placed_from bases objects) (symbol_in p.flavor e) (gives (dll_of p) (ask_in p.flavor machine e))
 calls_of_flavors_reach machine image_base bases inputs objects gives written i j p e made program can wide_gives writes input chosen is =
     let linked : List Placed = placed_from bases objects in
-    let symbol : List ℕ = address_symbol (symbol_in p.flavor e) in
+    let symbol : List ℕ = imp_symbol (symbol_in p.flavor e) in
     let place : ℕ = bases.addresses + thunk_width machine * thunks_of i inputs + thunk_width machine * j in
     let once = entry_of machine bases inputs objects i j p e (flavors_link machine bases inputs objects made program) input chosen in
     let holds = (flavors_load machine bases inputs objects gives written made program wide_gives writes).entries i j p e input chosen in
@@ -247,5 +247,5 @@ calls_of_flavors_reach machine image_base bases inputs objects gives written i j
       entry = place;
       once = once;
       jumps = stubs_of_flavors_jump machine image_base bases inputs objects i j p e made program can input chosen is;
-      stands = subst (λ n. BytesAt (written ++ image_of machine bases linked) n (gives (dll_of p) (ask_in p.flavor machine e))) same holds.stands;
+      located = subst (λ n. BytesAt (written ++ image_of machine bases linked) n (gives (dll_of p) (ask_in p.flavor machine e))) same holds.located;
     }

@@ -11,7 +11,7 @@ use Rattle.implib.specs.Asked.{EachAsksForItsWord, exports_of_text, external_wor
 use Rattle.implib.specs.Definition.{DefinitionView, ExportView}
 use Rattle.implib.specs.Grammar.{Export}
 use Rattle.implib.specs.Image.{Range, image_of}
-use Rattle.implib.specs.Import.{address_symbol, is_empty_text, public_exports}
+use Rattle.implib.specs.Import.{imp_symbol, is_empty_text, public_exports}
 use Rattle.implib.specs.ImportTables.{thunk_width}
 use Rattle.implib.specs.Library.{LibraryView}
 use Rattle.implib.specs.LinkedMembers.{chosen_exports}
@@ -97,17 +97,17 @@ sources_made machine (s ∷ sources) are = (source_made machine s are.0, sources
 record ImportsOf (machine : MachineType) (image : List Range) (linked : List Placed) (descriptor table : ℕ) (flavor : Flavor) (dll : List ℕ) (es : List ExportView) : Type 0 where
   top : definitions_of (descriptor_in flavor machine dll) linked ≡ record { name = descriptor_in flavor machine dll; address = Some descriptor } ∷ []
   loads : LoadsStrictly image (thunk_width machine) descriptor dll (map (ask_in flavor machine) es)
-  table_stands : loads.plain.addresses ≡ table
-  entries : SymbolsAt linked (thunk_width machine) table (map (λ e. address_symbol (symbol_in flavor e)) es)
-  gets : SymbolsGet linked (thunk_width machine) table (map (λ e. address_symbol (symbol_in flavor e)) es)
+  table_located : loads.plain.addresses ≡ table
+  entries : SymbolsAt linked (thunk_width machine) table (map (λ e. imp_symbol (symbol_in flavor e)) es)
+  gets : SymbolsGet linked (thunk_width machine) table (map (λ e. imp_symbol (symbol_in flavor e)) es)
 
 to_parts : (machine : MachineType) (image : List Range) (linked : List Placed) (descriptor table : ℕ) (p : FlavorInput) → InputImports machine image linked descriptor table p →
     ImportsOf machine image linked descriptor table p.flavor (dll_of p) (exports_chosen p)
-to_parts machine image linked descriptor table p i = record { top = i.top; loads = i.loads; table_stands = i.table_stands; entries = i.entries; gets = i.gets }
+to_parts machine image linked descriptor table p i = record { top = i.top; loads = i.loads; table_located = i.table_located; entries = i.entries; gets = i.gets }
 
 from_parts : (machine : MachineType) (image : List Range) (linked : List Placed) (descriptor table : ℕ) (p : FlavorInput) →
     ImportsOf machine image linked descriptor table p.flavor (dll_of p) (exports_chosen p) → InputImports machine image linked descriptor table p
-from_parts machine image linked descriptor table p i = record { top = i.top; loads = i.loads; table_stands = i.table_stands; entries = i.entries; gets = i.gets }
+from_parts machine image linked descriptor table p i = record { top = i.top; loads = i.loads; table_located = i.table_located; entries = i.entries; gets = i.gets }
 
 same_imports : (machine : MachineType) (image : List Range) (linked : List Placed) (descriptor table : ℕ) (s : FlavorSource) (meant : DefinitionView) →
     s.source.library ≡ record { definition = renamed meant; machine = machine; flavor = s.flavor } →

@@ -19,29 +19,29 @@ number-u32 n = omega arith
 i386_field : (image_base entry : ℕ) → image_base + 2 ^ 31 ≤ 2 ^ 32 → entry < 2 ^ 31 → (0 + (image_base + entry)) % 2 ^ 32 % 2 ^ 32 ≡ image_base + entry
 i386_field image_base entry fits small = omega arith
 
-pub i386_jumps : (image_base place entry : ℕ) (linked : List Placed) (p : Placed) → image_base + 2 ^ 31 ≤ 2 ^ 32 → entry < 2 ^ 31 → target_address linked p 2 ≡ entry →
-    jump_reads I386 (image_base + place) (code_relocated I386 image_base linked p place (stub_relocations I386 2) (stub_bytes I386)) ≡ Some (image_base + entry)
+pub i386_jumps : (image_base position entry : ℕ) (linked : List Placed) (p : Placed) → image_base + 2 ^ 31 ≤ 2 ^ 32 → entry < 2 ^ 31 → target_address linked p 2 ≡ entry →
+    jump_reads I386 (image_base + position) (code_relocated I386 image_base linked p position (stub_relocations I386 2) (stub_bytes I386)) ≡ Some (image_base + entry)
 unfolding u32_bytes
-i386_jumps image_base place entry linked p fits small target =
+i386_jumps image_base position entry linked p fits small target =
     rw target (ap Some (number-u32 ((0 + (image_base + entry)) % 2 ^ 32) ∙ i386_field image_base entry fits small))
 
 -- AMD64: the field is the entry's address behind the jump.
 
-amd64_field : (image_base place entry : ℕ) → place + 16 ≤ 2 ^ 31 → entry < 2 ^ 31 →
-    plus_signed 32 1 ((0 + entry + (2 ^ 32 - (place + 2 + 4) % 2 ^ 32)) % 2 ^ 32 % 2 ^ 32) (image_base + place + 6) ≡ image_base + entry
-amd64_field image_base place entry near small =
-    let field : ℕ = (0 + entry + (2 ^ 32 - (place + 2 + 4) % 2 ^ 32)) % 2 ^ 32 % 2 ^ 32 in
+amd64_field : (image_base position entry : ℕ) → position + 16 ≤ 2 ^ 31 → entry < 2 ^ 31 →
+    plus_signed 32 1 ((0 + entry + (2 ^ 32 - (position + 2 + 4) % 2 ^ 32)) % 2 ^ 32 % 2 ^ 32) (image_base + position + 6) ≡ image_base + entry
+amd64_field image_base position entry near small =
+    let field : ℕ = (0 + entry + (2 ^ 32 - (position + 2 + 4) % 2 ^ 32)) % 2 ^ 32 % 2 ^ 32 in
     elim (cases_Bool (nat_lt field (2 ^ 31))) [
       | inl is ↦ let low = ltb-true field (2 ^ 31) is in rw is (omega arith)
       | inr is ↦ let high = ltb-false field (2 ^ 31) is in rw is (omega arith)
     ]
 
-pub amd64_jumps : (image_base place entry : ℕ) (linked : List Placed) (p : Placed) → place + 16 ≤ 2 ^ 31 → entry < 2 ^ 31 → target_address linked p 2 ≡ entry →
-    jump_reads AMD64 (image_base + place) (code_relocated AMD64 image_base linked p place (stub_relocations AMD64 2) (stub_bytes AMD64)) ≡ Some (image_base + entry)
+pub amd64_jumps : (image_base position entry : ℕ) (linked : List Placed) (p : Placed) → position + 16 ≤ 2 ^ 31 → entry < 2 ^ 31 → target_address linked p 2 ≡ entry →
+    jump_reads AMD64 (image_base + position) (code_relocated AMD64 image_base linked p position (stub_relocations AMD64 2) (stub_bytes AMD64)) ≡ Some (image_base + entry)
 unfolding u32_bytes
-amd64_jumps image_base place entry linked p near small target =
-    rw target (ap (λ n. Some (plus_signed 32 1 n (image_base + place + 6))) (number-u32 ((0 + entry + (2 ^ 32 - (place + 2 + 4) % 2 ^ 32)) % 2 ^ 32))
-    ∙ ap Some (amd64_field image_base place entry near small))
+amd64_jumps image_base position entry linked p near small target =
+    rw target (ap (λ n. Some (plus_signed 32 1 n (image_base + position + 6))) (number-u32 ((0 + entry + (2 ^ 32 - (position + 2 + 4) % 2 ^ 32)) % 2 ^ 32))
+    ∙ ap Some (amd64_field image_base position entry near small))
 
 -- ARM64: `adrp` has the entry's page relative to its own, `ldr` the entry's offset in its page.
 
@@ -105,9 +105,9 @@ pages_add here there near far =
 halves : (n : ℕ) → n / 4 % 2 ^ 19 * 4 + n % 4 ≡ n % 2 ^ 21
 halves n = omega arith
 
-near_pages : (image_base place entry : ℕ) → place + 16 ≤ 2 ^ 31 → entry < 2 ^ 31 →
-    (page (image_base + place) < page (image_base + entry) + 2 ^ 20) × (page (image_base + entry) < page (image_base + place) + 2 ^ 20)
-near_pages image_base place entry near small = (omega arith, omega arith)
+near_pages : (image_base position entry : ℕ) → position + 16 ≤ 2 ^ 31 → entry < 2 ^ 31 →
+    (page (image_base + position) < page (image_base + entry) + 2 ^ 20) × (page (image_base + entry) < page (image_base + position) + 2 ^ 20)
+near_pages image_base position entry near small = (omega arith, omega arith)
 
 adrp_small : (high low : ℕ) → high < 2 ^ 19 → low < 4 → adrp_word high low < 2 ^ 32
 adrp_small high low first second = omega arith
@@ -129,55 +129,55 @@ tests_pass : (first second value : ℕ) → first ≡ 0x9000_0010 → second ≡
 tests_pass first second value first_is second_is = rw (first_is, second_is) refl
 
 -- the code, relocated: sums with 0 are those that the relocations and the stub's own immediates give
-plain_sums : (image_base place entry : ℕ) → (image_base + entry + 0 ≡ image_base + entry) × (image_base + (place + 0) ≡ image_base + place)
-plain_sums image_base place entry = (omega arith, omega arith)
+plain_sums : (image_base position entry : ℕ) → (image_base + entry + 0 ≡ image_base + entry) × (image_base + (position + 0) ≡ image_base + position)
+plain_sums image_base position entry = (omega arith, omega arith)
 
-arm64_code : (image_base place entry : ℕ) (linked : List Placed) (p : Placed) → target_address linked p 2 ≡ entry →
-    code_relocated ARM64 image_base linked p place (stub_relocations ARM64 2) (stub_bytes ARM64)
-    ≡ u32_bytes (with_adrp (page (image_base + entry) + (2 ^ 21 - page (image_base + place) % 2 ^ 21)) 0x9000_0010)
+arm64_code : (image_base position entry : ℕ) (linked : List Placed) (p : Placed) → target_address linked p 2 ≡ entry →
+    code_relocated ARM64 image_base linked p position (stub_relocations ARM64 2) (stub_bytes ARM64)
+    ≡ u32_bytes (with_adrp (page (image_base + entry) + (2 ^ 21 - page (image_base + position) % 2 ^ 21)) 0x9000_0010)
     ++ (u32_bytes (with_ldr ((image_base + entry) % 4096) 0xF940_0210) ++ 0 ∷ 2 ∷ 0x1F ∷ 0xD6 ∷ [])
 unfolding u32_bytes
-arm64_code image_base place entry linked p target =
-    let sums = plain_sums image_base place entry in
-    let code : List ℕ = u32_bytes (with_adrp (page (image_base + entry) + (2 ^ 21 - page (image_base + place) % 2 ^ 21)) 0x9000_0010)
+arm64_code image_base position entry linked p target =
+    let sums = plain_sums image_base position entry in
+    let code : List ℕ = u32_bytes (with_adrp (page (image_base + entry) + (2 ^ 21 - page (image_base + position) % 2 ^ 21)) 0x9000_0010)
     ++ (u32_bytes (with_ldr ((image_base + entry) % 4096) 0xF940_0210) ++ 0 ∷ 2 ∷ 0x1F ∷ 0xD6 ∷ []) in
     rw (target, sums.0, sums.1) (refl {a = code})
 
-arm64_leads : (image_base place entry : ℕ) → place + 16 ≤ 2 ^ 31 → entry < 2 ^ 31 → (image_base + entry) % 8 ≡ 0 → (n : ℕ) →
-    n ≡ page (image_base + entry) + (2 ^ 21 - page (image_base + place) % 2 ^ 21) →
-    arm64_reads (image_base + place) (adrp_word (n / 4 % 2 ^ 19) (n % 4)) (ldr_word ((image_base + entry) % 4096 / 8)) ≡ Some (image_base + entry)
-arm64_leads image_base place entry near small even n is =
+arm64_leads : (image_base position entry : ℕ) → position + 16 ≤ 2 ^ 31 → entry < 2 ^ 31 → (image_base + entry) % 8 ≡ 0 → (n : ℕ) →
+    n ≡ page (image_base + entry) + (2 ^ 21 - page (image_base + position) % 2 ^ 21) →
+    arm64_reads (image_base + position) (adrp_word (n / 4 % 2 ^ 19) (n % 4)) (ldr_word ((image_base + entry) % 4096 / 8)) ≡ Some (image_base + entry)
+arm64_leads image_base position entry near small even n is =
     let target : ℕ = image_base + entry in
     let high_small : n / 4 % 2 ^ 19 < 2 ^ 19 = omega arith in
     let low_small : n % 4 < 4 = omega arith in
     let offset_small : target % 4096 / 8 < 4096 = omega arith in
-    let pages = near_pages image_base place entry near small in
-    let immediate : adrp_immediate (adrp_word (n / 4 % 2 ^ 19) (n % 4)) ≡ (page target + (2 ^ 21 - page (image_base + place) % 2 ^ 21)) % 2 ^ 21 =
+    let pages = near_pages image_base position entry near small in
+    let immediate : adrp_immediate (adrp_word (n / 4 % 2 ^ 19) (n % 4)) ≡ (page target + (2 ^ 21 - page (image_base + position) % 2 ^ 21)) % 2 ^ 21 =
     adrp_read (n / 4 % 2 ^ 19) (n % 4) high_small low_small ∙ halves n ∙ ap (λ m. m % 2 ^ 21) is in
-    let paged : plus_signed 21 4096 (adrp_immediate (adrp_word (n / 4 % 2 ^ 19) (n % 4))) (page (image_base + place) * 4096) ≡ page target * 4096 =
-    ap (λ m. plus_signed 21 4096 m (page (image_base + place) * 4096)) immediate
-    ∙ pages_add (page (image_base + place)) (page target) pages.0 pages.1 in
+    let paged : plus_signed 21 4096 (adrp_immediate (adrp_word (n / 4 % 2 ^ 19) (n % 4))) (page (image_base + position) * 4096) ≡ page target * 4096 =
+    ap (λ m. plus_signed 21 4096 m (page (image_base + position) * 4096)) immediate
+    ∙ pages_add (page (image_base + position)) (page target) pages.0 pages.1 in
     let offset : ldr_immediate (ldr_word (target % 4096 / 8)) ≡ target % 4096 = ldr_read (target % 4096 / 8) offset_small ∙ whole_eights target even in
     tests_pass (with_adrp 0 (adrp_word (n / 4 % 2 ^ 19) (n % 4))) (with_bits 10 12 0 (ldr_word (target % 4096 / 8)))
-    (plus_signed 21 4096 (adrp_immediate (adrp_word (n / 4 % 2 ^ 19) (n % 4))) (page (image_base + place) * 4096) + ldr_immediate (ldr_word (target % 4096 / 8)))
+    (plus_signed 21 4096 (adrp_immediate (adrp_word (n / 4 % 2 ^ 19) (n % 4))) (page (image_base + position) * 4096) + ldr_immediate (ldr_word (target % 4096 / 8)))
     (adrp_cleared (n / 4 % 2 ^ 19) (n % 4) high_small low_small) (ldr_cleared (target % 4096 / 8) offset_small)
     ∙ ap (λ m. Some (m + ldr_immediate (ldr_word (target % 4096 / 8)))) paged
     ∙ ap (λ m. Some (page target * 4096 + m)) offset
     ∙ ap Some (page_and_offset target)
 
-pub arm64_jumps : (image_base place entry : ℕ) (linked : List Placed) (p : Placed) → place + 16 ≤ 2 ^ 31 → entry < 2 ^ 31 → image_base % 8 ≡ 0 → entry % 8 ≡ 0 →
+pub arm64_jumps : (image_base position entry : ℕ) (linked : List Placed) (p : Placed) → position + 16 ≤ 2 ^ 31 → entry < 2 ^ 31 → image_base % 8 ≡ 0 → entry % 8 ≡ 0 →
     target_address linked p 2 ≡ entry →
-    jump_reads ARM64 (image_base + place) (code_relocated ARM64 image_base linked p place (stub_relocations ARM64 2) (stub_bytes ARM64)) ≡ Some (image_base + entry)
-arm64_jumps image_base place entry linked p near small even entries target =
-    let n : ℕ = page (image_base + entry) + (2 ^ 21 - page (image_base + place) % 2 ^ 21) in
+    jump_reads ARM64 (image_base + position) (code_relocated ARM64 image_base linked p position (stub_relocations ARM64 2) (stub_bytes ARM64)) ≡ Some (image_base + entry)
+arm64_jumps image_base position entry linked p near small even entries target =
+    let n : ℕ = page (image_base + entry) + (2 ^ 21 - page (image_base + position) % 2 ^ 21) in
     let offset_small : (image_base + entry) % 4096 < 4096 = omega arith in
     let eighth_small : (image_base + entry) % 4096 / 8 < 4096 = omega arith in
     let high_small : n / 4 % 2 ^ 19 < 2 ^ 19 = omega arith in
     let low_small : n % 4 < 4 = omega arith in
-    ap (jump_reads ARM64 (image_base + place)) (
-    arm64_code image_base place entry linked p target
+    ap (jump_reads ARM64 (image_base + position)) (
+    arm64_code image_base position entry linked p target
     ∙ ap (λ w. u32_bytes w ++ (u32_bytes (with_ldr ((image_base + entry) % 4096) 0xF940_0210) ++ 0 ∷ 2 ∷ 0x1F ∷ 0xD6 ∷ [])) (adrp_is n (n / 4 % 2 ^ 19) (n % 4) refl refl)
     ∙ ap (λ w. u32_bytes (adrp_word (n / 4 % 2 ^ 19) (n % 4)) ++ (u32_bytes w ++ 0 ∷ 2 ∷ 0x1F ∷ 0xD6 ∷ [])) (ldr_is ((image_base + entry) % 4096) offset_small))
-    ∙ words_read (image_base + place) (adrp_word (n / 4 % 2 ^ 19) (n % 4)) (ldr_word ((image_base + entry) % 4096 / 8))
+    ∙ words_read (image_base + position) (adrp_word (n / 4 % 2 ^ 19) (n % 4)) (ldr_word ((image_base + entry) % 4096 / 8))
     (adrp_small (n / 4 % 2 ^ 19) (n % 4) high_small low_small) (ldr_small ((image_base + entry) % 4096 / 8) eighth_small)
-    ∙ arm64_leads image_base place entry near small (sum_of_eights image_base entry even entries) n refl
+    ∙ arm64_leads image_base position entry near small (sum_of_eights image_base entry even entries) n refl

@@ -8,7 +8,7 @@ use Rattle.implib.specs.declared.machine.MachineType.{MachineType}
 use Rattle.implib.specs.declared.members.Flavor.TheVariants.{Msvc}
 use Rattle.implib.specs.Definition.{DefinitionView, ExportView}
 use Rattle.implib.specs.File.{ObjectFile, ShortImportFile, file_in}
-use Rattle.implib.specs.Import.{Ask, Name, Ordinal, address_symbol, is_alias, public_exports}
+use Rattle.implib.specs.Import.{Ask, Name, Ordinal, imp_symbol, is_alias, public_exports}
 use Rattle.implib.specs.Layout.{entries_of, name_text, object_of}
 use Rattle.implib.specs.LinkedMembers.{chosen_exports}
 use Rattle.implib.specs.MemberSpec.{MemberSpec, MemberView, member_of}
@@ -180,7 +180,7 @@ module _ (d : DefinitionView) (machine : MachineType) (members : List MemberView
 
   -- an alias's address would be listed twice, by two members whose files differ
   abbrev weak_address : ExportView → MemberSpec
-  weak_address e = weak_spec machine name_of_dll (address_symbol (short_import_symbol e)) (address_symbol e.alias_target)
+  weak_address e = weak_spec machine name_of_dll (imp_symbol (short_import_symbol e)) (imp_symbol e.alias_target)
 
   alias_there : (e : ExportView) → is_alias e.alias_target (short_import_symbol e) ≡ true → Among (weak_address e) (weak_specs machine d.import_name e)
   unfolding weak_specs
@@ -192,8 +192,8 @@ module _ (d : DefinitionView) (machine : MachineType) (members : List MemberView
       among_back (weak_address e) (header_specs machine name_of_dll) (flat_map (export_specs machine name_of_dll) shorts)
       (among_flat (export_specs machine name_of_dll) e shorts (weak_address e) held (among_front (weak_address e) (weak_specs machine name_of_dll e) (short_import_spec machine name_of_dll e ∷ []) (alias_there e alias))) in
       let same : member_of (weak_address e) ≡ S machine name_of_dll e =
-      one_member members (address_symbol (short_import_symbol e)) (member_of (weak_address e)) (S machine name_of_dll e) distinct (specified (weak_address e) at) (S_held e held) (among_first _ _) (among_first _ _) in
-      let clash : Some (ObjectFile (object_of (weak_object machine (address_symbol (short_import_symbol e)) (address_symbol e.alias_target)))) ≡ Some (ShortImportFile (short_import_of machine name_of_dll e)) =
+      one_member members (imp_symbol (short_import_symbol e)) (member_of (weak_address e)) (S machine name_of_dll e) distinct (specified (weak_address e) at) (S_held e held) (among_first _ _) (among_first _ _) in
+      let clash : Some (ObjectFile (object_of (weak_object machine (imp_symbol (short_import_symbol e)) (imp_symbol e.alias_target)))) ≡ Some (ShortImportFile (short_import_of machine name_of_dll e)) =
       sym (read_of d machine members [] made (weak_address e) at) ∙ ap (λ (m : MemberView). file_in m.bytes) same
       ∙ read_of d machine members [] made (short_import_spec machine name_of_dll e) (short_at d machine members [] made e held) in
       cc

@@ -11,7 +11,7 @@ use Rattle.implib.specs.Layout.{entries_of, name_text, object_of}
 use Rattle.implib.specs.Linked.{AllFind, undefined_names}
 use Rattle.implib.specs.MsvcObjects.{null_descriptor, null_descriptor_symbol}
 use Rattle.implib.specs.Object.{Object, ObjectSection}
-use Rattle.implib.specs.Placement.{Addresses, At, Bases, Descriptors, DirectoryEnds, DllNames, Group, HintNames, Lookups, Placed, end_after, ends_after, group_named, next_multiple, place_after, placed_from, places_of, same_group, section_address_of}
+use Rattle.implib.specs.Placement.{Addresses, At, Bases, Descriptors, DirectoryEnds, DllNames, Group, HintNames, Lookups, Placed, end_after, ends_after, group_named, next_multiple, address_after, placed_from, section_addresses_of, same_group, section_address_of}
 use Rattle.implib.specs.Resolution.{SymbolDefinition, defined_by, definitions, definitions_of}
 use Rattle.implib.proofs.Definitions.{none_of, same_text}
 use Rattle.implib.proofs.Placement.{aligned}
@@ -35,7 +35,7 @@ with_end n b = record b { directory_ends = n }
 
 -- Places do not depend on where `.idata$3` has come to.
 
-place_same : (n : ℕ) (b : Bases) (flags : ℕ) (g : Option Group) → is_end g ≡ false → place_after (with_end n b) flags g ≡ place_after b flags g
+place_same : (n : ℕ) (b : Bases) (flags : ℕ) (g : Option Group) → is_end g ≡ false → address_after (with_end n b) flags g ≡ address_after b flags g
 place_same n b flags None none = refl
 place_same n b flags (Some Descriptors) none = refl
 place_same n b flags (Some DirectoryEnds) none = cc
@@ -45,7 +45,7 @@ place_same n b flags (Some HintNames) none = refl
 place_same n b flags (Some DllNames) none = refl
 
 end_same : (n : ℕ) (b : Bases) (flags size : ℕ) (g : Option Group) → is_end g ≡ false →
-    end_after (with_end n b) (place_after (with_end n b) flags g) size ≡ with_end n (end_after b (place_after b flags g) size)
+    end_after (with_end n b) (address_after (with_end n b) flags g) size ≡ with_end n (end_after b (address_after b flags g) size)
 end_same n b flags size None none = refl
 end_same n b flags size (Some Descriptors) none = refl
 end_same n b flags size (Some DirectoryEnds) none = cc
@@ -55,11 +55,11 @@ end_same n b flags size (Some HintNames) none = refl
 end_same n b flags size (Some DllNames) none = refl
 
 places_same : (n : ℕ) (b : Bases) (sections : List ObjectSection) → AllByRecursion (λ s. is_end (group_named s.name) ≡ false) sections →
-    places_of (with_end n b) sections ≡ places_of b sections
+    section_addresses_of (with_end n b) sections ≡ section_addresses_of b sections
 places_same n b [] none = refl
 places_same n b (s ∷ sections) none =
-    ap (λ a. a ∷ places_of (end_after (with_end n b) (section_address_of (with_end n b) s) (length s.bytes)) sections) (place_same n b s.flags (group_named s.name) none.0)
-    ∙ ap (λ c. section_address_of b s ∷ places_of c sections) (end_same n b s.flags (length s.bytes) (group_named s.name) none.0)
+    ap (λ a. a ∷ section_addresses_of (end_after (with_end n b) (section_address_of (with_end n b) s) (length s.bytes)) sections) (place_same n b s.flags (group_named s.name) none.0)
+    ∙ ap (λ c. section_address_of b s ∷ section_addresses_of c sections) (end_same n b s.flags (length s.bytes) (group_named s.name) none.0)
     ∙ ap (λ ps. section_address_of b s ∷ ps) (places_same n (end_after b (section_address_of b s) (length s.bytes)) sections none.1)
 
 ends_same : (n : ℕ) (b : Bases) (sections : List ObjectSection) → AllByRecursion (λ s. is_end (group_named s.name) ≡ false) sections →
@@ -72,13 +72,13 @@ ends_same n b (s ∷ sections) none =
 placed_same : (n : ℕ) (b : Bases) (objects : List Object) → AllByRecursion EndsNothing objects → placed_from (with_end n b) objects ≡ placed_from b objects
 placed_same n b [] none = refl
 placed_same n b (o ∷ objects) none =
-    ap (λ ps. record { object = o; places = ps } ∷ placed_from (ends_after (with_end n b) o.sections) objects) (places_same n b o.sections none.0)
-    ∙ ap (λ c. record { object = o; places = places_of b o.sections } ∷ placed_from c objects) (ends_same n b o.sections none.0)
-    ∙ ap (λ ps. record { object = o; places = places_of b o.sections } ∷ ps) (placed_same n (ends_after b o.sections) objects none.1)
+    ap (λ ps. record { object = o; section_addresses = ps } ∷ placed_from (ends_after (with_end n b) o.sections) objects) (places_same n b o.sections none.0)
+    ∙ ap (λ c. record { object = o; section_addresses = section_addresses_of b o.sections } ∷ placed_from c objects) (ends_same n b o.sections none.0)
+    ∙ ap (λ ps. record { object = o; section_addresses = section_addresses_of b o.sections } ∷ ps) (placed_same n (ends_after b o.sections) objects none.1)
 
 -- Where `.idata$3` has come to does not change.
 
-end_kept : (b : Bases) (flags size : ℕ) (g : Option Group) → is_end g ≡ false → (end_after b (place_after b flags g) size).directory_ends ≡ b.directory_ends
+end_kept : (b : Bases) (flags size : ℕ) (g : Option Group) → is_end g ≡ false → (end_after b (address_after b flags g) size).directory_ends ≡ b.directory_ends
 end_kept b flags size None none = refl
 end_kept b flags size (Some Descriptors) none = refl
 end_kept b flags size (Some DirectoryEnds) none = cc
@@ -105,10 +105,10 @@ ends_behind_kept b (o ∷ objects) none = ends_behind_kept (ends_after b o.secti
 placed-append : (b : Bases) (xs ys : List Object) → placed_from b (xs ++ ys) ≡ placed_from b xs ++ placed_from (ends_behind b xs) ys
 unfolding ends_behind
 placed-append b [] ys = refl
-placed-append b (o ∷ xs) ys = ap (λ ps. record { object = o; places = places_of b o.sections } ∷ ps) (placed-append (ends_after b o.sections) xs ys)
+placed-append b (o ∷ xs) ys = ap (λ ps. record { object = o; section_addresses = section_addresses_of b o.sections } ∷ ps) (placed-append (ends_after b o.sections) xs ys)
 
 -- nothing of `.idata$3` stands in such objects
-contribution_none : (b : Bases) (flags : ℕ) (bytes : List ℕ) (g : Option Group) → is_end g ≡ false → contribution_at DirectoryEnds (place_after b flags g) bytes ≡ []
+contribution_none : (b : Bases) (flags : ℕ) (bytes : List ℕ) (g : Option Group) → is_end g ≡ false → contribution_at DirectoryEnds (address_after b flags g) bytes ≡ []
 contribution_none b flags bytes None none = refl
 contribution_none b flags bytes (Some Descriptors) none = refl
 contribution_none b flags bytes (Some DirectoryEnds) none = cc
@@ -118,10 +118,10 @@ contribution_none b flags bytes (Some HintNames) none = refl
 contribution_none b flags bytes (Some DllNames) none = refl
 
 sections_none : (machine : MachineType) (linked : List Placed) (p : Placed) (b : Bases) (sections : List ObjectSection) →
-    AllByRecursion (λ s. is_end (group_named s.name) ≡ false) sections → contributions_in machine linked p DirectoryEnds (places_of b sections) sections ≡ []
+    AllByRecursion (λ s. is_end (group_named s.name) ≡ false) sections → contributions_in machine linked p DirectoryEnds (section_addresses_of b sections) sections ≡ []
 sections_none machine linked p b [] none = refl
 sections_none machine linked p b (s ∷ sections) none =
-    ap (λ cs. cs ++ contributions_in machine linked p DirectoryEnds (places_of (end_after b (section_address_of b s) (length s.bytes)) sections) sections)
+    ap (λ cs. cs ++ contributions_in machine linked p DirectoryEnds (section_addresses_of (end_after b (section_address_of b s) (length s.bytes)) sections) sections)
     (contribution_none b s.flags (relocated machine linked p s.relocations s.bytes) (group_named s.name) none.0)
     ∙ sections_none machine linked p (end_after b (section_address_of b s) (length s.bytes)) sections none.1
 
@@ -130,7 +130,7 @@ objects_none : (machine : MachineType) (linked : List Placed) (b : Bases) (objec
 objects_none machine linked b [] none = refl
 objects_none machine linked b (o ∷ objects) none =
     ap (λ cs. cs ++ contributions machine linked DirectoryEnds (placed_from (ends_after b o.sections) objects))
-    (sections_none machine linked (record { object = o; places = places_of b o.sections }) b o.sections none.0)
+    (sections_none machine linked (record { object = o; section_addresses = section_addresses_of b o.sections }) b o.sections none.0)
     ∙ objects_none machine linked (ends_after b o.sections) objects none.1
 
 -- Lists with an element put in.
@@ -184,7 +184,7 @@ module _ (machine : MachineType) (b : Bases) (xs ys : List Object) (none : AllBy
   last = ends_behind b xs
 
   abbrev own : Placed
-  own = record { object = taken_null machine; places = At DirectoryEnds b.directory_ends ∷ [] }
+  own = record { object = taken_null machine; section_addresses = At DirectoryEnds b.directory_ends ∷ [] }
 
   abbrev front : List Placed
   front = placed_from b xs
@@ -202,8 +202,8 @@ module _ (machine : MachineType) (b : Bases) (xs ys : List Object) (none : AllBy
       let same : next_multiple 4 last.directory_ends ≡ b.directory_ends =
       ap (next_multiple 4) (ends_behind_kept b xs (all_front EndsNothing xs ys none)) ∙ aligned b.directory_ends even in
       placed-append b xs (taken_null machine ∷ ys)
-      ∙ ap (λ ps. front ++ record { object = taken_null machine; places = At DirectoryEnds place ∷ [] } ∷ ps) (placed_same (place + 20) last ys (all_back EndsNothing xs ys none))
-      ∙ ap (λ n. front ++ record { object = taken_null machine; places = At DirectoryEnds n ∷ [] } ∷ back) same
+      ∙ ap (λ ps. front ++ record { object = taken_null machine; section_addresses = At DirectoryEnds place ∷ [] } ∷ ps) (placed_same (place + 20) last ys (all_back EndsNothing xs ys none))
+      ∙ ap (λ n. front ++ record { object = taken_null machine; section_addresses = At DirectoryEnds n ∷ [] } ∷ back) same
 
   contributions_same : (linked : List Placed) (group : Group) → contributions_of machine linked group own ≡ [] →
       contributions machine linked group (placed_from b (xs ++ taken_null machine ∷ ys)) ≡ contributions machine linked group (placed_from b (xs ++ ys))

@@ -10,7 +10,7 @@ use Rattle.implib.specs.Constants.{class_external, section_undefined}
 use Rattle.implib.specs.File.{is_defined_external}
 use Rattle.implib.specs.Image.{contributions, contributions_in}
 use Rattle.implib.specs.Object.{ASymbol, Auxiliary, Entry, Object, ObjectSection, ObjectSymbol}
-use Rattle.implib.specs.Placement.{Bases, Group, Unplaced, SectionAddress, Placed, ends_after, group_named, section_address_of, placed_from, places_of}
+use Rattle.implib.specs.Placement.{Bases, Group, Unplaced, SectionAddress, Placed, ends_after, group_named, section_address_of, placed_from, section_addresses_of}
 use Rattle.implib.specs.Resolution.{SymbolDefinition, defined_by_entry, definitions, definitions_of}
 use Rattle.implib_link.specs.Program.{claimed_name, claimed_names, has_tables, is_reference, is_shared, is_table}
 
@@ -41,7 +41,7 @@ no_ends b (s ∷ sections) none =
     rw (nowhere b s parts.0) (no_ends b sections parts.1)
 
 no_contributions : (machine : MachineType) (linked : List Placed) (p : Placed) (group : Group) (b : Bases) (sections : List ObjectSection) →
-    list_any is_table sections ≡ false → contributions_in machine linked p group (places_of b sections) sections ≡ []
+    list_any is_table sections ≡ false → contributions_in machine linked p group (section_addresses_of b sections) sections ≡ []
 no_contributions machine linked p group b [] none = refl
 no_contributions machine linked p group b (s ∷ sections) none =
     let parts = or_parts (is_table s) (list_any is_table sections) none in
@@ -59,9 +59,9 @@ unfolding has_tables
 contributions_kept machine linked group b [] = refl
 contributions_kept machine linked group b (o ∷ objects) =
     elim (cases_Bool (list_any is_table o.sections)) [
-      | inl is ↦ rw is (ap (λ others. contributions_in machine linked (record { object = o; places = places_of b o.sections }) group (places_of b o.sections) o.sections ++ others)
+      | inl is ↦ rw is (ap (λ others. contributions_in machine linked (record { object = o; section_addresses = section_addresses_of b o.sections }) group (section_addresses_of b o.sections) o.sections ++ others)
           (contributions_kept machine linked group (ends_after b o.sections) objects))
-      | inr none ↦ rw (none, no_contributions machine linked (record { object = o; places = places_of b o.sections }) group b o.sections none, no_ends b o.sections none)
+      | inr none ↦ rw (none, no_contributions machine linked (record { object = o; section_addresses = section_addresses_of b o.sections }) group b o.sections none, no_ends b o.sections none)
           (contributions_kept machine linked group b objects)
     ]
 
@@ -71,7 +71,7 @@ unfolding has_tables
 placed_kept b [] = refl
 placed_kept b (o ∷ objects) =
     elim (cases_Bool (list_any is_table o.sections)) [
-      | inl is ↦ rw is (ap (λ others. record { object = o; places = places_of b o.sections } ∷ others) (placed_kept (ends_after b o.sections) objects))
+      | inl is ↦ rw is (ap (λ others. record { object = o; section_addresses = section_addresses_of b o.sections } ∷ others) (placed_kept (ends_after b o.sections) objects))
       | inr none ↦ rw (none, no_ends b o.sections none) (placed_kept b objects)
     ]
 
@@ -92,18 +92,18 @@ claims_fewer name s entries none =
       | inr is ↦ rw is at none
     ]
 
-defines_none : (name : List ℕ) (places : List SectionAddress) (entries : List Entry) → list_any (bytes_eq name) (filter_map claimed_name entries) ≡ false →
-    filter (λ (d : SymbolDefinition). bytes_eq name d.name) (filter_map (defined_by_entry places) entries) ≡ []
-defines_none name places [] none = refl
-defines_none name places (Auxiliary bytes ∷ entries) none = defines_none name places entries none
-defines_none name places (ASymbol s ∷ entries) none =
+defines_none : (name : List ℕ) (section_addresses : List SectionAddress) (entries : List Entry) → list_any (bytes_eq name) (filter_map claimed_name entries) ≡ false →
+    filter (λ (d : SymbolDefinition). bytes_eq name d.name) (filter_map (defined_by_entry section_addresses) entries) ≡ []
+defines_none name section_addresses [] none = refl
+defines_none name section_addresses (Auxiliary bytes ∷ entries) none = defines_none name section_addresses entries none
+defines_none name section_addresses (ASymbol s ∷ entries) none =
     elim (cases_Bool (is_defined_external s)) [
       | inl is ↦
           let claimed : list_any (bytes_eq name) (s.name ∷ filter_map claimed_name entries) ≡ false = rw (defined_is_claimed s is) at none in
           let parts = or_parts (bytes_eq name s.name) (list_any (bytes_eq name) (filter_map claimed_name entries)) claimed in
-          rw (is, parts.0) (defines_none name places entries parts.1)
+          rw (is, parts.0) (defines_none name section_addresses entries parts.1)
       | inr other ↦
-          rw other (defines_none name places entries (claims_fewer name s entries none))
+          rw other (defines_none name section_addresses entries (claims_fewer name s entries none))
     ]
 
 -- the definitions of a name that the others do not claim
@@ -113,7 +113,7 @@ pub definitions_kept : (name : List ℕ) (b : Bases) (objects : List Object) →
 unfolding has_tables
 definitions_kept name b [] none = refl
 definitions_kept name b (o ∷ objects) none =
-    let own : List SymbolDefinition = filter_map (defined_by_entry (places_of b o.sections)) o.entries in
+    let own : List SymbolDefinition = filter_map (defined_by_entry (section_addresses_of b o.sections)) o.entries in
     let later : List SymbolDefinition = definitions (placed_from (ends_after b o.sections) objects) in
     filter-append (λ (d : SymbolDefinition). bytes_eq name d.name) own later
     ∙ elim (cases_Bool (list_any is_table o.sections)) as (λ _. filter (λ (d : SymbolDefinition). bytes_eq name d.name) own ++ definitions_of name (placed_from (ends_after b o.sections) objects)
@@ -124,5 +124,5 @@ definitions_kept name b (o ∷ objects) none =
           ∙ sym (filter-append (λ (d : SymbolDefinition). bytes_eq name d.name) own (definitions (placed_from (ends_after b o.sections) (filter has_tables objects)))))
       | inr is ↦
           let parts : (list_any (bytes_eq name) (claimed_names o) ≡ false) × AllByRecursion (λ o. list_any (bytes_eq name) (claimed_names o) ≡ false) (filter (λ o. not (has_tables o)) objects) = rw is at none in
-          rw (is, defines_none name (places_of b o.sections) o.entries parts.0, no_ends b o.sections is) (definitions_kept name b objects parts.1)
+          rw (is, defines_none name (section_addresses_of b o.sections) o.entries parts.0, no_ends b o.sections is) (definitions_kept name b objects parts.1)
     ]

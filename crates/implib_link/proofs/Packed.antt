@@ -9,8 +9,8 @@ use Rattle.implib.specs.Image.{AllApart, AreApart, Contribution, IsAdmissible, I
 use Rattle.implib.specs.LinkedMembers.{IsMade, LinkInput, all_linked, objects_in}
 use Rattle.implib.specs.ImportTables.{zeros}
 use Rattle.implib.specs.Object.{Object, ObjectSection}
-use Rattle.implib.specs.Placement.{Addresses, Bases, Descriptors, DirectoryEnds, DllNames, Group, HintNames, Lookups, Placed, alignment, base_of, end_after, ends_after, group_named, next_multiple, place_after, section_address_of, placed_from, places_of, same_group, with_base}
-use Rattle.implib.proofs.LinkedParts.{block_of, parts_objects}
+use Rattle.implib.specs.Placement.{Addresses, Bases, Descriptors, DirectoryEnds, DllNames, Group, HintNames, Lookups, Placed, alignment, base_of, end_after, ends_after, group_named, next_multiple, address_after, section_address_of, placed_from, section_addresses_of, same_group, with_base}
+use Rattle.implib.proofs.LinkedInputs.{block_of, parts_objects}
 use Rattle.implib.proofs.Placement.{at_least}
 use Rattle.implib_link.specs.Packed.{end_with, group_end, packed, packed_addresses, packed_descriptors, packed_directory_ends, packed_dll_names, packed_end, packed_hint_names, packed_lookups, sections_end}
 use Rattle.implib_link.specs.Program.{IsProgram, has_tables, is_table, linked_symbols, null_descriptor}
@@ -41,7 +41,7 @@ same_base group other b is = cc
 
 -- the end of a group behind a section
 end_of_section : (group : Group) (b : Bases) (s : ObjectSection) (named : Option Group) →
-    base_of group (end_after b (place_after b s.flags named) (length s.bytes)) ≡ end_with group (base_of group b) s named
+    base_of group (end_after b (address_after b s.flags named) (length s.bytes)) ≡ end_with group (base_of group b) s named
 end_of_section group b s None = refl
 end_of_section group b s (Some other) =
     base_with group other (next_multiple (alignment s.flags) (base_of other b) + length s.bytes) b
@@ -80,28 +80,28 @@ span_next base c cs low =
 
 module _ (machine : MachineType) (linked : List Placed) (group : Group) where
   span_section : (p : Placed) (b : Bases) (s : ObjectSection) (named : Option Group) (cs : List Contribution) → AreWithin (length s.bytes) s.relocations →
-      span (base_of group b) (contribution_at group (place_after b s.flags named) (relocated machine linked p s.relocations s.bytes) ++ cs) ≡ span (end_with group (base_of group b) s named) cs
+      span (base_of group b) (contribution_at group (address_after b s.flags named) (relocated machine linked p s.relocations s.bytes) ++ cs) ≡ span (end_with group (base_of group b) s named) cs
   span_section p b s None cs within = refl
   span_section p b s (Some other) cs within =
       elim (cases_Bool (same_group group other)) [
         | inl is ↦
             let bytes : List ℕ = relocated machine linked p s.relocations s.bytes in
-            let place : ℕ = next_multiple (alignment s.flags) (base_of group b) in
+            let position : ℕ = next_multiple (alignment s.flags) (base_of group b) in
             let long : length bytes ≡ length s.bytes = length-relocated machine linked p s.relocations s.bytes (length s.bytes) within refl in
             rw (is, same_base group other b is) (
-            span_next (base_of group b) (record { address = place; bytes = bytes }) cs (at_least (alignment s.flags) (base_of group b))
-            ∙ ap (λ n. span (place + n) cs) long)
+            span_next (base_of group b) (record { address = position; bytes = bytes }) cs (at_least (alignment s.flags) (base_of group b))
+            ∙ ap (λ n. span (position + n) cs) long)
         | inr is ↦ rw is refl
       ]
 
   span_sections : (p : Placed) (b : Bases) (sections : List ObjectSection) (cs : List Contribution) → AllByRecursion (λ s. AreWithin (length s.bytes) s.relocations) sections →
-      span (base_of group b) (contributions_in machine linked p group (places_of b sections) sections ++ cs) ≡ span (sections_end group (base_of group b) sections) cs
+      span (base_of group b) (contributions_in machine linked p group (section_addresses_of b sections) sections ++ cs) ≡ span (sections_end group (base_of group b) sections) cs
   unfolding sections_end
   span_sections p b [] cs sized = refl
   span_sections p b (s ∷ sections) cs sized =
       let later : Bases = end_after b (section_address_of b s) (length s.bytes) in
       let own : List Contribution = contribution_at group (section_address_of b s) (relocated machine linked p s.relocations s.bytes) in
-      let others : List Contribution = contributions_in machine linked p group (places_of later sections) sections in
+      let others : List Contribution = contributions_in machine linked p group (section_addresses_of later sections) sections in
       ap (span (base_of group b)) (append_assoc own others cs)
       ∙ span_section p b s (group_named s.name) (others ++ cs) sized.0
       ∙ ap (λ n. span n (others ++ cs)) (sym (end_of_section group b s (group_named s.name)))
@@ -113,7 +113,7 @@ module _ (machine : MachineType) (linked : List Placed) (group : Group) where
   unfolding group_end
   span_objects b [] sized = span_nil (base_of group b)
   span_objects b (o ∷ objects) sized =
-      let p : Placed = record { object = o; places = places_of b o.sections } in
+      let p : Placed = record { object = o; section_addresses = section_addresses_of b o.sections } in
       let others : List Contribution = contributions machine linked group (placed_from (ends_after b o.sections) objects) in
       span_sections p b o.sections others sized.0
       ∙ ap (λ n. span n others) (sym (end_of_sections group b o.sections))

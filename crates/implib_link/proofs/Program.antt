@@ -6,7 +6,7 @@ use Rattle.std.proofs.lemmas.List.{append-nil}
 use Rattle.implib.specs.declared.machine.MachineType.{MachineType}
 use Rattle.implib.specs.Definition.{ExportView}
 use Rattle.implib.specs.Image.{Range, contributions, filled, image_of}
-use Rattle.implib.specs.Import.{address_symbol}
+use Rattle.implib.specs.Import.{imp_symbol}
 use Rattle.implib.specs.Linked.{AllFind, EntriesAt, LinksStrictlyAt, IsDefinedOnce, undefined_names, IsDefinedAt}
 use Rattle.implib.specs.LinkedMembers.{IsMade, LinkInput, chosen_exports}
 use Rattle.implib.specs.Load.{BytesAt}
@@ -15,15 +15,15 @@ use Rattle.implib.specs.Object.{Object}
 use Rattle.implib.specs.Placement.{Addresses, Bases, Descriptors, DllNames, Group, HintNames, Lookups, Placed, base_of, placed_from}
 use Rattle.implib.specs.Resolution.{SymbolDefinition, definitions_of}
 use Rattle.implib.proofs.Definitions.{only_definition}
-use Rattle.implib.proofs.Linked.{StandsFrom}
-use Rattle.implib.proofs.LinkedBlocks.{Block, EachLinks, all_stand, blocks_definitions, blocks_objects, definitions-blocks, each_links, ends, ends_of_blocks, even, names-blocks, starts}
+use Rattle.implib.proofs.Linked.{LocatedFrom}
+use Rattle.implib.proofs.LinkedBlocks.{Block, EachLinks, each_located, blocks_definitions, blocks_objects, definitions-blocks, each_links, ends, ends_of_blocks, even, names-blocks, starts}
 use Rattle.implib.proofs.LinkedMembers.{among_map}
-use Rattle.implib.proofs.LinkedParts.{block_of, parts_fit, parts_linked, parts_objects, parts_symbols}
+use Rattle.implib.proofs.LinkedInputs.{block_of, parts_fit, parts_linked, parts_objects, parts_symbols}
 use Rattle.implib.proofs.Ranges.{Among, among_first, among_later}
 use Rattle.implib_link.specs.Program.{ClaimsNone, EachGets, GetsAddress, ImportsBy, IsProgram, LinksAmong, claimed_names, has_tables, linked_symbols, names_claimed_in, null_descriptor, thunks_before, with_tables}
 use Rattle.implib_link.proofs.Claims.{claimed_blocks, claimed_placed}
 use Rattle.implib_link.proofs.Others.{contributions_kept, definitions_kept, placed_kept}
-use Rattle.implib_link.proofs.Blocks.{aligned_blocks, directory_of, nth_block, null_stands, objects_behind}
+use Rattle.implib_link.proofs.Blocks.{aligned_blocks, directory_of, nth_block, null_located, objects_behind}
 
 claims_of : (name : List ℕ) (names : List (List ℕ)) → Among name names → (o : Object) → ClaimsNone names o → list_any (bytes_eq name) (claimed_names o) ≡ false
 unfolding Among
@@ -50,15 +50,15 @@ pub each_gets : (linked : List Placed) (width address : ℕ) (exports : List Exp
 unfolding EntriesAt EachGets
 each_gets linked width address [] entries = tt
 each_gets linked width address (e ∷ exports) entries =
-    (gets_address linked (address_symbol e.name) address entries.0, each_gets linked width (address + width) exports entries.1)
+    (gets_address linked (imp_symbol e.name) address entries.0, each_gets linked width (address + width) exports entries.1)
 
 imports_by : (machine : MachineType) (image : List Range) (linked : List Placed) (own descriptor begin table : ℕ) (dll : List ℕ) (exports : List ExportView) →
     own ≡ descriptor → begin ≡ table → (strictly : LinksStrictlyAt machine image linked own dll exports) → strictly.loads.plain.addresses ≡ begin →
     ImportsBy machine image linked descriptor table dll exports
-imports_by machine image linked own descriptor begin table dll exports place begins strictly addresses =
-    subst (λ n. ImportsBy machine image linked n table dll exports) place (record {
+imports_by machine image linked own descriptor begin table dll exports position begins strictly addresses =
+    subst (λ n. ImportsBy machine image linked n table dll exports) position (record {
       strictly = strictly;
-      table_stands = addresses ∙ begins;
+      table_located = addresses ∙ begins;
       gets = subst (λ n. EachGets linked (thunk_width machine) n exports) (addresses ∙ begins)
           (each_gets linked (thunk_width machine) strictly.loads.plain.addresses exports strictly.entries);
     })
@@ -83,21 +83,21 @@ module _ (machine : MachineType) (b : Bases) (inputs : List LinkInput) (objects 
       ∙ ap (λ members. members ++ behind) (parts_objects machine inputs made)
       ∙ objects_behind machine dlls behind
 
-  group_stands : (group : Group) → BytesAt image (base_of group b) (filled (base_of group b) (contributions machine linked group linked)) →
+  group_located : (group : Group) → BytesAt image (base_of group b) (filled (base_of group b) (contributions machine linked group linked)) →
       BytesAt image (base_of group b) (filled (base_of group b) (contributions machine linked group (placed_from b (blocks_objects machine dlls behind))))
-  group_stands group stands =
+  group_located group located =
       subst (λ os. BytesAt image (base_of group b) (filled (base_of group b) (contributions machine linked group (placed_from b os)))) kept_are
-      (subst (λ cs. BytesAt image (base_of group b) (filled (base_of group b) cs)) (contributions_kept machine linked group b objects) stands)
+      (subst (λ cs. BytesAt image (base_of group b) (filled (base_of group b) cs)) (contributions_kept machine linked group b objects) located)
 
-  stands : StandsFrom machine linked image b (blocks_objects machine dlls behind)
-  stands =
-      let all = all_stand machine b objects program.admissible in
+  located : LocatedFrom machine linked image b (blocks_objects machine dlls behind)
+  located =
+      let all = each_located machine b objects program.admissible in
       record {
-        descriptors = group_stands Descriptors all.descriptors;
-        lookups = group_stands Lookups all.lookups;
-        addresses = group_stands Addresses all.addresses;
-        hint_names = group_stands HintNames all.hint_names;
-        dll_names = group_stands DllNames all.dll_names;
+        descriptors = group_located Descriptors all.descriptors;
+        lookups = group_located Lookups all.lookups;
+        addresses = group_located Addresses all.addresses;
+        hint_names = group_located HintNames all.hint_names;
+        dll_names = group_located DllNames all.dll_names;
       }
 
   abbrev defined : List SymbolDefinition
@@ -117,10 +117,10 @@ module _ (machine : MachineType) (b : Bases) (inputs : List LinkInput) (objects 
 
   pub each : EachLinks machine (placed_from b objects) (image_of machine b (placed_from b objects)) b (map block_of inputs) (null_descriptor ∷ [])
   each = each_links machine linked image behind (starts machine b objects program.admissible) (ends machine b objects program.admissible)
-      dlls b (parts_fit machine inputs made) (even machine b objects program.admissible) only stands
+      dlls b (parts_fit machine inputs made) (even machine b objects program.admissible) only located
 
   null : BytesAt image (ends_of_blocks machine b (map block_of inputs)).descriptors (zeros 20)
-  null = null_stands machine linked image (ends_of_blocks machine b dlls) (aligned_blocks machine b dlls (even machine b objects program.admissible)) each.stands
+  null = null_located machine linked image (ends_of_blocks machine b dlls) (aligned_blocks machine b dlls (even machine b objects program.admissible)) each.located
 
   nth_imports : (i : ℕ) (p : LinkInput) → slice_get inputs i ≡ Some p →
       ImportsBy machine (image_of machine b (placed_from b objects)) (placed_from b objects) (b.descriptors + 20 * i) (b.addresses + thunk_width machine * thunks_before i inputs)

@@ -4,9 +4,9 @@ use Rattle.std.specs.Prelude.{◌&&◌, nat_eq, slice_index}
 use Rattle.std.proofs.lemmas.Bool.{and_parts, eqb-true}
 use Rattle.implib.specs.declared.machine.MachineType.TheVariants.{AMD64}
 use Rattle.implib.specs.Bytes.{u32_bytes}
-use Rattle.implib.specs.Gnu.{head_symbol, stem}
+use Rattle.implib.specs.Gnu.{head_symbol, mangled_name}
 use Rattle.implib.specs.Image.{Range, byte_at}
-use Rattle.implib.specs.Import.{Ordinal, address_symbol}
+use Rattle.implib.specs.Import.{Ordinal, imp_symbol}
 use Rattle.implib.specs.Linked.{EntriesAt, LinksStrictlyAt}
 use Rattle.implib.specs.Load.{ThunkAsksFor, BytesAt, IsWhole, Loads, LoadsStrictly, NumberAt, TableAt, TextAt, ThunkAt, WholeTableAt, WholeThunkAt, number_in}
 use Rattle.implib.specs.ImportTables.{zeros}
@@ -26,33 +26,33 @@ abbrev is_byte : Option ℕ → ℕ → Bool
 is_byte None n = false
 is_byte (Some m) n = nat_eq m n
 
-abbrev do_stand : List Range → ℕ → List ℕ → Bool
-do_stand image a [] = true
-do_stand image a (byte ∷ bytes) = is_byte (byte_at image a) byte && do_stand image (a + 1) bytes
+abbrev is_each_located : List Range → ℕ → List ℕ → Bool
+is_each_located image a [] = true
+is_each_located image a (byte ∷ bytes) = is_byte (byte_at image a) byte && is_each_located image (a + 1) bytes
 
 is_the_byte : (o : Option ℕ) (n : ℕ) → is_byte o n ≡ true → o ≡ Some n
 is_the_byte None n is = cc
 is_the_byte (Some m) n is = ap Some (eqb-true m n is)
 
-stand : (image : List Range) (bytes : List ℕ) (a : ℕ) → do_stand image a bytes ≡ true → BytesAt image a bytes
+are_located : (image : List Range) (bytes : List ℕ) (a : ℕ) → is_each_located image a bytes ≡ true → BytesAt image a bytes
 unfolding BytesAt
-stand image [] a is = tt
-stand image (byte ∷ bytes) a is =
-    let parts = and_parts (is_byte (byte_at image a) byte) (do_stand image (a + 1) bytes) is in
-    (is_the_byte (byte_at image a) byte parts.0, stand image bytes (a + 1) parts.1)
+are_located image [] a is = tt
+are_located image (byte ∷ bytes) a is =
+    let parts = and_parts (is_byte (byte_at image a) byte) (is_each_located image (a + 1) bytes) is in
+    (is_the_byte (byte_at image a) byte parts.0, are_located image bytes (a + 1) parts.1)
 
-pub number : (image : List Range) (width a n : ℕ) (bytes : List ℕ) → do_stand image a bytes ≡ true → length bytes ≡ width → number_in bytes ≡ n → NumberAt image width a n
-number image width a n bytes is count value = record { bytes = bytes; stands = stand image bytes a is; count = count; value = value }
+pub number : (image : List Range) (width a n : ℕ) (bytes : List ℕ) → is_each_located image a bytes ≡ true → length bytes ≡ width → number_in bytes ≡ n → NumberAt image width a n
+number image width a n bytes is count value = record { bytes = bytes; located = are_located image bytes a is; count = count; value = value }
 
 -- Tables of both thunks.
 
 thunk_8 : (image : List Range) (a n : ℕ) → n < 2 ^ 8 → NumberAt image 8 a (0x8000_0000_0000_0000 + n) → ThunkAt image 8 a (Ordinal n)
 unfolding ThunkAsksFor
-thunk_8 image a n small stands = record { thunk = 0x8000_0000_0000_0000 + n; stands = stands; goes_on = λ none. omega arith; asks = (omega arith, omega arith) }
+thunk_8 image a n small located = record { thunk = 0x8000_0000_0000_0000 + n; located = located; goes_on = λ none. omega arith; asks = (omega arith, omega arith) }
 
 whole_8 : (image : List Range) (a n : ℕ) → NumberAt image 8 a (0x8000_0000_0000_0000 + n) → WholeThunkAt image 8 a (Ordinal n)
 unfolding IsWhole
-whole_8 image a n stands = record { thunk = 0x8000_0000_0000_0000 + n; stands = stands; whole = refl }
+whole_8 image a n located = record { thunk = 0x8000_0000_0000_0000 + n; located = located; whole = refl }
 
 -- both tables and the name of an image, and the fields that lead there
 record Parts (image : List Range) (lookups addresses : ℕ) (dll : List ℕ) : Type 0 where
@@ -106,7 +106,7 @@ parts_right = record {
   lookups_field = number right_image 4 0x1000 0x1028 (0x28 ∷ 0x10 ∷ 0 ∷ 0 ∷ []) refl refl refl;
   name_field = number right_image 4 0x100C 0x1058 (0x58 ∷ 0x10 ∷ 0 ∷ 0 ∷ []) refl refl refl;
   addresses_field = number right_image 4 0x1010 0x1040 (0x40 ∷ 0x10 ∷ 0 ∷ 0 ∷ []) refl refl refl;
-  name = record { no_nul = refl; stands = stand right_image (foo ++ 0 ∷ []) 0x1058 refl };
+  name = record { no_nul = refl; located = are_located right_image (foo ++ 0 ∷ []) 0x1058 refl };
   lookups_five = number right_image 8 0x1028 0x8000_0000_0000_0005 (ordinal_8 5) refl refl refl;
   lookups_six = number right_image 8 (0x1028 + 8) 0x8000_0000_0000_0006 (ordinal_8 6) refl refl refl;
   lookups_end = number right_image 8 (0x1028 + 8 + 8) 0 zero_8 refl refl refl;
@@ -121,7 +121,7 @@ parts_named = record {
   lookups_field = number named_otherwise 4 0x1000 0x1028 (0x28 ∷ 0x10 ∷ 0 ∷ 0 ∷ []) refl refl refl;
   name_field = number named_otherwise 4 0x100C 0x1058 (0x58 ∷ 0x10 ∷ 0 ∷ 0 ∷ []) refl refl refl;
   addresses_field = number named_otherwise 4 0x1010 0x1040 (0x40 ∷ 0x10 ∷ 0 ∷ 0 ∷ []) refl refl refl;
-  name = record { no_nul = refl; stands = stand named_otherwise ((codes "bar.dll") ++ 0 ∷ []) 0x1058 refl };
+  name = record { no_nul = refl; located = are_located named_otherwise ((codes "bar.dll") ++ 0 ∷ []) 0x1058 refl };
   lookups_five = number named_otherwise 8 0x1028 0x8000_0000_0000_0005 (ordinal_8 5) refl refl refl;
   lookups_six = number named_otherwise 8 (0x1028 + 8) 0x8000_0000_0000_0006 (ordinal_8 6) refl refl refl;
   lookups_end = number named_otherwise 8 (0x1028 + 8 + 8) 0 zero_8 refl refl refl;
@@ -136,7 +136,7 @@ parts_timed = record {
   lookups_field = number timed 4 0x1000 0x1028 (0x28 ∷ 0x10 ∷ 0 ∷ 0 ∷ []) refl refl refl;
   name_field = number timed 4 0x100C 0x1058 (0x58 ∷ 0x10 ∷ 0 ∷ 0 ∷ []) refl refl refl;
   addresses_field = number timed 4 0x1010 0x1040 (0x40 ∷ 0x10 ∷ 0 ∷ 0 ∷ []) refl refl refl;
-  name = record { no_nul = refl; stands = stand timed (foo ++ 0 ∷ []) 0x1058 refl };
+  name = record { no_nul = refl; located = are_located timed (foo ++ 0 ∷ []) 0x1058 refl };
   lookups_five = number timed 8 0x1028 0x8000_0000_0000_0005 (ordinal_8 5) refl refl refl;
   lookups_six = number timed 8 (0x1028 + 8) 0x8000_0000_0000_0006 (ordinal_8 6) refl refl refl;
   lookups_end = number timed 8 (0x1028 + 8 + 8) 0 zero_8 refl refl refl;
@@ -151,7 +151,7 @@ parts_exchanged = record {
   lookups_field = number exchanged 4 0x1000 0x1040 (0x40 ∷ 0x10 ∷ 0 ∷ 0 ∷ []) refl refl refl;
   name_field = number exchanged 4 0x100C 0x1058 (0x58 ∷ 0x10 ∷ 0 ∷ 0 ∷ []) refl refl refl;
   addresses_field = number exchanged 4 0x1010 0x1028 (0x28 ∷ 0x10 ∷ 0 ∷ 0 ∷ []) refl refl refl;
-  name = record { no_nul = refl; stands = stand exchanged (foo ++ 0 ∷ []) 0x1058 refl };
+  name = record { no_nul = refl; located = are_located exchanged (foo ++ 0 ∷ []) 0x1058 refl };
   lookups_five = number exchanged 8 0x1040 0x8000_0000_0000_0005 (ordinal_8 5) refl refl refl;
   lookups_six = number exchanged 8 (0x1040 + 8) 0x8000_0000_0000_0006 (ordinal_8 6) refl refl refl;
   lookups_end = number exchanged 8 (0x1040 + 8 + 8) 0 zero_8 refl refl refl;
@@ -160,7 +160,7 @@ parts_exchanged = record {
   addresses_end = number exchanged 8 (0x1028 + 8 + 8) 0 zero_8 refl refl refl;
 }
 
-zero_4 : (image : List Range) (a : ℕ) → do_stand image a (zeros 4) ≡ true → NumberAt image 4 a 0
+zero_4 : (image : List Range) (a : ℕ) → is_each_located image a (zeros 4) ≡ true → NumberAt image 4 a 0
 zero_4 image a is = number image 4 a 0 (zeros 4) is refl refl
 
 right : LoadsStrictly right_image 8 0x1000 foo five_and_six
@@ -172,12 +172,12 @@ unfolding u32_bytes
 exchanged_taken = strictly_by exchanged 0x1040 0x1028 foo parts_exchanged (omega arith) (omega arith) (zero_4 exchanged 0x1004 refl) (zero_4 exchanged 0x1008 refl)
 
 right_links : LinksStrictlyAt AMD64 right_image (linked_by_hand 0x1040) 0x1000 foo exports_by_hand
-unfolding right strictly_by loads_by EntriesAt head_symbol stem
+unfolding right strictly_by loads_by EntriesAt head_symbol mangled_name
 right_links = record { head = refl; loads = right; entries = (refl, (refl, tt)) }
 
 right_directory : DirectoryAt right_image 8 0x1000 (record { dll = foo; asks = five_and_six } ∷ [])
 unfolding DirectoryAt u32_bytes
-right_directory = (right, stand right_image (zeros 20) 0x1014 refl)
+right_directory = (right, are_located right_image (zeros 20) 0x1014 refl)
 
 other_name : LoadsStrictly named_otherwise 8 0x1000 foo five_and_six → ⊥
 other_name loads =
@@ -204,8 +204,8 @@ endless_next = number endless 8 0x1040 0x8000_0000_0000_0005 (ordinal_8 5) refl 
 no_end : LoadsStrictly endless 8 0x1000 foo five_and_six → ⊥
 unfolding TableAt
 no_end loads =
-    let place : loads.plain.lookups ≡ 0x1030 = number_once endless 4 0x1000 loads.plain.lookups 0x1030 loads.plain.lookups_field endless_field in
-    let end : NumberAt endless 8 0x1040 0 = subst (λ n. NumberAt endless 8 (n + 8 + 8) 0) place loads.plain.lookup_table.1.1 in
+    let position : loads.plain.lookups ≡ 0x1030 = number_once endless 4 0x1000 loads.plain.lookups 0x1030 loads.plain.lookups_field endless_field in
+    let end : NumberAt endless 8 0x1040 0 = subst (λ n. NumberAt endless 8 (n + 8 + 8) 0) position loads.plain.lookup_table.1.1 in
     differ 0 0x8000_0000_0000_0005 (number_once endless 8 0x1040 0 0x8000_0000_0000_0005 end endless_next) (omega arith)
 
 wide_field : NumberAt wide_image 4 0x1000 0x1028
@@ -219,13 +219,13 @@ wide_second = zero_4 wide_image 0x102C refl
 wide : LoadsStrictly wide_image 4 0x1000 foo five_and_six → ⊥
 unfolding TableAt
 wide loads =
-    let place : loads.plain.lookups ≡ 0x1028 = number_once wide_image 4 0x1000 loads.plain.lookups 0x1028 loads.plain.lookups_field wide_field in
-    let second : ThunkAt wide_image 4 0x102C (Ordinal 6) = subst (λ n. ThunkAt wide_image 4 (n + 4) (Ordinal 6)) place loads.plain.lookup_table.1.0 in
-    second.goes_on (number_once wide_image 4 0x102C second.thunk 0 second.stands wide_second)
+    let position : loads.plain.lookups ≡ 0x1028 = number_once wide_image 4 0x1000 loads.plain.lookups 0x1028 loads.plain.lookups_field wide_field in
+    let second : ThunkAt wide_image 4 0x102C (Ordinal 6) = subst (λ n. ThunkAt wide_image 4 (n + 4) (Ordinal 6)) position loads.plain.lookup_table.1.0 in
+    second.goes_on (number_once wide_image 4 0x102C second.thunk 0 second.located wide_second)
 
 thunk_4 : (a : ℕ) → NumberAt wide_image 4 a 0x8000_0005 → ThunkAt wide_image 4 a (Ordinal 5)
 unfolding ThunkAsksFor
-thunk_4 a stands = record { thunk = 0x8000_0005; stands = stands; goes_on = λ none. differ 0 0x8000_0005 (sym none) (omega arith); asks = (omega arith, refl) }
+thunk_4 a located = record { thunk = 0x8000_0005; located = located; goes_on = λ none. differ 0 0x8000_0005 (sym none) (omega arith); asks = (omega arith, refl) }
 
 wide_stops : Loads wide_image 4 0x1000 foo (Ordinal 5 ∷ [])
 unfolding TableAt u32_bytes
@@ -235,26 +235,26 @@ wide_stops = record {
   lookup_table = (thunk_4 0x1028 (number wide_image 4 0x1028 0x8000_0005 (5 ∷ 0 ∷ 0 ∷ 0x80 ∷ []) refl refl refl), wide_second);
   name = 0x1058;
   name_field = number wide_image 4 0x100C 0x1058 (0x58 ∷ 0x10 ∷ 0 ∷ 0 ∷ []) refl refl refl;
-  name_text = record { no_nul = refl; stands = stand wide_image (foo ++ 0 ∷ []) 0x1058 refl };
+  name_text = record { no_nul = refl; located = are_located wide_image (foo ++ 0 ∷ []) 0x1058 refl };
   addresses = 0x1040;
   addresses_field = number wide_image 4 0x1010 0x1040 (0x40 ∷ 0x10 ∷ 0 ∷ 0 ∷ []) refl refl refl;
   address_table = (thunk_4 0x1040 (number wide_image 4 0x1040 0x8000_0005 (5 ∷ 0 ∷ 0 ∷ 0x80 ∷ []) refl refl refl), zero_4 wide_image 0x1044 refl);
 }
 
 -- symbols and tables apart
-five_at : (entries : ℕ) → definitions_of (address_symbol (codes "five")) (linked_by_hand entries) ≡ record { name = address_symbol (codes "five"); address = Some (entries + 0) } ∷ []
-unfolding head_symbol stem
+five_at : (entries : ℕ) → definitions_of (imp_symbol (codes "five")) (linked_by_hand entries) ≡ record { name = imp_symbol (codes "five"); address = Some (entries + 0) } ∷ []
+unfolding head_symbol mangled_name
 five_at entries = refl
 
 head_at : (entries : ℕ) → definitions_of (head_symbol AMD64 foo) (linked_by_hand entries) ≡ record { name = head_symbol AMD64 foo; address = Some 0x1000 } ∷ []
-unfolding head_symbol stem
+unfolding head_symbol mangled_name
 head_at entries = refl
 
 exchanged_links : LinksStrictlyAt AMD64 exchanged (linked_by_hand 0x1040) 0x1000 foo exports_by_hand → ⊥
 unfolding EntriesAt
 exchanged_links links =
     let entry : links.loads.plain.addresses ≡ 0x1040 =
-    same_address (address_symbol (codes "five")) links.loads.plain.addresses 0x1040 (definitions_of (address_symbol (codes "five")) (linked_by_hand 0x1040)) links.entries.0 (five_at 0x1040) in
+    same_address (imp_symbol (codes "five")) links.loads.plain.addresses 0x1040 (definitions_of (imp_symbol (codes "five")) (linked_by_hand 0x1040)) links.entries.0 (five_at 0x1040) in
     let field : links.loads.plain.addresses ≡ 0x1028 =
     number_once exchanged 4 0x1010 links.loads.plain.addresses 0x1028 links.loads.plain.addresses_field parts_exchanged.addresses_field in
     differ 0x1028 0x1040 (sym field ∙ entry) (omega arith)
@@ -263,7 +263,7 @@ in_lookups : LinksStrictlyAt AMD64 right_image (linked_by_hand 0x1028) 0x1000 fo
 unfolding EntriesAt
 in_lookups links =
     let entry : links.loads.plain.addresses ≡ 0x1028 =
-    same_address (address_symbol (codes "five")) links.loads.plain.addresses 0x1028 (definitions_of (address_symbol (codes "five")) (linked_by_hand 0x1028)) links.entries.0 (five_at 0x1028) in
+    same_address (imp_symbol (codes "five")) links.loads.plain.addresses 0x1028 (definitions_of (imp_symbol (codes "five")) (linked_by_hand 0x1028)) links.entries.0 (five_at 0x1028) in
     let field : links.loads.plain.addresses ≡ 0x1040 =
     number_once right_image 4 0x1010 links.loads.plain.addresses 0x1040 links.loads.plain.addresses_field parts_right.addresses_field in
     differ 0x1028 0x1040 (sym entry ∙ field) (omega arith)
@@ -297,11 +297,11 @@ none directory =
     no_zero (sym first_byte ∙ directory.0)
 
 right_stub : jump_reads AMD64 0x40_2000 (stub_by_hand 1) ≡ Some 0x40_1040
-unfolding u32_bytes head_symbol stem
+unfolding u32_bytes head_symbol mangled_name
 right_stub = refl
 
 other_stub : jump_reads AMD64 0x40_2000 (stub_by_hand 2) ≡ Some 0x40_1048
-unfolding u32_bytes head_symbol stem
+unfolding u32_bytes head_symbol mangled_name
 other_stub = refl
 
 pub refused_links : RefusedLinks

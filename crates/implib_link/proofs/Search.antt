@@ -7,8 +7,8 @@ use Rattle.std.proofs.lemmas.List.{append_cancel_left}
 use Rattle.implib.specs.declared.members.Flavor.TheVariants.{Gnu}
 use Rattle.implib.specs.declared.machine.MachineType.{MachineType}
 use Rattle.implib.specs.Definition.{DefinitionView, ExportView}
-use Rattle.implib.specs.Gnu.{export_listed, export_name, export_object, head_object, head_symbol, name_symbol, numbered_name, stem, tail_object, weak_address_name}
-use Rattle.implib.specs.Import.{address_symbol, is_alias, public_exports}
+use Rattle.implib.specs.Gnu.{export_listed, export_name, export_object, head_object, head_symbol, iname_symbol, numbered_name, mangled_name, tail_object, weak_address_name}
+use Rattle.implib.specs.Import.{imp_symbol, is_alias, public_exports}
 use Rattle.implib.specs.LinkedMembers.{linked_members, numbered_spec}
 use Rattle.std.specs.Option.{option_map}
 use Rattle.implib.specs.Members.{AreMembersOf}
@@ -31,13 +31,13 @@ pub numbered_in : (machine : MachineType) (dll : List ℕ) (exports : List Expor
 numbered_in machine dll [] start n e p is held = cc
 numbered_in machine dll (x ∷ exports) start zero e p is held =
     let same : e ≡ x = cc in
-    let place : start + 0 ≡ start = omega arith in
+    let position : start + 0 ≡ start = omega arith in
     among_front p (numbered_specs_of machine dll start x) (numbered_specs machine dll (start + 1) exports)
-    (subst (λ n. Among p (numbered_specs_of machine dll n x)) place (subst (λ y. Among p (numbered_specs_of machine dll (start + 0) y)) same held))
+    (subst (λ n. Among p (numbered_specs_of machine dll n x)) position (subst (λ y. Among p (numbered_specs_of machine dll (start + 0) y)) same held))
 numbered_in machine dll (x ∷ exports) start (suc n) e p is held =
-    let place : start + suc n ≡ start + 1 + n = omega arith in
+    let position : start + suc n ≡ start + 1 + n = omega arith in
     among_back p (numbered_specs_of machine dll start x) (numbered_specs machine dll (start + 1) exports)
-    (numbered_in machine dll exports (start + 1) n e p is (subst (λ n. Among p (numbered_specs_of machine dll n e)) place held))
+    (numbered_in machine dll exports (start + 1) n e p is (subst (λ n. Among p (numbered_specs_of machine dll n e)) position held))
 
 -- a specification of an export: of its member, or it has an alias
 abbrev pub OfExport : MachineType → List ℕ → List ExportView → ℕ → MemberSpec → Type 0
@@ -53,21 +53,21 @@ numbered_is machine dll (x ∷ exports) start p held =
       | inl own ↦ elim (cases_Bool (is_alias x.alias_target x.name)) [
         | inl alias ↦ (0, x, refl, inr alias)
         | inr none ↦
-            let place : start ≡ start + 0 = omega arith in
+            let position : start ≡ start + 0 = omega arith in
             let only : Among p (export_spec machine dll start x ∷ []) = rw none at own in
             elim only [
-              | inl is ↦ (0, x, refl, inl (subst (λ n. p ≡ export_spec machine dll n x) place is))
+              | inl is ↦ (0, x, refl, inl (subst (λ n. p ≡ export_spec machine dll n x) position is))
               | inr nothing ↦ absurd nothing
             ]
       ]
       | inr behind ↦
           let later = numbered_is machine dll exports (start + 1) p behind in
-          let place : start + 1 + later.0 ≡ start + suc later.0 = omega arith in (
+          let position : start + 1 + later.0 ≡ start + suc later.0 = omega arith in (
             suc later.0,
             later.1,
             later.2,
             elim later.3 [
-              | inl is ↦ inl (subst (λ n. p ≡ export_spec machine dll n later.1) place is)
+              | inl is ↦ inl (subst (λ n. p ≡ export_spec machine dll n later.1) position is)
               | inr alias ↦ inr alias
             ],
           )
@@ -84,12 +84,12 @@ unfolding Among
 number_wanted wanted [] start n e is want = cc
 number_wanted wanted (x ∷ exports) start zero e is want =
     let same : e ≡ x = cc in
-    let place : start + 0 ≡ start = omega arith in
-    rw (subst (λ y. is_wanted wanted y ≡ true) same want) (inl place)
+    let position : start + 0 ≡ start = omega arith in
+    rw (subst (λ y. is_wanted wanted y ≡ true) same want) (inl position)
 number_wanted wanted (x ∷ exports) start (suc n) e is want =
-    let place : start + 1 + n ≡ start + suc n = omega arith in
+    let position : start + 1 + n ≡ start + suc n = omega arith in
     let later : Among (start + suc n) (numbers_wanted wanted (start + 1) exports) =
-    subst (λ n. Among n (numbers_wanted wanted (start + 1) exports)) place (number_wanted wanted exports (start + 1) n e is want) in
+    subst (λ n. Among n (numbers_wanted wanted (start + 1) exports)) position (number_wanted wanted exports (start + 1) n e is want) in
     elim (cases_Bool (is_wanted wanted x)) [ inl here ↦ rw here (inr later) | inr none ↦ rw none later ]
 
 pub wanted_number : (wanted : List (List ℕ)) (exports : List ExportView) (start k : ℕ) → Among k (numbers_wanted wanted start exports) →
@@ -101,7 +101,7 @@ wanted_number wanted (x ∷ exports) start k held =
       | inl here ↦
           let either : Among k (start ∷ numbers_wanted wanted (start + 1) exports) = rw here at held in
           elim either [
-            | inl is ↦ let place : start ≡ start + 0 = omega arith in (0, x, is ∙ place, refl, here)
+            | inl is ↦ let position : start ≡ start + 0 = omega arith in (0, x, is ∙ position, refl, here)
             | inr behind ↦ next (wanted_number wanted exports (start + 1) k behind)
           ]
       | inr none ↦ next (wanted_number wanted exports (start + 1) k (rw none at held))
@@ -109,7 +109,7 @@ wanted_number wanted (x ∷ exports) start k held =
   where
     next : ((n : ℕ) × (e : ExportView) × (k ≡ start + 1 + n) × (slice_get exports n ≡ Some e) × (is_wanted wanted e ≡ true)) →
         (n : ℕ) × (e : ExportView) × (k ≡ start + n) × (slice_get (x ∷ exports) n ≡ Some e) × (is_wanted wanted e ≡ true)
-    next later = let place : start + 1 + later.0 ≡ start + suc later.0 = omega arith in (suc later.0, later.1, later.2 ∙ place, later.3, later.4)
+    next later = let position : start + 1 + later.0 ≡ start + suc later.0 = omega arith in (suc later.0, later.1, later.2 ∙ position, later.3, later.4)
 
 -- a name of some names is wanted
 pub wants : (wanted names : List (List ℕ)) (name : List ℕ) → Among name names → Among name wanted → list_any (λ n. list_any (bytes_eq n) wanted) names ≡ true
@@ -172,7 +172,7 @@ pub left_tail : (machine : MachineType) (dll : List ℕ) → left_by (tail machi
 unfolding left_by tail_object
 left_tail machine dll = refl
 
-pub left_head : (machine : MachineType) (dll : List ℕ) → left_by (head machine dll) ≡ name_symbol machine dll ∷ []
+pub left_head : (machine : MachineType) (dll : List ℕ) → left_by (head machine dll) ≡ iname_symbol machine dll ∷ []
 unfolding left_by head_object
 left_head machine dll = refl
 
@@ -180,7 +180,7 @@ pub left_export : (machine : MachineType) (dll : List ℕ) (e : ExportView) → 
 unfolding left_by export_object
 left_export machine dll e = elim (cases_Bool e.is_data) [ inl is ↦ rw is refl | inr is ↦ rw is refl ]
 
-pub listed_tail : (machine : MachineType) (dll : List ℕ) → (member_of (tail_spec machine dll)).symbols ≡ name_symbol machine dll ∷ []
+pub listed_tail : (machine : MachineType) (dll : List ℕ) → (member_of (tail_spec machine dll)).symbols ≡ iname_symbol machine dll ∷ []
 unfolding tail_spec
 listed_tail machine dll = refl
 
@@ -192,7 +192,7 @@ pub listed_export : (machine : MachineType) (dll : List ℕ) (n : ℕ) (e : Expo
 unfolding export_spec
 listed_export machine dll n e = refl
 
-pub address_listed : (e : ExportView) → Among (address_symbol e.name) (export_listed e)
+pub address_listed : (e : ExportView) → Among (imp_symbol e.name) (export_listed e)
 unfolding Among
 address_listed e = elim (cases_Bool e.is_data) [ inl is ↦ rw is (inl refl) | inr is ↦ rw is (inr (inl refl)) ]
 
@@ -213,7 +213,7 @@ same_object o other e = cc
 
 names_apart : (dll : List ℕ) (n : ℕ) → weak_address_name dll n ≡ export_name dll n → ⊥
 unfolding numbered_name
-names_apart dll n same = name_differs 0x78 0x73 (ap (λ text. slice_index text 3) (append_cancel_left (stem dll) _ _ same)) (omega arith)
+names_apart dll n same = name_differs 0x78 0x73 (ap (λ text. slice_index text 3) (append_cancel_left (mangled_name dll) _ _ same)) (omega arith)
 
 -- some export is wanted
 pub record AnyWanted (exports : List ExportView) (wanted : List (List ℕ)) : Type 0 where
@@ -264,9 +264,9 @@ module _ (d : DefinitionView) (machine : MachineType) (members : List MemberView
 
   member_spec_held : (n : ℕ) (e : ExportView) (p : MemberSpec) → slice_get public n ≡ Some e → Among p (numbered_specs_of machine d.import_name n e) → Among (member_of p) members
   member_spec_held n e p is held =
-      let place : n ≡ 0 + n = omega arith in
+      let position : n ≡ 0 + n = omega arith in
       specified p (among_later _ _ _ (among_later _ _ _ (among_reverse p (numbered_specs machine d.import_name 0 public)
-      (numbered_in machine d.import_name public 0 n e p is (subst (λ k. Among p (numbered_specs_of machine d.import_name k e)) place held)))))
+      (numbered_in machine d.import_name public 0 n e p is (subst (λ k. Among p (numbered_specs_of machine d.import_name k e)) position held)))))
 
   pub export_held : (n : ℕ) (e : ExportView) → slice_get public n ≡ Some e → Among (the_export n e) members
   export_held n e is =
@@ -274,7 +274,7 @@ module _ (d : DefinitionView) (machine : MachineType) (members : List MemberView
       (among_back (export_spec machine d.import_name n e) (alias_specs machine d.import_name n e) (export_spec machine d.import_name n e ∷ []) (among_first _ _))
 
   abbrev alias_of : ℕ → ExportView → MemberSpec
-  alias_of n e = weak_spec machine (weak_address_name d.import_name n) (address_symbol e.name) (address_symbol e.alias_target)
+  alias_of n e = weak_spec machine (weak_address_name d.import_name n) (imp_symbol e.name) (imp_symbol e.alias_target)
 
   alias_there : (n : ℕ) (e : ExportView) → is_alias e.alias_target e.name ≡ true → Among (alias_of n e) (alias_specs machine d.import_name n e)
   unfolding alias_specs
@@ -285,7 +285,7 @@ module _ (d : DefinitionView) (machine : MachineType) (members : List MemberView
   unfolding export_spec
   no_alias n e is alias =
       names_apart d.import_name n (ap (λ (m : MemberView). m.name)
-      (one_member members (address_symbol e.name) (member_of (alias_of n e)) (the_export n e) distinct
+      (one_member members (imp_symbol e.name) (member_of (alias_of n e)) (the_export n e) distinct
       (member_spec_held n e (alias_of n e) is (among_front (alias_of n e) (alias_specs machine d.import_name n e) (export_spec machine d.import_name n e ∷ []) (alias_there n e alias)))
       (export_held n e is) (among_first _ _) (address_listed e)))
 
@@ -295,9 +295,9 @@ module _ (d : DefinitionView) (machine : MachineType) (members : List MemberView
   kind_specified m p same (inr (inl e)) = IsHead (same ∙ ap member_of e)
   kind_specified m p same (inr (inr held)) =
       let own = numbered_is machine d.import_name public 0 p (among_reversed p (numbered_specs machine d.import_name 0 public) held) in
-      let place : 0 + own.0 ≡ own.0 = omega arith in
+      let position : 0 + own.0 ≡ own.0 = omega arith in
       elim own.3 [
-        | inl e ↦ OfAnExport (record { number = own.0; export = own.1; is = own.2; same = same ∙ ap member_of (e ∙ ap (λ n. export_spec machine d.import_name n own.1) place) })
+        | inl e ↦ OfAnExport (record { number = own.0; export = own.1; is = own.2; same = same ∙ ap member_of (e ∙ ap (λ n. export_spec machine d.import_name n own.1) position) })
         | inr alias ↦ absurd (no_alias own.0 own.1 own.2 alias)
       ]
 

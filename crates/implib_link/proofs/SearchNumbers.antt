@@ -7,8 +7,8 @@ use Rattle.std.proofs.lemmas.Grind.{flat_map-append}
 use Rattle.implib.specs.declared.members.Flavor.TheVariants.{Gnu}
 use Rattle.implib.specs.declared.machine.MachineType.{MachineType}
 use Rattle.implib.specs.Definition.{DefinitionView, ExportView}
-use Rattle.implib.specs.Gnu.{export_listed, export_name, head_name, numbered_name, stem, tail_name}
-use Rattle.implib.specs.Import.{address_symbol, public_exports}
+use Rattle.implib.specs.Gnu.{export_listed, export_name, head_name, numbered_name, mangled_name, tail_name}
+use Rattle.implib.specs.Import.{imp_symbol, public_exports}
 use Rattle.implib.specs.Members.{AreMembersOf}
 use Rattle.implib.specs.MemberSpec.{MemberView, MemberSpec, member_of}
 use Rattle.implib.specs.GnuMembers.{alias_specs, export_spec, head_spec, numbered_specs, numbered_specs_of, tail_spec}
@@ -19,11 +19,11 @@ use Rattle.implib_link.proofs.Search.{address_listed, listed_export, name_differ
 
 head_apart : (dll : List ℕ) (n : ℕ) → head_name dll ≡ export_name dll n → ⊥
 unfolding head_name numbered_name
-head_apart dll n same = name_differs 0x73 0x68 (sym (ap (λ text. slice_index text 3) (append_cancel_left (stem dll) _ _ same))) (omega arith)
+head_apart dll n same = name_differs 0x73 0x68 (sym (ap (λ text. slice_index text 3) (append_cancel_left (mangled_name dll) _ _ same))) (omega arith)
 
 tail_apart : (dll : List ℕ) (n : ℕ) → tail_name dll ≡ export_name dll n → ⊥
 unfolding tail_name numbered_name
-tail_apart dll n same = name_differs 0x74 0x73 (ap (λ text. slice_index text 3) (append_cancel_left (stem dll) _ _ same)) (omega arith)
+tail_apart dll n same = name_differs 0x74 0x73 (ap (λ text. slice_index text 3) (append_cancel_left (mangled_name dll) _ _ same)) (omega arith)
 
 pub head_no_export : (machine : MachineType) (dll : List ℕ) (n : ℕ) (e : ExportView) → member_of (head_spec machine dll) ≡ member_of (export_spec machine dll n e) → ⊥
 unfolding head_spec export_spec
@@ -96,5 +96,5 @@ module _ (d : DefinitionView) (machine : MachineType) (members : List MemberView
   pub same_number : (n k : ℕ) (e other : ExportView) → slice_get (public_exports (renamed d)) n ≡ Some e → slice_get (public_exports (renamed d)) k ≡ Some other →
       member_of (export_spec machine d.import_name n e) ≡ member_of (export_spec machine d.import_name k other) → n ≡ k
   same_number n k e other is is_too same =
-      one_number n k e other (address_symbol e.name) is is_too (address_listed e)
-      (subst (Among (address_symbol e.name)) (sym (listed_export machine d.import_name n e) ∙ ap (λ (m : MemberView). m.symbols) same ∙ listed_export machine d.import_name k other) (address_listed e))
+      one_number n k e other (imp_symbol e.name) is is_too (address_listed e)
+      (subst (Among (imp_symbol e.name)) (sym (listed_export machine d.import_name n e) ∙ ap (λ (m : MemberView). m.symbols) same ∙ listed_export machine d.import_name k other) (address_listed e))

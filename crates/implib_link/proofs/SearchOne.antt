@@ -8,7 +8,7 @@ use Rattle.std.proofs.lemmas.Grind.{flat_map-append}
 use Rattle.implib.specs.declared.members.Flavor.TheVariants.{Gnu}
 use Rattle.implib.specs.declared.machine.MachineType.{MachineType}
 use Rattle.implib.specs.Definition.{DefinitionView, ExportView}
-use Rattle.implib.specs.Gnu.{export_listed, head_symbol, name_symbol}
+use Rattle.implib.specs.Gnu.{export_listed, head_symbol, iname_symbol}
 use Rattle.implib.specs.GnuMembers.{alias_specs, export_spec, gnu_specs, head_spec, numbered_specs, numbered_specs_of, tail_spec}
 use Rattle.implib.specs.Import.{is_alias, public_exports}
 use Rattle.implib.specs.LinkedMembers.{all_linked}
@@ -96,7 +96,7 @@ module _ (d : DefinitionView) (machine : MachineType) (members : List MemberView
   symbols_are =
       ap all_listed made.made
       ∙ listed_mapped (gnu_specs machine d.import_name exports)
-      ∙ ap (λ names. name_symbol machine d.import_name ∷ head_symbol machine d.import_name ∷ names) (exports_listed machine d.import_name 0 exports have_none)
+      ∙ ap (λ names. iname_symbol machine d.import_name ∷ head_symbol machine d.import_name ∷ names) (exports_listed machine d.import_name 0 exports have_none)
 
   archive : IsArchive machine (record { definition = d; members = members } ∷ [])
   archive = record { made = (made, tt); distinct = subst (IsDistinct bytes_eq) (symbols_are ∙ sym (append-nil (symbols_of_library machine one))) distinct }

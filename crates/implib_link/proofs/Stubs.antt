@@ -10,7 +10,7 @@ use Rattle.implib.specs.Constants.{align_4bytes, cnt_code, mem_execute_read, cla
 use Rattle.implib.specs.Definition.{ExportView}
 use Rattle.implib.specs.Gnu.{export_listed, export_object, relocations_of_stub, section, stub, stub_bytes, stub_relocations, text_name}
 use Rattle.implib.specs.Image.{Range, image_of, range_end}
-use Rattle.implib.specs.Import.{Ask, address_symbol, expected_ask}
+use Rattle.implib.specs.Import.{Ask, imp_symbol, expected_ask}
 use Rattle.implib.specs.Linked.{EntriesAt, IsDefinedOnce}
 use Rattle.implib.specs.LinkedMembers.{IsMade, LinkInput, chosen_exports}
 use Rattle.implib.specs.Load.{BytesAt, TableAt}
@@ -21,7 +21,7 @@ use Rattle.implib.specs.Resolution.{SymbolDefinition, address_or_zero, definitio
 use Rattle.implib.proofs.Linked.{address_found, aligned_block, ends_of_block}
 use Rattle.implib.proofs.LinkedBlocks.{Block, blocks_objects, ends, even, linked_symbols as block_symbols, starts}
 use Rattle.implib.proofs.LinkedMembers.{among_contains, among_map}
-use Rattle.implib.proofs.LinkedParts.{block_of, parts_symbols}
+use Rattle.implib.proofs.LinkedInputs.{block_of, parts_symbols}
 use Rattle.implib.proofs.Placement.{AreAligned, after_head, aligned_after, aligned_head, ends_of_all, ends_of_export, ends_of_exports, ends_of_head, placed-export, placed-head, placed-tail, placed_export}
 use Rattle.implib.proofs.Ranges.{Among, address_bounds, all_among, among_first, among_front, among_later}
 use Rattle.implib_link.specs.Directory.{imported}
@@ -131,16 +131,16 @@ among_filter test x (y ∷ xs) m =
 byte_below : (image : List Range) → AllByRecursion (λ r. 0 < r.start) image → AllByRecursion (λ r. range_end r < 2 ^ 31) image → (a : ℕ) (bytes : List ℕ) → 0 < length bytes →
     BytesAt image a bytes → a < 2 ^ 31
 unfolding BytesAt
-byte_below image low high a [] long stands = absurd (omega arith)
-byte_below image low high a (byte ∷ bytes) long stands = (address_bounds image a byte low high stands.0).1
+byte_below image low high a [] long located = absurd (omega arith)
+byte_below image low high a (byte ∷ bytes) long located = (address_bounds image a byte low high located.0).1
 
 pub thunk_below : (image : List Range) → AllByRecursion (λ r. 0 < r.start) image → AllByRecursion (λ r. range_end r < 2 ^ 31) image → (width : ℕ) → 0 < width → (asks : List Ask) (a j : ℕ) (ask : Ask) →
     TableAt image width a asks → slice_get asks j ≡ Some ask → a + width * j < 2 ^ 31
 unfolding TableAt
 thunk_below image low high width wide [] a j ask table is = cc
 thunk_below image low high width wide (x ∷ asks) a zero ask table is =
-    let count : length table.0.stands.bytes ≡ width = table.0.stands.count in
-    let below : a < 2 ^ 31 = byte_below image low high a table.0.stands.bytes (omega arith) table.0.stands.stands in
+    let count : length table.0.located.bytes ≡ width = table.0.located.count in
+    let below : a < 2 ^ 31 = byte_below image low high a table.0.located.bytes (omega arith) table.0.located.located in
     let same : a ≡ a + width * 0 = times_none a width in
     subst (λ n. n < 2 ^ 31) same below
 thunk_below image low high width wide (x ∷ asks) a (suc j) ask table is =
@@ -182,16 +182,16 @@ eights : (a n m : ℕ) → a % 8 ≡ 0 → (a + 8 * n + 8 * m) % 8 ≡ 0
 eights a n m even = omega arith
 
 -- by the machine's instructions
-pub jump_by : (machine : MachineType) (image_base : ℕ) (bases : Bases) (n m place : ℕ) (linked : List Placed) (p : Placed) → CanJump machine image_base bases →
-    place + 16 ≤ 2 ^ 31 → bases.addresses + thunk_width machine * n + thunk_width machine * m < 2 ^ 31 →
+pub jump_by : (machine : MachineType) (image_base : ℕ) (bases : Bases) (n m position : ℕ) (linked : List Placed) (p : Placed) → CanJump machine image_base bases →
+    position + 16 ≤ 2 ^ 31 → bases.addresses + thunk_width machine * n + thunk_width machine * m < 2 ^ 31 →
     target_address linked p 2 ≡ bases.addresses + thunk_width machine * n + thunk_width machine * m →
-    jump_reads machine (image_base + place) (code_relocated machine image_base linked p place (stub_relocations machine 2) (stub_bytes machine))
+    jump_reads machine (image_base + position) (code_relocated machine image_base linked p position (stub_relocations machine 2) (stub_bytes machine))
     ≡ Some (image_base + (bases.addresses + thunk_width machine * n + thunk_width machine * m))
-jump_by I386 image_base bases n m place linked p can near small target = i386_jumps image_base place _ linked p can small target
-jump_by ARMNT image_base bases n m place linked p can near small target = absurd can
-jump_by AMD64 image_base bases n m place linked p can near small target = amd64_jumps image_base place _ linked p near small target
-jump_by ARM64 image_base bases n m place linked p can near small target =
-    arm64_jumps image_base place _ linked p near small can.0 (eights bases.addresses n m can.1) target
+jump_by I386 image_base bases n m position linked p can near small target = i386_jumps image_base position _ linked p can small target
+jump_by ARMNT image_base bases n m position linked p can near small target = absurd can
+jump_by AMD64 image_base bases n m position linked p can near small target = amd64_jumps image_base position _ linked p near small target
+jump_by ARM64 image_base bases n m position linked p can near small target =
+    arm64_jumps image_base position _ linked p near small can.0 (eights bases.addresses n m can.1) target
 
 -- the name of code is one that its member is listed for
 name_listed : (machine : MachineType) (inputs : List LinkInput) (i j : ℕ) (p : LinkInput) (e : ExportView) → AllByRecursion (IsMade machine) inputs →
@@ -218,7 +218,7 @@ stubs_jump machine image_base bases inputs objects i j p e made program can inpu
     let small : bases.addresses + thunk_width machine * thunks_before i inputs + thunk_width machine * j < 2 ^ 31 =
     thunk_below (image_of machine bases linked) (starts machine bases objects program.admissible) (ends machine bases objects program.admissible) (thunk_width machine) (wide_thunk machine)
     (map (expected_ask machine) (chosen_exports p.definition p.chosen)) (bases.addresses + thunk_width machine * thunks_before i inputs) j (expected_ask machine e)
-    (subst (λ n. TableAt (image_of machine bases linked) (thunk_width machine) n (map (expected_ask machine) (chosen_exports p.definition p.chosen))) links.table_stands links.strictly.loads.plain.address_table)
+    (subst (λ n. TableAt (image_of machine bases linked) (thunk_width machine) n (map (expected_ask machine) (chosen_exports p.definition p.chosen))) links.table_located links.strictly.loads.plain.address_table)
     (slice_get-map (expected_ask machine) (chosen_exports p.definition p.chosen) j ∙ ap (option_map (expected_ask machine)) chosen) in
     record {
       once = all_among (IsDefinedOnce linked) e.name (linked_symbols machine inputs) (name_listed machine inputs i j p e made input chosen is)
@@ -233,10 +233,10 @@ stubs_jump machine image_base bases inputs objects i j p e made program can inpu
       begins = refl;
       code = section text_name (cnt_code + align_4bytes + mem_execute_read) (stub machine e) (relocations_of_stub machine e);
       here = code_here machine dll found.0 e;
-      jumps = λ place near.
-          ap (λ rs. jump_reads machine (image_base + place) (code_relocated machine image_base linked own place rs (stub machine e))) (code_relocations machine e is)
-          ∙ ap (λ bytes. jump_reads machine (image_base + place) (code_relocated machine image_base linked own place (stub_relocations machine 2) bytes)) (code_bytes machine e is)
-          ∙ jump_by machine image_base bases (thunks_before i inputs) j place linked own can near small (target_is machine dll linked found.0 e _ is found.1.1);
+      jumps = λ position near.
+          ap (λ rs. jump_reads machine (image_base + position) (code_relocated machine image_base linked own position rs (stub machine e))) (code_relocations machine e is)
+          ∙ ap (λ bytes. jump_reads machine (image_base + position) (code_relocated machine image_base linked own position (stub_relocations machine 2) bytes)) (code_bytes machine e is)
+          ∙ jump_by machine image_base bases (thunks_before i inputs) j position linked own can near small (target_is machine dll linked found.0 e _ is found.1.1);
     }
 
 pub same_address : (name : List ℕ) (a b : ℕ) (ds : List SymbolDefinition) → ds ≡ record { name = name; address = Some a } ∷ [] → ds ≡ record { name = name; address = Some b } ∷ [] → a ≡ b
@@ -253,14 +253,14 @@ calls_reach machine image_base bases inputs objects gives written i j p e made p
     let linked : List Placed = placed_from bases objects in
     let links = (program_links machine bases inputs objects made program).imports i p input in
     let table : ℕ = bases.addresses + thunk_width machine * thunks_before i inputs in
-    let once : definitions_of (address_symbol e.name) linked ≡ record { name = address_symbol e.name; address = Some (table + thunk_width machine * j) } ∷ [] =
+    let once : definitions_of (imp_symbol e.name) linked ≡ record { name = imp_symbol e.name; address = Some (table + thunk_width machine * j) } ∷ [] =
     entry_once linked (thunk_width machine) table (chosen_exports p.definition p.chosen) j e
-    (subst (λ n. EntriesAt linked (thunk_width machine) n (chosen_exports p.definition p.chosen)) links.table_stands links.strictly.entries) chosen in
+    (subst (λ n. EntriesAt linked (thunk_width machine) n (chosen_exports p.definition p.chosen)) links.table_located links.strictly.entries) chosen in
     let holds = (program_loads machine bases inputs objects gives written made program wide writes).entries i j p e input chosen in
-    let same : holds.address ≡ table + thunk_width machine * j = same_address (address_symbol e.name) holds.address (table + thunk_width machine * j) (definitions_of (address_symbol e.name) linked) holds.once once in
+    let same : holds.address ≡ table + thunk_width machine * j = same_address (imp_symbol e.name) holds.address (table + thunk_width machine * j) (definitions_of (imp_symbol e.name) linked) holds.once once in
     record {
       entry = table + thunk_width machine * j;
       once = once;
       jumps = stubs_jump machine image_base bases inputs objects i j p e made program can input chosen is;
-      stands = subst (λ n. BytesAt (written ++ image_of machine bases linked) n (gives p.definition.import_name (expected_ask machine e))) same holds.stands;
+      located = subst (λ n. BytesAt (written ++ image_of machine bases linked) n (gives p.definition.import_name (expected_ask machine e))) same holds.located;
     }

@@ -13,9 +13,9 @@ use Rattle.implib.specs.Load.{BytesAt}
 use Rattle.implib.specs.MsvcObjects.{descriptor, null_descriptor, null_thunk}
 use Rattle.implib.specs.Object.{Object, u32_at}
 use Rattle.implib.specs.Placement.{Addresses, At, Bases, Descriptors, DllNames, HintNames, Lookups, Placed, SectionAddress, Unplaced, next_multiple, placed_from}
-use Rattle.implib.proofs.Linked.{StandsFrom, contribution_stands, same_order}
+use Rattle.implib.proofs.Linked.{LocatedFrom, contribution_located, same_order}
 use Rattle.implib.proofs.Placement.{AreAligned, aligned, at_least, length-thunk_of}
-use Rattle.implib.proofs.Thunks.{StrictThunkAt, length-address, name_stands, ordinal_stands, same_number, with_address-zeros}
+use Rattle.implib.proofs.Thunks.{StrictThunkAt, length-address, name_located, ordinal_located, same_number, with_address-zeros}
 use Rattle.implib_link.specs.Expansion.{Use, asking_object, hint_and_name, relocations_asking, thunk_asking}
 use Rattle.implib_link.specs.SectionSymbols.{with_section_symbols}
 
@@ -58,12 +58,12 @@ taken_null_thunk machine dll = with_section_symbols (object_of (null_thunk machi
 abbrev pub taken_null : MachineType → Object
 taken_null machine = with_section_symbols (object_of (null_descriptor machine))
 
--- Their places.
+-- Their positions.
 
 abbrev pub placed_descriptor : MachineType → List ℕ → Bases → Placed
 placed_descriptor machine dll b = record {
   object = taken_descriptor machine dll;
-  places = At Descriptors b.descriptors ∷ At HintNames (next_multiple 2 b.hint_names) ∷ At Lookups b.lookups ∷ At Addresses b.addresses ∷ [];
+  section_addresses = At Descriptors b.descriptors ∷ At HintNames (next_multiple 2 b.hint_names) ∷ At Lookups b.lookups ∷ At Addresses b.addresses ∷ [];
 }
 
 abbrev pub ends_of_descriptor : List ℕ → Bases → Bases
@@ -80,7 +80,7 @@ hint_end b (Name text hint) = next_multiple 2 b.hint_names + length (hint_and_na
 abbrev pub placed_asking : MachineType → List ℕ → Bases → List ℕ → Ask → Use → Placed
 placed_asking machine dll b symbol ask use_kind = record {
   object = asking_object machine dll symbol ask use_kind;
-  places = Unplaced ∷ At Addresses b.addresses ∷ At Lookups b.lookups ∷ hint_places b ask;
+  section_addresses = Unplaced ∷ At Addresses b.addresses ∷ At Lookups b.lookups ∷ hint_places b ask;
 }
 
 abbrev pub ends_of_asking : MachineType → Bases → Ask → Bases
@@ -96,7 +96,7 @@ ends_of_asking machine b ask = record {
 abbrev pub placed_null_thunk : MachineType → List ℕ → Bases → Placed
 placed_null_thunk machine dll b = record {
   object = taken_null_thunk machine dll;
-  places = At Addresses b.addresses ∷ At Lookups b.lookups ∷ [];
+  section_addresses = At Addresses b.addresses ∷ At Lookups b.lookups ∷ [];
 }
 
 abbrev pub ends_of_null_thunk : MachineType → Bases → Bases
@@ -153,13 +153,13 @@ wide_null_thunk machine b even = record {
   addresses = wide_next machine b.addresses even.addresses;
 }
 
--- What stands at these places.
+-- What stands at these positions.
 
--- a contribution without a gap before it, and what follows
+-- a contribution without trivia before it, and what follows
 step : (image : List Range) (a : ℕ) (bytes : List ℕ) (others : List Contribution) (n : ℕ) → length bytes ≡ n →
     BytesAt image a (filled a (record { address = a; bytes = bytes } ∷ others)) → BytesAt image a bytes × BytesAt image (a + n) (filled (a + n) others)
-step image a bytes others n long stands =
-    let parts = contribution_stands image a (record { address = a; bytes = bytes }) others (same_order a) stands in
+step image a bytes others n long located =
+    let parts = contribution_located image a (record { address = a; bytes = bytes }) others (same_order a) located in
     (parts.0, subst (λ m. BytesAt image (a + m) (filled (a + m) others)) long parts.1)
 
 -- what asks by its thunks
@@ -203,31 +203,31 @@ module _ (machine : MachineType) (dll : List ℕ) (linked : List Placed) where
       pub bytes : BytesAt image b.descriptors (u32_bytes ((0 + (b.lookups + 0)) % 2 ^ 32)
           ++ (zeros 4 ++ (zeros 4 ++ (u32_bytes ((0 + (next_multiple 2 b.hint_names + 0)) % 2 ^ 32) ++ u32_bytes ((0 + (b.addresses + 0)) % 2 ^ 32)))))
       pub name : BytesAt image (next_multiple 2 b.hint_names) (dll ++ 0 ∷ [])
-      pub rest_stands : StandsFrom machine linked image (ends_of_descriptor dll b) rest
+      pub rest_located : LocatedFrom machine linked image (ends_of_descriptor dll b) rest
 
-    pub descriptor_stands : (b : Bases) (rest : List Object) → AreWide machine b → StandsFrom machine linked image b (taken_descriptor machine dll ∷ rest) → DescriptorStands b rest
+    pub descriptor_located : (b : Bases) (rest : List Object) → AreWide machine b → LocatedFrom machine linked image b (taken_descriptor machine dll ∷ rest) → DescriptorStands b rest
     unfolding with_section_symbols object_of descriptor entries_of name_text descriptor_linked
-    descriptor_stands b rest even stands =
+    descriptor_located b rest even located =
         let later : Bases = ends_of_descriptor dll b in
         let placed_is : placed_from b (taken_descriptor machine dll ∷ rest) ≡ placed_descriptor machine dll b ∷ placed_from later rest = placed-descriptor machine dll b rest even in
         let descriptors = step image b.descriptors (descriptor_linked b) (contributions machine linked Descriptors (placed_from later rest)) 20 (length-descriptor b)
-        (subst (λ ps. BytesAt image b.descriptors (filled b.descriptors (contributions machine linked Descriptors ps))) placed_is stands.descriptors) in
+        (subst (λ ps. BytesAt image b.descriptors (filled b.descriptors (contributions machine linked Descriptors ps))) placed_is located.descriptors) in
         let lookups = step image b.lookups [] (contributions machine linked Lookups (placed_from later rest)) 0 refl
-        (subst (λ ps. BytesAt image b.lookups (filled b.lookups (contributions machine linked Lookups ps))) placed_is stands.lookups) in
+        (subst (λ ps. BytesAt image b.lookups (filled b.lookups (contributions machine linked Lookups ps))) placed_is located.lookups) in
         let addresses = step image b.addresses [] (contributions machine linked Addresses (placed_from later rest)) 0 refl
-        (subst (λ ps. BytesAt image b.addresses (filled b.addresses (contributions machine linked Addresses ps))) placed_is stands.addresses) in
-        let names = contribution_stands image b.hint_names (record { address = next_multiple 2 b.hint_names; bytes = dll ++ 0 ∷ [] }) (contributions machine linked HintNames (placed_from later rest))
+        (subst (λ ps. BytesAt image b.addresses (filled b.addresses (contributions machine linked Addresses ps))) placed_is located.addresses) in
+        let names = contribution_located image b.hint_names (record { address = next_multiple 2 b.hint_names; bytes = dll ++ 0 ∷ [] }) (contributions machine linked HintNames (placed_from later rest))
         (at_least 2 b.hint_names)
-        (subst (λ ps. BytesAt image b.hint_names (filled b.hint_names (contributions machine linked HintNames ps))) placed_is stands.hint_names) in
+        (subst (λ ps. BytesAt image b.hint_names (filled b.hint_names (contributions machine linked HintNames ps))) placed_is located.hint_names) in
         record {
           bytes = subst (BytesAt image b.descriptors) (descriptor_is b) descriptors.0;
           name = names.0;
-          rest_stands = record {
+          rest_located = record {
             descriptors = descriptors.1;
             lookups = subst (λ n. BytesAt image n (filled n (contributions machine linked Lookups (placed_from later rest)))) (plus_none b.lookups) lookups.1;
             addresses = subst (λ n. BytesAt image n (filled n (contributions machine linked Addresses (placed_from later rest)))) (plus_none b.addresses) addresses.1;
             hint_names = names.1;
-            dll_names = subst (λ ps. BytesAt image b.dll_names (filled b.dll_names (contributions machine linked DllNames ps))) placed_is stands.dll_names;
+            dll_names = subst (λ ps. BytesAt image b.dll_names (filled b.dll_names (contributions machine linked DllNames ps))) placed_is located.dll_names;
           };
         }
 
@@ -235,53 +235,53 @@ module _ (machine : MachineType) (dll : List ℕ) (linked : List Placed) where
     pub record AskingStands (b : Bases) (ask : Ask) (rest : List Object) : Type 0 where
       pub lookup : StrictThunkAt image (thunk_width machine) b.lookups ask
       pub address : StrictThunkAt image (thunk_width machine) b.addresses ask
-      pub rest_stands : StandsFrom machine linked image (ends_of_asking machine b ask) rest
+      pub rest_located : LocatedFrom machine linked image (ends_of_asking machine b ask) rest
 
-    pub asking_stands : (b : Bases) (symbol : List ℕ) (ask : Ask) (use_kind : Use) (rest : List Object) → AskFits ask → AreWide machine b →
-        StandsFrom machine linked image b (asking_object machine dll symbol ask use_kind ∷ rest) → AskingStands b ask rest
+    pub asking_located : (b : Bases) (symbol : List ℕ) (ask : Ask) (use_kind : Use) (rest : List Object) → AskFits ask → AreWide machine b →
+        LocatedFrom machine linked image b (asking_object machine dll symbol ask use_kind ∷ rest) → AskingStands b ask rest
     unfolding asking_object thunk_linked AskFits
-    asking_stands b symbol (Ordinal n) use_kind rest fits even stands =
+    asking_located b symbol (Ordinal n) use_kind rest fits even located =
         let later : Bases = ends_of_asking machine b (Ordinal n) in
         let placed_is : placed_from b (asking_object machine dll symbol (Ordinal n) use_kind ∷ rest) ≡ placed_asking machine dll b symbol (Ordinal n) use_kind ∷ placed_from later rest =
         placed-asking machine dll b symbol (Ordinal n) use_kind rest even in
         let long = length-thunk_linked b symbol (Ordinal n) use_kind in
         let lookups = step image b.lookups (thunk_linked b symbol (Ordinal n) use_kind) (contributions machine linked Lookups (placed_from later rest)) (thunk_width machine) long
-        (subst (λ ps. BytesAt image b.lookups (filled b.lookups (contributions machine linked Lookups ps))) placed_is stands.lookups) in
+        (subst (λ ps. BytesAt image b.lookups (filled b.lookups (contributions machine linked Lookups ps))) placed_is located.lookups) in
         let addresses = step image b.addresses (thunk_linked b symbol (Ordinal n) use_kind) (contributions machine linked Addresses (placed_from later rest)) (thunk_width machine) long
-        (subst (λ ps. BytesAt image b.addresses (filled b.addresses (contributions machine linked Addresses ps))) placed_is stands.addresses) in
+        (subst (λ ps. BytesAt image b.addresses (filled b.addresses (contributions machine linked Addresses ps))) placed_is located.addresses) in
         record {
-          lookup = ordinal_stands machine image n b.lookups fits lookups.0;
-          address = ordinal_stands machine image n b.addresses fits addresses.0;
-          rest_stands = record {
-            descriptors = subst (λ ps. BytesAt image b.descriptors (filled b.descriptors (contributions machine linked Descriptors ps))) placed_is stands.descriptors;
+          lookup = ordinal_located machine image n b.lookups fits lookups.0;
+          address = ordinal_located machine image n b.addresses fits addresses.0;
+          rest_located = record {
+            descriptors = subst (λ ps. BytesAt image b.descriptors (filled b.descriptors (contributions machine linked Descriptors ps))) placed_is located.descriptors;
             lookups = lookups.1;
             addresses = addresses.1;
-            hint_names = subst (λ ps. BytesAt image b.hint_names (filled b.hint_names (contributions machine linked HintNames ps))) placed_is stands.hint_names;
-            dll_names = subst (λ ps. BytesAt image b.dll_names (filled b.dll_names (contributions machine linked DllNames ps))) placed_is stands.dll_names;
+            hint_names = subst (λ ps. BytesAt image b.hint_names (filled b.hint_names (contributions machine linked HintNames ps))) placed_is located.hint_names;
+            dll_names = subst (λ ps. BytesAt image b.dll_names (filled b.dll_names (contributions machine linked DllNames ps))) placed_is located.dll_names;
           };
         }
-    asking_stands b symbol (Name text hint) use_kind rest fits even stands =
+    asking_located b symbol (Name text hint) use_kind rest fits even located =
         let later : Bases = ends_of_asking machine b (Name text hint) in
         let placed_is : placed_from b (asking_object machine dll symbol (Name text hint) use_kind ∷ rest) ≡ placed_asking machine dll b symbol (Name text hint) use_kind ∷ placed_from later rest =
         placed-asking machine dll b symbol (Name text hint) use_kind rest even in
         let long = length-thunk_linked b symbol (Name text hint) use_kind in
         let is = thunk_of_name b symbol text hint use_kind in
         let lookups = step image b.lookups (thunk_linked b symbol (Name text hint) use_kind) (contributions machine linked Lookups (placed_from later rest)) (thunk_width machine) long
-        (subst (λ ps. BytesAt image b.lookups (filled b.lookups (contributions machine linked Lookups ps))) placed_is stands.lookups) in
+        (subst (λ ps. BytesAt image b.lookups (filled b.lookups (contributions machine linked Lookups ps))) placed_is located.lookups) in
         let addresses = step image b.addresses (thunk_linked b symbol (Name text hint) use_kind) (contributions machine linked Addresses (placed_from later rest)) (thunk_width machine) long
-        (subst (λ ps. BytesAt image b.addresses (filled b.addresses (contributions machine linked Addresses ps))) placed_is stands.addresses) in
-        let hints = contribution_stands image b.hint_names (record { address = next_multiple 2 b.hint_names; bytes = hint_and_name text hint })
+        (subst (λ ps. BytesAt image b.addresses (filled b.addresses (contributions machine linked Addresses ps))) placed_is located.addresses) in
+        let hints = contribution_located image b.hint_names (record { address = next_multiple 2 b.hint_names; bytes = hint_and_name text hint })
         (contributions machine linked HintNames (placed_from later rest)) (at_least 2 b.hint_names)
-        (subst (λ ps. BytesAt image b.hint_names (filled b.hint_names (contributions machine linked HintNames ps))) placed_is stands.hint_names) in
+        (subst (λ ps. BytesAt image b.hint_names (filled b.hint_names (contributions machine linked HintNames ps))) placed_is located.hint_names) in
         record {
-          lookup = name_stands machine image starts ends text hint (next_multiple 2 b.hint_names) b.lookups fits.0 fits.1 (subst (BytesAt image b.lookups) is lookups.0) hints.0;
-          address = name_stands machine image starts ends text hint (next_multiple 2 b.hint_names) b.addresses fits.0 fits.1 (subst (BytesAt image b.addresses) is addresses.0) hints.0;
-          rest_stands = record {
-            descriptors = subst (λ ps. BytesAt image b.descriptors (filled b.descriptors (contributions machine linked Descriptors ps))) placed_is stands.descriptors;
+          lookup = name_located machine image starts ends text hint (next_multiple 2 b.hint_names) b.lookups fits.0 fits.1 (subst (BytesAt image b.lookups) is lookups.0) hints.0;
+          address = name_located machine image starts ends text hint (next_multiple 2 b.hint_names) b.addresses fits.0 fits.1 (subst (BytesAt image b.addresses) is addresses.0) hints.0;
+          rest_located = record {
+            descriptors = subst (λ ps. BytesAt image b.descriptors (filled b.descriptors (contributions machine linked Descriptors ps))) placed_is located.descriptors;
             lookups = lookups.1;
             addresses = addresses.1;
             hint_names = hints.1;
-            dll_names = subst (λ ps. BytesAt image b.dll_names (filled b.dll_names (contributions machine linked DllNames ps))) placed_is stands.dll_names;
+            dll_names = subst (λ ps. BytesAt image b.dll_names (filled b.dll_names (contributions machine linked DllNames ps))) placed_is located.dll_names;
           };
         }
 
@@ -289,26 +289,26 @@ module _ (machine : MachineType) (dll : List ℕ) (linked : List Placed) where
     pub record NullThunkStands (b : Bases) (rest : List Object) : Type 0 where
       pub lookup : BytesAt image b.lookups (zeros (thunk_width machine))
       pub address : BytesAt image b.addresses (zeros (thunk_width machine))
-      pub rest_stands : StandsFrom machine linked image (ends_of_null_thunk machine b) rest
+      pub rest_located : LocatedFrom machine linked image (ends_of_null_thunk machine b) rest
 
-    pub null_thunk_stands : (b : Bases) (rest : List Object) → AreWide machine b → StandsFrom machine linked image b (taken_null_thunk machine dll ∷ rest) → NullThunkStands b rest
+    pub null_thunk_located : (b : Bases) (rest : List Object) → AreWide machine b → LocatedFrom machine linked image b (taken_null_thunk machine dll ∷ rest) → NullThunkStands b rest
     unfolding with_section_symbols object_of null_thunk entries_of name_text
-    null_thunk_stands b rest even stands =
+    null_thunk_located b rest even located =
         let later : Bases = ends_of_null_thunk machine b in
         let placed_is : placed_from b (taken_null_thunk machine dll ∷ rest) ≡ placed_null_thunk machine dll b ∷ placed_from later rest = placed-null_thunk machine dll b rest even in
         let long = length-replicate {A = ℕ} (thunk_width machine) 0 in
         let lookups = step image b.lookups (zeros (thunk_width machine)) (contributions machine linked Lookups (placed_from later rest)) (thunk_width machine) long
-        (subst (λ ps. BytesAt image b.lookups (filled b.lookups (contributions machine linked Lookups ps))) placed_is stands.lookups) in
+        (subst (λ ps. BytesAt image b.lookups (filled b.lookups (contributions machine linked Lookups ps))) placed_is located.lookups) in
         let addresses = step image b.addresses (zeros (thunk_width machine)) (contributions machine linked Addresses (placed_from later rest)) (thunk_width machine) long
-        (subst (λ ps. BytesAt image b.addresses (filled b.addresses (contributions machine linked Addresses ps))) placed_is stands.addresses) in
+        (subst (λ ps. BytesAt image b.addresses (filled b.addresses (contributions machine linked Addresses ps))) placed_is located.addresses) in
         record {
           lookup = lookups.0;
           address = addresses.0;
-          rest_stands = record {
-            descriptors = subst (λ ps. BytesAt image b.descriptors (filled b.descriptors (contributions machine linked Descriptors ps))) placed_is stands.descriptors;
+          rest_located = record {
+            descriptors = subst (λ ps. BytesAt image b.descriptors (filled b.descriptors (contributions machine linked Descriptors ps))) placed_is located.descriptors;
             lookups = lookups.1;
             addresses = addresses.1;
-            hint_names = subst (λ ps. BytesAt image b.hint_names (filled b.hint_names (contributions machine linked HintNames ps))) placed_is stands.hint_names;
-            dll_names = subst (λ ps. BytesAt image b.dll_names (filled b.dll_names (contributions machine linked DllNames ps))) placed_is stands.dll_names;
+            hint_names = subst (λ ps. BytesAt image b.hint_names (filled b.hint_names (contributions machine linked HintNames ps))) placed_is located.hint_names;
+            dll_names = subst (λ ps. BytesAt image b.dll_names (filled b.dll_names (contributions machine linked DllNames ps))) placed_is located.dll_names;
           };
         }

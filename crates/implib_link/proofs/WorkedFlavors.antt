@@ -5,7 +5,7 @@ use Rattle.implib.specs.declared.machine.MachineType.TheVariants.{I386, AMD64}
 use Rattle.implib.specs.Image.{Range, with_address}
 use Rattle.std.specs.Fmt.{digits}
 use Rattle.implib.specs.Bytes.{u16_bytes, u32_bytes}
-use Rattle.implib.specs.Gnu.{export_object, five_digits, head_name, head_object, head_symbol, hint_name, name_symbol, numbered_name, relocations_of_stub, relocations_of_thunk, stem, stub, tail_name, tail_object, thunk}
+use Rattle.implib.specs.Gnu.{export_object, five_digits, head_name, head_object, head_symbol, hint_name, iname_symbol, numbered_name, relocations_of_stub, relocations_of_thunk, mangled_name, stub, tail_name, tail_object, thunk}
 use Rattle.implib.specs.GnuMembers.{alias_specs, export_spec, head_spec, tail_spec}
 use Rattle.implib.specs.Object.{before_nul, bytes_at, data_at, each_at, entries_at, name_of, object_in, object_of_header, relocation_at, relocation_of, section_at, section_of, strings_at, symbol_of, u16_at, u32_at, up_to_nul}
 use Rattle.implib.specs.Layout.{auxiliary_bytes, auxiliary_count, contents, contents_offset, contents_size, header_bytes, encoded, encoded_size, name_field, offsets_from, pointer_or_zero, record_count, records, relocation_bytes, section_header, section_headers, string_bytes_of, string_offsets, string_size, string_table, strings_size, symbol_bytes, symbol_table_offset}
@@ -31,7 +31,7 @@ use Rattle.implib_link.proofs.WorkedPrograms.{claims_none_by, distinct_by}
 
 -- what the computing has to open
 abbrev opened : Unit {0}
-unfolding digits u16_bytes u32_bytes export_object five_digits head_name head_object head_symbol hint_name name_symbol numbered_name relocations_of_stub relocations_of_thunk stem stub tail_name tail_object thunk next_multiple with_address export_spec head_spec tail_spec before_nul bytes_at data_at each_at entries_at name_of object_in object_of_header relocation_at relocation_of section_at section_of strings_at symbol_of u16_at u32_at up_to_nul auxiliary_bytes auxiliary_count contents contents_offset contents_size header_bytes encoded name_field offsets_from pointer_or_zero record_count records relocation_bytes section_header section_headers string_bytes_of string_offsets string_size string_table strings_size symbol_bytes symbol_table_offset long_names name_location layout_of symbol_written with_long_name with_name
+unfolding digits u16_bytes u32_bytes export_object five_digits head_name head_object head_symbol hint_name iname_symbol numbered_name relocations_of_stub relocations_of_thunk mangled_name stub tail_name tail_object thunk next_multiple with_address export_spec head_spec tail_spec before_nul bytes_at data_at each_at entries_at name_of object_in object_of_header relocation_at relocation_of section_at section_of strings_at symbol_of u16_at u32_at up_to_nul auxiliary_bytes auxiliary_count contents contents_offset contents_size header_bytes encoded name_field offsets_from pointer_or_zero record_count records relocation_bytes section_header section_headers string_bytes_of string_offsets string_size string_table strings_size symbol_bytes symbol_table_offset long_names name_location layout_of symbol_written with_long_name with_name
 opened = tt
 
 amd64 : WorkedFlavorProgram AMD64 0 flavor_bases_8 flavor_expected_8
@@ -137,16 +137,16 @@ there = number shifted 8 68 0x9_0000_0000 (0 ∷ 0 ∷ 0 ∷ 0 ∷ 9 ∷ 0 ∷ 0
 -- the first thunk would have to ask for the ordinal 9
 not_nine : (image : List Range) (table thunk : ℕ) → NumberAt image 4 8 68 → NumberAt image 4 8 table → NumberAt image 8 68 0x9_0000_0000 → NumberAt image 8 table thunk →
     thunk ≡ 2 ^ 63 + 9 → ⊥
-not_nine image table thunk field other number_there stands whole =
+not_nine image table thunk field other number_there located whole =
     let place : table ≡ 68 = number_once image 4 8 table 68 other field in
-    let same : 0x9_0000_0000 ≡ thunk = number_once image 8 68 0x9_0000_0000 thunk number_there (subst (λ n. NumberAt image 8 n thunk) place stands) in
+    let same : 0x9_0000_0000 ≡ thunk = number_once image 8 68 0x9_0000_0000 thunk number_there (subst (λ n. NumberAt image 8 n thunk) place located) in
     differ 0x9_0000_0000 (2 ^ 63 + 9) (same ∙ whole) (omega arith)
 
 nine_refused : (image : List Range) → NumberAt image 4 8 68 → NumberAt image 8 68 0x9_0000_0000 → (dll : List ℕ) → LoadsStrictly image 8 8 dll foo_asks → ⊥
 unfolding WholeTableAt IsWhole
 nine_refused image field number_there dll loads =
     let first = loads.whole_lookups.0 in
-    not_nine image loads.plain.lookups first.thunk field loads.plain.lookups_field number_there first.stands first.whole
+    not_nine image loads.plain.lookups first.thunk field loads.plain.lookups_field number_there first.located first.whole
 
 pub refused_tables : RefusedTables
 unfolding opened refusal renamed_refusal alias_specs encoded_size weak_object has_tables taken_in short_import_in asking_object descriptor_wanted with_section_symbols descriptor null_descriptor null_thunk descriptor_symbol null_descriptor_symbol null_thunk_symbol base_name descriptor_spec null_descriptor_spec null_thunk_spec header_specs weak_specs group_end sections_end

@@ -7,8 +7,8 @@ use Rattle.implib.specs.declared.members.Flavor.TheVariants.{Gnu}
 use Rattle.implib.specs.declared.machine.MachineType.{MachineType}
 use Rattle.implib.specs.Constants.{class_weak_external}
 use Rattle.implib.specs.Definition.{DefinitionView, ExportView}
-use Rattle.implib.specs.Gnu.{head_symbol, name_symbol}
-use Rattle.implib.specs.Import.{address_symbol, is_alias, public_exports}
+use Rattle.implib.specs.Gnu.{head_symbol, iname_symbol}
+use Rattle.implib.specs.Import.{imp_symbol, is_alias, public_exports}
 use Rattle.implib.specs.LinkedMembers.{LinkInput, all_linked}
 use Rattle.implib.specs.Members.{AreMembersOf}
 use Rattle.implib.specs.MemberSpec.{MemberView}
@@ -37,13 +37,13 @@ exports_of l = public_exports (renamed l.definition)
 -- name, where it is no data or has an alias
 abbrev pub symbols_of_export : ExportView → List (List ℕ)
 symbols_of_export e =
-    if e.is_data && not (is_alias e.alias_target e.name) then address_symbol e.name ∷ []
-    else e.name ∷ address_symbol e.name ∷ []
+    if e.is_data && not (is_alias e.alias_target e.name) then imp_symbol e.name ∷ []
+    else e.name ∷ imp_symbol e.name ∷ []
 
 -- the symbols that an archive lists for a library's members, each once, in the archive's order
 unfoldable pub symbols_of_library : MachineType → Library → List (List ℕ)
 symbols_of_library machine l =
-    name_symbol machine l.definition.import_name
+    iname_symbol machine l.definition.import_name
     ∷ head_symbol machine l.definition.import_name
     ∷ flat_map symbols_of_export (reverse (exports_of l))
 

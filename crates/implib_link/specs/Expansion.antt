@@ -11,7 +11,7 @@ use Rattle.implib.specs.Bytes.{u16_bytes}
 use Rattle.implib.specs.Constants.{align_2bytes, align_4bytes, align_8bytes, class_external, class_static, cnt_code, cnt_initialized_data, mem_execute_read, mem_read_write, section_undefined}
 use Rattle.implib.specs.File.{File, ObjectFile, ShortImportFile, file_in}
 use Rattle.implib.specs.Gnu.{section, stub_bytes, stub_relocations, text_name}
-use Rattle.implib.specs.Import.{Ask, Name, Ordinal, address_symbol}
+use Rattle.implib.specs.Import.{Ask, Name, Ordinal, imp_symbol}
 use Rattle.implib.specs.ImportTables.{relocation, thunk_width, zeros}
 use Rattle.implib.specs.Machine.{is_32bit, machine_number}
 use Rattle.implib.specs.Object.{ASymbol, Entry, Object, ObjectSection}
@@ -118,7 +118,7 @@ asking_object machine dll symbol ask use_kind = record {
   entries =
       entry (descriptor_wanted dll) section_undefined class_external  -- 0
       ∷ entry text_name 1 class_static  -- 1
-      ∷ entry (address_symbol symbol) 2 class_external  -- 2
+      ∷ entry (imp_symbol symbol) 2 class_external  -- 2
       ∷ (hint_entries ask ++ use_entries symbol use_kind);  -- 3, by name: `.idata$6`
 }
 

@@ -5,7 +5,7 @@ use Rattle.std.specs.List.{AllByRecursion, list_any}
 use Rattle.implib.specs.declared.machine.MachineType.{MachineType}
 use Rattle.implib.specs.Definition.{ExportView}
 use Rattle.implib.specs.Image.{Range, byte_at, image_of, is_in, range_end}
-use Rattle.implib.specs.Import.{Ask, address_symbol}
+use Rattle.implib.specs.Import.{Ask, imp_symbol}
 use Rattle.implib.specs.ImportTables.{thunk_width}
 use Rattle.implib.specs.Object.{Object}
 use Rattle.implib.specs.Placement.{Bases, placed_from}
@@ -21,7 +21,7 @@ pub record AreLoaded (machine : MachineType) (bases : Bases) (inputs : List Flav
   pub entries : (i j : ℕ) (p : FlavorInput) (e : ExportView) → slice_get inputs i ≡ Some p →
       slice_get (exports_chosen p) j ≡ Some e →
       HoldsAt (written ++ image_of machine bases (placed_from bases objects)) (placed_from bases objects)
-      (address_symbol (symbol_in p.flavor e)) (gives (dll_of p) (ask_in p.flavor machine e))
+      (imp_symbol (symbol_in p.flavor e)) (gives (dll_of p) (ask_in p.flavor machine e))
   pub within : AllByRecursion
       (λ r. (bases.addresses ≤ r.start)
       × (range_end r ≤ bases.addresses + thunk_width machine * thunks_of (length inputs) inputs))

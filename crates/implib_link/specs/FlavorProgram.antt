@@ -9,7 +9,7 @@ use Rattle.implib.specs.declared.machine.MachineType.{MachineType}
 use Rattle.implib.specs.Definition.{DefinitionView, ExportView}
 use Rattle.implib.specs.Gnu.{head_symbol}
 use Rattle.implib.specs.Image.{IsAdmissible, Range, image_of}
-use Rattle.implib.specs.Import.{Ask, Name, Ordinal, address_symbol}
+use Rattle.implib.specs.Import.{Ask, Name, Ordinal, imp_symbol}
 use Rattle.implib.specs.ImportTables.{thunk_width}
 use Rattle.implib.specs.Linked.{AllFind, IsDefinedAt, IsDefinedOnce, undefined_names}
 use Rattle.implib.specs.LinkedMembers.{LinkInput, chosen_exports, linked_specs}
@@ -154,8 +154,8 @@ abbrev pub imported_in : MachineType → FlavorInput → Imported
 imported_in machine p = record { dll = dll_of p; asks = map (ask_in p.flavor machine) (exports_chosen p) }
 
 -- the `__imp_` symbols of the chosen exports
-abbrev pub address_symbols : FlavorInput → List (List ℕ)
-address_symbols p = map (λ e. address_symbol (symbol_in p.flavor e)) (exports_chosen p)
+abbrev pub imp_symbols : FlavorInput → List (List ℕ)
+imp_symbols p = map (λ e. imp_symbol (symbol_in p.flavor e)) (exports_chosen p)
 
 -- A DLL's chosen exports are imported by the descriptor at an address, whose symbol has this address: a
 -- strict loader finds the DLL and what they ask for, the address table stands at this address, and `__imp_`
@@ -166,9 +166,9 @@ pub record InputImports (machine : MachineType) (image : List Range) (linked : L
       ≡ record { name = descriptor_in p.flavor machine (dll_of p); address = Some descriptor } ∷ []
   pub loads : LoadsStrictly image (thunk_width machine) descriptor (dll_of p)
       (map (ask_in p.flavor machine) (exports_chosen p))
-  pub table_stands : loads.plain.addresses ≡ table
-  pub entries : SymbolsAt linked (thunk_width machine) table (address_symbols p)
-  pub gets : SymbolsGet linked (thunk_width machine) table (address_symbols p)
+  pub table_located : loads.plain.addresses ≡ table
+  pub entries : SymbolsAt linked (thunk_width machine) table (imp_symbols p)
+  pub gets : SymbolsGet linked (thunk_width machine) table (imp_symbols p)
 
 -- what is linked of an input are members of it, and a linker takes each for an object; for Microsoft's linker
 -- they have a null descriptor, too

@@ -5,7 +5,7 @@ use Rattle.std.specs.List.{AllByRecursion, list_any}
 use Rattle.implib.specs.declared.machine.MachineType.{MachineType}
 use Rattle.implib.specs.Definition.{ExportView}
 use Rattle.implib.specs.Image.{Range, byte_at, image_of, is_in, range_end}
-use Rattle.implib.specs.Import.{Ask, address_symbol, expected_ask}
+use Rattle.implib.specs.Import.{Ask, imp_symbol, expected_ask}
 use Rattle.implib.specs.LinkedMembers.{LinkInput, chosen_exports}
 use Rattle.implib.specs.Load.{BytesAt, NumberAt}
 use Rattle.implib.specs.ImportTables.{thunk_width}
@@ -34,7 +34,7 @@ Writes image width gives address (i ∷ others) written =
 pub record HoldsAt (image : List Range) (linked : List Placed) (name : List ℕ) (bytes : List ℕ) : Type 0 where
   pub address : ℕ
   pub once : definitions_of name linked ≡ record { name = name; address = Some address } ∷ []
-  pub stands : BytesAt image address bytes
+  pub located : BytesAt image address bytes
 
 -- The program with what was written in front of its image, so that it counts first:
 -- `entries`: at each chosen export's `__imp_` symbol stands what its DLL gives for what it asks;
@@ -45,7 +45,7 @@ pub record IsLoaded (machine : MachineType) (bases : Bases) (inputs : List LinkI
   pub entries : (i j : ℕ) (p : LinkInput) (e : ExportView) → slice_get inputs i ≡ Some p →
       slice_get (chosen_exports p.definition p.chosen) j ≡ Some e →
       HoldsAt (written ++ image_of machine bases (placed_from bases objects)) (placed_from bases objects)
-      (address_symbol e.name) (gives p.definition.import_name (expected_ask machine e))
+      (imp_symbol e.name) (gives p.definition.import_name (expected_ask machine e))
   pub within : AllByRecursion
       (λ r. (bases.addresses ≤ r.start)
       × (range_end r ≤ bases.addresses + thunk_width machine * thunks_before (length inputs) inputs))

@@ -8,7 +8,7 @@ use Rattle.implib.specs.Definition.{ExportView}
 use Rattle.implib.specs.Gnu.{section}
 use Rattle.implib.specs.ImportTables.{table_flags, descriptor_size, thunk_width, zeros}
 use Rattle.implib.specs.Image.{IsAdmissible, Range, image_of}
-use Rattle.implib.specs.Import.{address_symbol}
+use Rattle.implib.specs.Import.{imp_symbol}
 use Rattle.implib.specs.Linked.{AllFind, IsDefinedAt, IsDefinedOnce, IsLinked, LinksStrictlyAt, undefined_names}
 use Rattle.implib.specs.LinkedMembers.{LinkInput, all_linked, chosen_exports, objects_in}
 use Rattle.implib.specs.Object.{ASymbol, Auxiliary, Entry, Object, ObjectSection, ObjectSymbol}
@@ -85,7 +85,7 @@ GetsAddress linked name address =
 unfoldable pub EachGets : List Placed → ℕ → ℕ → List ExportView → Type 0
 EachGets linked width address [] = Unit {0}
 EachGets linked width address (e ∷ exports) =
-    GetsAddress linked (address_symbol e.name) address × EachGets linked width (address + width) exports
+    GetsAddress linked (imp_symbol e.name) address × EachGets linked width (address + width) exports
 
 -- A DLL's chosen exports are imported by the descriptor at an address: a strict loader finds the DLL and
 -- what they ask for, the address table stands at this address, and `__imp_` symbols are its entries.
@@ -93,7 +93,7 @@ pub record ImportsBy (machine : MachineType) (image : List Range) (linked : List
     (descriptor table : ℕ) (dll : List ℕ)
     (exports : List ExportView) : Type 0 where
   pub strictly : LinksStrictlyAt machine image linked descriptor dll exports
-  pub table_stands : strictly.loads.plain.addresses ≡ table
+  pub table_located : strictly.loads.plain.addresses ≡ table
   pub gets : EachGets linked (thunk_width machine) table exports
 
 -- the thunks in the tables of the first few DLLs, with the null thunks that end them

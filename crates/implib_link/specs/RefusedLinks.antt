@@ -7,7 +7,7 @@ use Rattle.implib.specs.Definition.{ExportView}
 use Rattle.implib.specs.Gnu.{head_symbol, section, stub_bytes}
 use Rattle.implib.specs.ImportTables.{table_flags, zeros}
 use Rattle.implib.specs.Image.{Range}
-use Rattle.implib.specs.Import.{Ask, Ordinal, address_symbol}
+use Rattle.implib.specs.Import.{Ask, Ordinal, imp_symbol}
 use Rattle.implib.specs.Linked.{LinksStrictlyAt}
 use Rattle.implib.specs.Load.{Loads, LoadsStrictly}
 use Rattle.implib.specs.Object.{ASymbol, ObjectSymbol}
@@ -89,11 +89,11 @@ placed_by_hand entries =
             ∷ section (codes ".idata$5") table_flags table_8 []
             ∷ [];
         entries = ASymbol (defined_at (head_symbol AMD64 foo) 1 0)
-            ∷ ASymbol (defined_at (address_symbol (codes "five")) 2 0)
-            ∷ ASymbol (defined_at (address_symbol (codes "six")) 2 8)
+            ∷ ASymbol (defined_at (imp_symbol (codes "five")) 2 0)
+            ∷ ASymbol (defined_at (imp_symbol (codes "six")) 2 8)
             ∷ [];
       };
-      places = At Descriptors 0x1000 ∷ At Addresses entries ∷ [];
+      section_addresses = At Descriptors 0x1000 ∷ At Addresses entries ∷ [];
     }
 
 abbrev pub linked_by_hand : ℕ → List Placed

@@ -5,7 +5,7 @@ use Rattle.std.specs.Prelude.{◌≡◌, ℕ, ◌+◌, Bool, false, List, [], �
 use Rattle.std.specs.List.{AllByRecursion, Contains, IsDistinct, filter, filter_map, flat_map, list_any}
 use Rattle.implib.specs.declared.machine.MachineType.{MachineType}
 use Rattle.implib.specs.Definition.{DefinitionView, ExportView}
-use Rattle.implib.specs.Gnu.{export_listed, head_symbol, name_symbol}
+use Rattle.implib.specs.Gnu.{export_listed, head_symbol, iname_symbol}
 use Rattle.implib.specs.Import.{public_exports}
 use Rattle.implib.specs.Image.{IsAdmissible}
 use Rattle.implib.specs.Linked.{undefined_name}
@@ -83,7 +83,7 @@ linked_if_any d machine (n ∷ chosen) = linked_members d machine (n ∷ chosen)
 -- no wanted name is one of the two by which only members name each other: the descriptor's and the DLL name's
 pub record NamesNoLinkage (machine : MachineType) (dll : List ℕ) (wanted : List (List ℕ)) : Type 0 where
   pub head : list_any (bytes_eq (head_symbol machine dll)) wanted ≡ false
-  pub name : list_any (bytes_eq (name_symbol machine dll)) wanted ≡ false
+  pub name : list_any (bytes_eq (iname_symbol machine dll)) wanted ≡ false
 
 -- two lists have the same elements
 abbrev pub HaveSame : {X : Type 0} → List X → List X → Type 0

@@ -9,7 +9,7 @@ use Rattle.implib.specs.declared.machine.MachineType.TheVariants.{I386, ARMNT, A
 use Rattle.implib.specs.Bytes.{u32_bytes}
 use Rattle.implib.specs.Constants.{amd64_rel32, arm64_pagebase_rel21, arm64_pageoffset_12l, class_external, i386_dir32}
 use Rattle.implib.specs.Image.{Range}
-use Rattle.implib.specs.Import.{address_symbol}
+use Rattle.implib.specs.Import.{imp_symbol}
 use Rattle.implib.specs.Linked.{IsDefinedOnce}
 use Rattle.implib.specs.Load.{BytesAt, number_in}
 use Rattle.implib.specs.Object.{ASymbol, ObjectSection, ObjectSymbol}
@@ -52,15 +52,15 @@ with_ldr n word = with_bits 10 12 (n / 2 ^ bits_of 30 2 word) word
 -- I386 type 6, the target's address; AMD64 type 4, the target relative to the byte behind the field; ARM64
 -- type 4, the target's page relative to the place's, and type 7, the target's offset in its page.
 abbrev pub code_word : MachineType → ℕ → ℕ → ℕ → ℕ → ℕ → ℕ
-code_word I386 type image_base place target word =
+code_word I386 type image_base position target word =
     if type == i386_dir32 then (word + (image_base + target)) % 2 ^ 32 else word
-code_word ARMNT type image_base place target word = word
-code_word AMD64 type image_base place target word =
-    if type == amd64_rel32 then (word + target + (2 ^ 32 - (place + 4) % 2 ^ 32)) % 2 ^ 32 else word
-code_word ARM64 type image_base place target word =
+code_word ARMNT type image_base position target word = word
+code_word AMD64 type image_base position target word =
+    if type == amd64_rel32 then (word + target + (2 ^ 32 - (position + 4) % 2 ^ 32)) % 2 ^ 32 else word
+code_word ARM64 type image_base position target word =
     if type == arm64_pagebase_rel21 then
     with_adrp
-    (page (image_base + target + adrp_immediate word) + (2 ^ 21 - page (image_base + place) % 2 ^ 21))
+    (page (image_base + target + adrp_immediate word) + (2 ^ 21 - page (image_base + position) % 2 ^ 21))
     word
     else if type == arm64_pageoffset_12l then
     with_ldr ((image_base + target + ldr_immediate word) % 4096) word
@@ -68,11 +68,11 @@ code_word ARM64 type image_base place target word =
 
 -- the code of a placed object's section that stands at a place, relocated
 abbrev pub code_relocated : MachineType → ℕ → List Placed → Placed → ℕ → List Relocation → List ℕ → List ℕ
-code_relocated machine image_base linked p place [] bytes = bytes
-code_relocated machine image_base linked p place (r ∷ relocations) bytes =
-    code_relocated machine image_base linked p place relocations
+code_relocated machine image_base linked p position [] bytes = bytes
+code_relocated machine image_base linked p position (r ∷ relocations) bytes =
+    code_relocated machine image_base linked p position relocations
     (with_word bytes r.offset
-    (code_word machine r.kind image_base (place + r.offset)
+    (code_word machine r.kind image_base (position + r.offset)
     (target_address linked p r.symbol) (word_at bytes r.offset)))
 
 -- a number of so many bits and steps, as a signed one, added to an address
@@ -123,9 +123,9 @@ pub record JumpsThrough (machine : MachineType) (image_base : ℕ) (linked : Lis
   pub begins : symbol.value ≡ 0
   pub code : ObjectSection
   pub here : slice_get from.object.sections 0 ≡ Some code
-  pub jumps : (place : ℕ) → place + 16 ≤ 2 ^ 31 →
-      jump_reads machine (image_base + place)
-      (code_relocated machine image_base linked from place code.relocations code.bytes)
+  pub jumps : (position : ℕ) → position + 16 ≤ 2 ^ 31 →
+      jump_reads machine (image_base + position)
+      (code_relocated machine image_base linked from position code.relocations code.bytes)
       ≡ Some (image_base + entry)
 
 -- A call of a name reaches these bytes: its code jumps through an entry, the only definition of its
@@ -134,7 +134,7 @@ pub record CallReaches (machine : MachineType) (image_base : ℕ) (image : List 
     (name bytes : List ℕ)
     : Type 0 where
   pub entry : ℕ
-  pub once : definitions_of (address_symbol name) linked
-      ≡ record { name = address_symbol name; address = Some entry } ∷ []
+  pub once : definitions_of (imp_symbol name) linked
+      ≡ record { name = imp_symbol name; address = Some entry } ∷ []
   pub jumps : JumpsThrough machine image_base linked name entry
-  pub stands : BytesAt image entry bytes
+  pub located : BytesAt image entry bytes

@@ -9,7 +9,7 @@ use Rattle.implib.specs.declared.machine.MachineType.TheVariants.{I386, AMD64}
 use Rattle.implib.specs.Constants.{class_external}
 use Rattle.implib.specs.Definition.{DefinitionView, ExportView}
 use Rattle.implib.specs.Image.{IsAdmissible, Range, image_of}
-use Rattle.implib.specs.Import.{Ask, Name, Ordinal, address_symbol}
+use Rattle.implib.specs.Import.{Ask, Name, Ordinal, imp_symbol}
 use Rattle.implib.specs.ImportTables.{thunk_width}
 use Rattle.implib.specs.Load.{LoadsStrictly}
 use Rattle.implib.specs.MemberSpec.{MemberView, member_of}
@@ -148,12 +148,12 @@ pub record WorkedFlavorProgram (machine : MachineType) (count : ℕ) (bases : Ba
   pub zed : bytes_from (flavor_image machine count bases) 8 (bases.dll_names + 4)
       ≡ Some (codes "zed.dll" ++ 0 ∷ [])
   pub entries : map
-      (λ name. addresses_of (address_symbol name) (flavor_placed machine count bases))
+      (λ name. addresses_of (imp_symbol name) (flavor_placed machine count bases))
       (symbol_on machine (codes "nine") ∷ symbol_on machine (codes "open") ∷ symbol_on machine (codes "stat")
       ∷ codes "_f@8" ∷ symbol_on machine (codes "queue") ∷ []) ≡ expected.entries
   pub named : symbol_address (flavor_placed machine count bases)
-      (record { object = caller machine; places = [] })
-      (ASymbol (symbol_of_class (address_symbol (symbol_on machine (codes "open"))) 0 class_external))
+      (record { object = caller machine; section_addresses = [] })
+      (ASymbol (symbol_of_class (imp_symbol (symbol_on machine (codes "open"))) 0 class_external))
       ≡ expected.named
 
 -- the null descriptor in front of all members, and between those of foo.dll
@@ -170,7 +170,7 @@ abbrev pub shifted_bases : Bases
 shifted_bases = record flavor_bases_8 { lookups = 68 }
 
 -- Such bases are admissible, and yet no program's: the import descriptor leads to 68, where zeros fill the
--- gap before the first thunk, and the eight bytes there are not the thunk. No strict loader takes that.
+-- trivia before the first thunk, and the eight bytes there are not the thunk. No strict loader takes that.
 pub record RefusedTables : Type 0 where
   pub admissible : IsAdmissible AMD64 shifted_bases (flavor_objects AMD64 0)
   pub field : numbers_from (flavor_image AMD64 0 shifted_bases) 4 1 8 ≡ Some (68 ∷ [])

@@ -11,7 +11,7 @@ use Rattle.implib.specs.Definition.{DefinitionView, ExportView}
 use Rattle.implib.specs.Gnu.{section, text_name}
 use Rattle.implib.specs.Image.{Range, image_of}
 use Rattle.implib.specs.Machine.{has_leading_underscore}
-use Rattle.implib.specs.Import.{address_symbol, underscore}
+use Rattle.implib.specs.Import.{imp_symbol, underscore}
 use Rattle.implib.specs.LinkedMembers.{IsMade, LinkInput, linked_members, objects_in}
 use Rattle.implib.specs.MemberSpec.{member_of}
 use Rattle.implib.specs.Members.{member_specs}
@@ -84,7 +84,7 @@ code_object symbols = record {
 abbrev pub caller : MachineType → Object
 caller machine = code_object (
     symbol_of_class (codes "main") 1 class_external
-    ∷ symbol_of_class (address_symbol (symbol_on machine (codes "open"))) 0 class_external
+    ∷ symbol_of_class (imp_symbol (symbol_on machine (codes "open"))) 0 class_external
     ∷ [])
 
 abbrev pub another : MachineType → Object
@@ -176,11 +176,11 @@ pub record WorkedProgram (machine : MachineType) (bases : Bases) (expected : Exp
   pub zed : bytes_from (program_image machine bases) 8 (bases.dll_names + 28)
       ≡ Some (codes "zed.dll" ++ 0 ∷ [])
   pub entries : map
-      (λ name. addresses_of (address_symbol (symbol_on machine name)) (program_placed machine bases))
+      (λ name. addresses_of (imp_symbol (symbol_on machine name)) (program_placed machine bases))
       (codes "nine" ∷ codes "open" ∷ codes "stat" ∷ codes "move" ∷ codes "queue" ∷ []) ≡ expected.entries
   pub named : symbol_address (program_placed machine bases)
-      (record { object = caller machine; places = [] })
-      (ASymbol (symbol_of_class (address_symbol (symbol_on machine (codes "open"))) 0 class_external))
+      (record { object = caller machine; section_addresses = [] })
+      (ASymbol (symbol_of_class (imp_symbol (symbol_on machine (codes "open"))) 0 class_external))
       ≡ expected.named
 
 -- on all four machines

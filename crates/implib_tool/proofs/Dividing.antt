@@ -1,4 +1,4 @@
--- Lemmas on the parts of a text.
+-- Lemmas on the documents of a text.
 use Rattle.std.proofs.Common.{Bool, true, false, ◌||◌, ◌≡◌, ◌≢◌, ◌⊎◌, inl, inr, ℕ, zero, suc, ◌+◌, ◌-◌, ◌<◌, ◌≤◌, List, [], ◌∷◌, ◌++◌, length, take, drop, get_or, refl, sym, ap, subst, ◌∙◌, append_assoc, append-nil, arith, length-append, length-take, take-append-drop, add-zero, lt_of_not-le}
 use Rattle.std.proofs.lemmas.List.{take_more, take-append-le, get_or-append-add, get_or_append_left, drop_more, drop_all, take_at, drop_at, append_cancel_left, drop-drop}
 use Rattle.std.proofs.lemmas.Bool.Decides.{Decides-or, eqb_tells, leb_tells, not_from_Decides}
@@ -8,10 +8,10 @@ use Rattle.std.proofs.Math.Arith.{lt_of_le-ne}
 use Rattle.std.specs.Bool.{Decides}
 use Rattle.std.specs.Prelude.{codes}
 use Rattle.std.specs.Str.{IsCharBoundary, IsUtf8, bytes_eq}
-use Rattle.implib_tool.specs.Parts.{IsSeparator, LineBeginsAfter, LineEndsBefore, Separates, IsUndivided, Follows, Divides, HasOneParting, Parts}
+use Rattle.implib_tool.specs.Documents.{IsSeparator, LineBeginsAfter, LineEndsBefore, Separates, IsUndivided, Follows, Divides, HasOneParting, Documents}
 use Rattle.implib_tool.specs.Views.{IsLineAt}
 
--- a line begins at the place, and no separating line begins before it
+-- a line begins at the position, and no separating line begins before it
 pub record LineStart (text : List ℕ) (start : ℕ) : Type 0 where
   pub within : start ≤ length text
   pub begins : start < length text → LineBeginsAfter (take start text)
@@ -40,7 +40,7 @@ separator_length : (line : List ℕ) → IsSeparator line → 0 < length line
 separator_length line (inl is) = subst (λ s. 0 < length s) (sym is) (omega arith)
 separator_length line (inr is) = subst (λ s. 0 < length s) (sym is) (omega arith)
 
--- ---- the places of a separating line
+-- ---- the positions of a separating line
 
 byte_in_line : (text before line after : List ℕ) → Separates text before line after → (k : ℕ) → k < length line → get_or text (length before + k) 0 ≢ 10
 byte_in_line text before line after s k h e =
@@ -77,60 +77,60 @@ byte_before text before rest whole (inr (front, is)) h =
 -- ---- a separating line of the front of a text, and of the text
 
 -- where the front ends as a line does, its separating lines are the text's
-separates_more : (part more before line after : List ℕ) → LineBeginsAfter part → Separates part before line after → Separates (part ++ more) before line (after ++ more)
-separates_more part more before line after begins s = record {
+separates_more : (document more before line after : List ℕ) → LineBeginsAfter document → Separates document before line after → Separates (document ++ more) before line (after ++ more)
+separates_more document more before line after begins s = record {
   whole = ap (λ t. t ++ more) s.whole ∙ append_assoc before (line ++ after) more ∙ ap (λ t. before ++ t) (append_assoc line after more);
   separator = s.separator;
   begins = s.begins;
   ends = ends s.ends;
 }
   where
-    size : length part ≡ length before + (length line + length after)
-    size = length_text part before line after s
+    size : length document ≡ length before + (length line + length after)
+    size = length_text document before line after s
 
     ends : LineEndsBefore after → LineEndsBefore (after ++ more)
     ends (inr (rest, is)) = inr (rest ++ more, ap (λ t. t ++ more) is)
     ends (inl none) =
         let some : 0 < length line = separator_length line s.separator in
         let bare : length after ≡ 0 = ap length none in
-        let there : get_or part (length part - 1) 0 ≡ 10 = byte_before part part [] (sym (append-nil part)) begins (omega (arith, size)) in
-        let place : length part - 1 ≡ length before + (length line - 1) = omega (arith, size) in
-        absurd (byte_in_line part before line after s (length line - 1) (omega arith) (subst (λ n. get_or part n 0 ≡ 10) place there))
+        let there : get_or document (length document - 1) 0 ≡ 10 = byte_before document document [] (sym (append-nil document)) begins (omega (arith, size)) in
+        let place : length document - 1 ≡ length before + (length line - 1) = omega (arith, size) in
+        absurd (byte_in_line document before line after s (length line - 1) (omega arith) (subst (λ n. get_or document n 0 ≡ 10) place there))
 
 -- such a line ends in the front, too
-line_within_front : (part more before line after : List ℕ) → LineBeginsAfter part → Separates (part ++ more) before line after → length before < length part → length before + length line < length part
-line_within_front part more before line after begins s inside =
+line_within_front : (document more before line after : List ℕ) → LineBeginsAfter document → Separates (document ++ more) before line after → length before < length document → length before + length line < length document
+line_within_front document more before line after begins s inside =
     lt_of_not-le (λ high.
-    let last : get_or (part ++ more) (length part - 1) 0 ≡ 10 = byte_before (part ++ more) part more refl begins (omega arith) in
-    let k : ℕ = length part - 1 - length before in
-    let place : length part - 1 ≡ length before + k = omega arith in
-    byte_in_line (part ++ more) before line after s k (omega arith) (subst (λ n. get_or (part ++ more) n 0 ≡ 10) place last))
+    let last : get_or (document ++ more) (length document - 1) 0 ≡ 10 = byte_before (document ++ more) document more refl begins (omega arith) in
+    let k : ℕ = length document - 1 - length before in
+    let place : length document - 1 ≡ length before + k = omega arith in
+    byte_in_line (document ++ more) before line after s k (omega arith) (subst (λ n. get_or (document ++ more) n 0 ≡ 10) place last))
 
 -- a separating line that begins in the front stands in it, where the front ends as a line does
-separates_front : (part more before line after : List ℕ) → LineBeginsAfter part → Separates (part ++ more) before line after → length before < length part
-    → Separates part before line (drop (length before + length line) part)
-separates_front part more before line after begins s inside =
+separates_front : (document more before line after : List ℕ) → LineBeginsAfter document → Separates (document ++ more) before line after → length before < length document
+    → Separates document before line (drop (length before + length line) document)
+separates_front document more before line after begins s inside =
     let n : ℕ = length before + length line in
-    let room : n < length part = line_within_front part more before line after begins s inside in
-    let whole : part ++ more ≡ (before ++ line) ++ after = s.whole ∙ sym (append_assoc before line after) in
-    let front : take n part ≡ before ++ line =
-    sym (take-append-le n part more (omega arith)) ∙ ap (take n) whole ∙ take_at (before ++ line) after n (length-append before line) in
-    let first : get_or part n 0 ≡ 10 =
-    sym (get_or_append_left part more 0 n room) ∙ byte_after_line (part ++ more) before line after s (omega (arith, length-append part more)) in
+    let room : n < length document = line_within_front document more before line after begins s inside in
+    let whole : document ++ more ≡ (before ++ line) ++ after = s.whole ∙ sym (append_assoc before line after) in
+    let front : take n document ≡ before ++ line =
+    sym (take-append-le n document more (omega arith)) ∙ ap (take n) whole ∙ take_at (before ++ line) after n (length-append before line) in
+    let first : get_or document n 0 ≡ 10 =
+    sym (get_or_append_left document more 0 n room) ∙ byte_after_line (document ++ more) before line after s (omega (arith, length-append document more)) in
     record {
-      whole = sym (take-append-drop n part) ∙ ap (λ t. t ++ drop n part) front ∙ append_assoc before line (drop n part);
+      whole = sym (take-append-drop n document) ∙ ap (λ t. t ++ drop n document) front ∙ append_assoc before line (drop n document);
       separator = s.separator;
       begins = s.begins;
-      ends = inr (drop (n + 1) part, drop_more part n 0 room ∙ ap (λ b. b ∷ drop (n + 1) part) first);
+      ends = inr (drop (n + 1) document, drop_more document n 0 room ∙ ap (λ b. b ∷ drop (n + 1) document) first);
     }
 
 -- a text's first separating line is where it divides
-divides_first : (text part rest before line after : List ℕ) → Divides text part rest → Separates text before line after → length part ≤ length before
-divides_first text part rest before line after d s =
-    let no : length before < length part → ⊥ = λ inside.
+divides_first : (text document rest before line after : List ℕ) → Divides text document rest → Separates text before line after → length document ≤ length before
+divides_first text document rest before line after d s =
+    let no : length before < length document → ⊥ = λ inside.
     let more : List ℕ = d.line ++ d.after in
-    let s' : Separates (part ++ more) before line after = subst (λ t. Separates t before line after) d.separates.whole s in
-    d.undivided before line (drop (length before + length line) part) (separates_front part more before line after d.separates.begins s' inside)
+    let s' : Separates (document ++ more) before line after = subst (λ t. Separates t before line after) d.separates.whole s in
+    d.undivided before line (drop (length before + length line) document) (separates_front document more before line after d.separates.begins s' inside)
     in omega arith
 
 -- ---- a text has one parting
@@ -158,41 +158,41 @@ same_rest after rest rest' (inl f) (inr f') = absurd (omega (arith, ap length f.
 same_rest after rest rest' (inr f) (inl f') = absurd (omega (arith, ap length f, ap length f'.0))
 same_rest after rest rest' (inr f) (inr f') = append_cancel_left (10 ∷ []) rest rest' (sym f ∙ f')
 
-same_part : (text part rest part' rest' : List ℕ) → Divides text part rest → Divides text part' rest' → part ≡ part'
-same_part text part rest part' rest' d d' =
-    let size : length part ≡ length part' = omega (arith, divides_first text part rest part' d'.line d'.after d d'.separates, divides_first text part' rest' part d.line d.after d' d.separates) in
-    sym (take_at part (d.line ++ d.after) (length part) refl) ∙ sym (ap (take (length part)) d.separates.whole)
-    ∙ ap (λ n. take n text) size ∙ ap (take (length part')) d'.separates.whole ∙ take_at part' (d'.line ++ d'.after) (length part') refl
+same_document : (text document rest document' rest' : List ℕ) → Divides text document rest → Divides text document' rest' → document ≡ document'
+same_document text document rest document' rest' d d' =
+    let size : length document ≡ length document' = omega (arith, divides_first text document rest document' d'.line d'.after d d'.separates, divides_first text document' rest' document d.line d.after d' d.separates) in
+    sym (take_at document (d.line ++ d.after) (length document) refl) ∙ sym (ap (take (length document)) d.separates.whole)
+    ∙ ap (λ n. take n text) size ∙ ap (take (length document')) d'.separates.whole ∙ take_at document' (d'.line ++ d'.after) (length document') refl
 
-same_divided : (text part rest part' rest' : List ℕ) → Divides text part rest → Divides text part' rest' → rest ≡ rest'
-same_divided text part rest part' rest' d d' =
-    let part_is : part ≡ part' = same_part text part rest part' rest' d d' in
+same_divided : (text document rest document' rest' : List ℕ) → Divides text document rest → Divides text document' rest' → rest ≡ rest'
+same_divided text document rest document' rest' d d' =
+    let document_is : document ≡ document' = same_document text document rest document' rest' d d' in
     let lines : d.line ++ d.after ≡ d'.line ++ d'.after =
-    append_cancel_left part (d.line ++ d.after) (d'.line ++ d'.after) (sym d.separates.whole ∙ d'.separates.whole ∙ ap (λ p. p ++ (d'.line ++ d'.after)) (sym part_is)) in
+    append_cancel_left document (d.line ++ d.after) (d'.line ++ d'.after) (sym d.separates.whole ∙ d'.separates.whole ∙ ap (λ p. p ++ (d'.line ++ d'.after)) (sym document_is)) in
     let after_is : d.after ≡ d'.after = same_after d.line d'.line d.after d'.after d.separates.separator d'.separates.separator d.separates.ends d'.separates.ends lines in
     same_rest d.after rest rest' d.follows (subst (λ a. Follows a rest') (sym after_is) d'.follows)
 
--- a part before the parts of the rest
-pub parts_more : (text part rest : List ℕ) (parts : List (List ℕ)) → Divides text part rest → Parts rest parts → Parts text (part ∷ parts)
-parts_more text part rest [] d p = absurd p
-parts_more text part rest (next ∷ parts) d p = (rest, d, p)
+-- a document before the documents of the rest
+pub documents_more : (text document rest : List ℕ) (documents : List (List ℕ)) → Divides text document rest → Documents rest documents → Documents text (document ∷ documents)
+documents_more text document rest [] d p = absurd p
+documents_more text document rest (next ∷ documents) d p = (rest, d, p)
 
 -- two partings of a text are one
-pub same_parts : (text : List ℕ) (parts parts' : List (List ℕ)) → Parts text parts → Parts text parts' → parts ≡ parts'
-same_parts text [] parts' p p' = absurd p
-same_parts text (part ∷ []) [] p p' = absurd p'
-same_parts text (part ∷ next ∷ parts) [] p p' = absurd p'
-same_parts text (part ∷ []) (part' ∷ []) p p' = ap (λ x. x ∷ []) (sym p.0 ∙ p'.0)
-same_parts text (part ∷ []) (part' ∷ next' ∷ parts') p p' =
-    let s : Separates part part' p'.1.line p'.1.after = subst (λ t. Separates t part' p'.1.line p'.1.after) p.0 p'.1.separates in
-    absurd (p.1 part' p'.1.line p'.1.after s)
-same_parts text (part ∷ next ∷ parts) (part' ∷ []) p p' =
-    let s : Separates part' part p.1.line p.1.after = subst (λ t. Separates t part p.1.line p.1.after) p'.0 p.1.separates in
-    absurd (p'.1 part p.1.line p.1.after s)
-same_parts text (part ∷ next ∷ parts) (part' ∷ next' ∷ parts') p p' =
-    let rest_is : p.0 ≡ p'.0 = same_divided text part p.0 part' p'.0 p.1 p'.1 in
-    let rest : Parts p.0 (next' ∷ parts') = subst (λ r. Parts r (next' ∷ parts')) (sym rest_is) p'.2 in
-    ap (λ x. x ∷ next ∷ parts) (same_part text part p.0 part' p'.0 p.1 p'.1) ∙ ap (λ x. part' ∷ x) (same_parts p.0 (next ∷ parts) (next' ∷ parts') p.2 rest)
+pub same_documents : (text : List ℕ) (documents documents' : List (List ℕ)) → Documents text documents → Documents text documents' → documents ≡ documents'
+same_documents text [] documents' p p' = absurd p
+same_documents text (document ∷ []) [] p p' = absurd p'
+same_documents text (document ∷ next ∷ documents) [] p p' = absurd p'
+same_documents text (document ∷ []) (document' ∷ []) p p' = ap (λ x. x ∷ []) (sym p.0 ∙ p'.0)
+same_documents text (document ∷ []) (document' ∷ next' ∷ documents') p p' =
+    let s : Separates document document' p'.1.line p'.1.after = subst (λ t. Separates t document' p'.1.line p'.1.after) p.0 p'.1.separates in
+    absurd (p.1 document' p'.1.line p'.1.after s)
+same_documents text (document ∷ next ∷ documents) (document' ∷ []) p p' =
+    let s : Separates document' document p.1.line p.1.after = subst (λ t. Separates t document p.1.line p.1.after) p'.0 p.1.separates in
+    absurd (p'.1 document p.1.line p.1.after s)
+same_documents text (document ∷ next ∷ documents) (document' ∷ next' ∷ documents') p p' =
+    let rest_is : p.0 ≡ p'.0 = same_divided text document p.0 document' p'.0 p.1 p'.1 in
+    let rest : Documents p.0 (next' ∷ documents') = subst (λ r. Documents r (next' ∷ documents')) (sym rest_is) p'.2 in
+    ap (λ x. x ∷ next ∷ documents) (same_document text document p.0 document' p'.0 p.1 p'.1) ∙ ap (λ x. document' ∷ x) (same_documents p.0 (next ∷ documents) (next' ∷ documents') p.2 rest)
 
 -- ---- a text, line by line
 
@@ -203,7 +203,7 @@ start_first text = record {
   passed = λ before line after s. omega arith;
 }
 
--- the line at a place where a separating line begins is that line
+-- the line at a position where a separating line begins is that line
 line_size : (text before line after : List ℕ) (start end next : ℕ) → Separates text before line after → IsLineAt text start end next → length before ≡ start → end - start ≡ length line
 line_size text before line after start end next s at here =
     let size = length_text text before line after s in
@@ -258,7 +258,7 @@ start_next text start end next l at plain = record {
     begins (inl last) h = absurd (omega arith)
     begins (inr more) h = inr (take end text, ap (λ n. take n text) more.2 ∙ take_more text end 0 more.0 ∙ ap (λ b. take end text ++ b ∷ []) more.1)
 
--- the line at a place separates
+-- the line at a position separates
 pub divides_here : (text : List ℕ) (start end next : ℕ) → LineStart text start → start < length text → IsLineAt text start end next → IsSeparator (take (end - start) (drop start text)) → Divides text (take start text) (drop next text)
 divides_here text start end next l room at separator = record {
   line = take (end - start) (drop start text);
@@ -296,7 +296,7 @@ divides_here text start end next l room at separator = record {
         let least : start ≤ length before = l.passed before line (after ++ drop start text) (subst (λ t. Separates t before line (after ++ drop start text)) (take-append-drop start text) whole) in
         omega (arith, size, length-take start text, separator_length line s.separator)
 
--- no line separates where each place was passed
+-- no line separates where each position was passed
 pub undivided_past : (text : List ℕ) (start : ℕ) → LineStart text start → length text ≤ start → IsUndivided text
 undivided_past text start l done before line after s =
     omega (arith, l.passed before line after s, length_text text before line after s, separator_length line s.separator)
@@ -330,7 +330,7 @@ line_before text start end next h at (inr other) = (
   },
 )
 
--- a line that begins at a place ends somewhere
+-- a line that begins at a position ends somewhere
 line_from : (text : List ℕ) (fuel start : ℕ) → start + fuel ≡ length text → (end : ℕ) × (next : ℕ) × IsLineAt text start end next
 line_from text zero start h = (
   start,
@@ -370,8 +370,8 @@ next_beyond text start end next h at = elim at.ends [ inl last ↦ omega arith |
 start_or_end : (size start : ℕ) → (size ≤ start) ⊎ (start < size)
 start_or_end size start = elim (leb_tells size start) [ inl here ↦ inl here.1 | inr there ↦ inr there.1 ]
 
--- from a place on, a text divides or does not
-divided_from : (text : List ℕ) (fuel start : ℕ) → length text ≤ start + fuel → LineStart text start → IsUndivided text ⊎ ((part : List ℕ) × (rest : List ℕ) × Divides text part rest)
+-- from a position on, a text divides or does not
+divided_from : (text : List ℕ) (fuel start : ℕ) → length text ≤ start + fuel → LineStart text start → IsUndivided text ⊎ ((document : List ℕ) × (rest : List ℕ) × Divides text document rest)
 divided_from text zero start h l = inl (undivided_past text start l (omega arith))
 divided_from text (suc fuel) start h l = elim (start_or_end (length text) start) [
   | inl past ↦ inl (undivided_past text start l past)
@@ -384,31 +384,31 @@ divided_from text (suc fuel) start h l = elim (start_or_end (length text) start)
 ]
 
 -- what is divided off is shorter
-shorter : (text part rest : List ℕ) → Divides text part rest → length rest < length text
-shorter text part rest d =
-    let size : length text ≡ length part + (length d.line + length d.after) = length_text text part d.line d.after d.separates in
+shorter : (text document rest : List ℕ) → Divides text document rest → length rest < length text
+shorter text document rest d =
+    let size : length text ≡ length document + (length d.line + length d.after) = length_text text document d.line d.after d.separates in
     let some : 0 < length d.line = separator_length d.line d.separates.separator in
     elim d.follows [
       | inl end ↦ omega (arith, ap length end.1)
       | inr more ↦ omega (arith, ap length more)
     ]
 
-parting_from : (fuel : ℕ) (text : List ℕ) → length text < fuel → (parts : List (List ℕ)) × Parts text parts
+parting_from : (fuel : ℕ) (text : List ℕ) → length text < fuel → (documents : List (List ℕ)) × Documents text documents
 parting_from zero text h = absurd (omega arith)
 parting_from (suc fuel) text h = elim (divided_from text (length text) 0 (omega arith) (start_first text)) [
   | inl whole ↦ (text ∷ [], (refl, whole))
-  | inr (part, rest, d) ↦
-      let more = parting_from fuel rest (omega (arith, shorter text part rest d)) in
-      (part ∷ more.0, parts_more text part rest more.0 d more.1)
+  | inr (document, rest, d) ↦
+      let more = parting_from fuel rest (omega (arith, shorter text document rest d)) in
+      (document ∷ more.0, documents_more text document rest more.0 d more.1)
 ]
 
 -- each text has one parting
-pub parting : (text : List ℕ) → (parts : List (List ℕ)) × Parts text parts
+pub parting : (text : List ℕ) → (documents : List (List ℕ)) × Documents text documents
 parting text = parting_from (length text + 1) text (omega arith)
 
 pub one_parting : (text : List ℕ) → HasOneParting text
 one_parting text = record {
-  parts = (parting text).0;
-  parted = (parting text).1;
-  only = λ others p. same_parts text others (parting text).0 p (parting text).1;
+  documents = (parting text).0;
+  divided = (parting text).1;
+  only = λ others p. same_documents text others (parting text).0 p (parting text).1;
 }

@@ -9,7 +9,7 @@ use Rattle.implib_tool.specs.Listing.{bytes_listing, hex_digit}
 abbrev pub hex_digits : List ℕ
 hex_digits = 48 ∷ 49 ∷ 50 ∷ 51 ∷ 52 ∷ 53 ∷ 54 ∷ 55 ∷ 56 ∷ 57 ∷ 97 ∷ 98 ∷ 99 ∷ 100 ∷ 101 ∷ 102 ∷ []
 
--- the digit at a place
+-- the digit at a position
 digit_at : (n : ℕ) → n < 16 → get_or hex_digits n 0 ≡ hex_digit n
 digit_at zero below = refl
 digit_at (suc zero) below = refl

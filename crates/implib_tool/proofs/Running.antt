@@ -11,11 +11,11 @@ use Rattle.implib.specs.MemberSpec.{MemberView}
 use Rattle.implib_tool.specs.declared.run.RunError.{RunError}
 use Rattle.implib_tool.specs.declared.run.RunError.TheVariants.{Refused, NotUtf8, Read, Write, OutOfMemory}
 use Rattle.implib_tool.specs.Device.{AppendsBeginning}
-use Rattle.implib_tool.specs.Parts.{Divides, IsUndivided}
+use Rattle.implib_tool.specs.Documents.{Divides, IsUndivided}
 use Rattle.implib_tool.specs.Run.{Devices, FirstRefused, IsRefused, MembersOf}
-use Rattle.implib_tool.specs.Views.{Buffered, MembersOfParts, OnPartFault, OnTextFault, PartsLeft, Passes, WrittenSoFar, buffered}
-use Rattle.implib_tool.specs.Words.{Answers, Performs, TurnsDown, asked}
-use Rattle.implib_tool.proofs.Dividing.{parting, parts_more}
+use Rattle.implib_tool.specs.Views.{Buffered, MembersOfDocuments, OnDocumentFault, OnTextFault, DocumentsLeft, Passes, WrittenSoFar, buffered}
+use Rattle.implib_tool.specs.Arguments.{Answers, Performs, TurnsDown, target_named}
+use Rattle.implib_tool.proofs.Dividing.{parting, documents_more}
 
 by_bool : (P : Type 0) (b : Bool) → (b ≡ false → P) → (b ≡ true → P) → P
 by_bool P false low high = low refl
@@ -99,89 +99,89 @@ written_more before middle after bytes rest count w moved = record {
 }
 
 module _ (machine : MachineType) (flavor : Flavor) where
-  made_last : (text : List ℕ) (members : List MemberView) → IsUndivided text → MembersOf text machine flavor members → MembersOfParts text machine flavor (members ∷ [])
+  made_last : (text : List ℕ) (members : List MemberView) → IsUndivided text → MembersOf text machine flavor members → MembersOfDocuments text machine flavor (members ∷ [])
   made_last text members whole made = record {
-    parts = text ∷ [];
-    parted = (refl, whole);
+    documents = text ∷ [];
+    divided = (refl, whole);
     made = (made, tt);
   }
 
-  made_more : (text part rest : List ℕ) (members : List MemberView) (lists : List (List MemberView)) → Divides text part rest → MembersOf part machine flavor members
-      → MembersOfParts rest machine flavor lists → MembersOfParts text machine flavor (members ∷ lists)
-  made_more text part rest members lists d made l = record {
-    parts = part ∷ l.parts;
-    parted = parts_more text part rest l.parts d l.parted;
+  made_more : (text document rest : List ℕ) (members : List MemberView) (lists : List (List MemberView)) → Divides text document rest → MembersOf document machine flavor members
+      → MembersOfDocuments rest machine flavor lists → MembersOfDocuments text machine flavor (members ∷ lists)
+  made_more text document rest members lists d made l = record {
+    documents = document ∷ l.documents;
+    divided = documents_more text document rest l.documents d l.divided;
     made = (made, l.made);
   }
 
   refused_last : (text : List ℕ) (cause : Cause) → IsUndivided text → IsRefused text machine flavor cause → FirstRefused text machine flavor cause
   refused_last text cause whole refused = record {
     before = [];
-    part = text;
+    document = text;
     after = [];
     lists = [];
-    parted = (refl, whole);
+    divided = (refl, whole);
     made = tt;
     refused = refused;
   }
 
-  refused_first : (text part rest : List ℕ) (cause : Cause) → Divides text part rest → IsRefused part machine flavor cause → FirstRefused text machine flavor cause
-  refused_first text part rest cause d refused = record {
+  refused_first : (text document rest : List ℕ) (cause : Cause) → Divides text document rest → IsRefused document machine flavor cause → FirstRefused text machine flavor cause
+  refused_first text document rest cause d refused = record {
     before = [];
-    part = part;
+    document = document;
     after = (parting rest).0;
     lists = [];
-    parted = parts_more text part rest (parting rest).0 d (parting rest).1;
+    divided = documents_more text document rest (parting rest).0 d (parting rest).1;
     made = tt;
     refused = refused;
   }
 
-  refused_more : (text part rest : List ℕ) (members : List MemberView) (cause : Cause) → Divides text part rest → MembersOf part machine flavor members → FirstRefused rest machine flavor cause
+  refused_more : (text document rest : List ℕ) (members : List MemberView) (cause : Cause) → Divides text document rest → MembersOf document machine flavor members → FirstRefused rest machine flavor cause
       → FirstRefused text machine flavor cause
-  refused_more text part rest members cause d made r = record {
-    before = part ∷ r.before;
-    part = r.part;
+  refused_more text document rest members cause d made r = record {
+    before = document ∷ r.before;
+    document = r.document;
     after = r.after;
     lists = members ∷ r.lists;
-    parted = parts_more text part rest (r.before ++ r.part ∷ r.after) d r.parted;
+    divided = documents_more text document rest (r.before ++ r.document ∷ r.after) d r.divided;
     made = (made, r.made);
     refused = r.refused;
   }
 
   -- what `divide` gives of a text
   abbrev pub Divided : List ℕ → List ℕ → Option (Bor (List ℕ)) → Type 0
-  Divided text part after = MatchOption after ((part ≡ text) × IsUndivided text) (λ rest. Divides text part rest.now)
+  Divided text document after = MatchOption after ((document ≡ text) × IsUndivided text) (λ rest. Divides text document rest.now)
 
-  pub part_made : (text : List ℕ) (lists : List (List MemberView)) (members : List MemberView) (left : Bor (List ℕ)) (part : List ℕ) (after : Option (Bor (List ℕ))) → PartsLeft text machine flavor lists (Some left)
-      → Divided left.now part after → MembersOf part machine flavor members → PartsLeft text machine flavor (lists ++ members ∷ []) after
-  part_made text lists members left part None l d made = record {
+  pub document_made : (text : List ℕ) (lists : List (List MemberView)) (members : List MemberView) (left : Bor (List ℕ)) (document : List ℕ) (after : Option (Bor (List ℕ))) → DocumentsLeft text machine flavor lists (Some left)
+      → Divided left.now document after → MembersOf document machine flavor members → DocumentsLeft text machine flavor (lists ++ members ∷ []) after
+  document_made text lists members left document None l d made = record {
     lists = λ more none.
-        subst (λ t. MembersOfParts text machine flavor t) (sym (append-nil (lists ++ members ∷ [])) ∙ ap (λ t. (lists ++ members ∷ []) ++ t) (sym none))
+        subst (λ t. MembersOfDocuments text machine flavor t) (sym (append-nil (lists ++ members ∷ [])) ∙ ap (λ t. (lists ++ members ∷ []) ++ t) (sym none))
         (l.lists (members ∷ []) (made_last left.now members d.1 (subst (λ t. MembersOf t machine flavor members) d.0 made)));
     refused = λ cause no. absurd no;
   }
-  part_made text lists members left part (Some rest) l d made = record {
+  document_made text lists members left document (Some rest) l d made = record {
     lists = λ more given.
-        subst (λ t. MembersOfParts text machine flavor t) (sym (append_assoc lists (members ∷ []) more))
-        (l.lists (members ∷ more) (made_more left.now part rest.now members more d made given));
-    refused = λ cause given. l.refused cause (refused_more left.now part rest.now members cause d made given);
+        subst (λ t. MembersOfDocuments text machine flavor t) (sym (append_assoc lists (members ∷ []) more))
+        (l.lists (members ∷ more) (made_more left.now document rest.now members more d made given));
+    refused = λ cause given. l.refused cause (refused_more left.now document rest.now members cause d made given);
   }
 
-  part_refused : (text : List ℕ) (lists : List (List MemberView)) (left : Bor (List ℕ)) (part : List ℕ) (after : Option (Bor (List ℕ))) (cause : Cause) → PartsLeft text machine flavor lists (Some left) → Divided left.now part after
-      → IsRefused part machine flavor cause → FirstRefused text machine flavor cause
-  part_refused text lists left part None cause l d refused =
+  document_refused : (text : List ℕ) (lists : List (List MemberView)) (left : Bor (List ℕ)) (document : List ℕ) (after : Option (Bor (List ℕ))) (cause : Cause) → DocumentsLeft text machine flavor lists (Some left) → Divided left.now document after
+      → IsRefused document machine flavor cause → FirstRefused text machine flavor cause
+  document_refused text lists left document None cause l d refused =
       l.refused cause (refused_last left.now cause d.1 (subst (λ t. IsRefused t machine flavor cause) d.0 refused))
-  part_refused text lists left part (Some rest) cause l d refused =
-      l.refused cause (refused_first left.now part rest.now cause d refused)
+  document_refused text lists left document (Some rest) cause l d refused =
+      l.refused cause (refused_first left.now document rest.now cause d refused)
 
   -- what `members_of` answers, as an answer of `members_of_parts`
-  pub part_fault : (text : List ℕ) (lists : List (List MemberView)) (left : Bor (List ℕ)) (part : List ℕ) (after : Option (Bor (List ℕ))) (error : RunError) → PartsLeft text machine flavor lists (Some left)
-      → Divided left.now part after → OnPartFault part machine flavor error → OnTextFault text machine flavor error
-  part_fault text lists left part after (Refused fault) l d h = part_refused text lists left part after (cause_of fault) l d h
-  part_fault text lists left part after NotUtf8 l d h = h
-  part_fault text lists left part after Read l d h = h
-  part_fault text lists left part after Write l d h = h
-  part_fault text lists left part after OutOfMemory l d h = h
+  pub document_fault : (text : List ℕ) (lists : List (List MemberView)) (left : Bor (List ℕ)) (document : List ℕ) (after : Option (Bor (List ℕ))) (error : RunError) → DocumentsLeft text machine flavor lists (Some left)
+      → Divided left.now document after → OnDocumentFault document machine flavor error → OnTextFault text machine flavor error
+  document_fault text lists left document after (Refused fault) l d h = document_refused text lists left document after (cause_of fault) l d h
+  document_fault text lists left document after NotUtf8 l d h = h
+  document_fault text lists left document after Read l d h = h
+  document_fault text lists left document after Write l d h = h
+  document_fault text lists left document after OutOfMemory l d h = h
 
 -- what `command` answers, as what the program does with words that ask for this
 answered : (wanted : Option (MachineType × Flavor)) (before after : Devices) (status : ℕ) → ((status ≡ 2) ↔ IsNone wanted) → (IsNone wanted → after ≡ before)
@@ -200,9 +200,9 @@ refused (Some wanted) before reader writer = record {
 }
 
 -- both, for any words
-pub words_answered : (words : List (List ℕ)) (before after : Devices) (status : ℕ) → ((status ≡ 2) ↔ IsNone (asked words)) → (IsNone (asked words) → after ≡ before)
-    → IfSome (asked words) (λ w. Answers w.0 w.1 before after status) → Performs words before after status
-words_answered words before after status other untouched run = answered (asked words) before after status other untouched run
+pub arguments_answered : (arguments : List (List ℕ)) (before after : Devices) (status : ℕ) → ((status ≡ 2) ↔ IsNone (target_named arguments)) → (IsNone (target_named arguments) → after ≡ before)
+    → IfSome (target_named arguments) (λ w. Answers w.0 w.1 before after status) → Performs arguments before after status
+arguments_answered arguments before after status other untouched run = answered (target_named arguments) before after status other untouched run
 
-pub words_refused : (words : List (List ℕ)) (before : Devices) → before.reader_failed ≡ false → before.writer_failed ≡ false → Performs words before before 3
-words_refused words before reader writer = refused (asked words) before reader writer
+pub arguments_refused : (arguments : List (List ℕ)) (before : Devices) → before.reader_failed ≡ false → before.writer_failed ≡ false → Performs arguments before before 3
+arguments_refused arguments before reader writer = refused (target_named arguments) before reader writer

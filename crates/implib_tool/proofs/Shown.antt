@@ -13,20 +13,20 @@ use Rattle.implib_tool.specs.Listing.{after_byte, byte_listing, bytes_listing, e
 pub plain_name : (name : List ℕ) → list_all is_plain name ≡ true → escaped name ≡ name
 plain_name [] h = refl
 plain_name (byte ∷ name) h =
-    let parts = and_parts (is_plain byte) (list_all is_plain name) h in
-    let first : escaped_byte byte ≡ byte ∷ [] = ap (λ b. cond b (byte ∷ []) (92 ∷ 120 ∷ hex_byte byte)) parts.0 in
-    ap (λ t. t ++ escaped name) first ∙ ap (λ t. byte ∷ t) (plain_name name parts.1)
+    let documents = and_parts (is_plain byte) (list_all is_plain name) h in
+    let first : escaped_byte byte ≡ byte ∷ [] = ap (λ b. cond b (byte ∷ []) (92 ∷ 120 ∷ hex_byte byte)) documents.0 in
+    ap (λ t. t ++ escaped name) first ∙ ap (λ t. byte ∷ t) (plain_name name documents.1)
 
 enumerate_from-append : (start : ℕ) (xs ys : List ℕ) → enumerate_from start (xs ++ ys) ≡ enumerate_from start xs ++ enumerate_from (start + length xs) ys
 enumerate_from-append start [] ys = ap (λ n. enumerate_from n ys) (omega arith)
 enumerate_from-append start (x ∷ xs) ys =
     ap (λ t. (start, x) ∷ t) (enumerate_from-append (start + 1) xs ys ∙ ap (λ n. enumerate_from (start + 1) xs ++ enumerate_from n ys) (omega arith))
 
--- one more byte on a line, at three places of its own
-line_more : (f : ℕ × ℕ → List ℕ) (start n : ℕ) (part line : List ℕ) (a b c : ℕ) → n < length part → 3 * n + 3 ≤ length line → f (start + n, get_or part n 0) ≡ a ∷ b ∷ c ∷ []
-    → take (3 * n) line ≡ flat_map f (enumerate_from start (take n part))
-    → take (3 * (n + 1)) (set (set (set line (3 * n) a) (3 * n + 1) b) (3 * n + 2) c) ≡ flat_map f (enumerate_from start (take (n + 1) part))
-line_more f start n part line a b c h room shown before =
+-- one more byte on a line, at three positions of its own
+line_more : (f : ℕ × ℕ → List ℕ) (start n : ℕ) (document line : List ℕ) (a b c : ℕ) → n < length document → 3 * n + 3 ≤ length line → f (start + n, get_or document n 0) ≡ a ∷ b ∷ c ∷ []
+    → take (3 * n) line ≡ flat_map f (enumerate_from start (take n document))
+    → take (3 * (n + 1)) (set (set (set line (3 * n) a) (3 * n + 1) b) (3 * n + 2) c) ≡ flat_map f (enumerate_from start (take (n + 1) document))
+line_more f start n document line a b c h room shown before =
     let first = set line (3 * n) a in
     let second = set first (3 * n + 1) b in
     let third = set second (3 * n + 2) c in
@@ -43,14 +43,14 @@ line_more f start n part line a b c h room shown before =
     ∙ ap (λ t. t ++ c ∷ []) (append_assoc (take (3 * n) line) (a ∷ []) (b ∷ []))
     ∙ append_assoc (take (3 * n) line) (a ∷ b ∷ []) (c ∷ [])
     in
-    let count : start + length (take n part) ≡ start + n = omega (arith, length-take-le n part (omega arith)) in
-    let more : enumerate_from start (take (n + 1) part) ≡ enumerate_from start (take n part) ++ (start + n, get_or part n 0) ∷ [] =
-    ap (enumerate_from start) (take_more part n 0 h) ∙ enumerate_from-append start (take n part) (get_or part n 0 ∷ [])
-    ∙ ap (λ k. enumerate_from start (take n part) ++ (k, get_or part n 0) ∷ []) count
+    let count : start + length (take n document) ≡ start + n = omega (arith, length-take-le n document (omega arith)) in
+    let more : enumerate_from start (take (n + 1) document) ≡ enumerate_from start (take n document) ++ (start + n, get_or document n 0) ∷ [] =
+    ap (enumerate_from start) (take_more document n 0 h) ∙ enumerate_from-append start (take n document) (get_or document n 0 ∷ [])
+    ∙ ap (λ k. enumerate_from start (take n document) ++ (k, get_or document n 0) ∷ []) count
     in
-    let listed : flat_map f (enumerate_from start (take (n + 1) part)) ≡ flat_map f (enumerate_from start (take n part)) ++ (a ∷ b ∷ c ∷ []) =
-    ap (flat_map f) more ∙ flat_map-append f (enumerate_from start (take n part)) ((start + n, get_or part n 0) ∷ [])
-    ∙ ap (λ t. flat_map f (enumerate_from start (take n part)) ++ t) (append-nil (f (start + n, get_or part n 0)) ∙ shown)
+    let listed : flat_map f (enumerate_from start (take (n + 1) document)) ≡ flat_map f (enumerate_from start (take n document)) ++ (a ∷ b ∷ c ∷ []) =
+    ap (flat_map f) more ∙ flat_map-append f (enumerate_from start (take n document)) ((start + n, get_or document n 0) ∷ [])
+    ∙ ap (λ t. flat_map f (enumerate_from start (take n document)) ++ t) (append-nil (f (start + n, get_or document n 0)) ∙ shown)
     in
     written ∙ ap (λ t. t ++ (a ∷ b ∷ c ∷ [])) before ∙ sym listed
 
@@ -61,10 +61,10 @@ lines_more f start end bytes order within =
     let line = take (end - start) (drop start bytes) in
     let size : 0 + length (take start bytes) ≡ start = omega (arith, length-take-le start bytes (omega arith)) in
     let place : start + (end - start) ≡ end = omega arith in
-    let parted : take end bytes ≡ take start bytes ++ line = ap (λ n. take n bytes) (sym place) ∙ take-add start (end - start) bytes in
+    let divided : take end bytes ≡ take start bytes ++ line = ap (λ n. take n bytes) (sym place) ∙ take-add start (end - start) bytes in
     sym (flat_map-append f (enumerate_from 0 (take start bytes)) (enumerate_from start line))
     ∙ ap (λ n. flat_map f (enumerate_from 0 (take start bytes) ++ enumerate_from n line)) (sym size)
-    ∙ ap (flat_map f) (sym (enumerate_from-append 0 (take start bytes) line) ∙ ap (enumerate_from 0) (sym parted))
+    ∙ ap (flat_map f) (sym (enumerate_from-append 0 (take start bytes) line) ∙ ap (enumerate_from 0) (sym divided))
 
 -- one more item
 pub flat_more : (f : ℕ → List ℕ) (items : List ℕ) (index : ℕ) → index < length items
@@ -218,17 +218,17 @@ pub line_shown : (bytes line : List ℕ) (start end : ℕ) → start < end → e
     → take (3 * (end - start)) line ≡ flat_map spaced_byte (enumerate_from start (take (end - start) (drop start bytes)))
     → take (3 * (end - start)) (set line (3 * (end - start) - 1) 10) ≡ flat_map (byte_listing (length bytes)) (enumerate_from start (slice_range bytes start end))
 line_shown bytes line start end some whole first room shown =
-    let part = drop start bytes in
+    let document = drop start bytes in
     let n = end - start - 1 in
     let width : end - start ≡ n + 1 = omega arith in
-    let long : n < length part = omega (arith, length-drop start bytes) in
-    let parted : take (end - start) part ≡ take n part ++ get_or part n 0 ∷ [] = ap (λ k. take k part) width ∙ take_more part n 0 long in
+    let long : n < length document = omega (arith, length-drop start bytes) in
+    let divided : take (end - start) document ≡ take n document ++ get_or document n 0 ∷ [] = ap (λ k. take k document) width ∙ take_more document n 0 long in
     let size : 3 * (end - start) ≡ 3 * n + 3 = omega arith in
     let place : 3 * (end - start) - 1 ≡ 3 * n + 2 = omega arith in
-    let ended = line_ended (length bytes) start n (get_or part n 0) (take n part) line first (length-take-le n part (omega arith)) (omega arith) (omega (arith, length-drop start bytes))
+    let ended = line_ended (length bytes) start n (get_or document n 0) (take n document) line first (length-take-le n document (omega arith)) (omega arith) (omega (arith, length-drop start bytes))
     (line_is_whole start end (length bytes) some whole) (omega arith)
-    (ap (λ k. take k line) (sym size) ∙ shown ∙ ap (λ t. flat_map spaced_byte (enumerate_from start t)) parted) in
+    (ap (λ k. take k line) (sym size) ∙ shown ∙ ap (λ t. flat_map spaced_byte (enumerate_from start t)) divided) in
     ap (λ k. take k (set line (3 * (end - start) - 1) 10)) size
     ∙ ap (λ k. take (3 * n + 3) (set line k 10)) place
     ∙ ended
-    ∙ ap (λ t. flat_map (byte_listing (length bytes)) (enumerate_from start t)) (sym parted)
+    ∙ ap (λ t. flat_map (byte_listing (length bytes)) (enumerate_from start t)) (sym divided)

@@ -1,6 +1,6 @@
 pub mod Device
 pub mod Listing
-pub mod Parts
+pub mod Documents
 pub mod Run
 pub mod Views
-pub mod Words
+pub mod Arguments

@@ -24,7 +24,7 @@ use Rattle.implib_tool.specs.declared.run.RunError.{RunError}
 use Rattle.implib_tool.specs.declared.run.RunError.TheVariants.{Refused, NotUtf8, Read, Write, OutOfMemory}
 use Rattle.implib_tool.specs.Device.{AppendsBeginning}
 use Rattle.implib_tool.specs.Listing.{listing_of}
-use Rattle.implib_tool.specs.Parts.{Parts}
+use Rattle.implib_tool.specs.Documents.{Documents}
 
 -- the first two members for GNU's linker, the tail and the head, are these files
 pub record BeginWith (members : List MemberView) (tail head : File) : Type 0 where
@@ -80,22 +80,22 @@ EachMade machine flavor (text ∷ texts) (members ∷ lists) =
 
 -- the listing shows the members of each document of the text, in order
 pub record Lists (text : List ℕ) (machine : MachineType) (flavor : Flavor) (listing : List ℕ) : Type 0 where
-  pub parts : List (List ℕ)
+  pub documents : List (List ℕ)
   pub lists : List (List MemberView)
-  pub parted : Parts text parts
-  pub made : EachMade machine flavor parts lists
+  pub divided : Documents text documents
+  pub made : EachMade machine flavor documents lists
   pub listed : listing ≡ flat_map listing_of lists
 
 -- a document of the text is refused for this cause, and those before it have members
 pub record FirstRefused (text : List ℕ) (machine : MachineType) (flavor : Flavor) (cause : Cause)
     : Type 0 where
   pub before : List (List ℕ)
-  pub part : List ℕ
+  pub document : List ℕ
   pub after : List (List ℕ)
   pub lists : List (List MemberView)
-  pub parted : Parts text (before ++ part ∷ after)
+  pub divided : Documents text (before ++ document ∷ after)
   pub made : EachMade machine flavor before lists
-  pub refused : IsRefused part machine flavor cause
+  pub refused : IsRefused document machine flavor cause
 
 -- what is known of the devices: the bytes that the reader has left and those that the writer has, if they are
 -- known, and whether they have failed

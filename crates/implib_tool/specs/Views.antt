@@ -13,7 +13,7 @@ use Rattle.implib_tool.specs.declared.run.RunError.TheVariants.{Refused, NotUtf8
 use Rattle.implib.specs.Library.{member_view}
 use Rattle.implib.specs.declared.members.Member.{Member}
 use Rattle.implib_tool.specs.Device.{AppendsBeginning}
-use Rattle.implib_tool.specs.Parts.{Parts}
+use Rattle.implib_tool.specs.Documents.{Documents}
 use Rattle.implib_tool.specs.Run.{EachMade, FirstRefused, IsRefused}
 
 -- from start to end a line stands in the text, and next is where the next one begins: past the line end, or at the text's end
@@ -43,16 +43,16 @@ pub record Passes (old new : Buffered) (bytes : List ℕ) : Type 0 where
   pub sound : new.failed ≡ false → old.failed ≡ false
   pub stopped : old.failed ≡ true → Keeps old.contents new.contents
 
--- the members of each part
+-- the members of each document
 abbrev pub member_views : {A : Type 0} → List (Vec Member A) → List (List MemberView)
 member_views lists = map (λ members. map member_view members.items) lists
 
 -- the members of each part of the text, in order
-pub record MembersOfParts (text : List ℕ) (machine : MachineType) (flavor : Flavor)
+pub record MembersOfDocuments (text : List ℕ) (machine : MachineType) (flavor : Flavor)
     (lists : List (List MemberView)) : Type 0 where
-  pub parts : List (List ℕ)
-  pub parted : Parts text parts
-  pub made : EachMade machine flavor parts lists
+  pub documents : List (List ℕ)
+  pub divided : Documents text documents
+  pub made : EachMade machine flavor documents lists
 
 -- the reader failed, or memory was refused and it has not
 abbrev pub OnReadFault : Bool → Bool → RunError → Type 0
@@ -63,12 +63,12 @@ OnReadFault before after Write = ⊥
 OnReadFault before after OutOfMemory = after ≡ before
 
 -- the text is refused, or memory was
-abbrev pub OnPartFault : List ℕ → MachineType → Flavor → RunError → Type 0
-OnPartFault text machine flavor (Refused fault) = IsRefused text machine flavor (cause_of fault)
-OnPartFault text machine flavor NotUtf8 = ⊥
-OnPartFault text machine flavor Read = ⊥
-OnPartFault text machine flavor Write = ⊥
-OnPartFault text machine flavor OutOfMemory = Unit {0}
+abbrev pub OnDocumentFault : List ℕ → MachineType → Flavor → RunError → Type 0
+OnDocumentFault text machine flavor (Refused fault) = IsRefused text machine flavor (cause_of fault)
+OnDocumentFault text machine flavor NotUtf8 = ⊥
+OnDocumentFault text machine flavor Read = ⊥
+OnDocumentFault text machine flavor Write = ⊥
+OnDocumentFault text machine flavor OutOfMemory = Unit {0}
 
 -- a part of the text is refused, or memory was
 abbrev pub OnTextFault : List ℕ → MachineType → Flavor → RunError → Type 0
@@ -100,7 +100,7 @@ OnWriteFault before after failed listing OutOfMemory = (failed ≡ false) × Kee
 -- the members of what is left of a text, if anything is
 abbrev pub MadeLeft : Option (Bor (List ℕ)) → MachineType → Flavor → List (List MemberView) → Type 0
 MadeLeft None machine flavor lists = lists ≡ []
-MadeLeft (Some rest) machine flavor lists = MembersOfParts rest.now machine flavor lists
+MadeLeft (Some rest) machine flavor lists = MembersOfDocuments rest.now machine flavor lists
 
 -- the refusal of what is left of a text, if anything is
 abbrev pub RefusedLeft : Option (Bor (List ℕ)) → MachineType → Flavor → Cause → Type 0
@@ -114,11 +114,11 @@ size_left (Some rest) = length rest.now + 1
 
 -- what is made, and then the members of what is left, are those of the text; what is left is refused only as
 -- the text is
-pub record PartsLeft (text : List ℕ) (machine : MachineType) (flavor : Flavor) (made : List (List MemberView))
+pub record DocumentsLeft (text : List ℕ) (machine : MachineType) (flavor : Flavor) (made : List (List MemberView))
     (rest : Option (Bor (List ℕ)))
     : Type 0 where
   pub lists : (more : List (List MemberView)) → MadeLeft rest machine flavor more →
-      MembersOfParts text machine flavor (made ++ more)
+      MembersOfDocuments text machine flavor (made ++ more)
   pub refused : (cause : Cause) → RefusedLeft rest machine flavor cause →
       FirstRefused text machine flavor cause
 

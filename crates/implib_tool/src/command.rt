@@ -1,6 +1,6 @@
 //! The program, over any devices: its arguments, its run, and its exit status.
 
-ghost use Rattle.implib_tool.specs.Words.{Answers, asked, status_of};
+ghost use Rattle.implib_tool.specs.Arguments.{Answers, target_named, status_of};
 ghost use Rattle.std.specs.Prelude.{◌≡◌, ◌↔◌, IfSome, IsNone, OnOk, false, map};
 ghost use Rattle.std.specs.String.{string_bytes};
 
@@ -24,10 +24,10 @@ impl<'a, E: Sink> fmt::Write for Lines<'a, E> {
 }
 
 // The machine and the flavour that the arguments name.
-fn asked_by(words: &[String]) -> Option<(MachineType, Flavor)>
-    ensures { result ≡ asked (map string_bytes words.now) }
+fn target_in(arguments: &[String]) -> Option<(MachineType, Flavor)>
+    ensures { result ≡ target_named (map string_bytes arguments.now) }
 {
-    match words {
+    match arguments {
         [] => Some((MachineType::AMD64, Flavor::Msvc)),
         [machine, flavor] => {
             let machine = machine.as_str().parse().ok()?;
@@ -74,21 +74,21 @@ pub fn usage<E: Sink>(faults: &mut E) -> u8
 /// allocation failed.
 pub fn command<R: Source, W: Sink, E: Sink>(
     alloc: Global,
-    words: &[String],
+    arguments: &[String],
     reader: &mut R,
     writer: &mut W,
     faults: &mut E,
 ) -> u8
     requires reader { R.failed reader.old ≡ false }
     requires writer { W.failed writer.old ≡ false }
-    ensures words { (result ≡ 2) ↔ IsNone (asked (map string_bytes words.now)) }
-    ensures untouched { IsNone (asked (map string_bytes words.now)) → (reader.new ≡ reader.old) × (writer.new ≡ writer.old) }
-    ensures run { IfSome (asked (map string_bytes words.now)) (λ wanted. Answers wanted.0 wanted.1
+    ensures arguments { (result ≡ 2) ↔ IsNone (target_named (map string_bytes arguments.now)) }
+    ensures untouched { IsNone (target_named (map string_bytes arguments.now)) → (reader.new ≡ reader.old) × (writer.new ≡ writer.old) }
+    ensures run { IfSome (target_named (map string_bytes arguments.now)) (λ wanted. Answers wanted.0 wanted.1
         (record { remaining = R.remaining reader.old; contents = W.contents writer.old; reader_failed = R.failed reader.old; writer_failed = W.failed writer.old })
         (record { remaining = R.remaining reader.new; contents = W.contents writer.new; reader_failed = R.failed reader.new; writer_failed = W.failed writer.new })
         result) }
 {
-    let Some((machine, flavor)) = asked_by(words) else {
+    let Some((machine, flavor)) = target_in(arguments) else {
         return usage(faults);
     };
     match run(alloc, reader, writer, machine, flavor) {

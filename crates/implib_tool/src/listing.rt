@@ -27,19 +27,19 @@ fn hex_digit_of(value: u8) -> u8
 }
 
 // Whether a byte of a name is shown as it is.
-fn stands_plain(byte: u8) -> bool
+fn is_plain(byte: u8) -> bool
     ensures { result ≡ is_plain byte }
 {
     byte >= 0x21 && byte <= 0x7E && byte != b'\\'
 }
 
 // Whether each byte of a name is shown as it is. It looks at all of them, many at a time.
-fn stand_plain(name: &[u8]) -> bool
+fn are_plain(name: &[u8]) -> bool
     ensures { result ≡ list_all is_plain name.now }
 {
     let mut plain = true;
     for byte in name {
-        plain = plain & stands_plain(*byte);
+        plain = plain & is_plain(*byte);
     }
     plain
 }
@@ -51,7 +51,7 @@ fn list_name_byte<W: Sink>(buffer: &mut Buffer, writer: &mut W, byte: u8)
         (buffered (W.contents writer.new) (W.failed writer.new) buffer.new)
         (escaped_byte byte) }
 {
-    if stands_plain(byte) {
+    if is_plain(byte) {
         return buffer.put(writer, &[byte]);
     }
     let escape = [
@@ -70,7 +70,7 @@ fn list_name<W: Sink>(buffer: &mut Buffer, writer: &mut W, name: &str)
         (buffered (W.contents writer.new) (W.failed writer.new) buffer.new)
         (escaped name.now) }
 {
-    if stand_plain(name.as_bytes()) {
+    if are_plain(name.as_bytes()) {
         return buffer.put(writer, name.as_bytes());
     }
     for byte in name.as_bytes() {

@@ -9,7 +9,7 @@ pub mod host;
 pub mod laws;
 mod listing;
 mod output;
-mod parts;
+mod documents;
 pub mod program;
 pub mod run;
 #[cfg(test)]

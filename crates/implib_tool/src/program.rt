@@ -1,7 +1,7 @@
 //! The program as a process runs it: from its arguments to its exit code.
 
 ghost use Rattle.implib_tool.specs.Device.{host_failed};
-ghost use Rattle.implib_tool.specs.Words.{Performs, status_unread, words_of};
+ghost use Rattle.implib_tool.specs.Arguments.{Performs, status_unread, arguments_of};
 ghost use Rattle.std.specs.IoError.{error_kind};
 ghost use Rattle.std.specs.Prelude.{◌≡◌, IfErr, IfOk, None, OnErr, drop, false};
 ghost use Rattle.std.specs.Process.{exit_status};
@@ -17,32 +17,32 @@ use std::io::{self, ErrorKind, Stderr, Stdin, Stdout};
 use std::process::ExitCode;
 
 // The arguments but for the first.
-fn but_the_first(alloc: Global, arguments: Args) -> Result<Vec<String>, AllocError>
-    ensures { IfOk result (λ words. words.items ≡ drop 1 (into_iter_items arguments)) }
+fn but_the_first(alloc: Global, command_line: Args) -> Result<Vec<String>, AllocError>
+    ensures { IfOk result (λ arguments. arguments.items ≡ drop 1 (into_iter_items command_line)) }
 {
-    arguments.skip(1).collect(alloc)
+    command_line.skip(1).collect(alloc)
 }
 
 // Runs the program with the arguments but for the first. Where memory for them cannot be allocated, this is
 // reported as it is for the listing.
-fn perform_words<R: Source, W: Sink, E: Sink>(
+fn perform_arguments<R: Source, W: Sink, E: Sink>(
     alloc: Global,
-    arguments: Args,
+    command_line: Args,
     reader: &mut R,
     writer: &mut W,
     faults: &mut E,
 ) -> u8
     requires reader { R.failed reader.old ≡ false }
     requires writer { W.failed writer.old ≡ false }
-    ensures { Performs (words_of (into_iter_items arguments))
+    ensures { Performs (arguments_of (into_iter_items command_line))
         (record { remaining = R.remaining reader.old; contents = W.contents writer.old; reader_failed = R.failed reader.old; writer_failed = W.failed writer.old })
         (record { remaining = R.remaining reader.new; contents = W.contents writer.new; reader_failed = R.failed reader.new; writer_failed = W.failed writer.new })
         result }
 {
-    let Ok(words) = but_the_first(alloc, arguments) else {
+    let Ok(arguments) = but_the_first(alloc, command_line) else {
         return fault(faults, &RunError::OutOfMemory);
     };
-    command(alloc, words.as_slice(), reader, writer, faults)
+    command(alloc, arguments.as_slice(), reader, writer, faults)
 }
 
 /// Runs the program with these arguments: the first is the program's name, and the others are those of
@@ -52,22 +52,22 @@ fn perform_words<R: Source, W: Sink, E: Sink>(
 /// that cannot be read are reported as other arguments are.
 pub fn perform<R: Source, W: Sink, E: Sink>(
     alloc: Global,
-    arguments: io::Result<Args>,
+    command_line: io::Result<Args>,
     reader: &mut R,
     writer: &mut W,
     faults: &mut E,
 ) -> ExitCode
     requires reader { R.failed reader.old ≡ false }
     requires writer { W.failed writer.old ≡ false }
-    ensures words { IfOk arguments (λ list. Performs (words_of (into_iter_items list))
+    ensures arguments { IfOk command_line (λ list. Performs (arguments_of (into_iter_items list))
         (record { remaining = R.remaining reader.old; contents = W.contents writer.old; reader_failed = R.failed reader.old; writer_failed = W.failed writer.old })
         (record { remaining = R.remaining reader.new; contents = W.contents writer.new; reader_failed = R.failed reader.new; writer_failed = W.failed writer.new })
         (exit_status result)) }
-    ensures unread { IfErr arguments (λ fault. exit_status result ≡ status_unread (error_kind fault)) }
-    ensures untouched { OnErr arguments ((reader.new ≡ reader.old) × (writer.new ≡ writer.old)) }
+    ensures unread { IfErr command_line (λ fault. exit_status result ≡ status_unread (error_kind fault)) }
+    ensures untouched { OnErr command_line ((reader.new ≡ reader.old) × (writer.new ≡ writer.old)) }
 {
-    match arguments {
-        Ok(list) => ExitCode::from(perform_words(alloc, list, reader, writer, faults)),
+    match command_line {
+        Ok(list) => ExitCode::from(perform_arguments(alloc, list, reader, writer, faults)),
         Err(unread) => match unread.kind() {
             ErrorKind::OutOfMemory => ExitCode::from(fault(faults, &RunError::OutOfMemory)),
             _ => ExitCode::from(usage(faults)),
@@ -78,21 +78,21 @@ pub fn perform<R: Source, W: Sink, E: Sink>(
 /// [`perform`] over the three standard devices, each by its own type.
 pub fn perform_on_system(
     alloc: Global,
-    arguments: io::Result<Args>,
+    command_line: io::Result<Args>,
     reader: &mut Host<Stdin>,
     writer: &mut Host<Stdout>,
     faults: &mut Host<Stderr>,
 ) -> ExitCode
     requires reader { host_failed reader.old ≡ false }
     requires writer { host_failed writer.old ≡ false }
-    ensures words { IfOk arguments (λ list. Performs (words_of (into_iter_items list))
+    ensures arguments { IfOk command_line (λ list. Performs (arguments_of (into_iter_items list))
         (record { remaining = None; contents = None; reader_failed = host_failed reader.old; writer_failed = host_failed writer.old })
         (record { remaining = None; contents = None; reader_failed = host_failed reader.new; writer_failed = host_failed writer.new })
         (exit_status result)) }
-    ensures unread { IfErr arguments (λ fault. exit_status result ≡ status_unread (error_kind fault)) }
-    ensures untouched { OnErr arguments ((reader.new ≡ reader.old) × (writer.new ≡ writer.old)) }
+    ensures unread { IfErr command_line (λ fault. exit_status result ≡ status_unread (error_kind fault)) }
+    ensures untouched { OnErr command_line ((reader.new ≡ reader.old) × (writer.new ≡ writer.old)) }
 {
-    perform(alloc, arguments, reader, writer, faults)
+    perform(alloc, command_line, reader, writer, faults)
 }
 
 #[cfg(test)]

@@ -3,7 +3,7 @@
 ghost use Rattle.implib.specs.Library.{member_view};
 ghost use Rattle.implib_tool.specs.Listing.{listing_of};
 ghost use Rattle.implib_tool.specs.Run.{MembersOf, Runs};
-ghost use Rattle.implib_tool.specs.Views.{MembersOfParts, OnInputFault, OnPartFault, OnReadFault, OnTextFault, OnWriteFault, Passes, buffered, member_views};
+ghost use Rattle.implib_tool.specs.Views.{MembersOfDocuments, OnInputFault, OnDocumentFault, OnReadFault, OnTextFault, OnWriteFault, Passes, buffered, member_views};
 ghost use Rattle.implib_tool.specs.declared.run.RunError.TheVariants.{OutOfMemory};
 ghost use Rattle.std.specs.Io.KnownBytes.{Appends, Consumes, IsAtEnd};
 ghost use Rattle.std.specs.Prelude.{◌≡◌, IfErr, IfOk, IfSome, OnOk, false, flat_map, map};
@@ -12,7 +12,7 @@ ghost use Rattle.std.specs.Str.{IsUtf8};
 use crate::device::{Sink, Source};
 use crate::listing::list_members;
 use crate::output::Buffer;
-use crate::parts::divide;
+use crate::documents::divide;
 use implib::{Error, Fault, Flavor, ImportLibrary, MachineType, Member};
 use std::alloc::{AllocError, AllocFailed, Global};
 
@@ -89,33 +89,33 @@ fn read_all<R: Source>(alloc: Global, reader: &mut R) -> Result<Vec<u8>, RunErro
 // The members of the definition that a text means.
 fn members_of(
     alloc: Global,
-    part: &str,
+    document: &str,
     machine: MachineType,
     flavor: Flavor,
 ) -> Result<Vec<Member>, RunError>
-    ensures ok { IfOk result (λ members. MembersOf part.now machine flavor (map member_view members.items)) }
-    ensures fault { IfErr result (OnPartFault part.now machine flavor) }
+    ensures ok { IfOk result (λ members. MembersOf document.now machine flavor (map member_view members.items)) }
+    ensures fault { IfErr result (OnDocumentFault document.now machine flavor) }
 {
-    let library = ImportLibrary::new(alloc, part, machine, flavor)?;
+    let library = ImportLibrary::new(alloc, document, machine, flavor)?;
     let members = library.members()?;
     Ok(members)
 }
 
-// The members of the definition of each part of a text, part after part.
-fn members_of_parts(
+// The members of the definition of each part of a text, document after document.
+fn members_of_documents(
     alloc: Global,
     text: &str,
     machine: MachineType,
     flavor: Flavor,
 ) -> Result<Vec<Vec<Member>>, RunError>
-    ensures ok { IfOk result (λ lists. MembersOfParts text.now machine flavor (member_views lists.items)) }
+    ensures ok { IfOk result (λ lists. MembersOfDocuments text.now machine flavor (member_views lists.items)) }
     ensures fault { IfErr result (OnTextFault text.now machine flavor) }
 {
     let mut lists = Vec::new(alloc);
     let mut rest = Some(text);
     while let Some(left) = rest {
-        let (part, after) = divide(left);
-        lists.push(members_of(alloc, part, machine, flavor)?)?;
+        let (document, after) = divide(left);
+        lists.push(members_of(alloc, document, machine, flavor)?)?;
         rest = after;
     }
     Ok(lists)
@@ -133,7 +133,7 @@ fn read_members<R: Source>(
     ensures sound { OnOk result (R.failed reader.new ≡ false) }
     ensures utf8 { OnOk result (IfSome (R.remaining reader.old) IsUtf8) }
     ensures members { IfOk result (λ lists. IfSome (R.remaining reader.old)
-        (λ text. MembersOfParts text machine flavor (member_views lists.items))) }
+        (λ text. MembersOfDocuments text machine flavor (member_views lists.items))) }
     ensures fault { IfErr result (OnInputFault (R.remaining reader.old) (R.failed reader.new) machine flavor) }
 {
     let input = read_all(alloc, reader)?;
@@ -141,11 +141,11 @@ fn read_members<R: Source>(
         Ok(text) => text,
         Err(_) => return Err(RunError::NotUtf8),
     };
-    members_of_parts(alloc, text, machine, flavor)
+    members_of_documents(alloc, text, machine, flavor)
 }
 
-// Lists the members of each part, part after part.
-fn list_parts<W: Sink>(buffer: &mut Buffer, writer: &mut W, lists: &[Vec<Member>])
+// Lists the members of each document, document after document.
+fn list_documents<W: Sink>(buffer: &mut Buffer, writer: &mut W, lists: &[Vec<Member>])
     ensures { Passes
         (buffered (W.contents writer.old) (W.failed writer.old) buffer.old)
         (buffered (W.contents writer.new) (W.failed writer.new) buffer.new)
@@ -156,7 +156,7 @@ fn list_parts<W: Sink>(buffer: &mut Buffer, writer: &mut W, lists: &[Vec<Member>
     }
 }
 
-// Writes the listing of the members of each part, through one buffer that is reserved first.
+// Writes the listing of the members of each document, through one buffer that is reserved first.
 fn write_listing<W: Sink>(
     alloc: Global,
     writer: &mut W,
@@ -170,7 +170,7 @@ fn write_listing<W: Sink>(
         (W.failed writer.new) (flat_map listing_of (member_views lists.now))) }
 {
     let mut buffer = Buffer::reserve(alloc)?;
-    list_parts(&mut buffer, writer, lists);
+    list_documents(&mut buffer, writer, lists);
     buffer.flush(writer);
     if writer.has_failed() {
         return Err(RunError::Write);

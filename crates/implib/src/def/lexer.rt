@@ -175,7 +175,7 @@ fn after_line(comment: &str) -> &str
 
 // The token at the front of a text that begins at the byte `at`, and what follows it.
 fn first_token<'a>(text: &'a str, at: usize) -> (Token<'a>, &'a str)
-    requires no_gap { BeginsNoTrivia text.now }
+    requires no_trivia { BeginsNoTrivia text.now }
     requires fits { at + length text.now < 2 ^ 64 }
     ensures { TakesToken text.now at (token_view result.0) result.1.now }
 {

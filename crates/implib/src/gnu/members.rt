@@ -3,7 +3,7 @@
 ghost use Rattle.implib.specs.Definition.{definition_view, export_view};
 ghost use Rattle.implib.specs.Fault.{IfInvalid, MemberTooLong};
 ghost use Rattle.implib.specs.Gnu.{export_listed, head_symbol};
-ghost use Rattle.implib.specs.Import.{address_symbol, holds, is_alias, is_empty_text, public_exports};
+ghost use Rattle.implib.specs.Import.{imp_symbol, holds, is_alias, is_empty_text, public_exports};
 ghost use Rattle.implib.specs.Library.{member_view};
 ghost use Rattle.implib.specs.Members.{AreMembersOf, has_u16_ordinal, is_too_long, member_specs, refusal};
 ghost use Rattle.implib.specs.NameRules.{RefusesAlways, definition_names_refusal, holds_nul};
@@ -18,9 +18,9 @@ ghost use Rattle.std.specs.Prelude.{None, Some, [], false, map, min, string_byte
 
 use crate::def::definition::{ModuleDef, ShortExport};
 use crate::error::Error;
-use crate::gnu::names::{head_name, head_symbol, name_symbol, numbered_name, tail_name};
+use crate::gnu::names::{head_name, head_symbol, iname_symbol, numbered_name, tail_name};
 use crate::gnu::objects::{export_object, head_object, tail_object};
-use crate::import_tables::address_symbol;
+use crate::import_tables::imp_symbol;
 use crate::machine::MachineType;
 use crate::members::{Flavor, Member};
 use crate::refusal::names_fault;
@@ -138,7 +138,7 @@ fn head_member(alloc: Global, machine: MachineType, dll: &str) -> Result<Member,
     ensures too_long { IfInvalid result (λ cause. (cause ≡ MemberTooLong) × (is_too_long (head_spec machine dll.now) ≡ true)) }
 {
     let symbol = head_symbol(alloc, machine, dll)?;
-    let name = name_symbol(alloc, machine, dll)?;
+    let name = iname_symbol(alloc, machine, dll)?;
     let bytes = head_object(alloc, machine, dll, symbol.as_str(), name.as_str())?;
     Ok(Member::of_symbol(alloc, head_name(alloc, dll)?, bytes, symbol)?)
 }
@@ -151,7 +151,7 @@ fn tail_member(alloc: Global, machine: MachineType, dll: &str) -> Result<Member,
     ensures fit { OnOk result (is_too_long (tail_spec machine dll.now) ≡ false) }
     ensures too_long { IfInvalid result (λ cause. (cause ≡ MemberTooLong) × (is_too_long (tail_spec machine dll.now) ≡ true)) }
 {
-    let symbol = name_symbol(alloc, machine, dll)?;
+    let symbol = iname_symbol(alloc, machine, dll)?;
     let bytes = tail_object(alloc, machine, dll, symbol.as_str())?;
     Ok(Member::of_symbol(alloc, tail_name(alloc, dll)?, bytes, symbol)?)
 }
@@ -206,8 +206,8 @@ fn push_weak_externals(
     let target = export.alias_target.as_str();
     let name = numbered_name(alloc, dll, "w", number)?;
     members.push(weak_member(alloc, machine, name, weak, target)?)?;
-    let weak = address_symbol(alloc, weak)?;
-    let target = address_symbol(alloc, target)?;
+    let weak = imp_symbol(alloc, weak)?;
+    let target = imp_symbol(alloc, target)?;
     let name = numbered_name(alloc, dll, "x", number)?;
     members.push(weak_member(alloc, machine, name, weak.as_str(), target.as_str())?)?;
     Ok(())
@@ -219,7 +219,7 @@ fn export_listed(
     export: &ShortExport,
     address: String,
 ) -> Result<Vec<String>, AllocError>
-    requires { string_bytes address ≡ address_symbol (export_view export.now).name }
+    requires { string_bytes address ≡ imp_symbol (export_view export.now).name }
     ensures { IfOk result (λ symbols. map string_bytes symbols.items ≡ export_listed (export_view export.now)) }
 {
     if export.is_data {
@@ -251,7 +251,7 @@ fn export_member(
 {
     // This brings the range of the ordinal, 16 bits, into the proof.
     let _ordinal = export.ordinal;
-    let address = address_symbol(alloc, export.name.as_str())?;
+    let address = imp_symbol(alloc, export.name.as_str())?;
     let bytes = export_object(alloc, export, machine, dll, head, address.as_str())?;
     let symbols = export_listed(alloc, export, address)?;
     let name = numbered_name(alloc, dll, "s", number)?;

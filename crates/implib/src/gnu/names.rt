@@ -1,6 +1,6 @@
 //! The names of the members for GNU's linker, and of the head's and the tail's symbols.
 
-ghost use Rattle.implib.specs.Gnu.{five_digits, head_name, head_symbol, leading_underscore, name_symbol, numbered_name, stem, tail_name};
+ghost use Rattle.implib.specs.Gnu.{five_digits, head_name, head_symbol, leading_underscore, iname_symbol, numbered_name, mangled_name, tail_name};
 ghost use Rattle.std.specs.List.{position};
 ghost use Rattle.std.specs.Prelude.{string_bytes, ◌++◌, ◌==◌, ◌≡◌, IfOk, OnOk};
 
@@ -16,8 +16,8 @@ fn position_of_full_stop(text: &[u8]) -> Option<usize>
 }
 
 // Appends the DLL's name with each full stop as an underscore.
-fn push_stem(out: &mut String, dll: &str) -> Result<(), AllocError>
-    ensures { OnOk result (string_bytes out.new ≡ string_bytes out.old ++ stem dll.now) }
+fn push_mangled_name(out: &mut String, dll: &str) -> Result<(), AllocError>
+    ensures { OnOk result (string_bytes out.new ≡ string_bytes out.old ++ mangled_name dll.now) }
 {
     let mut rest = dll;
     while let Some(position) = position_of_full_stop(rest.as_bytes()) {
@@ -29,15 +29,15 @@ fn push_stem(out: &mut String, dll: &str) -> Result<(), AllocError>
     Ok(())
 }
 
-// Room for what follows the stem in a member's name, which is seldom more: `_a_s00000.o`.
+// Room for what follows the mangled name in a member's name, which is seldom more: `_a_s00000.o`.
 const AFTER_STEM: usize = 11;
 
 // The DLL's name with each full stop as an underscore, and then this text; there is room for more.
-fn stem_with(alloc: Global, dll: &str, end: &str) -> Result<String, AllocError>
-    ensures { IfOk result (λ name. string_bytes name ≡ stem dll.now ++ end.now) }
+fn mangled_name_with(alloc: Global, dll: &str, end: &str) -> Result<String, AllocError>
+    ensures { IfOk result (λ name. string_bytes name ≡ mangled_name dll.now ++ end.now) }
 {
     let mut name = String::with_capacity(alloc, dll.len().saturating_add(AFTER_STEM))?;
-    push_stem(&mut name, dll)?;
+    push_mangled_name(&mut name, dll)?;
     name.push_str(end)?;
     Ok(name)
 }
@@ -47,7 +47,7 @@ fn stem_with(alloc: Global, dll: &str, end: &str) -> Result<String, AllocError>
 pub(crate) fn head_name(alloc: Global, dll: &str) -> Result<String, AllocError>
     ensures { IfOk result (λ name. string_bytes name ≡ head_name dll.now) }
 {
-    stem_with(alloc, dll, "_a_h.o")
+    mangled_name_with(alloc, dll, "_a_h.o")
 }
 
 /// The name of the tail.
@@ -55,7 +55,7 @@ pub(crate) fn head_name(alloc: Global, dll: &str) -> Result<String, AllocError>
 pub(crate) fn tail_name(alloc: Global, dll: &str) -> Result<String, AllocError>
     ensures { IfOk result (λ name. string_bytes name ≡ tail_name dll.now) }
 {
-    stem_with(alloc, dll, "_a_t.o")
+    mangled_name_with(alloc, dll, "_a_t.o")
 }
 
 // Appends a number with at least five digits.
@@ -75,7 +75,7 @@ pub(crate) fn numbered_name(
 ) -> Result<String, AllocError>
     ensures { IfOk result (λ name. string_bytes name ≡ numbered_name dll.now letter.now number) }
 {
-    let mut name = stem_with(alloc, dll, "_a_")?;
+    let mut name = mangled_name_with(alloc, dll, "_a_")?;
     name.push_str(letter)?;
     push_five_digits(&mut name, number)?;
     name.push_str(".o")?;
@@ -104,21 +104,21 @@ pub(crate) fn head_symbol(
 {
     let mut symbol = String::from_str(alloc, leading_underscore(machine))?;
     symbol.push_str("_head_")?;
-    push_stem(&mut symbol, dll)?;
+    push_mangled_name(&mut symbol, dll)?;
     Ok(symbol)
 }
 
 /// The symbol of the DLL's name.
-#[tactic(auto, unfolding(crate::specs::Gnu::name_symbol))]
-pub(crate) fn name_symbol(
+#[tactic(auto, unfolding(crate::specs::Gnu::iname_symbol))]
+pub(crate) fn iname_symbol(
     alloc: Global,
     machine: MachineType,
     dll: &str,
 ) -> Result<String, AllocError>
-    ensures { IfOk result (λ symbol. string_bytes symbol ≡ name_symbol machine dll.now) }
+    ensures { IfOk result (λ symbol. string_bytes symbol ≡ iname_symbol machine dll.now) }
 {
     let mut symbol = String::from_str(alloc, leading_underscore(machine))?;
-    push_stem(&mut symbol, dll)?;
+    push_mangled_name(&mut symbol, dll)?;
     symbol.push_str("_iname")?;
     Ok(symbol)
 }

@@ -4,8 +4,8 @@
 ghost use Rattle.implib.specs.Definition.{export_view};
 ghost use Rattle.implib.specs.Constants.{align_4bytes, cnt_code, mem_execute_read};
 ghost use Rattle.implib.specs.Fault.{IfInvalid, MemberTooLong};
-ghost use Rattle.implib.specs.Gnu.{added, empty_sections, export_object, export_symbols, file_symbol, head_object, head_sections, head_symbol, head_symbols, hint_name, hint_name_symbol, name_symbol, relocations_of_stub, relocations_of_thunk, section, stub, tail_object, tail_sections, tail_symbols, thunk};
-ghost use Rattle.implib.specs.Import.{address_symbol, asked_name, holds, is_empty_text};
+ghost use Rattle.implib.specs.Gnu.{added, empty_sections, export_object, export_symbols, file_symbol, head_object, head_sections, head_symbol, head_symbols, hint_name, hint_name_symbol, iname_symbol, relocations_of_stub, relocations_of_thunk, section, stub, tail_object, tail_sections, tail_symbols, thunk};
+ghost use Rattle.implib.specs.Import.{imp_symbol, asked_name, holds, is_empty_text};
 ghost use Rattle.implib.specs.ImportTables.{thunk_width};
 ghost use Rattle.implib.specs.Layout.{encoded, encoded_size};
 ghost use Rattle.implib.specs.Table.{section_row, symbol_row};
@@ -126,7 +126,7 @@ pub(crate) fn head_object(
 ) -> Result<Vec<u8>, Error>
     requires dll_text { holds 0 dll.now ≡ false }
     requires head { head.now ≡ head_symbol machine dll.now }
-    requires name { name.now ≡ name_symbol machine dll.now }
+    requires name { name.now ≡ iname_symbol machine dll.now }
     ensures bytes { IfOk result (λ bytes. bytes.items ≡ encoded (layout_of (head_object machine dll.now))) }
     ensures short { OnOk result (encoded_size (layout_of (head_object machine dll.now)) < 2 ^ 32) }
     ensures too_long { IfInvalid result (λ cause. (cause ≡ MemberTooLong)
@@ -165,7 +165,7 @@ pub(crate) fn tail_object(
     name: &str,
 ) -> Result<Vec<u8>, Error>
     requires dll_text { holds 0 dll.now ≡ false }
-    requires name { name.now ≡ name_symbol machine dll.now }
+    requires name { name.now ≡ iname_symbol machine dll.now }
     ensures bytes { IfOk result (λ bytes. bytes.items ≡ encoded (layout_of (tail_object machine dll.now))) }
     ensures short { OnOk result (encoded_size (layout_of (tail_object machine dll.now)) < 2 ^ 32) }
     ensures too_long { IfInvalid result (λ cause. (cause ≡ MemberTooLong)
@@ -303,7 +303,7 @@ pub(crate) fn export_object<'a>(
     requires name_text { holds 0 (export_view export.now).name ≡ false }
     requires filled { is_empty_text (export_view export.now).name ≡ false }
     requires head { head.now ≡ head_symbol machine dll.now }
-    requires address { address.now ≡ address_symbol (export_view export.now).name }
+    requires address { address.now ≡ imp_symbol (export_view export.now).name }
     ensures bytes { IfOk result (λ bytes. bytes.items ≡ encoded (layout_of (export_object machine dll.now (export_view export.now)))) }
     ensures short { OnOk result (encoded_size (layout_of (export_object machine dll.now (export_view export.now))) < 2 ^ 32) }
     ensures too_long { IfInvalid result (λ cause. (cause ≡ MemberTooLong)

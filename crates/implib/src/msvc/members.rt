@@ -18,7 +18,7 @@ ghost use Rattle.std.specs.Prelude.{None, Some, false, map, true, ◌+◌, ◌++
 use crate::def::definition::{ModuleDef, ShortExport};
 use crate::error::Error;
 use crate::import_name::short_import_symbol;
-use crate::import_tables::address_symbol;
+use crate::import_tables::imp_symbol;
 use crate::machine::MachineType;
 use crate::members::{Flavor, Member};
 use crate::msvc::objects::{descriptor_member, null_descriptor_member, null_thunk_member};
@@ -151,8 +151,8 @@ fn push_weak_externals(
     let target = export.alias_target.as_str();
     let name = String::from_str(alloc, dll)?;
     members.push(weak_member(alloc, machine, name, symbol, target)?)?;
-    let symbol = address_symbol(alloc, symbol)?;
-    let target = address_symbol(alloc, target)?;
+    let symbol = imp_symbol(alloc, symbol)?;
+    let target = imp_symbol(alloc, target)?;
     let name = String::from_str(alloc, dll)?;
     members.push(weak_member(alloc, machine, name, symbol.as_str(), target.as_str())?)?;
     Ok(())

@@ -4,7 +4,7 @@
 ghost use Rattle.implib.specs.declared.members.Flavor.TheVariants.{Msvc};
 ghost use Rattle.implib.specs.Definition.{definition_view, export_view};
 ghost use Rattle.implib.specs.Fault.{IfInvalid, MemberTooLong};
-ghost use Rattle.implib.specs.Import.{address_symbol, at_sign, begins_with, holds, public_exports};
+ghost use Rattle.implib.specs.Import.{imp_symbol, at_sign, begins_with, holds, public_exports};
 ghost use Rattle.implib.specs.Library.{member_view};
 ghost use Rattle.implib.specs.Members.{has_u16_ordinal, is_too_long, member_specs};
 ghost use Rattle.implib.specs.MemberSpec.{member_of};
@@ -19,7 +19,7 @@ use crate::coff::pass::Pass;
 use crate::def::definition::{ModuleDef, ShortExport};
 use crate::error::{Error, Fault};
 use crate::import_name::{name_type, short_import_symbol};
-use crate::import_tables::address_symbol;
+use crate::import_tables::imp_symbol;
 use crate::machine::MachineType;
 use crate::members::Member;
 use std::alloc::{AllocError, Global};
@@ -119,7 +119,7 @@ fn short_import_listed(alloc: Global, export: &ShortExport) -> Result<Vec<String
     ensures { IfOk result (λ symbols. map string_bytes symbols.items ≡ short_import_listed (export_view export.now)) }
 {
     let symbol = short_import_symbol(export);
-    let address = address_symbol(alloc, symbol)?;
+    let address = imp_symbol(alloc, symbol)?;
     if export.is_data {
         return Ok(vec![in alloc; address]?);
     }

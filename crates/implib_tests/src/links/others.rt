@@ -60,7 +60,7 @@ pub fn caller(alloc: Global, machine: MachineType) -> Result<Vec<u8>, Error> {
 const CALLER: &str = "caller.o";
 
 #[test]
-fn an_undefined_address_symbol_is_its_exports_own_entry(rt: HostRuntime) -> Result<(), Fail> {
+fn an_undefined_imp_symbol_is_its_exports_own_entry(rt: HostRuntime) -> Result<(), Fail> {
     for machine in MACHINES {
         let libraries = members_of(rt.alloc(), machine, &[TWO])?;
         let members = chosen(

@@ -24,13 +24,13 @@ const WHOLE: Pace = (ANY, ANY);
 /// What a command does with devices of these paces.
 fn answered(
     alloc: Global,
-    words: &str,
+    arguments: &str,
     input: &[u8],
     reads: Pace,
     writes: Pace,
 ) -> Result<Answer, AllocError> {
     let mut list = Vec::new(alloc);
-    for word in words.split_whitespace() {
+    for word in arguments.split_whitespace() {
         list.push(String::from_str(alloc, word)?)?;
     }
     let mut reader = MemorySource::new(input, reads.0, reads.1);
@@ -272,8 +272,8 @@ type Listing = (&'static str, &'static str, [&'static str; 4], &'static str);
 /// The lines that are expected to name a listing's members and their symbols.
 fn expected_heads(alloc: Global, listing: &Listing) -> Result<String, AllocError> {
     let mut heads = String::new(alloc);
-    for part in listing.2.iter() {
-        heads.push_str(*part)?;
+    for document in listing.2.iter() {
+        heads.push_str(*document)?;
     }
     Ok(heads)
 }
@@ -348,10 +348,10 @@ const LISTINGS: [Listing; 8] = [
 fn expect_listings(rt: &impl Abort, alloc: Global, rows: &[Listing]) -> Result<(), Fail> {
     for row in rows {
         let listing = *row;
-        let (words, text, _, end) = listing;
+        let (arguments, text, _, end) = listing;
         let want = expected_heads(alloc, &listing)?;
         for pace in [WHOLE, (1, ANY)] {
-            let got = answered(alloc, words, text.as_bytes(), pace, pace)?;
+            let got = answered(alloc, arguments, text.as_bytes(), pace, pace)?;
             let got_heads = heads(alloc, got.written.as_str())?;
             expect_listing(rt, &got, got_heads.as_str(), want.as_str(), end);
         }
@@ -403,8 +403,8 @@ const REFUSED: [(&str, &str); 25] = [
 fn expect_refused(rt: &impl Abort, alloc: Global, rows: &[(&str, &str)]) -> Result<(), Fail> {
     for row in rows {
         let (text, fault) = *row;
-        for words in ["AMD64 msvc", "AMD64 gnu"] {
-            let got = answered(alloc, words, text.as_bytes(), WHOLE, (ANY, 0))?;
+        for arguments in ["AMD64 msvc", "AMD64 gnu"] {
+            let got = answered(alloc, arguments, text.as_bytes(), WHOLE, (ANY, 0))?;
             let want = format!(in alloc; "implib: {fault}\n")?;
             assert_eq!(rt; got.status, 1, "{text:?}");
             assert_eq!(rt; got.written.as_str(), "", "{text:?}");
@@ -420,8 +420,8 @@ fn refusals_are_answered(rt: HostRuntime) -> Result<(), Fail> {
 }
 
 #[test]
-fn other_words_are_answered(rt: HostRuntime) -> Result<(), Fail> {
-    for words in [
+fn other_arguments_are_answered(rt: HostRuntime) -> Result<(), Fail> {
+    for arguments in [
         "AMD64",
         "msvc",
         "amd64 msvc",
@@ -430,7 +430,7 @@ fn other_words_are_answered(rt: HostRuntime) -> Result<(), Fail> {
         "AMD64 other",
         "AMD64 msvc msvc",
     ] {
-        let got = answered(rt.alloc(), words, BAR.as_bytes(), (ANY, 0), (ANY, 0))?;
+        let got = answered(rt.alloc(), arguments, BAR.as_bytes(), (ANY, 0), (ANY, 0))?;
         assert_eq!(rt; got.status, 2, "{words}");
         assert_eq!(rt; got.faults.as_str(), "usage: implib_tool MACHINE FLAVOUR\n");
     }
@@ -457,9 +457,9 @@ const RUNS: [(&str, &str); 3] = [("AMD64 gnu", BAR), ("", ALIASED), ("", PYTHON)
 
 #[test]
 fn one_byte_a_call_changes_nothing(rt: HostRuntime) -> Result<(), Fail> {
-    for (words, text) in RUNS {
-        let whole = answered(rt.alloc(), words, text.as_bytes(), WHOLE, WHOLE)?;
-        let single = answered(rt.alloc(), words, text.as_bytes(), (1, ANY), (1, ANY))?;
+    for (arguments, text) in RUNS {
+        let whole = answered(rt.alloc(), arguments, text.as_bytes(), WHOLE, WHOLE)?;
+        let single = answered(rt.alloc(), arguments, text.as_bytes(), (1, ANY), (1, ANY))?;
         assert_eq!(rt; whole.status, 0, "{text:?}");
         assert_eq!(rt; single, whole, "{text:?}");
     }
@@ -468,10 +468,10 @@ fn one_byte_a_call_changes_nothing(rt: HostRuntime) -> Result<(), Fail> {
 
 #[test]
 fn a_reader_that_fails_is_answered(rt: HostRuntime) -> Result<(), Fail> {
-    for (words, text) in RUNS {
+    for (arguments, text) in RUNS {
         // One call for each byte, and one that finds the end.
         for reads in 0..text.len() + 1 {
-            let got = answered(rt.alloc(), words, text.as_bytes(), (1, reads), WHOLE)?;
+            let got = answered(rt.alloc(), arguments, text.as_bytes(), (1, reads), WHOLE)?;
             assert_eq!(rt; got.status, 3, "{text:?}");
             assert_eq!(rt; got.written.as_str(), "", "{text:?}");
             assert_eq!(rt; got.faults.as_str(), "implib: read failed\n", "{text:?}");
@@ -483,15 +483,15 @@ fn a_reader_that_fails_is_answered(rt: HostRuntime) -> Result<(), Fail> {
 
 #[test]
 fn a_writer_that_fails_is_answered(rt: HostRuntime) -> Result<(), Fail> {
-    for (words, text) in RUNS {
-        let all = answered(rt.alloc(), words, text.as_bytes(), WHOLE, WHOLE)?
+    for (arguments, text) in RUNS {
+        let all = answered(rt.alloc(), arguments, text.as_bytes(), WHOLE, WHOLE)?
             .written
             .len();
         // One that fails at its first call, its second, and so on; the last takes no byte.
         let last = all.div_ceil(64);
         for calls in 0..=last {
             let pace = if calls < last { (64, calls) } else { (0, ANY) };
-            let got = answered(rt.alloc(), words, text.as_bytes(), WHOLE, pace)?;
+            let got = answered(rt.alloc(), arguments, text.as_bytes(), WHOLE, pace)?;
             assert_eq!(rt; got.status, 3, "{text:?}");
             assert_eq!(rt; got.faults.as_str(), "implib: write failed\n", "{text:?}");
             assert_eq!(rt; got.late_calls, 0, "{text:?}");
@@ -522,11 +522,11 @@ fn long_inputs_are_read_whole(rt: HostRuntime) -> Result<(), Fail> {
 fn expect_listed(
     rt: &impl Abort,
     alloc: Global,
-    words: &str,
+    arguments: &str,
     text: &str,
     want: &str,
 ) -> Result<(), AllocError> {
-    let got = answered(alloc, words, text.as_bytes(), WHOLE, WHOLE)?;
+    let got = answered(alloc, arguments, text.as_bytes(), WHOLE, WHOLE)?;
     if got.status == 0 {
         assert_eq!(rt; heads(alloc, got.written.as_str())?.as_str(), want);
         return Ok(());
@@ -534,7 +534,7 @@ fn expect_listed(
     assert_eq!(rt; got.status, 3);
     assert_eq!(rt; got.written.as_str(), "");
     assert_eq!(rt; got.faults.as_str(), "implib: out of memory\n");
-    let again = answered(alloc, words, text.as_bytes(), WHOLE, WHOLE)?;
+    let again = answered(alloc, arguments, text.as_bytes(), WHOLE, WHOLE)?;
     assert_eq!(rt; again.status, 0);
     assert_eq!(rt; heads(alloc, again.written.as_str())?.as_str(), want);
     Err(AllocError)

@@ -139,9 +139,9 @@ const COMMANDS: [Row; 16] = [
 /// Holds what commands answer. The sink of faults takes one byte a call.
 fn expect_lines(rt: &impl Abort, alloc: Global, rows: &[Row]) -> Result<(), Fail> {
     for row in rows {
-        let (words, input, reads, writes, status, line) = *row;
+        let (arguments, input, reads, writes, status, line) = *row;
         let mut list = Vec::new(alloc);
-        for word in words.split_whitespace() {
+        for word in arguments.split_whitespace() {
             list.push(String::from_str(alloc, word)?)?;
         }
         let mut reader = MemorySource::new(input, ANY, reads);

@@ -73,13 +73,13 @@ const END: &str = "member foo.dll 32\nsymbol __imp_bar\nsymbol bar\n\
 
 #[test]
 fn readers_and_writers_in_memory_are_used_whole(rt: HostRuntime) -> Result<(), Fail> {
-    let words = Vec::new(rt.alloc());
+    let arguments = Vec::new(rt.alloc());
     let mut reader = Host::new(TEXT.as_bytes());
     let mut writer = Host::new(Vec::new(rt.alloc()));
     let mut faults = Host::new(Vec::new(rt.alloc()));
     let status = command(
         rt.alloc(),
-        words.as_slice(),
+        arguments.as_slice(),
         &mut reader,
         &mut writer,
         &mut faults,
@@ -92,7 +92,7 @@ fn readers_and_writers_in_memory_are_used_whole(rt: HostRuntime) -> Result<(), F
     let mut writer = Host::new(SingleWriter(Vec::new(rt.alloc())));
     let status = command(
         rt.alloc(),
-        words.as_slice(),
+        arguments.as_slice(),
         &mut reader,
         &mut writer,
         &mut faults,
@@ -136,14 +136,14 @@ fn answers_are_passed_on(rt: HostRuntime) {
 
 #[test]
 fn faults_of_the_system_are_reported(rt: HostRuntime) -> Result<(), Fail> {
-    let words = Vec::new(rt.alloc());
+    let arguments = Vec::new(rt.alloc());
     for first in [None, Some(0)] {
         let mut reader = Host::new(TEXT.as_bytes());
         let mut writer = Host::new(First(first));
         let mut faults = Host::new(Vec::new(rt.alloc()));
         let status = command(
             rt.alloc(),
-            words.as_slice(),
+            arguments.as_slice(),
             &mut reader,
             &mut writer,
             &mut faults,
@@ -159,7 +159,7 @@ fn faults_of_the_system_are_reported(rt: HostRuntime) -> Result<(), Fail> {
     let mut faults = Host::new(Vec::new(rt.alloc()));
     let status = command(
         rt.alloc(),
-        words.as_slice(),
+        arguments.as_slice(),
         &mut reader,
         &mut writer,
         &mut faults,

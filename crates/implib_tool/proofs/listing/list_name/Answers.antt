@@ -4,9 +4,9 @@ use Rattle.implib_tool.proofs.Running.{passes_as, passes_more, passes_nothing}
 use Rattle.implib_tool.proofs.Shown.{flat_more, plain_name}
 use Rattle.implib_tool.proofs.listing.list_name.Goals as goal
 
-pub returns-then-stand_plain : goal.returns-then-stand_plain
-returns-then-stand_plain g c =
-    passes_as _ _ _ _ (c.as_bytes-then-stand_plain.ensures.value ∙ sym (plain_name c.args.name.now (search rules))) c.put.ensures
+pub returns-then-are_plain : goal.returns-then-are_plain
+returns-then-are_plain g c =
+    passes_as _ _ _ _ (c.as_bytes-then-are_plain.ensures.value ∙ sym (plain_name c.args.name.now (search rules))) c.put.ensures
 
 pub loop-byte-init : goal.loop-byte-init
 loop-byte-init g c = passes_nothing _

@@ -13,5 +13,5 @@ put_section_contents-requires c =
 
 pub loop-section-preserved : goal.loop-section-preserved
 loop-section-preserved c =
-    let piece = rw c.section-item.is at c.put_section_contents.ensures in
-    puts_more (λ s. contents (section_view s)) c.args.sections.now c.loop-section.section-index c.section-item.result c.loop-section-test.true c.loop-section.invariant piece
+    let chunk = rw c.section-item.is at c.put_section_contents.ensures in
+    puts_more (λ s. contents (section_view s)) c.args.sections.now c.loop-section.section-index c.section-item.result c.loop-section-test.true c.loop-section.invariant chunk

@@ -37,9 +37,9 @@ pub loop-section-preserved : goal.loop-section-preserved
 unfolding contents_size
 loop-section-preserved c =
     let more = rw (← c.section-item.is) at (sum_more contents_size section_view c.args.sections.now c.loop-section.section-index c.section-item.result c.loop-section-test.true) in
-    let piece = rw (c.loop-section.invariant.offset, c.section-item.is) at c.put_section_header.ensures.puts in
+    let chunk = rw (c.loop-section.invariant.offset, c.section-item.is) at c.put_section_header.ensures.puts in
     record {
       offset = omega (arith, more, c.section-item.result.bytes.ok.0, c.section-item.result.relocations.ok.0);
-      put = headers_more _ c.args.sections.now c.loop-section.section-index c.section-item.result c.loop-section-test.true c.loop-section.invariant.put piece;
+      put = headers_more _ c.args.sections.now c.loop-section.section-index c.section-item.result c.loop-section-test.true c.loop-section.invariant.put chunk;
       left = omega arith;
     }

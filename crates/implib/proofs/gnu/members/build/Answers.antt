@@ -32,7 +32,7 @@ loop-export-preserved c =
     (record { named = c.loop-export.invariant.named; made = c.loop-export.invariant.made; fit = c.loop-export.invariant.fit; ordinals = c.loop-export.invariant.ordinals }) in
     elim c.if-not-export.branch [
       | then-not-export+in_ok-push_export w ↦
-          let grown : map member_view w.push_export.new.members.items ≡ members ++ map member_of (numbered_specs_of machine dll number e) =
+          let extended : map member_view w.push_export.new.members.items ≡ members ++ map member_of (numbered_specs_of machine dll number e) =
           rw c.as_str-dll.ensures.value at (w.in_ok-push_export.ensures {u = tt}).ok in
           let short : list_any is_too_long (numbered_specs_of machine dll number e) ≡ false =
           rw c.as_str-dll.ensures.value at (w.in_ok-push_export.ensures {u = tt}).fit in
@@ -40,7 +40,7 @@ loop-export-preserved c =
           subst (λ (n : ℕ). Left machine dll all long sound (index + 1) n (map member_view c.if-not-export.members.items) others) (sym w.number-is)
           (subst (λ x. Left machine dll all long sound (index + 1) (number + 1) (map member_view x.items) others) (sym w.members-is)
           (left_public machine dll all long sound index number members e others (map member_view w.push_export.new.members.items)
-          w.if-not-export.true before grown short (w.in_ok-push_export.ensures {u = tt}).ordinal)) in
+          w.if-not-export.true before extended short (w.in_ok-push_export.ensures {u = tt}).ordinal)) in
           record { counted = omega (arith, c.loop-export.invariant.counted, w.number-is); named = after.named; made = after.made; fit = after.fit; ordinals = after.ordinals }
       | else-not-export w ↦
           let after : Left machine dll all long sound (index + 1) c.if-not-export.number (map member_view c.if-not-export.members.items) others =

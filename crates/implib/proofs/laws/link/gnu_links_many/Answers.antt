@@ -1,5 +1,5 @@
 use Rattle.implib.specs.LinkedMembers.{bases_of}
-use Rattle.implib.proofs.LinkedParts.{parts_link, parts_made, parts_rise}
+use Rattle.implib.proofs.LinkedInputs.{parts_link, parts_made, parts_rise}
 use Rattle.implib.proofs.laws.link.gnu_links_many.Goals as goal
 
 pub returns : goal.returns

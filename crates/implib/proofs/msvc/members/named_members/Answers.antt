@@ -31,14 +31,14 @@ loop-export-preserved c =
     (record { named = c.loop-export.invariant.named; made = c.loop-export.invariant.made; fit = c.loop-export.invariant.fit; ordinals = c.loop-export.invariant.ordinals }) in
     elim c.if-not-export.branch [
       | then-not-export+in_ok-push_export w ↦
-          let grown : map member_view w.push_export.new.members.items ≡ members ++ map member_of (export_specs machine dll e) =
+          let extended : map member_view w.push_export.new.members.items ≡ members ++ map member_of (export_specs machine dll e) =
           rw c.as_str-dll.ensures.value at (w.in_ok-push_export.ensures {u = tt}).ok in
           let short : list_any is_too_long (export_specs machine dll e) ≡ false =
           rw c.as_str-dll.ensures.value at (w.in_ok-push_export.ensures {u = tt}).fit in
           let after : Left machine dll all long sound (index + 1) (map member_view c.if-not-export.members.items) others =
           subst (λ x. Left machine dll all long sound (index + 1) (map member_view x.items) others) (sym w.members-is)
           (left_public machine dll all long sound index members e others (map member_view w.push_export.new.members.items)
-          w.if-not-export.true before grown short (w.in_ok-push_export.ensures {u = tt}).ordinal) in
+          w.if-not-export.true before extended short (w.in_ok-push_export.ensures {u = tt}).ordinal) in
           record { named = after.named; made = after.made; fit = after.fit; ordinals = after.ordinals }
       | else-not-export w ↦
           let after : Left machine dll all long sound (index + 1) (map member_view c.if-not-export.members.items) others =

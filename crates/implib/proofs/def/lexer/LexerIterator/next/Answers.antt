@@ -17,9 +17,9 @@ overflow_sub-at c = omega (arith, PassesTrivia-shorter c.self.inside.rest.now c.
 
 pub invariant_of-self : goal.invariant_of-self
 invariant_of-self c =
-    let gap = PassesTrivia-shorter _ _ c.skip_trivia-start.ensures.skips.passes in
+    let trivia = PassesTrivia-shorter _ _ c.skip_trivia-start.ensures.skips.passes in
     let token = TakesToken-shorter _ _ _ _ c.first_token.ensures in
-    omega (arith, gap, token, c.self.invariant)
+    omega (arith, trivia, token, c.self.invariant)
 
 pub returns : goal.returns
 returns c =

@@ -1,16 +1,16 @@
 use Rattle.std.proofs.Common.{sym, ◌∙◌, string_bytes}
 use Rattle.std.proofs.lemmas.Str.{IsCharBoundary-before_ascii, IsCharBoundary-after_ascii}
-use Rattle.implib.proofs.GnuNames.{stem_none, stem_step, stop_stands}
-use Rattle.implib.proofs.gnu.names.push_stem.Goals as goal
+use Rattle.implib.proofs.GnuNames.{mangled_name_none, mangled_name_step, stop_located}
+use Rattle.implib.proofs.gnu.names.push_mangled_name.Goals as goal
 
 pub range-requires-clause-end_boundary : goal.range-requires-clause-end_boundary
 range-requires-clause-end_boundary c =
-    let stop = stop_stands c.loop-position.rest.now c.in-Some.position (sym (rw c.as_bytes.ensures.value at c.in-Some.ensures)) in
+    let stop = stop_located c.loop-position.rest.now c.in-Some.position (sym (rw c.as_bytes.ensures.value at c.in-Some.ensures)) in
     IsCharBoundary-before_ascii c.loop-position.rest.now c.in-Some.position stop.0 stop.1
 
 pub range_from-rest-requires : goal.range_from-rest-requires
 range_from-rest-requires c = λ positive.
-    let stop = stop_stands c.loop-position.rest.now c.in-Some.position (sym (rw c.as_bytes.ensures.value at c.in-Some.ensures)) in
+    let stop = stop_located c.loop-position.rest.now c.in-Some.position (sym (rw c.as_bytes.ensures.value at c.in-Some.ensures)) in
     IsCharBoundary-after_ascii c.loop-position.rest.now c.in-Some.position c.loop-position.invariant.text stop.0 stop.1
 
 pub loop-position-preserved : goal.loop-position-preserved
@@ -20,10 +20,10 @@ loop-position-preserved c =
       text = c.range_from-rest.utf8;
       made =
           rw (c.in_ok-push_str-2.ensures.bytes, c.in_ok-push_str.ensures.bytes, c.range.ensures.value, c.range_from-rest.ensures.value)
-          (stem_step (string_bytes c.loop-position.out) c.loop-position.rest.now c.in-Some.position found ∙ c.loop-position.invariant.made);
+          (mangled_name_step (string_bytes c.loop-position.out) c.loop-position.rest.now c.in-Some.position found ∙ c.loop-position.invariant.made);
     }
 
 pub returns : goal.returns
 returns c =
-    let none = stem_none c.loop-position.rest.now (sym (rw c.as_bytes.ensures.value at c.in_default.ensures)) in
+    let none = mangled_name_none c.loop-position.rest.now (sym (rw c.as_bytes.ensures.value at c.in_default.ensures)) in
     rw (← c.loop-position.invariant.made, none) c.in_ok-push_str-3.ensures.bytes

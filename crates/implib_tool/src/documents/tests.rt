@@ -1,7 +1,7 @@
 use super::divide;
 use std::test::Fail;
 
-// Each text is shown as its parts, with a bar between each two.
+// Each text is shown as its documents, with a bar between each two.
 #[test]
 fn lines_of_three_hyphens_divide(rt: HostRuntime) -> Result<(), Fail> {
     let rows = [
@@ -26,8 +26,8 @@ fn lines_of_three_hyphens_divide(rt: HostRuntime) -> Result<(), Fail> {
             let Some(left) = rest else {
                 break;
             };
-            let (part, after) = divide(left);
-            shown.push_str(part)?;
+            let (document, after) = divide(left);
+            shown.push_str(document)?;
             if after.is_some() {
                 shown.push('|')?;
             }

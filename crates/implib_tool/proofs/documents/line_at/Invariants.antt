@@ -1,5 +1,5 @@
 use Rattle.std.proofs.Common.{◌≡◌, ℕ, ◌<◌, ◌≤◌, get_or}
-use Rattle.implib_tool.proofs.parts.line_at.Given as goal
+use Rattle.implib_tool.proofs.documents.line_at.Given as goal
 
 -- no line end up to here
 abbrev pub invariant-loop-i : goal.invariant-loop-i

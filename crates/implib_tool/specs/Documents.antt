@@ -30,22 +30,22 @@ abbrev pub Follows : List ℕ → List ℕ → Type 0
 Follows after rest = ((after ≡ []) × (rest ≡ [])) ⊎ (after ≡ 10 ∷ rest)
 
 -- the text is a document, a separating line, and the rest
-pub record Divides (text part rest : List ℕ) : Type 0 where
+pub record Divides (text document rest : List ℕ) : Type 0 where
   pub line : List ℕ
   pub after : List ℕ
-  pub separates : Separates text part line after
+  pub separates : Separates text document line after
   pub follows : Follows after rest
-  pub undivided : IsUndivided part
+  pub undivided : IsUndivided document
 
 -- the documents of a text: with a separating line between each two they give it back, and none has a
 -- separating line of its own
-abbrev pub Parts : List ℕ → List (List ℕ) → Type 0
-Parts text [] = ⊥
-Parts text (part ∷ []) = (text ≡ part) × IsUndivided part
-Parts text (part ∷ next ∷ parts) = (rest : List ℕ) × Divides text part rest × Parts rest (next ∷ parts)
+abbrev pub Documents : List ℕ → List (List ℕ) → Type 0
+Documents text [] = ⊥
+Documents text (document ∷ []) = (text ≡ document) × IsUndivided document
+Documents text (document ∷ next ∷ documents) = (rest : List ℕ) × Divides text document rest × Documents rest (next ∷ documents)
 
 -- the text has one list of documents
 pub record HasOneParting (text : List ℕ) : Type 0 where
-  pub parts : List (List ℕ)
-  pub parted : Parts text parts
-  pub only : (others : List (List ℕ)) → Parts text others → others ≡ parts
+  pub documents : List (List ℕ)
+  pub divided : Documents text documents
+  pub only : (others : List (List ℕ)) → Documents text others → others ≡ documents

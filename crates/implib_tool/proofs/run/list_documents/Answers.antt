@@ -3,7 +3,7 @@ use Rattle.implib.specs.Library.{member_view}
 use Rattle.implib_tool.specs.Listing.{listing_of}
 use Rattle.implib_tool.proofs.Running.{passes_as, passes_more}
 use Rattle.implib_tool.proofs.Shown.{mapped_more}
-use Rattle.implib_tool.proofs.run.list_parts.Goals as goal
+use Rattle.implib_tool.proofs.run.list_documents.Goals as goal
 
 pub loop-members-preserved : goal.loop-members-preserved
 loop-members-preserved g c =

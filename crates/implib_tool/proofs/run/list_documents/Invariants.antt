@@ -1,9 +1,9 @@
 use Rattle.std.proofs.Common.{take, flat_map}
 use Rattle.implib_tool.specs.Listing.{listing_of}
 use Rattle.implib_tool.specs.Views.{Passes, buffered, member_views}
-use Rattle.implib_tool.proofs.run.list_parts.Given as goal
+use Rattle.implib_tool.proofs.run.list_documents.Given as goal
 
--- the parts are listed up to here
+-- the documents are listed up to here
 abbrev pub invariant-loop-members : goal.invariant-loop-members
 invariant-loop-members g l = Passes
     (buffered (g.W.Sink.contents l.fn.writer) (g.W.Sink.failed l.fn.writer) l.fn.buffer)

@@ -1,7 +1,7 @@
 use Rattle.std.proofs.Common.{◌≡◌, ◌&&◌, drop}
 use Rattle.std.specs.List.{list_all}
 use Rattle.implib_tool.specs.Listing.{is_plain}
-use Rattle.implib_tool.proofs.listing.stand_plain.Given as goal
+use Rattle.implib_tool.proofs.listing.are_plain.Given as goal
 
 -- what was found, and what is found in the rest, is what is found in all
 abbrev pub invariant-loop-byte : goal.invariant-loop-byte

@@ -13,7 +13,7 @@ use Rattle.std.proofs.lemmas.Grind.{flat_map-append}
 use Rattle.std.proofs.lemmas.List.Elements.{filter_map-append}
 use Rattle.implib.specs.declared.machine.MachineType.{MachineType}
 use Rattle.implib.specs.Definition.{DefinitionView}
-use Rattle.implib.specs.Gnu.{export_name, head_name, stem, tail_name}
+use Rattle.implib.specs.Gnu.{export_name, head_name, mangled_name, tail_name}
 use Rattle.implib.specs.Image.{IsAdmissible, image_of}
 use Rattle.implib.specs.Placement.{Bases, placed_from}
 use Rattle.implib.specs.MemberSpec.{MemberView}
@@ -128,8 +128,8 @@ unfolding tail_name head_name
 tail_before_head first second before apart =
     let joined : ComesBefore (member_prefix first ++ codes "t.o") (member_prefix second ++ codes "h.o") =
     cmp_apart (member_prefix first) (member_prefix second) (codes "t.o") (codes "h.o") before apart in
-    subst (λ name. ComesBefore name (head_name second.import_name)) (append_assoc (stem first.import_name) (codes "_a_") (codes "t.o"))
-    (subst (λ name. ComesBefore (member_prefix first ++ codes "t.o") name) (append_assoc (stem second.import_name) (codes "_a_") (codes "h.o")) joined)
+    subst (λ name. ComesBefore name (head_name second.import_name)) (append_assoc (mangled_name first.import_name) (codes "_a_") (codes "t.o"))
+    (subst (λ name. ComesBefore (member_prefix first ++ codes "t.o") name) (append_assoc (mangled_name second.import_name) (codes "_a_") (codes "h.o")) joined)
 
 rise_on : (names : List (List ℕ)) (last next : List ℕ) (others : List (List ℕ)) → AllRise (names ++ last ∷ []) → ComesBefore last next → AllRise (next ∷ others) →
     AllRise ((names ++ last ∷ []) ++ next ∷ others)

@@ -1,7 +1,7 @@
 use Rattle.std.proofs.Common.{◌-◌, length}
 use Rattle.std.specs.Str.{IsCharBoundary}
 use Rattle.implib_tool.proofs.Dividing.{LineStart}
-use Rattle.implib_tool.proofs.parts.divide.Given as goal
+use Rattle.implib_tool.proofs.documents.divide.Given as goal
 
 abbrev pub invariant-loop-start : goal.invariant-loop-start
 invariant-loop-start l = record {

@@ -14,8 +14,8 @@ use Rattle.implib_tool.specs.declared.run.RunError.TheVariants.{Refused, NotUtf8
 use Rattle.implib_tool.specs.Run.{Devices, Runs}
 
 -- the arguments of a command line but for the first, which is the program's name
-abbrev pub words_of : {A : Type 0} → List (String A) → List (List ℕ)
-words_of arguments = map string_bytes (drop 1 arguments)
+abbrev pub arguments_of : {A : Type 0} → List (String A) → List (List ℕ)
+arguments_of arguments = map string_bytes (drop 1 arguments)
 
 -- a machine and a flavour, where there are both
 abbrev pub both : Option MachineType → Option Flavor → Option (MachineType × Flavor)
@@ -24,11 +24,11 @@ both (Some machine) None = None
 both None flavor = None
 
 -- what the arguments name: a machine and a flavour, or by default AMD64 and msvc
-abbrev pub asked : List (List ℕ) → Option (MachineType × Flavor)
-asked [] = Some (AMD64, Msvc)
-asked (machine ∷ []) = None
-asked (machine ∷ flavor ∷ []) = both (machine_named machine) (flavor_named flavor)
-asked (machine ∷ flavor ∷ more ∷ words) = None
+abbrev pub target_named : List (List ℕ) → Option (MachineType × Flavor)
+target_named [] = Some (AMD64, Msvc)
+target_named (machine ∷ []) = None
+target_named (machine ∷ flavor ∷ []) = both (machine_named machine) (flavor_named flavor)
+target_named (machine ∷ flavor ∷ more ∷ arguments) = None
 
 -- the exit status of a run's answer: 0 done, 1 refused, 3 for devices and memory
 abbrev pub status_of : Result (Unit {0}) RunError → ℕ
@@ -54,8 +54,8 @@ pub record TurnsDown (before after : Devices) (status : ℕ) : Type 0 where
 
 -- what the program does with its arguments
 abbrev pub Performs : List (List ℕ) → Devices → Devices → ℕ → Type 0
-Performs words before after status =
-    MatchOption (asked words) (TurnsDown before after status)
+Performs arguments before after status =
+    MatchOption (target_named arguments) (TurnsDown before after status)
     (λ wanted. Answers wanted.0 wanted.1 before after status)
 
 -- the exit status where the arguments cannot be read: 3 for want of memory, else that of other arguments

@@ -1,6 +1,6 @@
-//! The parts of a text.
+//! The documents of a text.
 
-ghost use Rattle.implib_tool.specs.Parts.{Divides, IsSeparator, IsUndivided};
+ghost use Rattle.implib_tool.specs.Documents.{Divides, IsSeparator, IsUndivided};
 ghost use Rattle.implib_tool.specs.Views.{IsLineAt};
 ghost use Rattle.std.specs.Prelude.{◌≡◌, ◌≤◌, ◌↔◌, IsTrue, MatchOption, length};
 
