@@ -3,13 +3,13 @@
 
 pub mod command;
 pub mod device;
+mod documents;
 #[cfg(test)]
 mod doubles;
 pub mod host;
 pub mod laws;
 mod listing;
 mod output;
-mod documents;
 pub mod program;
 pub mod run;
 #[cfg(test)]

@@ -10,9 +10,9 @@ ghost use Rattle.std.specs.Prelude.{◌≡◌, IfErr, IfOk, IfSome, OnOk, false,
 ghost use Rattle.std.specs.Str.{IsUtf8};
 
 use crate::device::{Sink, Source};
+use crate::documents::divide;
 use crate::listing::list_members;
 use crate::output::Buffer;
-use crate::documents::divide;
 use implib::{Error, Fault, Flavor, ImportLibrary, MachineType, Member};
 use std::alloc::{AllocError, AllocFailed, Global};
 

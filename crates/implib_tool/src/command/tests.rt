@@ -431,7 +431,7 @@ fn other_arguments_are_answered(rt: HostRuntime) -> Result<(), Fail> {
         "AMD64 msvc msvc",
     ] {
         let got = answered(rt.alloc(), arguments, BAR.as_bytes(), (ANY, 0), (ANY, 0))?;
-        assert_eq!(rt; got.status, 2, "{words}");
+        assert_eq!(rt; got.status, 2, "{arguments}");
         assert_eq!(rt; got.faults.as_str(), "usage: implib_tool MACHINE FLAVOUR\n");
     }
     Ok(())
