@@ -5,6 +5,7 @@
 mod bound;
 mod code;
 mod directory;
+mod expansion;
 mod file;
 mod image;
 mod object;
@@ -15,6 +16,7 @@ use bound::bound;
 pub use bound::given;
 use code::{ARMNT, I386, jump_reads, relocated};
 use directory::{Import, thunk_size};
+pub use expansion::{Expansion, expanded};
 pub use file::{File, Purpose, file_in};
 pub use image::{Bases, Image, Misplaced};
 pub use object::Flaw;
@@ -76,6 +78,32 @@ pub fn link<'a>(
     Ok(linked)
 }
 
+/// The same of objects, each with its file's name.
+pub fn link_objects<'a>(
+    alloc: Global,
+    objects: Vec<(&'a str, Object<'a>)>,
+    bases: Bases,
+) -> Result<Linked<'a>, Fail> {
+    let mut linked = place_objects(alloc, objects, bases)?;
+    if let Some(unlinked) = linked.refusal() {
+        return Err(Fail::from(unlinked));
+    }
+    linked.relocate()?;
+    Ok(linked)
+}
+
+/// The object in a file's bytes, or the one that a short import stands for.
+pub fn object_of<'a>(
+    alloc: Global,
+    file: &'a [u8],
+    expansion: &'a Option<Expansion>,
+) -> Result<Object<'a>, Fail> {
+    match expansion {
+        Some(expansion) => expansion.object(alloc),
+        None => object_in(alloc, file),
+    }
+}
+
 /// What is wrong with the relocations of the objects in such files.
 pub fn flaw(alloc: Global, files: &[(&str, &[u8])], bases: Bases) -> Result<Option<Flaw>, Fail> {
     Ok(place(alloc, files, bases)?.relocate().err())
@@ -90,38 +118,70 @@ pub fn refusal<'a>(
     Ok(place(alloc, files, bases)?.refusal())
 }
 
-/// Places the sections of the objects in such files, and relocates none. The null descriptor comes last.
+/// Places the sections of the objects in such files, and relocates none.
 fn place<'a>(
     alloc: Global,
     files: &[(&'a str, &'a [u8])],
     bases: Bases,
 ) -> Result<Linked<'a>, Fail> {
+    let mut objects = Vec::new(alloc);
+    for (name, bytes) in files {
+        objects.push((*name, object_in(alloc, *bytes)?))?;
+    }
+    place_objects(alloc, objects, bases)
+}
+
+/// The same of objects. What ends the import directory comes last.
+fn place_objects<'a>(
+    alloc: Global,
+    files: Vec<(&'a str, Object<'a>)>,
+    bases: Bases,
+) -> Result<Linked<'a>, Fail> {
     let mut image = Image::new(alloc, bases)?;
     let mut objects = Vec::new(alloc);
     let mut machine = 0;
-    for (name, bytes) in files {
-        let object = object_in(alloc, *bytes)?;
+    for (name, mut object) in files {
         if machine != 0 && machine != object.machine {
             return Err(Fail::new("objects are for two machines"));
         }
         machine = object.machine;
+        object.settle(alloc)?;
         let mut addresses = Vec::new(alloc);
         for section in object.sections.iter() {
             addresses.push(image.place(section)?)?;
         }
         objects.push(Placed {
-            name: *name,
+            name,
             object,
             addresses,
         })?;
     }
-    image.end_directory()?;
+    end_directory(&mut image, &mut objects)?;
     Ok(Linked {
         machine,
         directory: bases[0],
         objects,
         image,
     })
+}
+
+/// Ends the import directory: by the section `.idata$3` of an object, or else by the null descriptor that
+/// linkers bring.
+fn end_directory(image: &mut Image, objects: &mut Vec<Placed>) -> Result<(), Fail> {
+    let mut is_ended = false;
+    for placed in objects.iter_mut() {
+        let sections = placed.object.sections.iter();
+        for (section, address) in sections.zip(placed.addresses.iter_mut()) {
+            if section.name == ".idata$3" {
+                *address = image.end_directory(section.data)?;
+                is_ended = true;
+            }
+        }
+    }
+    if !is_ended {
+        image.end_directory(&[0; 20])?;
+    }
+    Ok(())
 }
 
 /// Relocates all sections of an object that are placed.

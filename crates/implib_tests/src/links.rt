@@ -1,7 +1,9 @@
-//! The members for GNU's linker, linked and loaded by rules that know nothing of how they are made.
+//! Members, linked and loaded by rules that know nothing of how they are made: those for GNU's linker, and in
+//! `msvc` those for Microsoft's.
 
 mod bound;
 mod loaded;
+mod msvc;
 mod others;
 mod refused;
 mod search;

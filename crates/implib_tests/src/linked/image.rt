@@ -113,14 +113,16 @@ impl Image {
         Ok(None)
     }
 
-    /// Appends the null descriptor, which ends the import directory: linkers bring it.
-    pub fn end_directory(&mut self) -> Result<(), AllocError> {
+    /// Appends what ends the import directory, and gives its address.
+    pub fn end_directory(&mut self, bytes: &[u8]) -> Result<Option<usize>, AllocError> {
         for group in self.groups.iter_mut() {
             if group.name == ".idata$2" {
-                group.bytes.extend_from_slice(&[0; 20])?;
+                let address = group.end();
+                group.bytes.extend_from_slice(bytes)?;
+                return Ok(Some(address));
             }
         }
-        Ok(())
+        Ok(None)
     }
 
     /// Why the bases do not serve.

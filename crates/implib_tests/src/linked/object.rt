@@ -45,7 +45,24 @@ pub struct Symbol<'a> {
     class: u8,
 }
 
+impl<'a> Symbol<'a> {
+    /// A symbol of value 0.
+    pub fn new(name: &'a str, section: u16, class: u8) -> Self {
+        Symbol {
+            name,
+            value: 0,
+            section,
+            class,
+        }
+    }
+}
+
 impl Symbol<'_> {
+    /// Whether it stands for the section of its name.
+    fn is_of_section(&self) -> bool {
+        self.class == 104 && self.section == 0
+    }
+
     /// Whether objects share it by its name.
     pub fn is_external(&self) -> bool {
         self.class == 2
@@ -73,6 +90,28 @@ impl Symbol<'_> {
 }
 
 impl<'a> Object<'a> {
+    /// An object without auxiliary records.
+    pub fn new(machine: u16, sections: Vec<Section<'a>>, symbols: Vec<Option<Symbol<'a>>>) -> Self {
+        Object {
+            machine,
+            sections,
+            symbols,
+            records: &[],
+        }
+    }
+
+    /// Puts each undefined symbol of class section into the section of its name; where there is none, into
+    /// one without bytes, aligned to 4.
+    pub fn settle(&mut self, alloc: Global) -> Result<(), Fail> {
+        for symbol in self.symbols.iter_mut().flatten() {
+            if symbol.is_of_section() {
+                let number = section_number(alloc, &mut self.sections, symbol.name)?;
+                *symbol = Symbol::new(symbol.name, number, 3);
+            }
+        }
+        Ok(())
+    }
+
     /// The symbol of an index.
     pub fn symbol(&self, index: usize) -> Result<Symbol<'a>, Flaw> {
         let symbol = self.symbols.get(index).copied().flatten();
@@ -104,6 +143,28 @@ impl<'a> Object<'a> {
             }
         }
         Ok(None)
+    }
+}
+
+/// The number of the section of a name, which is put behind the others where there is none.
+fn section_number<'a>(
+    alloc: Global,
+    sections: &mut Vec<Section<'a>>,
+    name: &'a str,
+) -> Result<u16, Fail> {
+    let index = sections.iter().position(|section| section.name == name);
+    if index.is_none() {
+        sections.push(Section {
+            name,
+            flags: 0xC030_0040,
+            data: &[],
+            relocations: Vec::new(alloc),
+        })?;
+    }
+    let before = index.unwrap_or(sections.len().saturating_sub(1));
+    match u16::try_from(before.saturating_add(1)) {
+        Ok(number) => Ok(number),
+        Err(_) => Err(Fail::new("an object has too many sections")),
     }
 }
 

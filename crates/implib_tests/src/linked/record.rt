@@ -8,7 +8,7 @@ use super::object::{Flaw, bytes_from, text_in, text_of, u16_at, usize_at};
 pub struct Record<'a> {
     pub machine: u16,
     pub dll: &'a str,
-    symbol: &'a str,
+    pub symbol: &'a str,
     ordinal: u16,
     types: u16,
 }
@@ -48,9 +48,14 @@ pub fn record_in(bytes: &[u8]) -> Result<Record<'_>, Flaw> {
 }
 
 impl<'a> Record<'a> {
+    /// The import type: 0 code, 1 data, 2 a constant.
+    pub fn import_type(&self) -> u16 {
+        self.types % 4
+    }
+
     /// Whether it declares a symbol: its own, but for data, and that of its address.
     pub fn declares(&self, symbol: &str) -> bool {
-        let is_data = self.types % 4 == 1;
+        let is_data = self.import_type() == 1;
         let address = symbol.strip_prefix("__imp_") == Some(self.symbol);
         address || !is_data && symbol == self.symbol
     }
