@@ -62,7 +62,7 @@ ClaimsNone names o = AllByRecursion (λ name. list_any (bytes_eq name) (claimed_
 abbrev pub linked_symbols : MachineType → List LinkInput → List (List ℕ)
 linked_symbols machine inputs = flat_map (λ m. m.symbols) (all_linked machine inputs)
 
--- What may be linked with the members of these parts, objects with the full names of their sections, as
+-- What may be linked with the members of these inputs, objects with the full names of their sections, as
 -- `object_by_full_names` reads them: the objects with import tables are the members and,
 -- behind them, the null descriptor; the others may stand anywhere before, between and behind, and claim
 -- none of the members' symbols; no two members are listed for one symbol; the bases are admissible.

@@ -48,9 +48,9 @@ ldr_immediate word = bits_of 10 12 word * 2 ^ bits_of 30 2 word
 abbrev pub with_ldr : ℕ → ℕ → ℕ
 with_ldr n word = with_bits 10 12 (n / 2 ^ bits_of 30 2 word) word
 
--- A word of code that a relocation of this type changes, at a place, for a target:
+-- A word of code that a relocation of this type changes, at an address, for a target:
 -- I386 type 6, the target's address; AMD64 type 4, the target relative to the byte behind the field; ARM64
--- type 4, the target's page relative to the place's, and type 7, the target's offset in its page.
+-- type 4, the target's page relative to its own, and type 7, the target's offset in its page.
 abbrev pub code_word : MachineType → ℕ → ℕ → ℕ → ℕ → ℕ → ℕ
 code_word I386 type image_base position target word =
     if type == i386_dir32 then (word + (image_base + target)) % 2 ^ 32 else word
@@ -66,7 +66,7 @@ code_word ARM64 type image_base position target word =
     with_ldr ((image_base + target + ldr_immediate word) % 4096) word
     else word
 
--- the code of a placed object's section that stands at a place, relocated
+-- the code of a placed object's section at an address, relocated
 abbrev pub code_relocated : MachineType → ℕ → List Placed → Placed → ℕ → List Relocation → List ℕ → List ℕ
 code_relocated machine image_base linked p position [] bytes = bytes
 code_relocated machine image_base linked p position (r ∷ relocations) bytes =

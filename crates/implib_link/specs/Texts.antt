@@ -42,7 +42,7 @@ pub record Stated : Type 0 where
   pub export : ExportView
   pub statement : Export
 
--- exports and what is stated of them, at one place each
+-- exports and what is stated of them, at one index each
 abbrev pub stated : List ExportView → List Export → List Stated
 stated [] statements = []
 stated (e ∷ exports) [] = []

@@ -1,6 +1,6 @@
 -- Programs of DLLs in both flavours, linked by hand: foo.dll by members for Microsoft's linker, with four
 -- exports chosen in an order of its own, and zed.dll by members for GNU's, with one, between a caller and
--- another object; and tables at a place where no loader finds them.
+-- another object; and tables at addresses where no loader finds them.
 use Rattle.std.specs.Prelude.{◌≡◌, ℕ, ◌+◌, List, [], ◌∷◌, ◌++◌, codes, drop, map, take, true, Option, Some}
 use Rattle.std.specs.List.{AllByRecursion}
 use Rattle.implib.specs.declared.members.Flavor.TheVariants.{Gnu, Msvc}

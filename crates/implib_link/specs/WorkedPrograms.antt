@@ -190,19 +190,19 @@ pub record WorkedPrograms : Type 0 where
   pub i386 : WorkedProgram I386 touching_4 expected_4
   pub armnt : WorkedProgram ARMNT touching_4 expected_4
 
--- the code of `open`, which is the fourth object's, at a place of an image at a base, relocated
+-- the code of `open`, which is the fourth object's, at an address of an image at a base, relocated
 abbrev pub open_code : MachineType → Bases → ℕ → ℕ → Option (List ℕ)
-open_code machine bases image_base place =
+open_code machine bases image_base position =
     option_and_then
     (λ p. option_map
-    (λ s. code_relocated machine image_base (program_placed machine bases) p place s.relocations s.bytes)
+    (λ s. code_relocated machine image_base (program_placed machine bases) p position s.relocations s.bytes)
     (slice_get p.object.sections 0))
     (slice_get (program_placed machine bases) 3)
 
 -- what its jump reads
 abbrev pub open_reads : MachineType → Bases → ℕ → ℕ → Option ℕ
-open_reads machine bases image_base place =
-    option_and_then (jump_reads machine (image_base + place)) (open_code machine bases image_base place)
+open_reads machine bases image_base position =
+    option_and_then (jump_reads machine (image_base + position)) (open_code machine bases image_base position)
 
 -- the stubs of `open` in code at 0x1000, its entry being at 0x80 or 0x60
 pub record WorkedStubs : Type 0 where

@@ -47,7 +47,7 @@ pub record Passes (old new : Buffered) (bytes : List ℕ) : Type 0 where
 abbrev pub member_views : {A : Type 0} → List (Vec Member A) → List (List MemberView)
 member_views lists = map (λ members. map member_view members.items) lists
 
--- the members of each part of the text, in order
+-- the members of each document of the text, in order
 pub record MembersOfDocuments (text : List ℕ) (machine : MachineType) (flavor : Flavor)
     (lists : List (List MemberView)) : Type 0 where
   pub documents : List (List ℕ)
@@ -70,7 +70,7 @@ OnDocumentFault text machine flavor Read = ⊥
 OnDocumentFault text machine flavor Write = ⊥
 OnDocumentFault text machine flavor OutOfMemory = Unit {0}
 
--- a part of the text is refused, or memory was
+-- a document of the text is refused, or memory was
 abbrev pub OnTextFault : List ℕ → MachineType → Flavor → RunError → Type 0
 OnTextFault text machine flavor (Refused fault) = FirstRefused text machine flavor (cause_of fault)
 OnTextFault text machine flavor NotUtf8 = ⊥

@@ -101,7 +101,7 @@ fn members_of(
     Ok(members)
 }
 
-// The members of the definition of each part of a text, document after document.
+// The members of the definition of each document of a text, one after another.
 fn members_of_documents(
     alloc: Global,
     text: &str,

@@ -259,11 +259,11 @@ fn put_section_headers(pass: &mut Pass, sections: &[Section])
 
 // Puts the header of a section whose data and relocations begin at an offset; virtual size, virtual
 // address and line numbers are 0.
-fn put_section_header(pass: &mut Pass, section: &Section, place: u32)
+fn put_section_header(pass: &mut Pass, section: &Section, offset: u32)
     requires room { 40 ≤ pass.old.left }
-    requires short { place + contents_size (section_view section.now) < 2 ^ 32 }
+    requires short { offset + contents_size (section_view section.now) < 2 ^ 32 }
     requires count { length section.now.relocations.items < 2 ^ 16 }
-    ensures puts { Puts pass.old pass.new (section_header place (section_view section.now)) }
+    ensures puts { Puts pass.old pass.new (section_header offset (section_view section.now)) }
     ensures left { pass.new.left + 40 ≡ pass.old.left }
 {
     let size = section.bytes.len() as u32;
@@ -272,8 +272,8 @@ fn put_section_header(pass: &mut Pass, section: &Section, place: u32)
     pass.put_u32(0);
     pass.put_u32(0);
     pass.put_u32(size);
-    pass.put_u32(place_or_zero(size as usize, place));
-    pass.put_u32(place_or_zero(relocations, place + size));
+    pass.put_u32(offset_or_zero(size as usize, offset));
+    pass.put_u32(offset_or_zero(relocations, offset + size));
     pass.put_u32(0);
     pass.put_u16(relocations as u16);
     pass.put_u16(0);
@@ -282,10 +282,10 @@ fn put_section_header(pass: &mut Pass, section: &Section, place: u32)
 
 // An offset, or 0 where there is nothing at it.
 #[tactic(auto, unfolding(crate::specs::Layout::pointer_or_zero))]
-fn place_or_zero(count: usize, place: u32) -> u32
-    ensures { result ≡ pointer_or_zero count place }
+fn offset_or_zero(count: usize, offset: u32) -> u32
+    ensures { result ≡ pointer_or_zero count offset }
 {
-    if count == 0 { 0 } else { place }
+    if count == 0 { 0 } else { offset }
 }
 
 // Puts the contents of each section.
