@@ -63,6 +63,7 @@ pub record FlavorTextsLink (machine : MachineType) (bases : Bases) (sources : Li
       (bases.descriptors + 20 * i)
       (bases.addresses + thunk_width machine * thunks_of i (map input_of sources)) s
 
+-- a text with its library, its members and the chosen exports, in a flavour
 abbrev pub flavor_source : Flavor → List ℕ → LibraryView → List MemberView → List ℕ → FlavorSource
 flavor_source flavor text library members chosen =
     record { flavor = flavor; source = source_of text library members chosen }
