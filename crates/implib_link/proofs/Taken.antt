@@ -155,7 +155,7 @@ wide_null_thunk machine b even = record {
 
 -- What stands at these positions.
 
--- a contribution without trivia before it, and what follows
+-- a contribution without a gap before it, and what follows
 step : (image : List Range) (a : ℕ) (bytes : List ℕ) (others : List Contribution) (n : ℕ) → length bytes ≡ n →
     BytesAt image a (filled a (record { address = a; bytes = bytes } ∷ others)) → BytesAt image a bytes × BytesAt image (a + n) (filled (a + n) others)
 step image a bytes others n long located =

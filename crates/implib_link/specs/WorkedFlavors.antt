@@ -170,7 +170,7 @@ abbrev pub shifted_bases : Bases
 shifted_bases = record flavor_bases_8 { lookups = 68 }
 
 -- Such bases are admissible, and yet no program's: the import descriptor leads to 68, where zeros fill the
--- trivia before the first thunk, and the eight bytes there are not the thunk. No strict loader takes that.
+-- gap before the first thunk, and the eight bytes there are not the thunk. No strict loader takes that.
 pub record RefusedTables : Type 0 where
   pub admissible : IsAdmissible AMD64 shifted_bases (flavor_objects AMD64 0)
   pub field : numbers_from (flavor_image AMD64 0 shifted_bases) 4 1 8 ≡ Some (68 ∷ [])

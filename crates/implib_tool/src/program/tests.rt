@@ -8,9 +8,9 @@ const ANY: usize = 1_000_000;
 
 const TEXT: &str = "LIBRARY foo.dll\nEXPORTS\nbar";
 
-// The first argument is no argument, whatever it is.
+// The first argument, which is the program's name, is passed over, whatever it is.
 #[test]
-fn arguments_but_the_first_are_arguments(rt: HostRuntime) -> Result<(), Fail> {
+fn arguments_but_the_first_are_taken(rt: HostRuntime) -> Result<(), Fail> {
     for (arguments, status, begin) in [
         ("", 0, "member foo.dll 358\n"),
         ("implib_tool", 0, "member foo.dll 358\n"),
