@@ -21,9 +21,9 @@ static int put(const char *bytes, size_t count) {
     return 1;
 }
 
-int main(int words, char **word) {
+int main(int given, char **arguments) {
     static const char digits[] = "0123456789abcdef";
-    unsigned long long left = words == 2 ? strtoull(word[1], 0, 10) : 0;
+    unsigned long long left = given == 2 ? strtoull(arguments[1], 0, 10) : 0;
     /* A buffer has whole lines, but for the last one: reads are filled up. */
     while (left > 0) {
         size_t wanted = left < IN ? (size_t)left : IN, count = 0;

@@ -82,7 +82,7 @@ struct answer {
     uint32_t status;
     size_t length;
     size_t place;
-    uint8_t *buffer; /* exactly as long as the call was told */
+    uint8_t *buffer; /* exactly as long as the call is given */
 };
 
 static int is_untouched(const uint8_t *bytes, size_t from, size_t to)
@@ -168,9 +168,9 @@ static void call_refused(struct call call, struct answer expected)
             free(answer.buffer);
             return;
         }
-        int is_told = answer.status == IMPLIB_OUT_OF_MEMORY && answer.length == 0 && answer.place == 0;
+        int is_reported = answer.status == IMPLIB_OUT_OF_MEMORY && answer.length == 0 && answer.place == 0;
         int is_other = answer.status == expected.status && answer.status >= IMPLIB_UNKNOWN_DIRECTIVE;
-        demand(is_told || is_other, "a failed allocation is not told");
+        demand(is_reported || is_other, "a failed allocation is not reported");
         demand(is_untouched(answer.buffer, 0, room), "a failed allocation changes the buffer");
         free(answer.buffer);
     }
@@ -300,9 +300,9 @@ static void run_text(uint32_t status)
     }
 }
 
-int main(int count, char *words[])
+int main(int count, char *arguments[])
 {
-    if (count == 2 && strcmp(words[1], "texts") == 0) {
+    if (count == 2 && strcmp(arguments[1], "texts") == 0) {
         for (uint32_t status = 0; status < 100; status++)
             run_text(status);
         return 0;

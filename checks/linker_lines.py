@@ -35,7 +35,7 @@ class Trial:
     libraries: tuple
     found: object
     directory: dict | None = None
-    # words for a linker; `{_}` is what stands in front of a symbol of C
+    # options of a linker; `{_}` is what is in front of a symbol of C
     options: dict = field(default_factory=dict)
 
 

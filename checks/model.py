@@ -4,7 +4,7 @@ code nor its specifications, and was then put into this shorter form by an autho
 the same answers to 6,000 texts. Definitions that are made by hand and members that are too long are
 not in it.
 
-`run` gives the status, the output and the line of a fault for an input and the program's words.
+`run` gives the status, the output and the line of a fault for an input and the program's arguments.
 Devices never fail here, and memory is ample.
 """
 import struct
@@ -89,7 +89,7 @@ def after_gap(text, place):
 
 
 def token_at(text, place):
-    """The token at a place that is neither in a gap nor at the end, and the place after it."""
+    """The token at a place that is neither in trivia nor at the end, and the place after it."""
     if text.startswith("==", place):
         return Token("EqualEqual", "=="), place + 2
     if text[place] == "=":
@@ -608,16 +608,16 @@ def parts_of(text):
     return parts
 
 
-def run(data, words):
-    words = words or ["AMD64", "msvc"]
-    if len(words) != 2 or words[0] not in MACHINES or words[1] not in FLAVOURS:
+def run(data, arguments):
+    arguments = arguments or ["AMD64", "msvc"]
+    if len(arguments) != 2 or arguments[0] not in MACHINES or arguments[1] not in FLAVOURS:
         return 2, b"", USAGE
     try:
         text = data.decode()
     except UnicodeDecodeError:
         return 1, b"", b"implib: input is not UTF-8\n"
     try:
-        lists = [listing(members_of(part, MACHINES[words[0]], words[1])) for part in parts_of(text)]
+        lists = [listing(members_of(part, MACHINES[arguments[0]], arguments[1])) for part in parts_of(text)]
     except Refused as fault:
         return 1, b"", f"implib: {fault}\n".encode()
     return 0, "".join(lists).encode(), b""

@@ -39,8 +39,8 @@ MARK = "sixteen letters:"
 def assembled(folder, machine, source, name="program"):
     """An object of this source."""
     text, made = tools.file_of(folder, f"{name}.s", source), os.path.join(folder, f"{name}.obj")
-    words = [f"-triple={TARGETS[machine].triple}", "-filetype=obj", text, "-o", made]
-    tools.done([tools.tool("llvm-mc"), *words])
+    flags = [f"-triple={TARGETS[machine].triple}", "-filetype=obj", text, "-o", made]
+    tools.done([tools.tool("llvm-mc"), *flags])
     return made
 
 
@@ -69,13 +69,13 @@ class Linker:
         are for lld-link alone."""
         target, image = TARGETS[self.machine], os.path.join(folder, "linked.exe")
         if self.kind == "lld-link":
-            words = [f"/machine:{target.lld_link}", "/entry:start", "/subsystem:console", "/nodefaultlib"]
-            words += [f"/out:{image}", *options]
+            flags = [f"/machine:{target.lld_link}", "/entry:start", "/subsystem:console", "/nodefaultlib"]
+            flags += [f"/out:{image}", *options]
         else:
-            words = ["-m", target.ld_lld] if self.kind == "ld.lld" else []
-            words += ["-e", f"{target.lead}start", "--subsystem", "console", "-o", image]
-        words = [self.command, *words, *files]
-        run = subprocess.run(words, capture_output=True, text=True, errors="replace")
+            flags = ["-m", target.ld_lld] if self.kind == "ld.lld" else []
+            flags += ["-e", f"{target.lead}start", "--subsystem", "console", "-o", image]
+        command = [self.command, *flags, *files]
+        run = subprocess.run(command, capture_output=True, text=True, errors="replace")
         said = (run.stderr + run.stdout).strip()
         if run.returncode != 0 or said:
             raise tools.Failed(f"{self.command}, status {run.returncode}: {said}")

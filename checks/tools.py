@@ -1,4 +1,4 @@
-"""What the checks share: their words, which tools there are, archives, and runs under Wine."""
+"""What the checks share: their options, which tools there are, archives, and runs under Wine."""
 import argparse
 import functools
 import os
@@ -22,18 +22,18 @@ class Failed(Exception):
 
 
 def arguments(description, **options):
-    """The words of a check: the program and, of each option, its number."""
+    """The options of a check: the program and, of each option, its number."""
     parser = argparse.ArgumentParser(
         description=description, formatter_class=argparse.RawDescriptionHelpFormatter
     )
     parser.add_argument("--program", default=PROGRAM, help="the built program; else the one of this clone")
     for name, (default, help_) in options.items():
         parser.add_argument(f"--{name}", type=int, default=default, help=f"{help_}; else {default}")
-    words = parser.parse_args()
-    words.program = os.path.abspath(words.program)
-    if not os.access(words.program, os.X_OK):
-        sys.exit(f"no {words.program}: `rt run < stdin` in crates/implib_tool builds it")
-    return words
+    options = parser.parse_args()
+    options.program = os.path.abspath(options.program)
+    if not os.access(options.program, os.X_OK):
+        sys.exit(f"no {options.program}: `rt run < stdin` in crates/implib_tool builds it")
+    return options
 
 
 @functools.cache
@@ -56,8 +56,8 @@ def tool(name):
 @functools.cache
 def version_of(command):
     """What a tool says its version is."""
-    told = subprocess.run([command, "--version"], capture_output=True, text=True).stdout
-    found = re.search(r"\d+\.\d+[.\d]*", told)
+    output = subprocess.run([command, "--version"], capture_output=True, text=True).stdout
+    found = re.search(r"\d+\.\d+[.\d]*", output)
     return found[0] if found else "of unknown version"
 
 
@@ -74,11 +74,11 @@ def missing(*names):
     return bool(lacking)
 
 
-def done(words, **more):
+def done(command, **more):
     """Runs a command, which has to succeed, and gives what it wrote."""
-    run = subprocess.run(words, capture_output=True, text=True, errors="replace", **more)
+    run = subprocess.run(command, capture_output=True, text=True, errors="replace", **more)
     if run.returncode != 0:
-        raise Failed(f"{words[0]}, status {run.returncode}: {(run.stderr + run.stdout).strip()}")
+        raise Failed(f"{command[0]}, status {run.returncode}: {(run.stderr + run.stdout).strip()}")
     return run.stdout
 
 
@@ -93,13 +93,13 @@ def file_of(folder, name, text):
 # ---- archives
 
 
-def packed(words, folder, name, machine, flavour, definition, archiver=None):
+def packed(options, folder, name, machine, flavour, definition, archiver=None):
     """The archive that `examples/pack` makes of a definition, in a folder of its own."""
     os.makedirs(os.path.join(folder, name))
     source = file_of(os.path.join(folder, name), "definition.def", definition)
     archive = os.path.join(folder, name, name)
     chosen = ["--archiver", archiver or tool("llvm-ar")]
-    done([PACK, "--program", words.program, *chosen, machine, flavour, source, archive])
+    done([PACK, "--program", options.program, *chosen, machine, flavour, source, archive])
     return archive
 
 
@@ -135,13 +135,13 @@ def wine_for(machine):
 @functools.cache
 def wine_version(wine):
     """What Wine says its name and version are."""
-    told = subprocess.run([wine, "--version"], capture_output=True, text=True).stdout.split()
-    return told[0] if told else "Wine of unknown version"
+    output = subprocess.run([wine, "--version"], capture_output=True, text=True).stdout.split()
+    return output[0] if output else "Wine of unknown version"
 
 
 def run_by_wine(wine, folder, image):
     """What a program writes under Wine, and its status. Wine keeps its own files in the folder."""
     environment = {**os.environ, "WINEPREFIX": os.path.join(folder, "wine"), "WINEDEBUG": "-all"}
-    words = {"stdout": subprocess.PIPE, "stderr": subprocess.DEVNULL}
-    ran = subprocess.run([wine, image], env=environment, **words)
+    pipes = {"stdout": subprocess.PIPE, "stderr": subprocess.DEVNULL}
+    ran = subprocess.run([wine, image], env=environment, **pipes)
     return ran.stdout.strip(), ran.returncode

@@ -15,7 +15,7 @@ use Rattle.implib.specs.NameRules.{asked_in}
 use Rattle.implib.specs.Msvc.{asked_by_short_import}
 use Rattle.implib.specs.Parses.{Parses}
 use Rattle.implib.specs.Renaming.{renamed, renamed_export, name_to_link}
-use Rattle.implib.proofs.Import.{ask_written-meant}
+use Rattle.implib.proofs.Import.{ask_written-expected}
 
 -- a name that has no underscore before it, or that is decorated, is asked for as it is
 kept : (begins has : Bool) (name : List ℕ) → begins ≡ false ⊎ has ≡ true → (if begins && not has then without_first name else name) ≡ name
@@ -49,27 +49,27 @@ linked_by_word : (machine : MachineType) (word : List ℕ) (target : Option (Lis
 linked_by_word machine word None = refl
 linked_by_word machine word (Some target) = refl
 
-pub meant_word : (machine : MachineType) (e : Export) → asked_name machine (renamed_export (export_meaning machine e)).name ≡ external_word e
-meant_word machine e = ap (asked_name machine) (linked_by_word machine e.word e.target) ∙ word_asked machine e.word
+pub expected_word : (machine : MachineType) (e : Export) → asked_name machine (renamed_export (export_meaning machine e)).name ≡ external_word e
+expected_word machine e = ap (asked_name machine) (linked_by_word machine e.word e.target) ∙ word_asked machine e.word
 
-name_asked_in : (no_name : Bool) (ordinal : ℕ) (written meant : List ℕ) → no_name ≡ false →
-    (if no_name then Ordinal ordinal else Name written ordinal) ≡ (if no_name then Ordinal ordinal else Name meant ordinal) → written ≡ meant
-name_asked_in true ordinal written meant by_name same = cc
-name_asked_in false ordinal written meant by_name same = cc
+name_asked_in : (no_name : Bool) (ordinal : ℕ) (written expected : List ℕ) → no_name ≡ false →
+    (if no_name then Ordinal ordinal else Name written ordinal) ≡ (if no_name then Ordinal ordinal else Name expected ordinal) → written ≡ expected
+name_asked_in true ordinal written expected by_name same = cc
+name_asked_in false ordinal written expected by_name same = cc
 
--- a record without a symbol name asks for what is meant
-asked_by_short_import-meant : (machine : MachineType) (e : ExportView) → e.symbol_name ≡ [] → e.no_name ≡ false → asked_by_short_import machine e ≡ asked_name machine e.name
-asked_by_short_import-meant machine e plain by_name =
-    name_asked_in e.no_name e.ordinal (asked_by_short_import machine e) (asked_name machine e.name) by_name (ask_written-meant machine e plain)
+-- a short import without a symbol name asks for what is expected
+asked_by_short_import-expected : (machine : MachineType) (e : ExportView) → e.symbol_name ≡ [] → e.no_name ≡ false → asked_by_short_import machine e ≡ asked_name machine e.name
+asked_by_short_import-expected machine e plain by_name =
+    name_asked_in e.no_name e.ordinal (asked_by_short_import machine e) (asked_name machine e.name) by_name (ask_written-expected machine e plain)
 
 -- in either flavour
 asked_in_each : (machine : MachineType) (e : Export) (flavor : Flavor) → (renamed_export (export_meaning machine e)).no_name ≡ false →
     asked_in flavor machine (renamed_export (export_meaning machine e)) ≡ external_word e
-asked_in_each machine e Msvc by_name = asked_by_short_import-meant machine (renamed_export (export_meaning machine e)) refl by_name ∙ meant_word machine e
-asked_in_each machine e Gnu by_name = meant_word machine e
+asked_in_each machine e Msvc by_name = asked_by_short_import-expected machine (renamed_export (export_meaning machine e)) refl by_name ∙ expected_word machine e
+asked_in_each machine e Gnu by_name = expected_word machine e
 
 asks_for_word : (machine : MachineType) (e : Export) → AsksFor machine (renamed_export (export_meaning machine e)) (external_word e)
-asks_for_word machine e = record { meant = λ by_name. meant_word machine e; in_each_flavor = asked_in_each machine e }
+asks_for_word machine e = record { expected = λ by_name. expected_word machine e; in_each_flavor = asked_in_each machine e }
 
 each_asks : (machine : MachineType) (exports : List Export) → EachAsksForItsWord machine (map renamed_export (map (export_meaning machine) exports)) exports
 each_asks machine [] = tt

@@ -1,4 +1,4 @@
--- The name that a record asks for.
+-- The name that a short import asks for.
 use Rattle.std.proofs.Common.{◌≡◌, ℕ, Bool, true, false, cond, List, length, take, Some, None, ap, nat_lt}
 use Rattle.std.specs.List.{position, position_or_len, before_first}
 
@@ -6,6 +6,6 @@ take_chosen : (b : Bool) (m n : ℕ) (xs : List ℕ) → cond b (Some m) None �
 take_chosen true m n xs found = let same : n ≡ m = cc in ap (λ k. take k xs) same
 take_chosen false m n xs found = cc
 
--- what stands before the position that passes is what stands before the first that passes
+-- what is before the position that passes is what is before the first that passes
 pub take_to_position : (p : ℕ → Bool) (xs : List ℕ) (n : ℕ) → position p xs ≡ Some n → take n xs ≡ before_first p xs
 take_to_position p xs n found = take_chosen (nat_lt (position_or_len p xs) (length xs)) (position_or_len p xs) n xs found

@@ -1,4 +1,4 @@
--- A descriptor that stands in an image leads a strict loader to its tables and to the DLL's name.
+-- A descriptor in an image leads a strict loader to its tables and to the DLL's name.
 use Rattle.std.proofs.Common.{◌≡◌, ℕ, ◌+◌, ◌%◌, ◌<◌, ◌^◌, List, [], ◌∷◌, ◌++◌, length, refl, arith, subst}
 use Rattle.std.specs.List.{AllByRecursion}
 use Rattle.std.proofs.lemmas.List.{length-append}

@@ -38,7 +38,7 @@ chosen : (t : Bool) (m n : ℕ) → cond t (Some m) None ≡ Some n → m ≡ n
 chosen true m n found = cc
 chosen false m n found = cc
 
--- up to its first full stop a name is its mangled name, and there an underscore stands in it
+-- up to its first full stop a name is its mangled name, and there the mangled name has an underscore
 pub mangled_name_first : (text : List ℕ) (n : ℕ) → position stops text ≡ Some n → mangled_name text ≡ take n text ++ underscore ∷ mangled_name (drop (n + 1) text)
 mangled_name_first text n found =
     let same : position_or_len stops text ≡ n = chosen (nat_lt (position_or_len stops text) (length text)) (position_or_len stops text) n found in
@@ -46,14 +46,14 @@ mangled_name_first text n found =
     subst (λ k. mangled_name text ≡ take n text ++ underscore ∷ mangled_name (drop k text)) (sym (add-one n))
     (subst (λ k. mangled_name text ≡ take k text ++ underscore ∷ mangled_name (drop (suc k) text)) same (mangled_name_to text (omega arith)))
 
--- where the first full stop is found, there stands one
+-- where the first full stop is found, there is one
 pub stop_located : (text : List ℕ) (n : ℕ) → position stops text ≡ Some n → (n < length text) × (get_or text n 0 < 128)
 stop_located text n found =
     let located = position-Some stops text n 0 found in
     let stop : get_or text n 0 ≡ full_stop = eqb-true (get_or text n 0) full_stop located.1 in
     (located.0, omega arith)
 
--- what stands before it, an underscore and the mangled name of what stands behind are the mangled name
+-- what is before it, an underscore and the mangled name of what is behind are the mangled name
 pub mangled_name_step : (out text : List ℕ) (n : ℕ) → position stops text ≡ Some n → ((out ++ slice_range text 0 n) ++ underscore ∷ []) ++ mangled_name (drop (n + 1) text) ≡ out ++ mangled_name text
 mangled_name_step out text n found =
     let whole : n - 0 ≡ n = omega arith in

@@ -279,7 +279,7 @@ module _ (machine : MachineType) (dll : List ℕ) (dll_free : holds 0 dll ≡ fa
       ∙ (ap (λ x. x ++ filter_map specified_code (numbered_specs machine dll (number + 1) exports)) (of_export_code number e)
       ∙ ap (λ x. expected_code machine e ∷ x) (numbered_code (number + 1) exports))
 
-  -- the imports and the aliases among what is meant
+  -- the imports and the aliases among what is expected
   one_import : (e : ExportView) → filter_map import_among (expected_meanings machine dll e) ≡ expected_import machine dll e ∷ []
   one_import e =
       filter_map-append import_among (map AnAlias (aliases_for e.name e.alias_target)) (AnImport (expected_import machine dll e) ∷ [])

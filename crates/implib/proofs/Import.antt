@@ -1,4 +1,4 @@
--- The import that an export's record stands for.
+-- The import that an export's short import stands for.
 use Rattle.std.proofs.Common.{◌≡◌, ℕ, ◌<◌, ◌≤◌, ◌^◌, Bool, true, false, if◌then◌else◌, nat_le, nat_lt, List, [], ◌∷◌, Some, refl, ap, arith}
 use Rattle.std.specs.Prelude.{◌==◌, bytes_eq}
 use Rattle.std.proofs.lemmas.Bool.Decides.{nat_tests}
@@ -8,8 +8,8 @@ use Rattle.implib.specs.declared.machine.MachineType.TheVariants.{I386, ARMNT, A
 use Rattle.implib.specs.Definition.{ExportView}
 use Rattle.implib.specs.Import.{Ordinal, Name, holds, begins_with, underscore, import_symbols, expected_import, expected_ask, asked_name, without_first}
 use Rattle.implib.specs.Machine.{machine_number}
-use Rattle.implib.specs.Msvc.{short_import_of, short_import_symbol, symbol_or_name, kind_of, name_type_of, short_import_listed}
-use Rattle.implib.specs.ReadBack.{FitsRecord, import_written, ask_written}
+use Rattle.implib.specs.Msvc.{short_import_of, short_import_symbol, symbol_or_name, import_type_of, name_type_of, short_import_listed}
+use Rattle.implib.specs.ReadBack.{FitsShortImport, import_written, ask_written}
 use Rattle.implib.specs.ShortImport.{ShortImport, import_of_short_import, asked_by_name_type, import_ordinal, import_name_undecorate, import_code, import_data, import_const, without_prefix}
 use Rattle.std.proofs.lemmas.Slice.Eq.{bytes_eq-Decides}
 
@@ -19,8 +19,8 @@ machine_number_fits ARMNT = omega arith
 machine_number_fits AMD64 = omega arith
 machine_number_fits ARM64 = omega arith
 
-kind_of_fits : (e : ExportView) → kind_of e ≤ import_const
-kind_of_fits e = grind arith
+import_type_of_fits : (e : ExportView) → import_type_of e ≤ import_const
+import_type_of_fits e = grind arith
 
 pub name_type_of_fits : (machine : MachineType) (e : ExportView) → name_type_of machine e ≤ import_name_undecorate
 name_type_of_fits machine e = grind arith
@@ -29,69 +29,69 @@ pub symbol_without_nul : (symbol name : List ℕ) → holds 0 symbol ≡ false �
 symbol_without_nul [] name symbol_free name_free = name_free
 symbol_without_nul (b ∷ symbol) name symbol_free name_free = symbol_free
 
--- the record of an export without NULs has room for its fields
-pub FitsRecord-short_import_of : (machine : MachineType) (dll : List ℕ) (e : ExportView) → holds 0 e.name ≡ false → holds 0 e.symbol_name ≡ false →
-    holds 0 dll ≡ false → nat_lt e.ordinal 0x1_0000 ≡ true → FitsRecord (short_import_of machine dll e)
-FitsRecord-short_import_of machine dll e name_free symbol_free dll_free ordinal = record {
+-- the short import of an export without NULs has room for its fields
+pub FitsShortImport-short_import_of : (machine : MachineType) (dll : List ℕ) (e : ExportView) → holds 0 e.name ≡ false → holds 0 e.symbol_name ≡ false →
+    holds 0 dll ≡ false → nat_lt e.ordinal 0x1_0000 ≡ true → FitsShortImport (short_import_of machine dll e)
+FitsShortImport-short_import_of machine dll e name_free symbol_free dll_free ordinal = record {
   version = omega arith;
   machine = machine_number_fits machine;
   time = omega arith;
   ordinal = ltb-true e.ordinal 0x1_0000 ordinal;
-  kind = omega (arith, kind_of_fits e);
+  import_type = omega (arith, import_type_of_fits e);
   name_type = omega (arith, name_type_of_fits machine e);
   symbol = symbol_without_nul e.symbol_name e.name symbol_free name_free;
   dll = dll_free;
 }
 
--- a record whose types have a meaning stands for the import that they say
-import_by_types : (r : ShortImport) (is_data no_name : Bool) → nat_le r.kind import_const ≡ true → nat_le r.name_type import_name_undecorate ≡ true →
-    (r.kind == import_data) ≡ is_data → (r.name_type == import_ordinal) ≡ no_name →
+-- a short import whose types have a meaning stands for the import that they say
+import_by_types : (r : ShortImport) (is_data no_name : Bool) → nat_le r.import_type import_const ≡ true → nat_le r.name_type import_name_undecorate ≡ true →
+    (r.import_type == import_data) ≡ is_data → (r.name_type == import_ordinal) ≡ no_name →
     import_of_short_import r ≡ Some record {
       dll = r.dll;
       declared = import_symbols is_data r.symbol;
       ask = if no_name then Ordinal r.ordinal else Name (asked_by_name_type r.name_type r.symbol) r.ordinal;
     }
-import_by_types r is_data no_name kind name_type data' ordinal = rw (kind, name_type, data', ordinal) refl
+import_by_types r is_data no_name import_type name_type data' ordinal = rw (import_type, name_type, data', ordinal) refl
 
-pub kind_is_data : (is_data constant : Bool) → ((if is_data then import_data else if constant then import_const else import_code) == import_data) ≡ is_data
-kind_is_data true constant = refl
-kind_is_data false true = refl
-kind_is_data false false = refl
+pub import_type_is_data : (is_data constant : Bool) → ((if is_data then import_data else if constant then import_const else import_code) == import_data) ≡ is_data
+import_type_is_data true constant = refl
+import_type_is_data false true = refl
+import_type_is_data false false = refl
 
 pub name_type_is_ordinal : (machine : MachineType) (e : ExportView) → (name_type_of machine e == import_ordinal) ≡ e.no_name
 name_type_is_ordinal machine e = grind (arith, nat_tests)
 
--- the import that the record of an export stands for
+-- the import that the short import of an export stands for
 pub import_of_short_import-short_import_of : (machine : MachineType) (dll : List ℕ) (e : ExportView) → import_of_short_import (short_import_of machine dll e) ≡ Some (import_written machine dll e)
 import_of_short_import-short_import_of machine dll e =
     import_by_types (short_import_of machine dll e) e.is_data e.no_name
-    (le-leb (kind_of e) import_const (kind_of_fits e))
+    (le-leb (import_type_of e) import_const (import_type_of_fits e))
     (le-leb (name_type_of machine e) import_name_undecorate (name_type_of_fits machine e))
-    (kind_is_data e.is_data e.constant)
+    (import_type_is_data e.is_data e.constant)
     (name_type_is_ordinal machine e)
 
 without_prefix-underscore : (name : List ℕ) → begins_with underscore name ≡ true → without_prefix name ≡ without_first name
 without_prefix-underscore [] begins = cc
 without_prefix-underscore (b ∷ name) begins = let same : b ≡ underscore = eqb-true b underscore begins in rw same refl
 
--- by its name type, the record of an export without a symbol name asks for what is meant
-asked-meant : (machine : MachineType) (e : ExportView) → e.symbol_name ≡ [] → e.no_name ≡ false → bytes_eq e.name e.name ≡ true →
+-- by its name type, the short import of an export without a symbol name asks for what is expected
+asked-expected : (machine : MachineType) (e : ExportView) → e.symbol_name ≡ [] → e.no_name ≡ false → bytes_eq e.name e.name ≡ true →
     asked_by_name_type (name_type_of machine e) (short_import_symbol e) ≡ asked_name machine e.name
-asked-meant machine e plain named same = grind (arith, nat_tests, without_prefix-underscore e.name, plain, named, same)
+asked-expected machine e plain named same = grind (arith, nat_tests, without_prefix-underscore e.name, plain, named, same)
 
-same_ask : (no_name : Bool) (ordinal : ℕ) (written meant : List ℕ) → (no_name ≡ false → written ≡ meant) →
-    (if no_name then Ordinal ordinal else Name written ordinal) ≡ (if no_name then Ordinal ordinal else Name meant ordinal)
-same_ask true ordinal written meant same = refl
-same_ask false ordinal written meant same = ap (λ x. Name x ordinal) (same refl)
+same_ask : (no_name : Bool) (ordinal : ℕ) (written expected : List ℕ) → (no_name ≡ false → written ≡ expected) →
+    (if no_name then Ordinal ordinal else Name written ordinal) ≡ (if no_name then Ordinal ordinal else Name expected ordinal)
+same_ask true ordinal written expected same = refl
+same_ask false ordinal written expected same = ap (λ x. Name x ordinal) (same refl)
 
 -- an export without a symbol name asks for what it means to ask for
-pub ask_written-meant : (machine : MachineType) (e : ExportView) → e.symbol_name ≡ [] → ask_written machine e ≡ expected_ask machine e
-ask_written-meant machine e plain =
-    same_ask e.no_name e.ordinal _ _ (λ named. asked-meant machine e plain named ((bytes_eq-Decides e.name e.name).1 refl))
+pub ask_written-expected : (machine : MachineType) (e : ExportView) → e.symbol_name ≡ [] → ask_written machine e ≡ expected_ask machine e
+ask_written-expected machine e plain =
+    same_ask e.no_name e.ordinal _ _ (λ named. asked-expected machine e plain named ((bytes_eq-Decides e.name e.name).1 refl))
 
--- and its record stands for the import that it means
-pub import_written-meant : (machine : MachineType) (dll : List ℕ) (e : ExportView) → e.symbol_name ≡ [] → import_written machine dll e ≡ expected_import machine dll e
-import_written-meant machine dll e plain =
+-- and its short import stands for the import that it means
+pub import_written-expected : (machine : MachineType) (dll : List ℕ) (e : ExportView) → e.symbol_name ≡ [] → import_written machine dll e ≡ expected_import machine dll e
+import_written-expected machine dll e plain =
     let listed : short_import_listed e ≡ import_symbols e.is_data e.name = ap (λ (s : List ℕ). import_symbols e.is_data (symbol_or_name s e.name)) plain in
-    let asks = ask_written-meant machine e plain in
+    let asks = ask_written-expected machine e plain in
     rw (listed, asks) refl

@@ -38,7 +38,7 @@ first_is k (b ∷ rest) positive e = ap (λ x. x ∷ rest) e
 pub TakesLexeme-comma : (text after : List ℕ) (at : ℕ) (token : TokenView) → text ≡ 44 ∷ drop 1 text → token ≡ record { kind = kind.Comma; value = take 1 text; at = at } → after ≡ drop 1 text → TakesLexeme text at token after
 TakesLexeme-comma text after at token e is rest = record {
   lexeme = CommaSign;
-  spelled = e ∙ ap (λ l. 44 ∷ l) (sym rest);
+  text_is = e ∙ ap (λ l. 44 ∷ l) (sym rest);
   located = tt;
   given = ap (λ t. t ∷ []) (ap (λ l. record { kind = kind.Comma; value = take 1 l; at = at }) (sym e) ∙ sym is);
 }
@@ -46,7 +46,7 @@ TakesLexeme-comma text after at token e is rest = record {
 pub TakesLexeme-equal : (text after : List ℕ) (at : ℕ) (token : TokenView) → text ≡ 61 ∷ drop 1 text → begins is_equal_sign (drop 1 text) ≡ false → token ≡ record { kind = kind.Equal; value = take 1 text; at = at } → after ≡ drop 1 text → TakesLexeme text at token after
 TakesLexeme-equal text after at token e alone is rest = record {
   lexeme = EqualSign;
-  spelled = e ∙ ap (λ l. 61 ∷ l) (sym rest);
+  text_is = e ∙ ap (λ l. 61 ∷ l) (sym rest);
   located = subst (λ l. begins is_equal_sign l ≡ false) (sym rest) alone;
   given = ap (λ t. t ∷ []) (ap (λ l. record { kind = kind.Equal; value = take 1 l; at = at }) (sym e) ∙ sym is);
 }
@@ -57,7 +57,7 @@ TakesLexeme-equals text after at token e again is rest =
     let left : after ≡ drop 1 (drop 1 text) = rest ∙ ap (drop 2) whole in
     record {
       lexeme = EqualSigns;
-      spelled = whole ∙ ap (λ l. 61 ∷ 61 ∷ l) (sym left);
+      text_is = whole ∙ ap (λ l. 61 ∷ 61 ∷ l) (sym left);
       located = tt;
       given = ap (λ t. t ∷ []) (ap (λ l. record { kind = kind.EqualEqual; value = take 2 l; at = at }) (sym whole) ∙ sym is);
     }
@@ -66,7 +66,7 @@ TakesLexeme-equals text after at token e again is rest =
 pub TakesLexeme-quoted : (text inside name after : List ℕ) (at : ℕ) (token : TokenView) → text ≡ 34 ∷ inside → inside ≡ name ++ (34 ∷ after) → ((i : ℕ) → i < length name → get_or name i 0 ≢ 34) → token ≡ record { kind = kind.Identifier; value = trim name; at = at + 1 + value_start name } → TakesLexeme text at token after
 TakesLexeme-quoted text inside name after at token e parts none is = record {
   lexeme = Quoted name;
-  spelled = e ∙ ap (λ l. 34 ∷ l) (parts ∙ sym (append_assoc name (34 ∷ []) after));
+  text_is = e ∙ ap (λ l. 34 ∷ l) (parts ∙ sym (append_assoc name (34 ∷ []) after));
   located = none_from_places is_quote name (λ k h. ne_eqb (get_or name k 0) 34 (none k h));
   given = ap (λ t. t ∷ []) (sym is);
 }
@@ -74,7 +74,7 @@ TakesLexeme-quoted text inside name after at token e parts none is = record {
 pub TakesLexeme-unclosed : (text inside after : List ℕ) (at : ℕ) (token : TokenView) → text ≡ 34 ∷ inside → ((i : ℕ) → i < length inside → get_or inside i 0 ≢ 34) → after ≡ [] → token ≡ record { kind = kind.Identifier; value = []; at = at + 1 } → TakesLexeme text at token after
 TakesLexeme-unclosed text inside after at token e none last is = record {
   lexeme = Unclosed inside;
-  spelled = e ∙ ap (λ l. 34 ∷ l) (sym (append-nil inside) ∙ ap (λ l. inside ++ l) (sym last));
+  text_is = e ∙ ap (λ l. 34 ∷ l) (sym (append-nil inside) ∙ ap (λ l. inside ++ l) (sym last));
   located = (none_from_places is_quote inside (λ k h. ne_eqb (get_or inside k 0) 34 (none k h)), last);
   given = ap (λ t. t ∷ []) (sym is);
 }
@@ -83,7 +83,7 @@ TakesLexeme-unclosed text inside after at token e none last is = record {
 record WordFront (text : List ℕ) : Type 0 where
   character : ℕ
   tail : List ℕ
-  spelled : text ≡ encode_utf8 character ++ tail
+  text_is : text ≡ encode_utf8 character ++ tail
   scalar : IsScalar character
   not_white : is_whitespace character ≡ false
   not_nul : character ≢ 0
@@ -107,7 +107,7 @@ word_front text starts =
     record {
       character = c;
       tail = tail;
-      spelled = shown.2;
+      text_is = shown.2;
       scalar = shown.3;
       not_white = dark;
       not_nul = λ e. starts.not_nul (byte (omega arith) ∙ e);
@@ -121,9 +121,9 @@ end_past_character text end front is_end =
     let c = front.character in
     ⊎_elim
     (λ (short : end < length (encode_utf8 c)).
-    let within : end < length text = omega (arith, ap length front.spelled, length-append (encode_utf8 c) front.tail) in
+    let within : end < length text = omega (arith, ap length front.text_is, length-append (encode_utf8 c) front.tail) in
     let stop : is_delimiter (get_or text end 0) ≡ true = is_end.stops within in
-    let same : c ≡ get_or text end 0 = inside_one c front.tail text end front.spelled short (delimiter_ascii (get_or text end 0) stop) in
+    let same : c ≡ get_or text end 0 = inside_one c front.tail text end front.text_is short (delimiter_ascii (get_or text end 0) stop) in
     let wrong : true ≡ false = sym stop ∙ ap is_delimiter (sym same) ∙ front.plain in
     absurd (true≢false wrong))
     (λ long. long)
@@ -143,16 +143,16 @@ TakesLexeme-word text run after value at end token starts is_end is_run is_after
     let size = length (encode_utf8 c) in
     let whole : end ≡ size + (end - size) = omega arith in
     let first : run ≡ encode_utf8 c ++ take (end - size) front.tail =
-    is_run ∙ ap (take end) front.spelled ∙ ap (λ n. take n (encode_utf8 c ++ front.tail)) whole ∙ take-append-add (encode_utf8 c) front.tail (end - size) in
+    is_run ∙ ap (take end) front.text_is ∙ ap (λ n. take n (encode_utf8 c ++ front.tail)) whole ∙ take-append-add (encode_utf8 c) front.tail (end - size) in
     let fits : length run ≡ end = ap length is_run ∙ length-take-le end text is_end.within in
     let none : NonePass is_delimiter run = none_from_places is_delimiter run (λ k h.
     let below : k < end = omega arith in
     ap is_delimiter (ap (λ l. get_or l k 0) is_run ∙ get_or-take end text k 0 below) ∙ is_end.none_before k (omega arith) below) in
     record {
       lexeme = Word run;
-      spelled = sym (take-append-drop end text) ∙ ap (λ l. l ++ drop end text) (sym is_run) ∙ ap (λ l. run ++ l) (sym is_after);
+      text_is = sym (take-append-drop end text) ∙ ap (λ l. l ++ drop end text) (sym is_run) ∙ ap (λ l. run ++ l) (sym is_after);
       located = (
-        record { character = c; tail = take (end - size) front.tail; spelled = first; scalar = front.scalar; not_white = front.not_white; not_nul = front.not_nul; not_quote = front.not_quote },
+        record { character = c; tail = take (end - size) front.tail; text_is = first; scalar = front.scalar; not_white = front.not_white; not_nul = front.not_nul; not_quote = front.not_quote },
         none,
         subst (λ l. (l ≡ []) ⊎ (begins is_delimiter l ≡ true)) (sym is_after) (stops_at_end text end is_end),
       );

@@ -29,7 +29,7 @@ use Rattle.implib.proofs.Thunks.{StrictTableAt, same_number}
 pub same_order : (n : ℕ) → n ≤ n
 same_order n = omega arith
 
--- the first contribution stands at its position, and the others after it
+-- the first contribution is at its position, and the others after it
 pub contribution_located : (image : List Range) (a : ℕ) (p : Contribution) (rest : List Contribution) → a ≤ p.address → BytesAt image a (filled a (p ∷ rest)) →
     BytesAt image p.address p.bytes × BytesAt image (p.address + length p.bytes) (filled (p.address + length p.bytes) rest)
 contribution_located image a p rest low located =
@@ -62,7 +62,7 @@ module _ (machine : MachineType) (dll : List ℕ) (linked : List Placed) where
   unfolding descriptor_linked head_object with_address u32_bytes u32_at
   descriptor_is b n is = rw (same_number machine, is) refl
 
-  -- where the DLL's name stands, and what is filled in after it
+  -- where the DLL's name is, and what is filled in after it
   name_located : (image : List Range) (es : List ExportView) (b : Bases) (rest : List Object) → AreAligned b →
       BytesAt image b.dll_names (filled b.dll_names (contributions machine linked DllNames (placed_from b (after_head machine dll es rest)))) →
       BytesAt image (next_multiple 4 (ends_of_exports machine dll b es).dll_names) (dll ++ 0 ∷ [])
@@ -195,7 +195,7 @@ pub record BlockLinks (machine : MachineType) (linked : List Placed) (image : Li
   pub strictly : LinksStrictlyAt machine image linked b.descriptors dll es
   pub addresses : strictly.loads.plain.addresses ≡ b.addresses
 
--- what is filled in from ends on stands in an image
+-- what is filled in from ends on is in an image
 pub record LocatedFrom (machine : MachineType) (linked : List Placed) (image : List Range) (b : Bases) (objects : List Object) : Type 0 where
   pub descriptors : BytesAt image b.descriptors (filled b.descriptors (contributions machine linked Descriptors (placed_from b objects)))
   pub lookups : BytesAt image b.lookups (filled b.lookups (contributions machine linked Lookups (placed_from b objects)))
@@ -357,7 +357,7 @@ module _ (machine : MachineType) (dll : List ℕ) (es : List ExportView) (b : Ba
       let plain : b.descriptors + 0 ≡ b.descriptors = omega arith in
       only _ (among_first _ _) ∙ ap (λ n. record { name = head_symbol machine dll; address = Some n } ∷ []) plain
 
-  -- the block's descriptor is the first, and its address table stands where the addresses begin
+  -- the block's descriptor is the first, and its address table is where the addresses begin
   pub block_links : BlockLinks machine linked image b dll es
   block_links = record {
     strictly = record {

@@ -88,7 +88,7 @@ pub record EachLinks (machine : MachineType) (linked : List Placed) (image : Lis
       AllByRecursion (AllFind linked) (placed_from b (blocks_objects machine blocks rest))
   pub located : LocatedFrom machine linked image (ends_of_blocks machine b blocks) rest
 
--- each block links, wherever it stands among all that is linked
+-- each block links, wherever it is among all that is linked
 module _ (machine : MachineType) (linked : List Placed) (image : List Range) (rest : List Object)
     (starts : AllByRecursion (λ r. 0 < r.start) image) (ends : AllByRecursion (λ r. range_end r < 2 ^ 31) image) where
   pub each_links : (blocks : List Block) (b : Bases) → AllByRecursion (CanBeLinked machine) blocks → AreAligned b →
@@ -110,7 +110,7 @@ module _ (machine : MachineType) (linked : List Placed) (image : List Range) (re
         located = others.located;
       }
 
--- objects that are placed admissibly stand in their image
+-- objects that are placed admissibly are in their image
 module _ (machine : MachineType) (b : Bases) (objects : List Object) (admissible : IsAdmissible machine b objects) where
   abbrev placed : List Placed
   placed = placed_from b objects

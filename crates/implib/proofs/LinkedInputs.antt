@@ -29,67 +29,67 @@ use Rattle.implib.proofs.Placement.{export, head, tail}
 abbrev pub block_of : LinkInput → Block
 block_of p = record { dll = p.definition.import_name; exports = chosen_exports p.definition p.chosen }
 
-pub parts_fit : (machine : MachineType) (ps : List LinkInput) → AllByRecursion (IsMade machine) ps → AllByRecursion (CanBeLinked machine) (map block_of ps)
-parts_fit machine [] are = tt
-parts_fit machine (p ∷ ps) are = (
+pub gnu_inputs_fit : (machine : MachineType) (ps : List LinkInput) → AllByRecursion (IsMade machine) ps → AllByRecursion (CanBeLinked machine) (map block_of ps)
+gnu_inputs_fit machine [] are = tt
+gnu_inputs_fit machine (p ∷ ps) are = (
   record {
     dll = dll_free p.definition machine p.members p.chosen are.0;
     exports = exports_fit p.definition machine p.members p.chosen are.0;
   },
-  parts_fit machine ps are.1,
+  gnu_inputs_fit machine ps are.1,
 )
 
-pub parts_objects : (machine : MachineType) (ps : List LinkInput) → AllByRecursion (IsMade machine) ps → objects_in (all_linked machine ps) ≡ blocks_objects machine (map block_of ps) []
-parts_objects machine [] are = refl
-parts_objects machine (p ∷ ps) are =
+pub gnu_inputs_objects : (machine : MachineType) (ps : List LinkInput) → AllByRecursion (IsMade machine) ps → objects_in (all_linked machine ps) ≡ blocks_objects machine (map block_of ps) []
+gnu_inputs_objects machine [] are = refl
+gnu_inputs_objects machine (p ∷ ps) are =
     let own : List MemberView = linked_members p.definition machine p.chosen in
     let dll : List ℕ = p.definition.import_name in
     filter_map-append (λ (m : MemberView). object_in m.bytes) own (all_linked machine ps)
     ∙ ap (λ objects. objects ++ objects_in (all_linked machine ps)) (objects_are p.definition machine p.members p.chosen are.0)
-    ∙ ap (λ rest. linked_objects machine dll (chosen_exports p.definition p.chosen) ++ rest) (parts_objects machine ps are.1)
+    ∙ ap (λ rest. linked_objects machine dll (chosen_exports p.definition p.chosen) ++ rest) (gnu_inputs_objects machine ps are.1)
     ∙ ap (λ rest. head machine dll ∷ rest)
     (append_assoc (map (export machine dll) (chosen_exports p.definition p.chosen)) (tail machine dll ∷ []) (blocks_objects machine (map block_of ps) []))
 
-pub parts_symbols : (machine : MachineType) (ps : List LinkInput) → AllByRecursion (IsMade machine) ps →
+pub gnu_inputs_symbols : (machine : MachineType) (ps : List LinkInput) → AllByRecursion (IsMade machine) ps →
     flat_map (λ (m : MemberView). m.symbols) (all_linked machine ps) ≡ flat_map (λ (k : Block). linked_symbols machine k.dll k.exports) (map block_of ps)
-parts_symbols machine [] are = refl
-parts_symbols machine (p ∷ ps) are =
+gnu_inputs_symbols machine [] are = refl
+gnu_inputs_symbols machine (p ∷ ps) are =
     flat_map-append (λ (m : MemberView). m.symbols) (linked_members p.definition machine p.chosen) (all_linked machine ps)
     ∙ ap (λ symbols. symbols ++ flat_map (λ (m : MemberView). m.symbols) (all_linked machine ps)) (symbols_are p.definition machine p.members p.chosen are.0)
-    ∙ ap (λ rest. linked_symbols machine p.definition.import_name (chosen_exports p.definition p.chosen) ++ rest) (parts_symbols machine ps are.1)
+    ∙ ap (λ rest. linked_symbols machine p.definition.import_name (chosen_exports p.definition p.chosen) ++ rest) (gnu_inputs_symbols machine ps are.1)
 
 pub all_of_map : {X Y : Type 0} (f : X → Y) (P : Y → Type 0) (xs : List X) → AllByRecursion P (map f xs) → AllByRecursion (λ x. P (f x)) xs
 all_of_map f P [] all = tt
 all_of_map f P (x ∷ xs) all = (all.0, all_of_map f P xs all.1)
 
-pub parts_linked : (machine : MachineType) (ps : List LinkInput) → AllByRecursion (IsMade machine) ps → AllByRecursion (IsLinked machine) ps
-parts_linked machine [] are = tt
-parts_linked machine (p ∷ ps) are = (
+pub gnu_inputs_linked : (machine : MachineType) (ps : List LinkInput) → AllByRecursion (IsMade machine) ps → AllByRecursion (IsLinked machine) ps
+gnu_inputs_linked machine [] are = tt
+gnu_inputs_linked machine (p ∷ ps) are = (
   record {
     from_members = members_among p.definition machine p.members p.chosen are.0;
     read = members_read p.definition machine p.members p.chosen are.0;
   },
-  parts_linked machine ps are.1,
+  gnu_inputs_linked machine ps are.1,
 )
 
-pub parts_link : (machine : MachineType) (bases : Bases) (ps : List LinkInput) → AllByRecursion (IsMade machine) ps →
+pub gnu_inputs_link : (machine : MachineType) (bases : Bases) (ps : List LinkInput) → AllByRecursion (IsMade machine) ps →
     IsDistinct bytes_eq (flat_map (λ (m : MemberView). m.symbols) (all_linked machine ps)) → IsAdmissible machine bases (objects_in (all_linked machine ps)) →
     AllLink machine bases ps (objects_in (all_linked machine ps))
-parts_link machine bases ps are distinct admissible =
+gnu_inputs_link machine bases ps are distinct admissible =
     let blocks : List Block = map block_of ps in
-    let linked = blocks_link machine bases blocks (parts_fit machine ps are) (subst (IsDistinct bytes_eq) (parts_symbols machine ps are) distinct)
-    (subst (IsAdmissible machine bases) (parts_objects machine ps are) admissible) in
-    subst (AllLink machine bases ps) (sym (parts_objects machine ps are)) (record {
-      linked = parts_linked machine ps are;
+    let linked = blocks_link machine bases blocks (gnu_inputs_fit machine ps are) (subst (IsDistinct bytes_eq) (gnu_inputs_symbols machine ps are) distinct)
+    (subst (IsAdmissible machine bases) (gnu_inputs_objects machine ps are) admissible) in
+    subst (AllLink machine bases ps) (sym (gnu_inputs_objects machine ps are)) (record {
+      linked = gnu_inputs_linked machine ps are;
       imports = all_of_map block_of
           (λ (k : Block). LinksAt machine (image_of machine bases (placed_from bases (blocks_objects machine blocks []))) (placed_from bases (blocks_objects machine blocks [])) k.dll k.exports)
           ps linked.0;
       defined = linked.1;
     })
 
-pub parts_made : (machine : MachineType) (ps : List LinkInput) → AllByRecursion (IsLinkInput machine) ps → AllByRecursion (IsMade machine) ps
-parts_made machine [] are = tt
-parts_made machine (p ∷ ps) are = (are.0.made, parts_made machine ps are.1)
+pub gnu_inputs_made : (machine : MachineType) (ps : List LinkInput) → AllByRecursion (IsLinkInput machine) ps → AllByRecursion (IsMade machine) ps
+gnu_inputs_made machine [] are = tt
+gnu_inputs_made machine (p ∷ ps) are = (are.0.made, gnu_inputs_made machine ps are.1)
 
 -- The order of the names of all parts.
 
@@ -140,21 +140,21 @@ rise_on (x ∷ y ∷ names) last next others rise before behind = (rise.0, rise_
 abbrev names_of : List MemberView → List (List ℕ)
 names_of members = map (λ (m : MemberView). m.name) members
 
-pub parts_rise : (machine : MachineType) (ps : List LinkInput) → AllByRecursion (IsLinkInput machine) ps → AllRise (map (λ (p : LinkInput). member_prefix p.definition) ps) →
+pub gnu_inputs_rise : (machine : MachineType) (ps : List LinkInput) → AllByRecursion (IsLinkInput machine) ps → AllRise (map (λ (p : LinkInput). member_prefix p.definition) ps) →
     NoneIsPrefix (map (λ (p : LinkInput). member_prefix p.definition) ps) → AllRise (names_of (all_linked machine ps))
 unfolding head_spec
-parts_rise machine [] are rise apart = tt
-parts_rise machine (p ∷ []) are rise apart =
+gnu_inputs_rise machine [] are rise apart = tt
+gnu_inputs_rise machine (p ∷ []) are rise apart =
     subst (λ members. AllRise (names_of members)) (sym (append-nil (linked_members p.definition machine p.chosen)))
     (members_rise p.definition machine p.members p.chosen are.0.made are.0.numbers are.0.in_order)
-parts_rise machine (p ∷ q ∷ ps) are rise apart =
+gnu_inputs_rise machine (p ∷ q ∷ ps) are rise apart =
     let dll : List ℕ = p.definition.import_name in
     let own : List (List ℕ) = head_name dll ∷ map (export_name dll) p.chosen in
     let named : names_of (linked_members p.definition machine p.chosen) ≡ own ++ tail_name dll ∷ [] =
     members_named p.definition machine p.members p.chosen are.0.made are.0.numbers in
     let own_rise : AllRise (own ++ tail_name dll ∷ []) =
     subst AllRise named (members_rise p.definition machine p.members p.chosen are.0.made are.0.numbers are.0.in_order) in
-    let behind = parts_rise machine (q ∷ ps) are.1 rise.1 apart.1 in
+    let behind = gnu_inputs_rise machine (q ∷ ps) are.1 rise.1 apart.1 in
     let joined : names_of (all_linked machine (p ∷ q ∷ ps)) ≡ (own ++ tail_name dll ∷ []) ++ names_of (all_linked machine (q ∷ ps)) =
     map-append (λ (m : MemberView). m.name) (linked_members p.definition machine p.chosen) (all_linked machine (q ∷ ps))
     ∙ ap (λ names. names ++ names_of (all_linked machine (q ∷ ps))) named in

@@ -64,7 +64,7 @@ among_map f x [] m = absurd m
 among_map f x (y ∷ xs) (inl e) = inl (ap f e)
 among_map f x (y ∷ xs) (inr m) = inr (among_map f x xs m)
 
--- nothing stands past the end
+-- nothing is past the end
 pub past_end : {X : Type 0} (xs : List X) (n : ℕ) → slice_get xs n ≡ None → length xs ≤ n
 past_end [] n is = omega arith
 past_end (x ∷ xs) zero is = cc
@@ -160,7 +160,7 @@ module _ (machine : MachineType) (dll : List ℕ) (exports : List ExportView) (d
   abbrev chosen_of : List ℕ → List ExportView
   chosen_of ns = filter_map (slice_get exports) ns
 
-  -- a fact of what stands at a position, from what it is
+  -- a fact of what is at a position, from what it is
   by_place : (P : Option ExportView → Type 0) (n : ℕ) (o : Option ExportView) → slice_get exports n ≡ o → (slice_get exports n ≡ None → P None) →
       ((e : ExportView) → slice_get exports n ≡ Some e → P (Some e)) → P o
   by_place P n None is none some = none is

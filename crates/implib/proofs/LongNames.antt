@@ -20,7 +20,7 @@ absent_step : (b any : Bool) (n m : ℕ) → (b || any) ≡ false → (any ≡ f
 absent_step true any n m absent rest = absurd (true≢false absent)
 absent_step false any n m absent rest = let e : n ≡ m = rest absent in omega (arith, e)
 
--- a name stands where it first stood, also where more names follow
+-- a name is where it was first, also where more names follow
 position-append : (p : List ℕ → Bool) (names more : List (List ℕ)) → list_any p names ≡ true → position_or_len p (names ++ more) ≡ position_or_len p names
 position-append p [] more there = absurd (false≢true there)
 position-append p (x ∷ names) more there =
@@ -36,7 +36,7 @@ position-push p [] name absent here = rw here refl
 position-push p (x ∷ names) name absent here =
     absent_step (p x) (list_any p names) (position_or_len p (names ++ name ∷ [])) (length names) absent (λ h. position-push p names name h here)
 
--- a name that is there stands below the number of names
+-- a name that is there is below the number of names
 pub position-below : (p : List ℕ → Bool) (names : List (List ℕ)) → list_any p names ≡ true → position_or_len p names < length names
 position-below p [] there = absurd (false≢true there)
 position-below p (x ∷ names) there = below_step (p x) (list_any p names) (position_or_len p names) (length names) there (λ h. position-below p names h)
@@ -79,7 +79,7 @@ position-with_name p names name there = elim (cases_Bool (list_any (bytes_eq nam
   | inr absent ↦ rw (with_name-absent names name absent) (position-append p names (name ∷ []) there)
 ]
 
--- the name that is added stands where it was looked for
+-- the name that is added is where it was looked for
 pub position-added : (names : List (List ℕ)) (name : List ℕ) → position_or_len (bytes_eq name) (with_name names name) ≡ position_or_len (bytes_eq name) names
 position-added names name = elim (cases_Bool (list_any (bytes_eq name) names)) [
   | inl present ↦ rw (with_name-present names name present) refl
@@ -146,7 +146,7 @@ unfolding symbol_written
 symbols_written-more names t [] all = refl
 symbols_written-more names t (s ∷ ss) all = rw (name_location-more names s t all.0, symbols_written-more names t ss all.1) refl
 
--- a name that is long stands where it was looked for, and a short one in its record
+-- a name that is long is where it was looked for, and a short one in its record
 
 pub name_location-long : (names : List (List ℕ)) (name : List ℕ) → is_long name ≡ true → name_location (with_long_name names name) name ≡ InStringTable (position_or_len (bytes_eq name) names)
 unfolding name_location

@@ -21,7 +21,7 @@ module _ {A : Type 0} (P : List TokenView → A → List TokenView → Type 0) (
   ItemRead tokens (None, rest) = (rest ≡ tokens) × N tokens
   ItemRead tokens (Some x, rest) = P tokens x rest
 
-  -- all items were read, and no other stands there
+  -- all items were read, and no other is there
   abbrev pub AllRead : List TokenView → List A × List TokenView → Type 0
   AllRead tokens items = Chain items.0 tokens items.1 × N items.1
 

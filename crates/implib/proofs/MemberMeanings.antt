@@ -24,7 +24,7 @@ use Rattle.implib.specs.Object.{u32_at}
 use Rattle.implib.specs.Layout.{entries_of, encoded, encoded_size, name_text, object_of}
 use Rattle.implib.specs.ReadBack.{MsvcReadBack, MatchesDefinition, MsvcReadings, file_of, has_no_symbol_names, import_among, alias_among, import_written, meanings_written}
 use Rattle.implib.specs.Renaming.{renamed, renamed_export}
-use Rattle.implib.proofs.Import.{import_of_short_import-short_import_of, import_written-meant, kind_is_data}
+use Rattle.implib.proofs.Import.{import_of_short_import-short_import_of, import_written-expected, import_type_is_data}
 use Rattle.implib.proofs.MemberReadings.{ReadsBack, machine_number_nonzero, object_reads, all_append, files_read, lengths_read, map_after, map_same, of_members, member_specs_read_back}
 use Rattle.implib.proofs.MsvcObjects.{Fits-weak_object}
 use Rattle.implib.proofs.NotRefused.{import_name_is_free}
@@ -44,8 +44,8 @@ pub weak_declares : (machine : MachineType) (dll weak target : List ℕ) → Dec
 unfolding weak_object object_of entries_of name_text
 weak_declares machine dll weak target = refl
 
-record_declares : (machine : MachineType) (dll : List ℕ) (e : ExportView) → DeclaresListed (short_import_spec machine dll e)
-record_declares machine dll e = ap (λ is_data. import_symbols is_data (short_import_symbol e)) (kind_is_data e.is_data e.constant)
+short_import_declares : (machine : MachineType) (dll : List ℕ) (e : ExportView) → DeclaresListed (short_import_spec machine dll e)
+short_import_declares machine dll e = ap (λ is_data. import_symbols is_data (short_import_symbol e)) (import_type_is_data e.is_data e.constant)
 
 chosen_declare : (machine : MachineType) (dll : List ℕ) (e : ExportView) (test : Bool) →
     AllByRecursion DeclaresListed (if test then weak_spec machine dll (short_import_symbol e) e.alias_target ∷ weak_spec machine dll (imp_symbol (short_import_symbol e)) (imp_symbol e.alias_target) ∷ [] else [])
@@ -58,7 +58,7 @@ unfolding weak_specs
 exports_declare machine dll [] = tt
 exports_declare machine dll (e ∷ exports) =
     all_append DeclaresListed (export_specs machine dll e) (flat_map (export_specs machine dll) exports)
-    (all_append DeclaresListed (weak_specs machine dll e) (short_import_spec machine dll e ∷ []) (chosen_declare machine dll e (is_alias e.alias_target (short_import_symbol e))) (record_declares machine dll e, tt))
+    (all_append DeclaresListed (weak_specs machine dll e) (short_import_spec machine dll e ∷ []) (chosen_declare machine dll e (is_alias e.alias_target (short_import_symbol e))) (short_import_declares machine dll e, tt))
     (exports_declare machine dll exports)
 
 pub read_declares : (specs : List MemberSpec) → AllByRecursion (λ p. ReadsBack p.contents) specs → AllByRecursion DeclaresListed specs →
@@ -67,7 +67,7 @@ read_declares [] reads declares = tt
 read_declares (p ∷ specs) reads declares =
     (ap (option_map declared_by) reads.0.read ∙ ap (λ listed. Some listed) declares.0, read_declares specs reads.1 declares.1)
 
--- What is meant.
+-- What is expected.
 
 pub weak_means : (machine : MachineType) (weak target : List ℕ) → meaning_of (file_of (AnObject (weak_object machine weak target))) ≡ Some (AnAlias (record { weak = weak; target = target }))
 unfolding weak_object object_of entries_of name_text u32_at u32_bytes
@@ -90,8 +90,8 @@ weak_bytes_mean machine weak target (Err error) weak_free target_free same short
 weak_bytes_mean machine weak target (Ok bytes) weak_free target_free same short =
     ap meaning_in same ∙ weak_object_means machine weak target weak_free target_free short
 
-record_means : (machine : MachineType) (dll : List ℕ) (e : ExportView) → meaning_of (file_of (AShortImport (short_import_of machine dll e))) ≡ Some (AnImport (import_written machine dll e))
-record_means machine dll e = ap (option_map AnImport) (import_of_short_import-short_import_of machine dll e)
+short_import_means : (machine : MachineType) (dll : List ℕ) (e : ExportView) → meaning_of (file_of (AShortImport (short_import_of machine dll e))) ≡ Some (AnImport (import_written machine dll e))
+short_import_means machine dll e = ap (option_map AnImport) (import_of_short_import-short_import_of machine dll e)
 
 chosen_mean : (machine : MachineType) (dll : List ℕ) (e : ExportView) (test : Bool) →
     map (λ (p : MemberSpec). meaning_of (file_of p.contents)) (if test then weak_spec machine dll (short_import_symbol e) e.alias_target ∷ weak_spec machine dll (imp_symbol (short_import_symbol e)) (imp_symbol e.alias_target) ∷ [] else [])
@@ -108,7 +108,7 @@ unfolding weak_specs
 export_means machine dll e =
     map-append (λ (p : MemberSpec). meaning_of (file_of p.contents)) (weak_specs machine dll e) (short_import_spec machine dll e ∷ [])
     ∙ (ap (λ x. x ++ meaning_of (file_of (AShortImport (short_import_of machine dll e))) ∷ []) (chosen_mean machine dll e (is_alias e.alias_target (short_import_symbol e)))
-    ∙ (ap (λ x. map (λ a. Some (AnAlias a)) (aliases_for (short_import_symbol e) e.alias_target) ++ x ∷ []) (record_means machine dll e)
+    ∙ (ap (λ x. map (λ a. Some (AnAlias a)) (aliases_for (short_import_symbol e) e.alias_target) ++ x ∷ []) (short_import_means machine dll e)
     ∙ sym (map-append (λ m. Some m) (map AnAlias (aliases_for (short_import_symbol e) e.alias_target)) (AnImport (import_written machine dll e) ∷ [])
     ∙ ap (λ x. x ++ Some (AnImport (import_written machine dll e)) ∷ []) (map_after (λ m. Some m) AnAlias (aliases_for (short_import_symbol e) e.alias_target)))))
 
@@ -137,7 +137,7 @@ import_of_export : (machine : MachineType) (dll : List ℕ) (e : ExportView) →
 import_of_export machine dll e plain =
     filter_map-append import_among (map AnAlias (aliases_for (short_import_symbol e) e.alias_target)) (AnImport (import_written machine dll e) ∷ [])
     ∙ (ap (λ x. x ++ import_written machine dll e ∷ []) (no_imports (aliases_for (short_import_symbol e) e.alias_target))
-    ∙ ap (λ x. x ∷ []) (import_written-meant machine dll e plain))
+    ∙ ap (λ x. x ∷ []) (import_written-expected machine dll e plain))
 
 -- the aliases among them
 aliases_of_export : (machine : MachineType) (dll : List ℕ) (e : ExportView) → e.symbol_name ≡ [] →
@@ -148,21 +148,21 @@ aliases_of_export machine dll e plain =
     ∙ (append-nil (aliases_for (short_import_symbol e) e.alias_target)
     ∙ ap (λ (s : List ℕ). aliases_for (symbol_or_name s e.name) e.alias_target) plain))
 
-imports_meant : (machine : MachineType) (dll : List ℕ) (exports : List ExportView) → AllByRecursion (λ e. e.symbol_name ≡ []) exports →
+imports_expected : (machine : MachineType) (dll : List ℕ) (exports : List ExportView) → AllByRecursion (λ e. e.symbol_name ≡ []) exports →
     filter_map import_among (flat_map (meanings_written machine dll) exports) ≡ map (expected_import machine dll) exports
-imports_meant machine dll [] plain = refl
-imports_meant machine dll (e ∷ exports) plain =
+imports_expected machine dll [] plain = refl
+imports_expected machine dll (e ∷ exports) plain =
     filter_map-append import_among (meanings_written machine dll e) (flat_map (meanings_written machine dll) exports)
     ∙ (ap (λ x. x ++ filter_map import_among (flat_map (meanings_written machine dll) exports)) (import_of_export machine dll e plain.0)
-    ∙ ap (λ x. expected_import machine dll e ∷ x) (imports_meant machine dll exports plain.1))
+    ∙ ap (λ x. expected_import machine dll e ∷ x) (imports_expected machine dll exports plain.1))
 
-aliases_meant : (machine : MachineType) (dll : List ℕ) (exports : List ExportView) → AllByRecursion (λ e. e.symbol_name ≡ []) exports →
+aliases_expected : (machine : MachineType) (dll : List ℕ) (exports : List ExportView) → AllByRecursion (λ e. e.symbol_name ≡ []) exports →
     filter_map alias_among (flat_map (meanings_written machine dll) exports) ≡ flat_map (λ e. aliases_for e.name e.alias_target) exports
-aliases_meant machine dll [] plain = refl
-aliases_meant machine dll (e ∷ exports) plain =
+aliases_expected machine dll [] plain = refl
+aliases_expected machine dll (e ∷ exports) plain =
     filter_map-append alias_among (meanings_written machine dll e) (flat_map (meanings_written machine dll) exports)
     ∙ (ap (λ x. x ++ filter_map alias_among (flat_map (meanings_written machine dll) exports)) (aliases_of_export machine dll e plain.0)
-    ∙ ap (λ x. aliases_for e.name e.alias_target ++ x) (aliases_meant machine dll exports plain.1))
+    ∙ ap (λ x. aliases_for e.name e.alias_target ++ x) (aliases_expected machine dll exports plain.1))
 
 empty_text : (text : List ℕ) → is_empty_text text ≡ true → text ≡ []
 empty_text [] empty = refl
@@ -237,15 +237,15 @@ module _ (d : DefinitionView) (machine : MachineType) (members : List MemberView
     meanings = meanings_read;
   }
 
-  pub means_what_is_meant : has_no_symbol_names d ≡ true → MatchesDefinition d machine members
-  means_what_is_meant plain =
+  pub matches_definition : has_no_symbol_names d ≡ true → MatchesDefinition d machine members
+  matches_definition plain =
       let exports = public_plain d.exports plain in
       record {
         meanings = flat_map (meanings_written machine d.import_name) (public_exports (renamed d));
         read = meanings_read;
-        imports = imports_meant machine d.import_name (public_exports (renamed d)) exports;
-        aliases = aliases_meant machine d.import_name (public_exports (renamed d)) exports;
+        imports = imports_expected machine d.import_name (public_exports (renamed d)) exports;
+        aliases = aliases_expected machine d.import_name (public_exports (renamed d)) exports;
       }
 
   pub reads_as_msvc : MsvcReadings d machine members
-  reads_as_msvc = record { files = reads_for_msvc; meant = means_what_is_meant }
+  reads_as_msvc = record { files = reads_for_msvc; matches = matches_definition }

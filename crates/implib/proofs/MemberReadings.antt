@@ -23,10 +23,10 @@ use Rattle.implib.specs.MsvcObjects.{descriptor, null_descriptor, null_thunk}
 use Rattle.implib.specs.WeakExternal.{weak_object}
 use Rattle.implib.specs.Object.{object_in, u16_at, u32_at}
 use Rattle.implib.specs.Layout.{ObjectLayout, Fits, encoded, encoded_size, header_bytes}
-use Rattle.implib.specs.ReadBack.{FitsRecord, file_of}
+use Rattle.implib.specs.ReadBack.{FitsShortImport, file_of}
 use Rattle.implib.specs.ShortImport.{ShortImport, is_short_import, short_import_from, short_import_header_size, short_import_in, text_in}
 use Rattle.implib.specs.Renaming.{renamed}
-use Rattle.implib.proofs.Import.{FitsRecord-short_import_of, symbol_without_nul}
+use Rattle.implib.proofs.Import.{FitsShortImport-short_import_of, symbol_without_nul}
 use Rattle.implib.proofs.MsvcObjects.{Fits-descriptor, Fits-null_descriptor, Fits-null_thunk, Fits-weak_object}
 use Rattle.implib.proofs.NotRefused.{Sound, exports_sound, import_name_is_free, none_long, short_enough}
 use Rattle.implib.proofs.ObjectReading.{length-encoded, object_in-encoded}
@@ -37,15 +37,15 @@ pub record ReadsBack (contents : Contents) : Type 0 where
   pub read : file_in (file_bytes contents) ≡ Some (file_of contents)
   pub length : length (file_bytes contents) ≡ file_size contents
 
-record_reads : (r : ShortImport) → FitsRecord r → short_import_size r ≤ 0xFFFF_FFFF → ReadsBack (AShortImport r)
-record_reads r fits short = record {
+short_import_reads : (r : ShortImport) → FitsShortImport r → short_import_size r ≤ 0xFFFF_FFFF → ReadsBack (AShortImport r)
+short_import_reads r fits short = record {
   read = ap (λ x. short_import_or_object x (object_in (short_import_bytes r))) (short_import_in-short_import_bytes r fits short);
   length = length-short_import_bytes r;
 }
 
-not_record : (a b c d : Bool) → b ≡ false → (((a && b) && c) && d) ≡ false
-not_record true b c d is = rw is refl
-not_record false b c d is = refl
+not_short_import : (a b c d : Bool) → b ≡ false → (((a && b) && c) && d) ≡ false
+not_short_import true b c d is = rw is refl
+not_short_import false b c d is = refl
 
 pub machine_number_nonzero : (machine : MachineType) → (machine_number machine == 0) ≡ false
 machine_number_nonzero I386 = refl
@@ -53,16 +53,16 @@ machine_number_nonzero ARMNT = refl
 machine_number_nonzero AMD64 = refl
 machine_number_nonzero ARM64 = refl
 
-no_record : (bytes : List ℕ) → is_short_import bytes ≡ false → short_import_in bytes ≡ None
+no_short_import : (bytes : List ℕ) → is_short_import bytes ≡ false → short_import_in bytes ≡ None
 unfolding short_import_in
-no_record bytes is = ap (λ test. if test then short_import_from bytes (text_in (drop short_import_header_size bytes)) else None) is
+no_short_import bytes is = ap (λ test. if test then short_import_from bytes (text_in (drop short_import_header_size bytes)) else None) is
 
 -- an object for a machine is no record: its first number is the machine's
-object_is_no_record : (p : ObjectLayout) → p.machine < 2 ^ 16 → (p.machine == 0) ≡ false → is_short_import (encoded p) ≡ false
+object_is_no_short_import : (p : ObjectLayout) → p.machine < 2 ^ 16 → (p.machine == 0) ≡ false → is_short_import (encoded p) ≡ false
 unfolding encoded header_bytes u16_at u16_bytes
-object_is_no_record p fits nonzero =
+object_is_no_short_import p fits nonzero =
     let first : (u16_at (encoded p) 0 == 0) ≡ false = ap (λ n. n == 0) (from_le_bytes-to_le_bytes_2 p.machine fits) ∙ nonzero in
-    not_record (nat_le short_import_header_size (length (encoded p))) (u16_at (encoded p) 0 == 0) (u16_at (encoded p) 2 == 0xFFFF)
+    not_short_import (nat_le short_import_header_size (length (encoded p))) (u16_at (encoded p) 0 == 0) (u16_at (encoded p) 2 == 0xFFFF)
     (u32_at (encoded p) 12 == length (encoded p) - short_import_header_size) first
 
 pub object_reads : (p : ObjectLayout) → Fits p → (p.machine == 0) ≡ false → encoded_size p ≤ 0xFFFF_FFFF → ReadsBack (AnObject p)
@@ -70,7 +70,7 @@ object_reads p fits nonzero short =
     let below : encoded_size p < 2 ^ 32 = omega arith in
     record {
       read =
-          ap (λ x. short_import_or_object x (object_in (encoded p))) (no_record (encoded p) (object_is_no_record p fits.machine nonzero))
+          ap (λ x. short_import_or_object x (object_in (encoded p))) (no_short_import (encoded p) (object_is_no_short_import p fits.machine nonzero))
           ∙ ap (option_map ObjectFile) (object_in-encoded p fits below);
       length = length-encoded p fits below;
     }
@@ -107,7 +107,7 @@ module _ (machine : MachineType) (dll : List ℕ) (dll_free : holds 0 dll ≡ fa
       let last = or_parts (is_too_long (short_import_spec machine dll e)) false parts.1 in
       all_append (λ p. ReadsBack p.contents) (weak_specs machine dll e) (short_import_spec machine dll e ∷ [])
       (weak_plans_read e sound (is_alias e.alias_target (short_import_symbol e)) parts.0)
-      (record_reads (short_import_of machine dll e) (FitsRecord-short_import_of machine dll e sound.name sound.symbol_name dll_free sound.ordinal) (short_enough (short_import_spec machine dll e) last.0), tt)
+      (short_import_reads (short_import_of machine dll e) (FitsShortImport-short_import_of machine dll e sound.name sound.symbol_name dll_free sound.ordinal) (short_enough (short_import_spec machine dll e) last.0), tt)
 
   exports_plans_read : (exports : List ExportView) → AllByRecursion Sound exports → list_any is_too_long (flat_map (export_specs machine dll) exports) ≡ false →
       AllByRecursion (λ p. ReadsBack p.contents) (flat_map (export_specs machine dll) exports)

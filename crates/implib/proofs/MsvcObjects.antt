@@ -70,7 +70,7 @@ relocation_fits machine offset index offset_fits index_fits = record { offset = 
 listed_fits : (strings : List (List ℕ)) (index section class : ℕ) → index < length strings → section < 2 ^ 16 → FitsSymbol strings (symbol (InStringTable index) section class)
 listed_fits strings index section class listed section_fits = record { name = listed; value = omega arith; section = section_fits; aux = tt }
 
--- a symbol whose name stands in its record
+-- a symbol whose name is in its record
 in_record_fits : (strings : List (List ℕ)) (name : List ℕ) (section class : ℕ) → 0 < length name → length name ≤ 8 → holds 0 name ≡ false → section < 2 ^ 16 →
     FitsSymbol strings (symbol (InRecord name) section class)
 in_record_fits strings name section class some few free section_fits =

@@ -28,7 +28,7 @@ unfolding entries_at
 auxiliary_symbol bytes position strings s fits aux count rest all below more long located aux_located others =
     rw (bytes_at-located 18 (length-record_bytes strings s fits) located, symbol_of-record strings s fits all below, record-auxiliary strings s fits, more, bytes_at-located 18 long aux_located, others) refl
 
--- where a symbol's bytes stand, its own record does, and then its auxiliary record
+-- where a symbol's bytes are, its own record is first, and then its auxiliary record
 
 symbol_parts : (bytes : List ℕ) (position : ℕ) (strings : List (List ℕ)) (s : LayoutSymbol) → LocatedAt bytes position (symbol_bytes (string_offsets strings) s) → LocatedAt bytes position (record_bytes strings s ++ auxiliary_bytes s.aux)
 symbol_parts bytes position strings s located = rw (symbol_bytes-parts strings s) at located

@@ -11,7 +11,7 @@ use Rattle.implib.specs.Parses.{Parses, Refuses, RefusesAt, InGrammar, IsIllForm
 use Rattle.implib.specs.TokenReader.{◌>>=◌, Refusal, refusal_of, statements_read, with_statements, definition_from, read}
 use Rattle.implib.specs.SyntaxError.{IsSyntaxError, IsSyntaxErrorAt, HasSyntaxError, unexpected_token}
 use Rattle.implib.specs.Token.{EndsInEof, Lexed, TokenView}
-use Rattle.implib.proofs.TokenReader.{Parses-from_read, Refuses-from_read, read-spelled, read-refused}
+use Rattle.implib.proofs.TokenReader.{Parses-from_read, Refuses-from_read, read-derived, read-refused}
 use Rattle.implib.proofs.TerminalsOfStatements.{sentence-read, broken-refused}
 use Rattle.implib.proofs.Token.{LexedOnce-of_text, Lexed-unique}
 
@@ -54,7 +54,7 @@ one_cause_of tokens cause other first second =
     ap (λ (r : Refusal). r.cause) (one_refusal_of tokens tokens cause other refl first second)
 
 either_read : (tokens : List TokenView) → EndsInEof tokens → (r : Result DefinitionView Refusal) → read AMD64 tokens ≡ r → IsSentence tokens ⊎ HasSyntaxError tokens
-either_read tokens ends (Ok d) e = let s = read-spelled AMD64 tokens d ends e in inl (s.statements, s.sentence)
+either_read tokens ends (Ok d) e = let s = read-derived AMD64 tokens d ends e in inl (s.statements, s.sentence)
 either_read tokens ends (Err refusal) e = inr (refusal.cause, (read-refused AMD64 tokens refusal ends e).error)
 
 pub either_of : (tokens : List TokenView) → EndsInEof tokens → IsSentence tokens ⊎ HasSyntaxError tokens

@@ -1,4 +1,4 @@
--- Where the bytes of ranges stand in an image.
+-- Where the bytes of ranges are in an image.
 use Rattle.std.proofs.Common.{◌≡◌, ℕ, ◌+◌, ◌-◌, ◌<◌, ◌≤◌, ◌^◌, true, List, [], ◌∷◌, ◌++◌, length, Some, refl, ap, sym, ◌∙◌, arith, subst, inl, inr, ◌⊎◌}
 use Rattle.std.specs.Prelude.{Bool, ◌&&◌, nat_le, nat_lt, slice_index}
 use Rattle.std.specs.List.{AllByRecursion, flat_map, list_all}
@@ -89,7 +89,7 @@ ends_below limit (r ∷ rs) h =
     let later = and_parts (list_all (λ later. nat_le (range_end r) later.start) rs) (rise_below limit rs) parts.1 in
     (ltb-true (range_end r) limit parts.0, ends_below limit rs later.1)
 
--- what a range holds from a position on stands there
+-- what a range holds from a position on is there
 rest_located : (r : Range) (ranges : List Range) → Among r ranges → AllApart ranges → (bytes front : List ℕ) (a : ℕ) →
     r.bytes ≡ front ++ bytes → a ≡ r.start + length front → BytesAt ranges a bytes
 unfolding BytesAt
@@ -106,7 +106,7 @@ rest_located r ranges m apart (b ∷ bytes) front a is at =
 pub range_located : (r : Range) (ranges : List Range) → Among r ranges → AllApart ranges → BytesAt ranges r.start r.bytes
 range_located r ranges m apart = rest_located r ranges m apart r.bytes [] r.start refl (omega arith)
 
--- the contributions of a range stand
+-- the contributions of a range are located
 pub filled_located : (base : ℕ) (ps : List Contribution) (ranges : List Range) → ((r : Range) → Among r (range_of base ps) → Among r ranges) → AllApart ranges →
     BytesAt ranges base (filled base ps)
 unfolding BytesAt
@@ -115,7 +115,7 @@ filled_located base (p ∷ ps) ranges sub apart =
     let r : Range = record { start = base; bytes = filled base (p ∷ ps) } in
     range_located r ranges (sub r (among_first r [])) apart
 
--- bytes that stand one after another
+-- bytes one after another
 pub located_parts : (ranges : List Range) (xs ys : List ℕ) (a : ℕ) → BytesAt ranges a (xs ++ ys) → BytesAt ranges a xs × BytesAt ranges (a + length xs) ys
 unfolding BytesAt
 located_parts ranges [] ys a located = (tt, subst (λ n. BytesAt ranges n ys) (omega arith) located)

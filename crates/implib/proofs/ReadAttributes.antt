@@ -1,4 +1,4 @@
--- What the readers give is spelled so, and what they refuse is refused by the grammar: attributes and exports.
+-- What the readers give is derived so, and what they refuse is refused by the grammar: attributes and exports.
 use Rattle.std.proofs.Common.{◌≡◌, ◌≢◌, ℕ, ◌<◌, ◌⊎◌, inl, inr, Bool, List, [], ◌∷◌, length, Option, Some, None, refl, sym, subst, ◌∙◌, arith}
 use Rattle.std.specs.Result.{MatchResult}
 use Rattle.std.specs.List.{flat_map}
@@ -53,7 +53,7 @@ ordinal_outcome (t ∷ rest) = ordinal_by_outcome t.kind t rest refl
 
 -- ---- attributes
 
--- an attribute that stands before what follows it
+-- an attribute before what follows it
 abbrev pub AttributeLocated : List TokenView → Attribute → List TokenView → Type 0
 AttributeLocated tokens a rest = StartsWith tokens (attribute_terminals a) rest × IsAfter (follow_attribute a) rest
 
@@ -101,16 +101,16 @@ unfolding attribute_read
 attribute_outcome [] = (refl, (tt, tt))
 attribute_outcome (t ∷ rest) = attribute_by_outcome t.kind t rest refl
 
-pub attribute_spelled : (a : Attribute) → 0 < length (attribute_terminals a)
-attribute_spelled (Joined n no_name) = omega arith
-attribute_spelled (Apart n no_name) = omega arith
-attribute_spelled Data = omega arith
-attribute_spelled Constant = omega arith
-attribute_spelled Private = omega arith
-attribute_spelled (Alias value) = omega arith
+pub attribute_nonempty : (a : Attribute) → 0 < length (attribute_terminals a)
+attribute_nonempty (Joined n no_name) = omega arith
+attribute_nonempty (Apart n no_name) = omega arith
+attribute_nonempty Data = omega arith
+attribute_nonempty Constant = omega arith
+attribute_nonempty Private = omega arith
+attribute_nonempty (Alias value) = omega arith
 
 pub attribute_shorter : (tokens : List TokenView) (a : Attribute) (rest : List TokenView) → AttributeLocated tokens a rest → length rest < length tokens
-attribute_shorter tokens a rest h = StartsWith-shorter tokens (attribute_terminals a) rest (attribute_spelled a) h.0
+attribute_shorter tokens a rest h = StartsWith-shorter tokens (attribute_terminals a) rest (attribute_nonempty a) h.0
 
 abbrev pub AttributesRead : List TokenView → List Attribute × List TokenView → Type 0
 AttributesRead tokens found = AllRead AttributeLocated NoAttribute tokens found

@@ -1,4 +1,4 @@
--- What the readers give is spelled so, and what they refuse is refused by the grammar: exports.
+-- What the readers give is derived so, and what they refuse is refused by the grammar: exports.
 use Rattle.std.proofs.Common.{◌≡◌, ℕ, ◌<◌, inl, inr, List, [], ◌∷◌, ◌++◌, length, Option, Some, None, refl, sym, subst, arith}
 use Rattle.std.specs.Result.{MatchResult}
 use Rattle.std.specs.List.{flat_map}

@@ -1,4 +1,4 @@
--- What the readers give is spelled so, and what they refuse is refused by the grammar: statements.
+-- What the readers give is derived so, and what they refuse is refused by the grammar: statements.
 use Rattle.std.proofs.Common.{◌≡◌, ◌≢◌, ℕ, ◌<◌, ◌⊎◌, inl, inr, List, [], ◌∷◌, ◌++◌, length, Option, refl, subst, arith}
 use Rattle.std.specs.Result.{MatchResult}
 use Rattle.implib.specs.declared.def.lexer.TokenKind.{TokenKind}
@@ -14,11 +14,11 @@ use Rattle.implib.proofs.ReadTerminals.{IsAfter-none, SizesRead, SizesCut, sizes
 use Rattle.implib.proofs.ReadExports.{Part, TargetPart, AliasPart, OrdinalPart, part_export, part_wanted, part_refused, ExportLocated, NoExport, ExportsRead, ExportsCut, exports_outcome, exports_then, exports_begin, exports_end}
 use Rattle.implib.proofs.TokenKinds.{none_at, not_at}
 
--- a statement that stands before what follows it
+-- a statement before what follows it
 abbrev pub StatementLocated : List TokenView → Statement → List TokenView → Type 0
 StatementLocated tokens s rest = StartsWith tokens (statement_terminals s) rest × IsAfter (follow s) rest
 
--- the end stands here
+-- the end is here
 abbrev pub NoStatement : List TokenView → Type 0
 NoStatement [] = Unit {0}
 NoStatement (t ∷ rest) = t.kind ≡ Eof
@@ -115,15 +115,15 @@ statement_outcome (t ∷ rest) = statement_by_outcome t.kind t rest refl
 
 -- ---- statements
 
-pub statement_spelled : (s : Statement) → 0 < length (statement_terminals s)
-statement_spelled (Exports items) = omega arith
-statement_spelled (Sizes region reserve commit) = omega arith
-statement_spelled Nameless = omega arith
-statement_spelled (Named name base) = omega arith
-statement_spelled (Version major minor) = omega arith
+pub statement_nonempty : (s : Statement) → 0 < length (statement_terminals s)
+statement_nonempty (Exports items) = omega arith
+statement_nonempty (Sizes region reserve commit) = omega arith
+statement_nonempty Nameless = omega arith
+statement_nonempty (Named name base) = omega arith
+statement_nonempty (Version major minor) = omega arith
 
 pub statement_shorter : (tokens : List TokenView) (s : Statement) (rest : List TokenView) → StatementLocated tokens s rest → length rest < length tokens
-statement_shorter tokens s rest h = StartsWith-shorter tokens (statement_terminals s) rest (statement_spelled s) h.0
+statement_shorter tokens s rest h = StartsWith-shorter tokens (statement_terminals s) rest (statement_nonempty s) h.0
 
 abbrev pub StatementsRead : List TokenView → List Statement × List TokenView → Type 0
 StatementsRead tokens found = AllRead StatementLocated NoStatement tokens found

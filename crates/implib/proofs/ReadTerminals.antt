@@ -1,4 +1,4 @@
--- What the readers give is spelled so, and what they refuse is refused by the grammar: words, sizes, names and versions.
+-- What the readers give is derived so, and what they refuse is refused by the grammar: words, sizes, names and versions.
 use Rattle.std.proofs.Common.{◌≡◌, ℕ, ◌⊎◌, inl, inr, List, [], ◌∷◌, ◌++◌, Option, Some, None, Ok, Err, refl, sym, ap, subst}
 use Rattle.std.specs.Result.{MatchResult}
 use Rattle.implib.specs.declared.def.lexer.TokenKind.{TokenKind}

@@ -41,7 +41,7 @@ lexemes_begin end offset (lexeme ∷ lexemes) rest le =
 
 tokens_begin : (text : List ℕ) (tokens : List TokenView) → Lexed text tokens → AllByRecursion (BeginsBy (length text)) tokens
 tokens_begin text tokens lexed =
-    let same = ap length lexed.divides.spelled in
+    let same = ap length lexed.divides.text_is in
     subst (AllByRecursion (BeginsBy (length text))) (sym lexed.given) (lexemes_begin (length text) 0 lexed.lexemes lexed.end (omega (arith, same)))
 
 -- what holds of all tokens holds of those that are left

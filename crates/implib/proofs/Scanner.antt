@@ -1,4 +1,4 @@
--- What stands at the front of a text is what the witness finds there.
+-- What is at the front of a text is what the witness finds there.
 use Rattle.std.proofs.Common.{◌≡◌, ◌≢◌, ℕ, zero, suc, ◌+◌, ◌<◌, ◌≤◌, Bool, true, false, eqb, ◌⊎◌, inl, inr, ⊎_elim, Some, None, List, [], ◌∷◌, ◌++◌, length, get_or, drop, refl, sym, ap, subst, ◌∙◌, arith, append_assoc, length-append}
 use Rattle.std.proofs.lemmas.Bool.{and_parts, cases_Bool, ne_eqb, eqb-true, false_from_ne_true}
 use Rattle.std.proofs.lemmas.Bool.Decides.{nat_tests, eqb_tells}
@@ -59,7 +59,7 @@ delimiter_starts_no_word run tail c k e none small stops same =
     let wrong : true ≡ false = sym stops ∙ ap is_delimiter (sym same) ∙ first.0 in
     cc
 
--- what stands at the front of a text is found there
+-- what is at the front of a text is found there
 pub first_lexeme_located : (lexeme : Lexeme) (after : List ℕ) → IsLexemeBefore lexeme after → IsUtf8 (lexeme_text lexeme ++ after) → first_lexeme (lexeme_text lexeme ++ after) ≡ Some lexeme
 first_lexeme_located (Blank c) after white utf8 =
     first_other (encode_utf8 c ++ after) after c refl (white_is_no c 0 white refl) (white_is_no c 59 white refl) (white_is_no c 61 white refl) (white_is_no c 44 white refl) (white_is_no c 34 white refl)
@@ -82,8 +82,8 @@ first_lexeme_located (Unclosed inside) after (none, last) utf8 =
 first_lexeme_located (Word run) after (starts, none, stops) utf8 =
     let c = starts.character in
     let e : run ++ after ≡ encode_utf8 c ++ (starts.tail ++ after) =
-    ap (λ l. l ++ after) starts.spelled ∙ append_assoc (encode_utf8 c) starts.tail after in
-    let none_is = λ (k : ℕ) (small : k < 128) (ends : is_delimiter k ≡ true). delimiter_starts_no_word run starts.tail c k starts.spelled none small ends in
+    ap (λ l. l ++ after) starts.text_is ∙ append_assoc (encode_utf8 c) starts.tail after in
+    let none_is = λ (k : ℕ) (small : k < 128) (ends : is_delimiter k ≡ true). delimiter_starts_no_word run starts.tail c k starts.text_is none small ends in
     first_other (run ++ after) (starts.tail ++ after) c e starts.not_nul (none_is 59 (omega arith) refl) (none_is 61 (omega arith) refl) (none_is 44 (omega arith) refl) starts.not_quote
     ∙ ap Some (other_word (run ++ after) (starts.tail ++ after) c utf8 e starts.not_white)
     ∙ ap (λ p. Some (Word p.0)) (cut_finds is_delimiter run after none stops)
@@ -94,18 +94,18 @@ first_lexeme_end [] ends = refl
 first_lexeme_end (b ∷ ignored) nul = rw nul refl
 
 -- each lexeme is at least a byte
-spelling_nonempty : (lexeme : Lexeme) (after : List ℕ) → IsLexemeBefore lexeme after → 0 < length (lexeme_text lexeme)
-spelling_nonempty (Blank c) after white = let bounds = len_utf8_bounds c in omega (arith, length-encode c, bounds.0)
-spelling_nonempty (Comment line) after none = omega arith
-spelling_nonempty (LastComment line) after none = omega arith
-spelling_nonempty EqualSign after alone = omega arith
-spelling_nonempty EqualSigns after holds = omega arith
-spelling_nonempty CommaSign after holds = omega arith
-spelling_nonempty (Quoted inside) after none = omega arith
-spelling_nonempty (Unclosed inside) after none = omega arith
-spelling_nonempty (Word run) after (starts, none, stops) =
+lexeme_nonempty : (lexeme : Lexeme) (after : List ℕ) → IsLexemeBefore lexeme after → 0 < length (lexeme_text lexeme)
+lexeme_nonempty (Blank c) after white = let bounds = len_utf8_bounds c in omega (arith, length-encode c, bounds.0)
+lexeme_nonempty (Comment line) after none = omega arith
+lexeme_nonempty (LastComment line) after none = omega arith
+lexeme_nonempty EqualSign after alone = omega arith
+lexeme_nonempty EqualSigns after holds = omega arith
+lexeme_nonempty CommaSign after holds = omega arith
+lexeme_nonempty (Quoted inside) after none = omega arith
+lexeme_nonempty (Unclosed inside) after none = omega arith
+lexeme_nonempty (Word run) after (starts, none, stops) =
     let bounds = len_utf8_bounds starts.character in
-    omega (arith, ap length starts.spelled, length-append (encode_utf8 starts.character) starts.tail, length-encode starts.character, bounds.0)
+    omega (arith, ap length starts.text_is, length-append (encode_utf8 starts.character) starts.tail, length-encode starts.character, bounds.0)
 
 -- what follows an ASCII byte is text
 utf8_after_ascii : (front after : List ℕ) (b : ℕ) → b < 128 → IsUtf8 (front ++ (b ∷ after)) → IsUtf8 after
@@ -164,16 +164,16 @@ lexemes_within_end (suc n) end ends = rw (first_lexeme_end end ends, lexemes_wit
 pub lexemes_within_division : (n : ℕ) (lexemes : List Lexeme) (end : List ℕ) → EachIsLexeme lexemes end → IsEnd end → IsUtf8 (text_of lexemes end) → length (text_of lexemes end) ≤ n → lexemes_within n (text_of lexemes end) ≡ lexemes
 lexemes_within_division n [] end are_located ends utf8 fits = lexemes_within_end n end ends
 lexemes_within_division zero (lexeme ∷ lexemes) end are_located ends utf8 fits =
-    absurd (omega (arith, length-append (lexeme_text lexeme) (text_of lexemes end), spelling_nonempty lexeme (text_of lexemes end) are_located.0))
+    absurd (omega (arith, length-append (lexeme_text lexeme) (text_of lexemes end), lexeme_nonempty lexeme (text_of lexemes end) are_located.0))
 lexemes_within_division (suc n) (lexeme ∷ lexemes) end are_located ends utf8 fits =
     let after = text_of lexemes end in
-    let shorter : length after ≤ n = omega (arith, length-append (lexeme_text lexeme) after, spelling_nonempty lexeme after are_located.0) in
+    let shorter : length after ≤ n = omega (arith, length-append (lexeme_text lexeme) after, lexeme_nonempty lexeme after are_located.0) in
     lexemes_within_lexeme n lexeme after are_located.0 utf8
     ∙ ap (λ l. lexeme ∷ l) (lexemes_within_division n lexemes end are_located.1 ends (utf8_after_lexeme lexeme after are_located.0 utf8) shorter)
 
 -- what `cut_before` gives: the front has no byte that passes, and what follows begins with one, if it is not empty
 record IsCut (test : ℕ → Bool) (text front after : List ℕ) : Type 0 where
-  spelled : text ≡ front ++ after
+  text_is : text ≡ front ++ after
   none : NonePass test front
   stops : StopsAt test after
 
@@ -181,18 +181,18 @@ abbrev CutGives : (ℕ → Bool) → List ℕ → Type 0
 CutGives test text = IsCut test text (cut_before test text).0 (cut_before test text).1
 
 cut_step : (test : ℕ → Bool) (b : ℕ) (rest : List ℕ) (holds : Bool) → test b ≡ holds → CutGives test rest → CutGives test (b ∷ rest)
-cut_step test b rest true passes cut = rw passes (record { spelled = refl; none = tt; stops = inr passes })
-cut_step test b rest false fails cut = rw fails (record { spelled = ap (λ l. b ∷ l) cut.spelled; none = (fails, cut.none); stops = cut.stops })
+cut_step test b rest true passes cut = rw passes (record { text_is = refl; none = tt; stops = inr passes })
+cut_step test b rest false fails cut = rw fails (record { text_is = ap (λ l. b ∷ l) cut.text_is; none = (fails, cut.none); stops = cut.stops })
 
 cut_gives : (test : ℕ → Bool) (text : List ℕ) → CutGives test text
-cut_gives test [] = record { spelled = refl; none = tt; stops = inl refl }
+cut_gives test [] = record { text_is = refl; none = tt; stops = inl refl }
 cut_gives test (b ∷ rest) = cut_step test b rest (test b) refl (cut_gives test rest)
 
 -- a lexeme at the front of a text
 pub record Front (text : List ℕ) : Type 0 where
   pub lexeme : Lexeme
   pub after : List ℕ
-  pub spelled : text ≡ lexeme_text lexeme ++ after
+  pub text_is : text ≡ lexeme_text lexeme ++ after
   pub located : IsLexemeBefore lexeme after
 
 abbrev EndOrFront : List ℕ → Type 0
@@ -202,7 +202,7 @@ front_comment : (rest line after : List ℕ) → IsCut is_line_feed rest line af
 front_comment rest line [] cut = record {
   lexeme = LastComment line;
   after = [];
-  spelled = ap (λ l. 59 ∷ l) cut.spelled;
+  text_is = ap (λ l. 59 ∷ l) cut.text_is;
   located = (cut.none, refl);
 }
 front_comment rest line (b ∷ after) cut =
@@ -213,7 +213,7 @@ front_comment rest line (b ∷ after) cut =
           record {
             lexeme = Comment line;
             after = after;
-            spelled = ap (λ l. 59 ∷ l) (cut.spelled ∙ ap (λ c. line ++ (c ∷ after)) is_feed ∙ sym (append_assoc line (10 ∷ []) after));
+            text_is = ap (λ l. 59 ∷ l) (cut.text_is ∙ ap (λ c. line ++ (c ∷ after)) is_feed ∙ sym (append_assoc line (10 ∷ []) after));
             located = cut.none;
           }
     ]
@@ -222,7 +222,7 @@ front_quote : (rest inside after : List ℕ) → IsCut is_quote rest inside afte
 front_quote rest inside [] cut = record {
   lexeme = Unclosed inside;
   after = [];
-  spelled = ap (λ l. 34 ∷ l) cut.spelled;
+  text_is = ap (λ l. 34 ∷ l) cut.text_is;
   located = (cut.none, refl);
 }
 front_quote rest inside (b ∷ after) cut =
@@ -233,18 +233,18 @@ front_quote rest inside (b ∷ after) cut =
           record {
             lexeme = Quoted inside;
             after = after;
-            spelled = ap (λ l. 34 ∷ l) (cut.spelled ∙ ap (λ c. inside ++ (c ∷ after)) is_mark ∙ sym (append_assoc inside (34 ∷ []) after));
+            text_is = ap (λ l. 34 ∷ l) (cut.text_is ∙ ap (λ c. inside ++ (c ∷ after)) is_mark ∙ sym (append_assoc inside (34 ∷ []) after));
             located = cut.none;
           }
     ]
 
 front_equal : (rest : List ℕ) (two : Bool) → begins is_equal_sign rest ≡ two → Front (61 ∷ rest)
-front_equal rest false alone = record { lexeme = EqualSign; after = rest; spelled = refl; located = alone }
+front_equal rest false alone = record { lexeme = EqualSign; after = rest; text_is = refl; located = alone }
 front_equal [] true sign = cc
 front_equal (b ∷ rest) true sign = record {
   lexeme = EqualSigns;
   after = rest;
-  spelled = ap (λ c. 61 ∷ c ∷ rest) (eqb-true b 61 sign);
+  text_is = ap (λ c. 61 ∷ c ∷ rest) (eqb-true b 61 sign);
   located = tt;
 }
 
@@ -276,9 +276,9 @@ front_word c rest is_scalar dark n0 n34 plain =
     record {
       lexeme = Word (encode_utf8 c ++ tail);
       after = after;
-      spelled = ap (λ l. encode_utf8 c ++ l) cut.spelled ∙ sym (append_assoc (encode_utf8 c) tail after);
+      text_is = ap (λ l. encode_utf8 c ++ l) cut.text_is ∙ sym (append_assoc (encode_utf8 c) tail after);
       located = (
-        record { character = c; tail = tail; spelled = refl; scalar = is_scalar; not_white = dark; not_nul = n0; not_quote = n34 },
+        record { character = c; tail = tail; text_is = refl; scalar = is_scalar; not_white = dark; not_nul = n0; not_quote = n34 },
         none_append is_delimiter (encode_utf8 c) tail (none_in_character c plain) cut.none,
         cut.stops,
       );
@@ -287,7 +287,7 @@ front_word c rest is_scalar dark n0 n34 plain =
 front_character : (c : ℕ) (rest : List ℕ) → IsScalar c → c ≢ 0 → c ≢ 59 → c ≢ 61 → c ≢ 44 → c ≢ 34 → Front (encode_utf8 c ++ rest)
 front_character c rest is_scalar n0 n59 n61 n44 n34 =
     ⊎_elim
-    (λ white. record { lexeme = Blank c; after = rest; spelled = refl; located = white })
+    (λ white. record { lexeme = Blank c; after = rest; text_is = refl; located = white })
     (λ dark. front_word c rest is_scalar dark n0 n34 (no_delimiter c dark n59 n61 n44))
     (cases_Bool (is_whitespace c))
 
@@ -305,7 +305,7 @@ front_byte b rest utf8 =
     ⊎_elim (at 0 (inl refl)) (λ n0.
     ⊎_elim (at 59 (inr (front_comment rest _ _ (cut_gives is_line_feed rest)))) (λ n59.
     ⊎_elim (at 61 (inr (front_equal rest (begins is_equal_sign rest) refl))) (λ n61.
-    ⊎_elim (at 44 (inr (record { lexeme = CommaSign; after = rest; spelled = refl; located = tt }))) (λ n44.
+    ⊎_elim (at 44 (inr (record { lexeme = CommaSign; after = rest; text_is = refl; located = tt }))) (λ n44.
     ⊎_elim (at 34 (inr (front_quote rest _ _ (cut_gives is_quote rest)))) (λ n34.
     inr (front_other b rest utf8.0 utf8.1.0 utf8.1.1 n0.1 n59.1 n61.1 n44.1 n34.1))
     (eqb_tells b 34)) (eqb_tells b 44)) (eqb_tells b 61)) (eqb_tells b 59)) (eqb_tells b 0)
@@ -321,16 +321,16 @@ pub record Division (text : List ℕ) : Type 0 where
   pub divides : Divides text lexemes end
 
 abbrev ends_here : (text : List ℕ) → IsEnd text → Division text
-ends_here text ends = record { lexemes = []; end = text; divides = record { spelled = refl; each_is_lexeme = tt; ends = ends } }
+ends_here text ends = record { lexemes = []; end = text; divides = record { text_is = refl; each_is_lexeme = tt; ends = ends } }
 
 division_after : (text : List ℕ) (front : Front text) → Division front.after → Division text
 division_after text front rest =
-    let same = rest.divides.spelled in
+    let same = rest.divides.text_is in
     record {
       lexemes = front.lexeme ∷ rest.lexemes;
       end = rest.end;
       divides = record {
-        spelled = front.spelled ∙ ap (λ l. lexeme_text front.lexeme ++ l) same;
+        text_is = front.text_is ∙ ap (λ l. lexeme_text front.lexeme ++ l) same;
         each_is_lexeme = (subst (IsLexemeBefore front.lexeme) same front.located, rest.divides.each_is_lexeme);
         ends = rest.divides.ends;
       };
@@ -342,9 +342,9 @@ division_within zero (b ∷ rest) utf8 fits = absurd (omega arith)
 division_within (suc n) text utf8 fits = ⊎_elim
     (λ ends. ends_here text ends)
     (λ (front : Front text).
-    let nonempty = spelling_nonempty front.lexeme front.after front.located in
-    let shorter : length front.after ≤ n = omega (arith, ap length front.spelled, length-append (lexeme_text front.lexeme) front.after, nonempty) in
-    division_after text front (division_within n front.after (utf8_after_lexeme front.lexeme front.after front.located (subst IsUtf8 front.spelled utf8)) shorter))
+    let nonempty = lexeme_nonempty front.lexeme front.after front.located in
+    let shorter : length front.after ≤ n = omega (arith, ap length front.text_is, length-append (lexeme_text front.lexeme) front.after, nonempty) in
+    division_after text front (division_within n front.after (utf8_after_lexeme front.lexeme front.after front.located (subst IsUtf8 front.text_is utf8)) shorter))
     (front_of text utf8)
 
 -- each text has a division
@@ -354,5 +354,5 @@ division text utf8 = division_within (length text) text utf8 (omega arith)
 -- and it is the witness's
 pub Divides-lexemes_in : (text : List ℕ) (lexemes : List Lexeme) (end : List ℕ) → IsUtf8 text → Divides text lexemes end → lexemes_in text ≡ lexemes
 Divides-lexemes_in text lexemes end utf8 d =
-    ap (λ l. lexemes_in l) d.spelled
-    ∙ lexemes_within_division (length (text_of lexemes end)) lexemes end d.each_is_lexeme d.ends (subst IsUtf8 d.spelled utf8) (omega arith)
+    ap (λ l. lexemes_in l) d.text_is
+    ∙ lexemes_within_division (length (text_of lexemes end)) lexemes end d.each_is_lexeme d.ends (subst IsUtf8 d.text_is utf8) (omega arith)

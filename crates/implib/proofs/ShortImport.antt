@@ -1,4 +1,4 @@
--- A short record reads back as its fields.
+-- A short import reads back as its fields.
 use Rattle.std.proofs.Common.{◌≡◌, ℕ, ◌+◌, ◌-◌, ◌*◌, ◌/◌, ◌%◌, ◌<◌, ◌≤◌, ◌^◌, true, false, if◌then◌else◌, nat_le, List, [], ◌∷◌, ◌++◌, length, drop, Some, None, refl, ap, ◌∙◌, arith, length-append, eq-eqb}
 use Rattle.std.specs.Prelude.{◌==◌}
 use Rattle.std.proofs.lemmas.Bool.{or_parts, le-leb}
@@ -6,7 +6,7 @@ use Rattle.std.proofs.lemmas.Nat.{from_le_bytes-to_le_bytes_2, from_le_bytes-to_
 use Rattle.implib.specs.Bytes.{u16_bytes, u32_bytes}
 use Rattle.implib.specs.Import.{holds}
 use Rattle.implib.specs.Msvc.{short_import_bytes, short_import_header, short_import_data_size, short_import_size}
-use Rattle.implib.specs.ReadBack.{FitsRecord}
+use Rattle.implib.specs.ReadBack.{FitsShortImport}
 use Rattle.implib.specs.Object.{u16_at, u32_at}
 use Rattle.implib.specs.ShortImport.{ShortImport, short_import_header_size, text_in, is_short_import, short_import_from, short_import_with, short_import_in}
 
@@ -21,7 +21,7 @@ length-short_import_header : (r : ShortImport) → length (short_import_header r
 unfolding u16_bytes u32_bytes
 length-short_import_header r = refl
 
--- the length of a record's bytes
+-- the length of a short import's bytes
 pub length-short_import_bytes : (r : ShortImport) → length (short_import_bytes r) ≡ short_import_size r
 length-short_import_bytes r =
     let whole = length-append (short_import_header r) (r.symbol ++ 0 ∷ (r.dll ++ 0 ∷ [])) in
@@ -41,27 +41,27 @@ is_short_import-short_import_bytes r fits =
     eq-eqb (u32_at (short_import_bytes r) 12) (length (short_import_bytes r) - short_import_header_size) (omega (arith, data_size_fits r fits, length-short_import_bytes r)) in
     rw (long, size) refl
 
-same_record : (r : ShortImport) (version machine time ordinal kind name_type : ℕ) →
-    version ≡ r.version → machine ≡ r.machine → time ≡ r.time → ordinal ≡ r.ordinal → kind ≡ r.kind → name_type ≡ r.name_type →
-    Some record { version = version; machine = machine; time = time; ordinal = ordinal; kind = kind; name_type = name_type; symbol = r.symbol; dll = r.dll } ≡ Some r
-same_record r version machine time ordinal kind name_type v m t o k n = rw (v, m, t, o, k, n) refl
+same_short_import : (r : ShortImport) (version machine time ordinal import_type name_type : ℕ) →
+    version ≡ r.version → machine ≡ r.machine → time ≡ r.time → ordinal ≡ r.ordinal → import_type ≡ r.import_type → name_type ≡ r.name_type →
+    Some record { version = version; machine = machine; time = time; ordinal = ordinal; import_type = import_type; name_type = name_type; symbol = r.symbol; dll = r.dll } ≡ Some r
+same_short_import r version machine time ordinal import_type name_type v m t o k n = rw (v, m, t, o, k, n) refl
 
--- the fields of a record, read at their positions
-fields_read : (r : ShortImport) → FitsRecord r → short_import_with (short_import_bytes r) r.symbol (Some (r.dll, [])) ≡ Some r
+-- the fields of a short import, read at their positions
+fields_read : (r : ShortImport) → FitsShortImport r → short_import_with (short_import_bytes r) r.symbol (Some (r.dll, [])) ≡ Some r
 unfolding u16_at u32_at u16_bytes u32_bytes
 fields_read r fits =
-    let small : r.kind + 4 * r.name_type < 2 ^ 16 = omega (arith, fits.kind, fits.name_type) in
-    let types : u16_at (short_import_bytes r) 18 ≡ r.kind + 4 * r.name_type = from_le_bytes-to_le_bytes_2 (r.kind + 4 * r.name_type) small in
-    let kind : (r.kind + 4 * r.name_type) % 4 ≡ r.kind = omega (arith, fits.kind) in
-    let name_type : (r.kind + 4 * r.name_type) / 4 % 8 ≡ r.name_type = omega (arith, fits.kind, fits.name_type) in
-    same_record r (u16_at (short_import_bytes r) 4) (u16_at (short_import_bytes r) 6) (u32_at (short_import_bytes r) 8) (u16_at (short_import_bytes r) 16)
+    let small : r.import_type + 4 * r.name_type < 2 ^ 16 = omega (arith, fits.import_type, fits.name_type) in
+    let types : u16_at (short_import_bytes r) 18 ≡ r.import_type + 4 * r.name_type = from_le_bytes-to_le_bytes_2 (r.import_type + 4 * r.name_type) small in
+    let import_type : (r.import_type + 4 * r.name_type) % 4 ≡ r.import_type = omega (arith, fits.import_type) in
+    let name_type : (r.import_type + 4 * r.name_type) / 4 % 8 ≡ r.name_type = omega (arith, fits.import_type, fits.name_type) in
+    same_short_import r (u16_at (short_import_bytes r) 4) (u16_at (short_import_bytes r) 6) (u32_at (short_import_bytes r) 8) (u16_at (short_import_bytes r) 16)
     (u16_at (short_import_bytes r) 18 % 4) (u16_at (short_import_bytes r) 18 / 4 % 8)
     (from_le_bytes-to_le_bytes_2 r.version fits.version) (from_le_bytes-to_le_bytes_2 r.machine fits.machine)
     (from_le_bytes-to_le_bytes_4 r.time fits.time) (from_le_bytes-to_le_bytes_2 r.ordinal fits.ordinal)
-    (ap (λ n. n % 4) types ∙ kind) (ap (λ n. n / 4 % 8) types ∙ name_type)
+    (ap (λ n. n % 4) types ∙ import_type) (ap (λ n. n / 4 % 8) types ∙ name_type)
 
--- a record reads back as its fields
-pub short_import_in-short_import_bytes : (r : ShortImport) → FitsRecord r → short_import_size r ≤ 0xFFFF_FFFF → short_import_in (short_import_bytes r) ≡ Some r
+-- a short import reads back as its fields
+pub short_import_in-short_import_bytes : (r : ShortImport) → FitsShortImport r → short_import_size r ≤ 0xFFFF_FFFF → short_import_in (short_import_bytes r) ≡ Some r
 unfolding short_import_in u16_bytes u32_bytes
 short_import_in-short_import_bytes r fits short =
     let is : is_short_import (short_import_bytes r) ≡ true = is_short_import-short_import_bytes r short in

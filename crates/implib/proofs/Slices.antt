@@ -9,7 +9,7 @@ use Rattle.implib.proofs.Scanner.{delimiter_ascii, utf8_after_lexeme}
 use Rattle.implib.proofs.Trivia.{AllByRecursion-append}
 use Rattle.implib.proofs.Trimmed.{take-trim_end, take-value, value_within}
 
--- what stands between a front and the rest is the slice there
+-- what is between a front and the rest is the slice there
 slice_between : (text front value after : List ℕ) (at : ℕ) → text ≡ front ++ (value ++ after) → at ≡ length front → take (length value) (drop at text) ≡ value
 slice_between text front value after at e position =
     ap (λ n. take (length value) (drop n text)) position
@@ -54,11 +54,11 @@ slice_of_name text front inside after e utf8 =
     let end_is : value ++ back ≡ rest = ap (λ l. l ++ back) (sym (take-value inside utf8)) ∙ take-append-drop (length value) rest in
     let whole : before ++ (value ++ back) ≡ inside = ap (λ l. before ++ l) end_is ∙ take-append-drop start inside in
     let opened = front ++ (34 ∷ before) in
-    let spelled : front ++ (34 ∷ (inside ++ after)) ≡ opened ++ (value ++ (back ++ after)) =
+    let text_is : front ++ (34 ∷ (inside ++ after)) ≡ opened ++ (value ++ (back ++ after)) =
     ap (λ l. front ++ (34 ∷ (l ++ after))) (sym whole)
     ∙ ap (λ l. front ++ (34 ∷ l)) (append_assoc before (value ++ back) after ∙ ap (λ l. before ++ l) (append_assoc value back after))
     ∙ sym (append_assoc front (34 ∷ before) (value ++ (back ++ after))) in
-    slice_between text opened value (back ++ after) (length front + 1 + start) (e ∙ spelled)
+    slice_between text opened value (back ++ after) (length front + 1 + start) (e ∙ text_is)
     (omega (arith, length-append front (34 ∷ before), length-take-le start inside bound))
 
 -- the token of a lexeme, if it has one
@@ -89,4 +89,4 @@ lexemes_slices text front (lexeme ∷ lexemes) end e are_located utf8 =
 pub Lexed-slices : (text : List ℕ) (tokens : List TokenView) → IsUtf8 text → Lexed text tokens → AllByRecursion (IsSliceOf text) tokens
 Lexed-slices text tokens utf8 lexed =
     let d = lexed.divides in
-    subst (AllByRecursion (IsSliceOf text)) (sym lexed.given) (lexemes_slices text [] lexed.lexemes lexed.end d.spelled d.each_is_lexeme (subst IsUtf8 d.spelled utf8))
+    subst (AllByRecursion (IsSliceOf text)) (sym lexed.given) (lexemes_slices text [] lexed.lexemes lexed.end d.text_is d.each_is_lexeme (subst IsUtf8 d.text_is utf8))

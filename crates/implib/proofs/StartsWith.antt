@@ -15,7 +15,7 @@ StartsWith-append tokens [] b mid rest h k = rw h k
 StartsWith-append [] (w ∷ a) b mid rest h k = absurd h
 StartsWith-append (t ∷ tokens) (w ∷ a) b mid rest h k = (h.0, StartsWith-append tokens a b mid rest h.1 k)
 
--- where the one part of a spelling ends and the other begins
+-- where the terminals of one part end and those of the other begin
 pub record Parted (tokens : List TokenView) (a b : List Terminal) (rest : List TokenView) : Type 0 where
   pub mid : List TokenView
   pub front : StartsWith tokens a mid
@@ -76,7 +76,7 @@ pub EndsInEof-some : (tokens : List TokenView) → EndsInEof tokens → (t : Tok
 EndsInEof-some [] h = absurd h
 EndsInEof-some (t ∷ rest) h = (t, rest, refl)
 
--- ---- what stands in front
+-- ---- what is in front
 
 -- the first token, if there is one, is of none of these kinds
 abbrev pub IsAfter : List TokenKind → List TokenView → Type 0

@@ -1,4 +1,4 @@
--- The lookup table and the address table of linked objects for GNU's linker ask for what was meant.
+-- The lookup table and the address table of linked objects for GNU's linker ask for what is expected.
 use Rattle.std.proofs.Common.{◌≡◌, ℕ, ◌+◌, ◌-◌, ◌%◌, ◌<◌, ◌≤◌, ◌^◌, true, false, List, [], ◌∷◌, ◌++◌, length, map, refl, ap, sym, ◌∙◌, arith, subst, inl, inr, if◌then◌else◌}
 use Rattle.std.specs.List.{AllByRecursion}
 use Rattle.std.proofs.lemmas.Bool.{cases_Bool}
@@ -163,7 +163,7 @@ module _ (machine : MachineType) (dll : List ℕ) (linked : List Placed) where
       sum ∙ hint_names_end later es
 
   module _ (image : List Range) (starts : AllByRecursion (λ r. 0 < r.start) image) (ends : AllByRecursion (λ r. range_end r < 2 ^ 31) image) where
-    -- an export's thunk asks for what is meant
+    -- an export's thunk asks for what is expected
     hint_is : (e : ExportView) → e.no_name ≡ false → hint_name machine e ≡ u16_bytes e.ordinal ++ (asked_name machine e.name ++ 0 ∷ [])
     unfolding hint_name
     hint_is e is = rw is refl
@@ -180,7 +180,7 @@ module _ (machine : MachineType) (dll : List ℕ) (linked : List Placed) where
               (subst (BytesAt image (next_multiple 2 b.hint_names)) (hint_is e is) hint_located))
         ]
 
-    -- a table asks for what is meant
+    -- a table asks for what is expected
     pub table_at : (es : List ExportView) (b : Bases) (a : ℕ) → AllByRecursion (CanBeAsked machine) es → BytesAt image a (thunk_bytes b es) →
         BytesAt image b.hint_names (hint_bytes b es) → StrictTableAt image (thunk_width machine) a (map (expected_ask machine) es)
     unfolding TableAt WholeTableAt thunk_bytes hint_bytes

@@ -1,4 +1,4 @@
--- What is spelled is read so, and what the grammar refuses the readers refuse: attributes and exports.
+-- What is derived is read so, and what the grammar refuses the readers refuse: attributes and exports.
 use Rattle.std.proofs.Common.{◌≡◌, ◌≢◌, ℕ, inl, inr, Bool, true, false, List, [], ◌∷◌, ◌++◌, Option, Some, None, Ok, Err, refl, sym, ap, subst, ◌∙◌, arith}
 use Rattle.std.specs.List.{flat_map}
 use Rattle.implib.specs.declared.def.lexer.TokenKind.{TokenKind}
@@ -11,7 +11,7 @@ use Rattle.implib.specs.SyntaxError.{IsNotIdentifier, IsNoneOf, attribute_kinds,
 use Rattle.implib.specs.Token.{TokenView}
 use Rattle.implib.proofs.StartsWith.{IsNoneOf-append, IsNoneOf-parts, IsAfter-parts, StartsWith-parted, StartsWith-shorter, IsAfter}
 use Rattle.implib.proofs.Many.{bind_ok, bind_err, Takes, AreRead, all_again, all_refused}
-use Rattle.implib.proofs.ReadAttributes.{OrdinalRefused, TargetRefused, NoAttribute, goes_on_no_target, attribute_spelled}
+use Rattle.implib.proofs.ReadAttributes.{OrdinalRefused, TargetRefused, NoAttribute, goes_on_no_target, attribute_nonempty}
 use Rattle.implib.proofs.ReadExports.{ExportEnds}
 use Rattle.implib.proofs.TerminalsRead.{word_again, word_refused}
 use Rattle.implib.proofs.TokenKinds.{none_at}
@@ -147,11 +147,11 @@ attributes_again [] tokens rest h after = h
 attributes_again (a ∷ []) tokens rest h after =
     let p = StartsWith-parted tokens (attribute_terminals a) [] rest h in
     let ends : IsAfter (follow_attribute a) p.mid = subst (IsAfter (follow_attribute a)) (sym p.back) after in
-    (p.mid, record { read = attribute_again a tokens p.mid p.front ends; shorter = StartsWith-shorter tokens (attribute_terminals a) p.mid (attribute_spelled a) p.front }, p.back)
+    (p.mid, record { read = attribute_again a tokens p.mid p.front ends; shorter = StartsWith-shorter tokens (attribute_terminals a) p.mid (attribute_nonempty a) p.front }, p.back)
 attributes_again (a ∷ b ∷ items) tokens rest h after =
     let p = StartsWith-parted tokens (attribute_terminals a) (flat_map attribute_terminals (b ∷ items)) rest h in
     let ends = clear_after a p.mid (attribute_first b (flat_map attribute_terminals items) p.mid rest p.back) in
-    (p.mid, record { read = attribute_again a tokens p.mid p.front ends; shorter = StartsWith-shorter tokens (attribute_terminals a) p.mid (attribute_spelled a) p.front }, attributes_again (b ∷ items) p.mid rest p.back after)
+    (p.mid, record { read = attribute_again a tokens p.mid p.front ends; shorter = StartsWith-shorter tokens (attribute_terminals a) p.mid (attribute_nonempty a) p.front }, attributes_again (b ∷ items) p.mid rest p.back after)
 
 -- ---- targets
 

@@ -1,4 +1,4 @@
--- What is spelled is read so, and what the grammar refuses the readers refuse: statements.
+-- What is derived is read so, and what the grammar refuses the readers refuse: statements.
 use Rattle.std.proofs.Common.{◌≡◌, ◌≢◌, ℕ, inl, inr, List, [], ◌∷◌, ◌++◌, Option, Some, None, Ok, Err, refl, sym, ap, subst, ◌∙◌}
 use Rattle.implib.specs.declared.def.lexer.TokenKind.{TokenKind}
 use Rattle.implib.specs.declared.def.lexer.TokenKind.TheVariants.{Eof, Identifier, Comma, Equal, EqualEqual, KwBase, KwExports, KwHeapsize, KwLibrary, KwName, KwStacksize, KwVersion}
@@ -9,7 +9,7 @@ use Rattle.implib.specs.SyntaxError.{IsNoneOf, IsSyntaxError, unexpected_token, 
 use Rattle.implib.specs.Token.{TokenView}
 use Rattle.implib.proofs.StartsWith.{StartsWith-parted, StartsWith-append, StartsWith-shorter, IsAfter}
 use Rattle.implib.proofs.Many.{bind_ok, bind_err, Takes, AreRead, all_again, all_refused}
-use Rattle.implib.proofs.ReadStatements.{statement_spelled}
+use Rattle.implib.proofs.ReadStatements.{statement_nonempty}
 use Rattle.implib.proofs.TerminalsRead.{sizes_again, size_refused, second_size_refused, version_again, version_refused, no_name_again, name_again, name_sign_refused, name_number_refused}
 use Rattle.implib.proofs.TerminalsOfExports.{export_kinds, clear_export, exports_again, export_stops, target_stops, alias_stops, ordinal_stops}
 use Rattle.implib.proofs.TokenKinds.{none_at}
@@ -197,7 +197,7 @@ started_refused (ToOrdinal exports last) (u ∷ tokens) t rest cause h refused =
 
 take_statement : (s : Statement) (tokens rest : List TokenView) → StartsWith tokens (statement_terminals s) rest → IsAfter (follow s) rest → Takes statement_read tokens s rest
 take_statement s tokens rest h after =
-    record { read = statement_again s tokens rest h after; shorter = StartsWith-shorter tokens (statement_terminals s) rest (statement_spelled s) h }
+    record { read = statement_again s tokens rest h after; shorter = StartsWith-shorter tokens (statement_terminals s) rest (statement_nonempty s) h }
 
 statements_chain : (items : List Statement) (tokens rest : List TokenView) → StartsWith tokens (terminals items) rest → IsAfter (follow_last items) rest → AreRead statement_read items tokens rest
 statements_chain [] tokens rest h after = h
@@ -212,7 +212,7 @@ statements_chain (s ∷ next ∷ items) tokens rest h after =
 end_read : (t : TokenView) (rest : List TokenView) → t.kind ≡ Eof → statement_read (t ∷ rest) ≡ Ok (None, t ∷ rest)
 end_read t rest e = at_kind t rest Eof e
 
--- what is spelled is read
+-- what is derived is read
 pub sentence-read : (tokens : List TokenView) (statements : List Statement) → Sentence tokens statements → (rest : List TokenView) × (statements_read tokens ≡ Ok (statements, rest))
 unfolding statements_read
 sentence-read tokens statements h =

@@ -1,4 +1,4 @@
--- What is spelled is read so, and what the grammar refuses the readers refuse: words, sizes, names and versions.
+-- What is derived is read so, and what the grammar refuses the readers refuse: words, sizes, names and versions.
 use Rattle.std.proofs.Common.{◌≡◌, ◌≢◌, ℕ, inl, inr, List, [], ◌∷◌, Option, Some, None, Ok, Err, refl, sym, ap, ◌∙◌}
 use Rattle.implib.specs.declared.def.lexer.TokenKind.{TokenKind}
 use Rattle.implib.specs.declared.def.lexer.TokenKind.TheVariants.{Identifier, Comma, Equal, KwBase}

@@ -1,4 +1,4 @@
--- Thunks that stand in an image ask for an ordinal or for a name, for a loader that is strict.
+-- Thunks in an image ask for an ordinal or for a name, for a loader that is strict.
 use Rattle.std.proofs.Common.{◌≡◌, ℕ, ◌+◌, ◌-◌, ◌*◌, ◌%◌, ◌<◌, ◌≤◌, ◌^◌, true, List, [], ◌∷◌, ◌++◌, length, refl, arith, subst}
 use Rattle.std.specs.Prelude.{◌==◌}
 use Rattle.std.specs.List.{AllByRecursion}

@@ -105,7 +105,7 @@ DividesOnce-of_text text utf8 =
       divides = d.divides;
       only = λ others rest other.
           let same : others ≡ d.lexemes = sym (Divides-lexemes_in text others rest utf8 other) ∙ Divides-lexemes_in text d.lexemes d.end utf8 d.divides in
-          (same, same_end d.lexemes rest d.end (ap (λ l. text_of l rest) (sym same) ∙ sym other.spelled ∙ d.divides.spelled));
+          (same, same_end d.lexemes rest d.end (ap (λ l. text_of l rest) (sym same) ∙ sym other.text_is ∙ d.divides.text_is));
     }
 
 -- a text has one list of tokens

@@ -19,7 +19,7 @@ use Rattle.implib.proofs.Token.{EndsInEof-from_Lexed}
 use Rattle.implib.proofs.Statements.{statements_want_no_end, started_wants_no_end}
 
 -- the statements of a token list, and what they mean
-pub record Spelled (machine : MachineType) (tokens : List TokenView) (d : DefinitionView) : Type 0 where
+pub record Derived (machine : MachineType) (tokens : List TokenView) (d : DefinitionView) : Type 0 where
   pub statements : List Statement
   pub sentence : Sentence tokens statements
   pub means : meaning machine statements ≡ d
@@ -35,9 +35,9 @@ only_eof (t ∷ rest) ends none = (none, EndsInEof-last t rest none ends)
 ends_after : (tokens rest : List TokenView) (statements : List Statement) → EndsInEof tokens → StartsWith tokens (terminals statements) rest → EndsInEof rest
 ends_after tokens rest statements ends h = StartsWith-ends tokens (terminals statements) rest (statements_want_no_end statements) h ends
 
-spelled_from : (machine : MachineType) (tokens : List TokenView) (d : DefinitionView) → EndsInEof tokens → (r : Result (List Statement × List TokenView) Refusal) → MatchResult r (StatementsRead tokens) (StatementsCut tokens)
-    → (r >>= definition_from machine) ≡ Ok d → Spelled machine tokens d
-spelled_from machine tokens d ends (Ok found) h e =
+derived_from : (machine : MachineType) (tokens : List TokenView) (d : DefinitionView) → EndsInEof tokens → (r : Result (List Statement × List TokenView) Refusal) → MatchResult r (StatementsRead tokens) (StatementsCut tokens)
+    → (r >>= definition_from machine) ≡ Ok d → Derived machine tokens d
+derived_from machine tokens d ends (Ok found) h e =
     let begins = statements_begin found.0 tokens found.1 h.0 in
     let gathered = with_statements-meaning machine found.0 in
     record {
@@ -45,12 +45,12 @@ spelled_from machine tokens d ends (Ok found) h e =
       sentence = StartsWith-append tokens (terminals found.0) (Of Eof ∷ []) found.1 [] begins (only_eof found.1 (ends_after tokens found.1 found.0 ends begins) h.1);
       means = cc;
     }
-spelled_from machine tokens d ends (Err refusal) h e = absurd cc
+derived_from machine tokens d ends (Err refusal) h e = absurd cc
 
--- what is read is spelled so
-pub read-spelled : (machine : MachineType) (tokens : List TokenView) (d : DefinitionView) → EndsInEof tokens → read machine tokens ≡ Ok d → Spelled machine tokens d
+-- what is read is derived so
+pub read-derived : (machine : MachineType) (tokens : List TokenView) (d : DefinitionView) → EndsInEof tokens → read machine tokens ≡ Ok d → Derived machine tokens d
 unfolding read
-read-spelled machine tokens d ends e = spelled_from machine tokens d ends (statements_read tokens) (statements_outcome tokens) e
+read-derived machine tokens d ends e = derived_from machine tokens d ends (statements_read tokens) (statements_outcome tokens) e
 
 broken_started : (tokens mid : List TokenView) (refusal : Refusal) (statements : List Statement) → EndsInEof tokens → StartsWith tokens (terminals statements) mid → StartedCut mid refusal → IsSyntaxErrorAt tokens refusal.cause refusal.at
 broken_started tokens mid refusal statements ends begins c =
@@ -104,7 +104,7 @@ read-refused machine tokens refusal ends e = refused_from machine tokens refusal
 
 pub Parses-from_read : (text : List ℕ) (tokens : List TokenView) (machine : MachineType) (d : DefinitionView) → Lexed text tokens → read machine tokens ≡ Ok d → Parses text machine d
 Parses-from_read text tokens machine d lexed e =
-    let s = read-spelled machine tokens d (EndsInEof-from_Lexed text tokens lexed) e in
+    let s = read-derived machine tokens d (EndsInEof-from_Lexed text tokens lexed) e in
     record { tokens = tokens; statements = s.statements; lexed = lexed; sentence = s.sentence; means = s.means }
 
 pub RefusesAt-from_read : (text : List ℕ) (tokens : List TokenView) (machine : MachineType) (refusal : Refusal) → Lexed text tokens → read machine tokens ≡ Err refusal → RefusesAt text refusal.cause refusal.at

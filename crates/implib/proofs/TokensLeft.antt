@@ -15,9 +15,9 @@ lexemes_in_lexeme : (lexeme : Lexeme) (after : List ℕ) → IsLexemeBefore lexe
 lexemes_in_lexeme lexeme after located utf8 =
     let rest_utf8 = utf8_after_lexeme lexeme after located utf8 in
     let d = division after rest_utf8 in
-    let e = d.divides.spelled in
+    let e = d.divides.text_is in
     Divides-lexemes_in (lexeme_text lexeme ++ after) (lexeme ∷ d.lexemes) d.end utf8 (record {
-      spelled = ap (λ l. lexeme_text lexeme ++ l) e;
+      text_is = ap (λ l. lexeme_text lexeme ++ l) e;
       each_is_lexeme = (subst (IsLexemeBefore lexeme) e located, d.divides.each_is_lexeme);
       ends = d.divides.ends;
     })
@@ -47,11 +47,11 @@ text_of_longer (lexeme ∷ trivia) rest = omega (arith, text_of_longer trivia re
 
 -- what follows trivia is no longer than before
 pub PassesTrivia-shorter : (text rest : List ℕ) → PassesTrivia text rest → length rest ≤ length text
-PassesTrivia-shorter text rest passed = omega (arith, ap length passed.spelled, text_of_longer passed.trivia rest)
+PassesTrivia-shorter text rest passed = omega (arith, ap length passed.text_is, text_of_longer passed.trivia rest)
 
 pub TakesToken-shorter : (text : List ℕ) (position : ℕ) (token : TokenView) (after : List ℕ) → TakesToken text position token after → length after ≤ length text
 TakesToken-shorter text position token after taken = ⊎_elim
-    (λ (taken : TakesLexeme text position token after). omega (arith, ap length taken.spelled, length-append (lexeme_text taken.lexeme) after))
+    (λ (taken : TakesLexeme text position token after). omega (arith, ap length taken.text_is, length-append (lexeme_text taken.lexeme) after))
     (λ (ended : IsEnd text × (token ≡ eof position) × (after ≡ text)). omega (arith, ap length ended.2))
     taken
 
@@ -80,20 +80,20 @@ not_done k true decides differs = absurd (differs (decides.0 refl))
 left_at_end : (text rest after : List ℕ) (done : Bool) → IsEnd rest → IsUtf8 rest → done ≡ true → tokens_left text rest false ≡ eof (length text - length rest) ∷ tokens_left text after done
 unfolding tokens_left
 left_at_end text rest after done ends utf8 is_done =
-    ap (tokens_of (length text - length rest)) (Divides-lexemes_in rest [] rest utf8 (record { spelled = refl; each_is_lexeme = tt; ends = ends }))
+    ap (tokens_of (length text - length rest)) (Divides-lexemes_in rest [] rest utf8 (record { text_is = refl; each_is_lexeme = tt; ends = ends }))
     ∙ ap (λ d. eof (length text - length rest) ∷ tokens_left text after d) (sym is_done)
 
 -- one call of `next`
 pub tokens_left_next : (text rest start after : List ℕ) (token : TokenView) (done : Bool) → length rest ≤ length text → IsUtf8 rest → IsUtf8 start → PassesTrivia rest start → TakesToken start (length text - length start) token after → Decides done (token.kind ≡ kind.Eof) → tokens_left text rest false ≡ token ∷ tokens_left text after done
 tokens_left_next text rest start after token done fits rest_utf8 start_utf8 passed taken decides =
     let shorter : length start ≤ length text = omega (arith, PassesTrivia-shorter rest start passed) in
-    let trivia = passed.spelled in
+    let trivia = passed.text_is in
     let skipped : tokens_left text rest false ≡ tokens_left text start false =
     ap (λ l. tokens_left text l false) trivia
     ∙ left_after_trivia text passed.trivia start passed.each_is_lexeme passed.each_trivia (subst IsUtf8 trivia rest_utf8) (omega (arith, ap length trivia)) in
     skipped ∙ ⊎_elim
     (λ (taken : TakesLexeme start (length text - length start) token after).
-    let e = taken.spelled in
+    let e = taken.text_is in
     let here = λ (l : List ℕ). tokens_of_lexeme (length text - length l) taken.lexeme ++ tokens_left text after false in
     let is_done = not_done token.kind done decides (token_of_not_eof (length text - length start) taken.lexeme token [] taken.given) in
     ap (λ l. tokens_left text l false) e

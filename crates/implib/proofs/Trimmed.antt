@@ -12,32 +12,32 @@ use Rattle.implib.specs.Token.{value_start}
 -- `part` is what follows some front of the text
 record IsTail (text part : List ℕ) : Type 0 where
   front : List ℕ
-  spelled : text ≡ front ++ part
+  text_is : text ≡ front ++ part
 
 -- `part` is a front of the text
 record IsHead (text part : List ℕ) : Type 0 where
   back : List ℕ
-  spelled : text ≡ part ++ back
+  text_is : text ≡ part ++ back
 
 IsTail-drop : (text part : List ℕ) → IsTail text part → drop (length text - length part) text ≡ part
 IsTail-drop text part tail =
-    let at : length text - length part ≡ length tail.front = omega (arith, ap length tail.spelled, length-append tail.front part) in
-    ap (λ n. drop n text) at ∙ ap (drop (length tail.front)) tail.spelled ∙ drop_at tail.front part (length tail.front) refl
+    let at : length text - length part ≡ length tail.front = omega (arith, ap length tail.text_is, length-append tail.front part) in
+    ap (λ n. drop n text) at ∙ ap (drop (length tail.front)) tail.text_is ∙ drop_at tail.front part (length tail.front) refl
 
 IsHead-take : (text part : List ℕ) → IsHead text part → take (length part) text ≡ part
-IsHead-take text part head = ap (take (length part)) head.spelled ∙ take_at part head.back (length part) refl
+IsHead-take text part head = ap (take (length part)) head.text_is ∙ take_at part head.back (length part) refl
 
 skip_tail : (cs : List ℕ) → IsTail (encode_utf8_all cs) (encode_utf8_all (skip_leading_whitespace cs))
-skip_tail [] = record { front = []; spelled = refl }
+skip_tail [] = record { front = []; text_is = refl }
 skip_tail (c ∷ cs) =
     elim (is_whitespace c) as (λ t. IsTail (encode_utf8_all (c ∷ cs)) (encode_utf8_all (cond t (skip_leading_whitespace cs) (c ∷ cs)))) [
       | true ↦
           let rest = skip_tail cs in
           record {
             front = encode_utf8 c ++ rest.front;
-            spelled = ap (λ l. encode_utf8 c ++ l) rest.spelled ∙ sym (append_assoc (encode_utf8 c) rest.front (encode_utf8_all (skip_leading_whitespace cs)));
+            text_is = ap (λ l. encode_utf8 c ++ l) rest.text_is ∙ sym (append_assoc (encode_utf8 c) rest.front (encode_utf8_all (skip_leading_whitespace cs)));
           }
-      | false ↦ record { front = []; spelled = refl }
+      | false ↦ record { front = []; text_is = refl }
     ]
 
 skip_scalars : (cs : List ℕ) → all_scalars cs ≡ true → all_scalars (skip_leading_whitespace cs) ≡ true
@@ -49,15 +49,15 @@ skip_scalars (c ∷ cs) all =
     ]
 
 drop_trailing_head : (cs : List ℕ) → IsHead (encode_utf8_all cs) (encode_utf8_all (drop_trailing_whitespace cs))
-drop_trailing_head [] = record { back = []; spelled = refl }
+drop_trailing_head [] = record { back = []; text_is = refl }
 drop_trailing_head (c ∷ cs) =
     elim (is_whitespace c && eqb (length (drop_trailing_whitespace cs)) 0) as (λ t. IsHead (encode_utf8_all (c ∷ cs)) (encode_utf8_all (cond t [] (c ∷ drop_trailing_whitespace cs)))) [
-      | true ↦ record { back = encode_utf8_all (c ∷ cs); spelled = refl }
+      | true ↦ record { back = encode_utf8_all (c ∷ cs); text_is = refl }
       | false ↦
           let rest = drop_trailing_head cs in
           record {
             back = rest.back;
-            spelled = ap (λ l. encode_utf8 c ++ l) rest.spelled ∙ sym (append_assoc (encode_utf8 c) (encode_utf8_all (drop_trailing_whitespace cs)) rest.back);
+            text_is = ap (λ l. encode_utf8 c ++ l) rest.text_is ∙ sym (append_assoc (encode_utf8 c) (encode_utf8_all (drop_trailing_whitespace cs)) rest.back);
           }
     ]
 
@@ -78,7 +78,7 @@ pub take-trim_end : (text : List ℕ) → IsUtf8 text → take (length (trim_end
 take-trim_end text utf8 = IsHead-take text (trim_end text) (trim_end_head text utf8)
 
 pub trim_end_shorter : (text : List ℕ) → IsUtf8 text → length (trim_end text) ≤ length text
-trim_end_shorter text utf8 = let head = trim_end_head text utf8 in omega (arith, ap length head.spelled, length-append (trim_end text) head.back)
+trim_end_shorter text utf8 = let head = trim_end_head text utf8 in omega (arith, ap length head.text_is, length-append (trim_end text) head.back)
 
 -- a trimmed text is at the first of its bytes
 pub take-trim : (text : List ℕ) → IsUtf8 text → take (length (trim text)) (drop (length text - length (trim_start text)) text) ≡ trim text
@@ -87,9 +87,9 @@ take-trim text utf8 = ap (take (length (trim text))) (IsTail-drop text (trim_sta
 trim_shorter : (text : List ℕ) → IsUtf8 text → length (trim text) + (length text - length (trim_start text)) ≤ length text
 trim_shorter text utf8 =
     let tail = trim_start_tail text utf8 in
-    omega (arith, trim_end_shorter (trim_start text) (trim_start_utf8 text utf8), ap length tail.spelled, length-append tail.front (trim_start text))
+    omega (arith, trim_end_shorter (trim_start text) (trim_start_utf8 text utf8), ap length tail.text_is, length-append tail.front (trim_start text))
 
--- the value of a quoted name stands where it is said to start
+-- the value of a quoted name is where it is said to start
 pub take-value : (inside : List ℕ) → IsUtf8 inside → take (length (trim inside)) (drop (value_start inside) inside) ≡ trim inside
 take-value inside utf8 =
     elim (cases_Bool (eqb (length (trim inside)) 0)) [

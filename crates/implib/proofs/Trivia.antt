@@ -14,7 +14,7 @@ use Rattle.implib.proofs.Scanner.{none_from_places}
 pub PassesTrivia-comment : (comment line after : List ℕ) → comment ≡ line ++ (10 ∷ after) → ((i : ℕ) → i < length line → get_or line i 0 ≢ 10) → PassesTrivia (59 ∷ comment) after
 PassesTrivia-comment comment line after e none = record {
   trivia = Comment line ∷ [];
-  spelled = ap (λ l. 59 ∷ l) (e ∙ sym (append_assoc line (10 ∷ []) after));
+  text_is = ap (λ l. 59 ∷ l) (e ∙ sym (append_assoc line (10 ∷ []) after));
   each_is_lexeme = (none_from_places is_line_feed line (λ k h. ne_eqb (get_or line k 0) 10 (none k h)), tt);
   each_trivia = (λ position. refl, tt);
 }
@@ -23,7 +23,7 @@ PassesTrivia-comment comment line after e none = record {
 pub PassesTrivia-last_comment : (comment after : List ℕ) → ((i : ℕ) → i < length comment → get_or comment i 0 ≢ 10) → after ≡ [] → PassesTrivia (59 ∷ comment) after
 PassesTrivia-last_comment comment after none last = record {
   trivia = LastComment comment ∷ [];
-  spelled = ap (λ l. 59 ∷ l) (sym (append-nil comment) ∙ ap (λ l. comment ++ l) (sym last));
+  text_is = ap (λ l. 59 ∷ l) (sym (append-nil comment) ∙ ap (λ l. comment ++ l) (sym last));
   each_is_lexeme = ((none_from_places is_line_feed comment (λ k h. ne_eqb (get_or comment k 0) 10 (none k h)), last), tt);
   each_trivia = (λ position. refl, tt);
 }
@@ -45,8 +45,8 @@ AllByRecursion-append P (x ∷ xs) ys first second = (first.0, AllByRecursion-ap
 pub PassesTrivia-trans : (a b c : List ℕ) → PassesTrivia a b → PassesTrivia b c → PassesTrivia a c
 PassesTrivia-trans a b c first second = record {
   trivia = first.trivia ++ second.trivia;
-  spelled = first.spelled ∙ ap (text_of first.trivia) second.spelled ∙ sym (text_of-append first.trivia second.trivia c);
-  each_is_lexeme = EachIsLexeme-append first.trivia second.trivia c (subst (EachIsLexeme first.trivia) second.spelled first.each_is_lexeme) second.each_is_lexeme;
+  text_is = first.text_is ∙ ap (text_of first.trivia) second.text_is ∙ sym (text_of-append first.trivia second.trivia c);
+  each_is_lexeme = EachIsLexeme-append first.trivia second.trivia c (subst (EachIsLexeme first.trivia) second.text_is first.each_is_lexeme) second.each_is_lexeme;
   each_trivia = AllByRecursion-append IsTrivia first.trivia second.trivia first.each_trivia second.each_trivia;
 }
 
@@ -72,7 +72,7 @@ PassesTrivia-trim_start text rest trimmed =
     let white = trimmed.2 in
     record {
       trivia = map Blank white.0;
-      spelled = sym (take-append-drop trimmed.0 text) ∙ ap (λ l. l ++ drop trimmed.0 text) (sym white.1) ∙ ap (λ l. encode_utf8_all white.0 ++ l) (sym trimmed.1) ∙ sym (text_of-blanks white.0 rest);
+      text_is = sym (take-append-drop trimmed.0 text) ∙ ap (λ l. l ++ drop trimmed.0 text) (sym white.1) ∙ ap (λ l. encode_utf8_all white.0 ++ l) (sym trimmed.1) ∙ sym (text_of-blanks white.0 rest);
       each_is_lexeme = EachIsLexeme-blanks white.0 rest white.2;
       each_trivia = each_trivia_blanks white.0;
     }

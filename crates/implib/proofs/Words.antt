@@ -13,18 +13,18 @@ use Rattle.implib.specs.TokenReader.{number_by, number_of, cons_first, at_stop, 
 abbrev own : IsNumeralModel (λ ds. all_ascii_digits ds ≡ true) (digits_value 10)
 own = numerals_by_value (λ ds. all_ascii_digits ds ≡ true) tells_all_ascii_digits
 
--- a text is what stands after its `+`, or that with the `+` in front
-spelled_by_rest : (value : List ℕ) (starts : Bool) → eqb (slice_index value 0) plus_sign ≡ starts → (value ≡ drop (cond starts 1 0) value) ⊎ (value ≡ plus_sign ∷ drop (cond starts 1 0) value)
-spelled_by_rest value false e = inl refl
-spelled_by_rest [] true e = inl refl
-spelled_by_rest (c ∷ cs) true e = inr (ap (λ (d : ℕ). d ∷ cs) (eqb-true _ _ e))
+-- a text is what is after its `+`, or that with the `+` in front
+text_by_rest : (value : List ℕ) (starts : Bool) → eqb (slice_index value 0) plus_sign ≡ starts → (value ≡ drop (cond starts 1 0) value) ⊎ (value ≡ plus_sign ∷ drop (cond starts 1 0) value)
+text_by_rest value false e = inl refl
+text_by_rest [] true e = inl refl
+text_by_rest (c ∷ cs) true e = inr (ap (λ (d : ℕ). d ∷ cs) (eqb-true _ _ e))
 
--- the digits of a number are what stands after its `+`
-rest_of_spelled : (value digits : List ℕ) → all_ascii_digits digits ≡ true → 0 < length digits → (value ≡ digits) ⊎ (value ≡ plus_sign ∷ digits) → without_leading_plus value ≡ digits
-rest_of_spelled value digits all some (inl e) =
+-- the digits of a number are what is after its `+`
+rest_of_text : (value digits : List ℕ) → all_ascii_digits digits ≡ true → 0 < length digits → (value ≡ digits) ⊎ (value ≡ plus_sign ∷ digits) → without_leading_plus value ≡ digits
+rest_of_text value digits all some (inl e) =
     let first : slice_index digits 0 ≢ 43 = not_in_digits own digits 43 all (λ h. omega (arith, h)) 0 some in
     ap without_leading_plus e ∙ without_leading_plus_none digits first
-rest_of_spelled value digits all some (inr e) = ap without_leading_plus e
+rest_of_text value digits all some (inr e) = ap without_leading_plus e
 
 number_by-passed : (digits : List ℕ) (limit : ℕ) → all_ascii_digits digits ≡ true → 0 < length digits → digits_value 10 digits ≤ limit → number_by digits limit ≡ Some (digits_value 10 digits)
 number_by-passed digits limit all some within =
@@ -33,7 +33,7 @@ number_by-passed digits limit all some within =
 pub number_of-is : (value : List ℕ) (limit n : ℕ) → IsNumber value limit n → number_of value limit ≡ Some n
 unfolding number_of
 number_of-is value limit n is =
-    ap (λ (ds : List ℕ). number_by ds limit) (rest_of_spelled value is.digits is.all_digits is.some_digit is.spelled)
+    ap (λ (ds : List ℕ). number_by ds limit) (rest_of_text value is.digits is.all_digits is.some_digit is.text_is)
     ∙ number_by-passed is.digits limit is.all_digits is.some_digit (subst (λ (k : ℕ). k ≤ limit) is.written is.within)
     ∙ ap Some (sym is.written)
 
@@ -53,7 +53,7 @@ number_of-gives value limit n h =
     let p = passed (without_leading_plus value) limit n _ refl h in
     record {
       digits = without_leading_plus value;
-      spelled = spelled_by_rest value (eqb (slice_index value 0) plus_sign) refl;
+      text_is = text_by_rest value (eqb (slice_index value 0) plus_sign) refl;
       all_digits = p.0;
       some_digit = p.1;
       written = p.3;
@@ -80,9 +80,9 @@ IsAtWord Plain value = (¬ (IsLoneAt value)) × ((n : ℕ) → ¬ (IsAtNumber va
 
 after_at_number : (byte c : ℕ) (cs : List ℕ) (o : Option ℕ) → byte ≡ at_sign → number_of (c ∷ cs) u16_limit ≡ o → IsAtWord (at_number o) (byte ∷ c ∷ cs)
 after_at_number byte c cs (Some n) b e =
-    record { number = c ∷ cs; spelled = ap (λ (x : ℕ). x ∷ c ∷ cs) b; is_number = number_of-gives (c ∷ cs) u16_limit n e }
+    record { number = c ∷ cs; text_is = ap (λ (x : ℕ). x ∷ c ∷ cs) b; is_number = number_of-gives (c ∷ cs) u16_limit n e }
 after_at_number byte c cs None b e =
-    ((λ h. absurd cc), λ n is. number_of-lacks (c ∷ cs) u16_limit e n (subst (λ (v : List ℕ). IsNumber v u16_limit n) (tails is.number is.spelled) is.is_number))
+    ((λ h. absurd cc), λ n is. number_of-lacks (c ∷ cs) u16_limit e n (subst (λ (v : List ℕ). IsNumber v u16_limit n) (tails is.number is.text_is) is.is_number))
   where
     tails : (number : List ℕ) → byte ∷ c ∷ cs ≡ at_sign ∷ number → number ≡ c ∷ cs
     tails number h = cc
@@ -95,7 +95,7 @@ first_gives : (byte : ℕ) (rest : List ℕ) (test : Bool) → eqb byte at_sign 
 first_gives byte rest true e = after_at_gives byte rest (eqb-true byte at_sign e)
 first_gives byte rest false e =
     let other = eqb-false byte at_sign e in
-    ((λ h. other (heads h)), λ n is. other (heads_of is.number is.spelled))
+    ((λ h. other (heads h)), λ n is. other (heads_of is.number is.text_is))
   where
     heads : byte ∷ rest ≡ at_sign ∷ [] → byte ≡ at_sign
     heads h = cc
@@ -105,10 +105,10 @@ first_gives byte rest false e =
 
 pub at_word-gives : (value : List ℕ) → IsAtWord (at_word value) value
 unfolding at_word
-at_word-gives [] = ((λ h. absurd cc), λ n is. no_spelling is.number is.spelled)
+at_word-gives [] = ((λ h. absurd cc), λ n is. no_such_text is.number is.text_is)
   where
-    no_spelling : (number : List ℕ) → [] ≡ at_sign ∷ number → ⊥
-    no_spelling number h = cc
+    no_such_text : (number : List ℕ) → [] ≡ at_sign ∷ number → ⊥
+    no_such_text number h = cc
 at_word-gives (byte ∷ rest) = first_gives byte rest (eqb byte at_sign) refl
 
 -- the same, where the word is known
@@ -120,7 +120,7 @@ unfolding at_word
 lone_is = refl
 
 no_digits : (limit n : ℕ) → ¬ (IsNumber [] limit n)
-no_digits limit n is = none is.digits is.spelled is.some_digit
+no_digits limit n is = none is.digits is.text_is is.some_digit
   where
     none : (digits : List ℕ) → ([] ≡ digits) ⊎ ([] ≡ plus_sign ∷ digits) → 0 < length digits → ⊥
     none [] s h = omega arith
@@ -139,7 +139,7 @@ plain_is value Plain h p = refl
 
 pub at_word-is : (value : List ℕ) (word : AtWord) → IsAtWord word value → at_word value ≡ word
 at_word-is value Lone h = ap at_word h ∙ lone_is
-at_word-is value (WithOrdinal n) h = ap at_word h.spelled ∙ with_ordinal_is h.number n h.is_number
+at_word-is value (WithOrdinal n) h = ap at_word h.text_is ∙ with_ordinal_is h.number n h.is_number
 at_word-is value Plain h = plain_is value (at_word value) (at_word-gives value) h
 
 -- ---- versions
@@ -156,14 +156,14 @@ NoStop-digits (c ∷ cs) h =
     (ne_eqb c full_stop (omega (arith, p.0)), NoStop-digits cs p.1)
 
 NoStop-number : (value : List ℕ) (limit n : ℕ) → IsNumber value limit n → NoStop value
-NoStop-number value limit n is = by_spelling is.spelled
+NoStop-number value limit n is = by_text is.text_is
   where
     digits : NoStop is.digits
     digits = NoStop-digits is.digits is.all_digits
 
-    by_spelling : (value ≡ is.digits) ⊎ (value ≡ plus_sign ∷ is.digits) → NoStop value
-    by_spelling (inl e) = rw e digits
-    by_spelling (inr e) = rw e (refl, digits)
+    by_text : (value ≡ is.digits) ⊎ (value ≡ plus_sign ∷ is.digits) → NoStop value
+    by_text (inl e) = rw e digits
+    by_text (inr e) = rw e (refl, digits)
 
 at_stop-none : (value : List ℕ) → NoStop value → at_stop value ≡ None
 at_stop-none [] h = refl
@@ -205,7 +205,7 @@ version_by_gives value (Some parts) major minor cut h =
     inr (record {
       front = parts.0;
       back = parts.1;
-      spelled = cut;
+      text_is = cut;
       front_number = number_of-gives parts.0 u32_limit major p.0;
       back_number = number_of-gives parts.1 u32_limit minor p.1;
     })
@@ -228,7 +228,7 @@ pub version_of-is : (value : List ℕ) (major minor : ℕ) → IsVersion value m
 version_of-is value major minor (inl is) =
     version_of_alone value major is.is_number ∙ ap (λ (m : ℕ). Some (major, m)) (sym is.minor_is)
 version_of-is value major minor (inr is) =
-    ap version_of is.spelled ∙ version_of_both is.front is.back major minor is.front_number is.back_number
+    ap version_of is.text_is ∙ version_of_both is.front is.back major minor is.front_number is.back_number
 
 pub version_of-lacks : (value : List ℕ) → version_of value ≡ None → (major minor : ℕ) → ¬ (IsVersion value major minor)
 version_of-lacks value h major minor is = let e = version_of-is value major minor is in absurd cc

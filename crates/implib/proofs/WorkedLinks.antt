@@ -12,7 +12,7 @@ use Rattle.implib.specs.Members.{refusal, renamed_refusal}
 use Rattle.implib.specs.Object.{before_nul, bytes_at, data_at, each_at, entries_at, name_of, object_in, object_of_header, relocation_at, relocation_of, section_at, section_of, strings_at, symbol_of, u16_at, u32_at, up_to_nul}
 use Rattle.implib.specs.Layout.{auxiliary_bytes, auxiliary_count, contents, contents_offset, contents_size, header_bytes, encoded, encoded_size, name_field, offsets_from, pointer_or_zero, record_count, records, relocation_bytes, section_header, section_headers, string_bytes_of, string_offsets, string_size, string_table, strings_size, symbol_bytes, symbol_table_offset}
 use Rattle.implib.specs.Writer.{long_names, name_location, layout_of, symbol_written, with_long_name, with_name}
-use Rattle.implib.specs.WorkedLinks.{MayLink, InputsMayLink, WorkedLinks, bases_64, bases_of_two, foo, placed, placed_two, two_parts}
+use Rattle.implib.specs.WorkedLinks.{MayLink, InputsMayLink, WorkedLinks, bases_64, bases_of_two, foo, placed, placed_two, two_inputs}
 use Rattle.implib.specs.declared.machine.MachineType.TheVariants.{AMD64}
 use Rattle.implib.specs.Image.{Range, image_of}
 use Rattle.implib.proofs.Ranges.{apart_as_they_rise, ends_below}
@@ -45,7 +45,7 @@ both_may_link = record {
 abbrev two_image : List Range
 two_image = image_of AMD64 bases_of_two placed_two
 
-two_may_link : InputsMayLink AMD64 bases_of_two two_parts
+two_may_link : InputsMayLink AMD64 bases_of_two two_inputs
 unfolding opened refusal renamed_refusal alias_specs encoded_size IsDistinct
 two_may_link = record {
   made = (

@@ -78,7 +78,7 @@ pub worked_bytes : WorkedBytes
 unfolding opened
 worked_bytes = record {
   record_on_amd64 = means _ _ _ _ refl refl refl;
-  record_with_symbol_name = refl;
+  short_import_with_symbol_name = refl;
   record_on_i386 = means _ _ _ _ refl refl refl;
   decorated_fields = means _ _ _ _ refl refl refl;
   ordinal_fields = means _ _ _ _ refl refl refl;

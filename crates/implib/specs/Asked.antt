@@ -19,10 +19,10 @@ external_word e = e.word
 abbrev pub exports_of_text : List Statement → List Export
 exports_of_text statements = flat_map exports_in statements
 
--- Where an export asks by name, it asks for this word: by what is meant, and in either flavour, by its short
--- import for Microsoft's linker and by its object for GNU's. For example, `_f@8` on I386 asks for `_f@8`.
+-- Where an export asks by name, it asks for this word: by what is expected, and in either flavour, by its
+-- short import for Microsoft's linker and by its object for GNU's. For example, `_f@8` on I386 asks for `_f@8`.
 pub record AsksFor (machine : MachineType) (e : ExportView) (word : List ℕ) : Type 0 where
-  pub meant : e.no_name ≡ false → asked_name machine e.name ≡ word
+  pub expected : e.no_name ≡ false → asked_name machine e.name ≡ word
   pub in_each_flavor : (flavor : Flavor) → e.no_name ≡ false → asked_in flavor machine e ≡ word
 
 -- there are as many exports as in the text, and each asks for its own word

@@ -40,7 +40,7 @@ declared_by_entry (ASymbol s) =
 -- The symbols that a file declares, in order. For example, the short import of bar declares `__imp_bar` and
 -- `bar`, and that of data `__imp_bar` alone.
 abbrev pub declared_by : File → List (List ℕ)
-declared_by (ShortImportFile r) = import_symbols (r.kind == import_data) r.symbol
+declared_by (ShortImportFile r) = import_symbols (r.import_type == import_data) r.symbol
 declared_by (ObjectFile o) = filter_map declared_by_entry o.entries
 
 -- the tag index of a weak external: the symbol that replaces it, in the auxiliary record behind it

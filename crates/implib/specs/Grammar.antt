@@ -28,7 +28,7 @@ IsLoneAt value = value ≡ at_sign ∷ []
 -- `@70000` is none.
 pub record IsAtNumber (value : List ℕ) (n : ℕ) : Type 0 where
   pub number : List ℕ
-  pub spelled : value ≡ at_sign ∷ number
+  pub text_is : value ≡ at_sign ∷ number
   pub is_number : IsNumber number u16_limit n
 
 -- version = number: the major number alone, of 32 bits; the minor is 0
@@ -40,7 +40,7 @@ pub record IsMajorAlone (value : List ℕ) (major minor : ℕ) : Type 0 where
 pub record IsMajorMinor (value : List ℕ) (major minor : ℕ) : Type 0 where
   pub front : List ℕ
   pub back : List ℕ
-  pub spelled : value ≡ front ++ full_stop ∷ back
+  pub text_is : value ≡ front ++ full_stop ∷ back
   pub front_number : IsNumber front u32_limit major
   pub back_number : IsNumber back u32_limit minor
 

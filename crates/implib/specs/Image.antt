@@ -51,7 +51,8 @@ contributions_in machine linked p group (address ∷ addresses) (s ∷ sections)
 
 -- the contributions of a placed object to a group
 abbrev pub contributions_of : MachineType → List Placed → Group → Placed → List Contribution
-contributions_of machine linked group p = contributions_in machine linked p group p.section_addresses p.object.sections
+contributions_of machine linked group p =
+    contributions_in machine linked p group p.section_addresses p.object.sections
 
 -- the contributions of objects to a group, in their order
 abbrev pub contributions : MachineType → List Placed → Group → List Placed → List Contribution

@@ -37,9 +37,9 @@ member_view m = record {
 -- The library holds what the text means, renamed. For example, of `foo = bar` an export of the name foo.
 pub record LibraryOf (text : List ℕ) (machine : MachineType) (flavor : Flavor) (library : LibraryView)
     : Type 0 where
-  pub meant : DefinitionView
-  pub parses : Parses text machine meant
-  pub held : library ≡ record { definition = renamed meant; machine = machine; flavor = flavor }
+  pub parsed : DefinitionView
+  pub parses : Parses text machine parsed
+  pub held : library ≡ record { definition = renamed parsed; machine = machine; flavor = flavor }
 
 -- the link inputs that the program's lists of definitions, members and choices make, index by index
 abbrev pub inputs_held : {A B : Type 0} → List ModuleDef → List (Vec Member A) → List (Vec ℕ B) →

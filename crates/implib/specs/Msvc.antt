@@ -31,8 +31,8 @@ name_type_of machine e =
     else import_name
 
 -- the import type: data (1) for an export with DATA, else const (2) for one with CONSTANT, else code (0)
-abbrev pub kind_of : ExportView → ℕ
-kind_of e = if e.is_data then import_data else if e.constant then import_const else import_code
+abbrev pub import_type_of : ExportView → ℕ
+import_type_of e = if e.is_data then import_data else if e.constant then import_const else import_code
 
 -- the short import of an export
 abbrev pub short_import_of : MachineType → List ℕ → ExportView → ShortImport
@@ -41,7 +41,7 @@ short_import_of machine dll e = record {
   machine = machine_number machine;
   time = 0;
   ordinal = e.ordinal;
-  kind = kind_of e;
+  import_type = import_type_of e;
   name_type = name_type_of machine e;
   symbol = short_import_symbol e;
   dll = dll;
@@ -65,7 +65,7 @@ short_import_header r =
     ++ (u32_bytes r.time  -- 8
     ++ (u32_bytes (short_import_data_size r)  -- 12
     ++ (u16_bytes r.ordinal  -- 16
-    ++ u16_bytes (r.kind + 4 * r.name_type)))))))  -- 18
+    ++ u16_bytes (r.import_type + 4 * r.name_type)))))))  -- 18
 
 -- The bytes of a short import. For example, bar of foo.dll on AMD64 is
 -- `00 00 ff ff 00 00 64 86 00 00 00 00 0c 00 00 00 00 00 04 00`, `bar`, NUL, `foo.dll` and NUL.

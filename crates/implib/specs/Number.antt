@@ -22,7 +22,7 @@ plus_sign = 43
 -- are allowed. For example, `+0007` is 7, and neither `+` nor `-1` is a number.
 pub record IsNumber (value : List ℕ) (limit n : ℕ) : Type 0 where
   pub digits : List ℕ
-  pub spelled : (value ≡ digits) ⊎ (value ≡ plus_sign ∷ digits)
+  pub text_is : (value ≡ digits) ⊎ (value ≡ plus_sign ∷ digits)
   pub all_digits : IsTrue (all_ascii_digits digits)
   pub some_digit : 0 < length digits
   pub written : n ≡ digits_value 10 digits

@@ -21,12 +21,12 @@ use Rattle.implib.specs.ShortImport.{ShortImport}
 use Rattle.implib.specs.Renaming.{renamed}
 
 -- the fields of a short import have their ranges
-pub record FitsRecord (r : ShortImport) : Type 0 where
+pub record FitsShortImport (r : ShortImport) : Type 0 where
   pub version : r.version < 2 ^ 16
   pub machine : r.machine < 2 ^ 16
   pub time : r.time < 2 ^ 32
   pub ordinal : r.ordinal < 2 ^ 16
-  pub kind : r.kind < 4
+  pub import_type : r.import_type < 4
   pub name_type : r.name_type < 8
   pub symbol : HasNoNul r.symbol
   pub dll : HasNoNul r.dll
@@ -94,16 +94,16 @@ pub record MatchesDefinition (d : DefinitionView) (machine : MachineType) (membe
   pub meanings : List Meaning
   -- after the first three, each member is an import or an alias
   pub read : map (λ m. meaning_in m.bytes) (drop 3 members) ≡ map Some meanings
-  -- the imports are those that are meant, in order
+  -- the imports are those that are expected, in order
   pub imports : filter_map import_among meanings ≡ imports_of machine d
-  -- the aliases are those that are meant, in order
+  -- the aliases are those that are expected, in order
   pub aliases : filter_map alias_among meanings ≡ aliases_of d
 
 -- what the members for Microsoft's linker are read as, and mean
 pub record MsvcReadings (d : DefinitionView) (machine : MachineType) (members : List MemberView)
     : Type 0 where
   pub files : MsvcReadBack d machine members
-  pub meant : has_no_symbol_names d ≡ true → MatchesDefinition d machine members
+  pub matches : has_no_symbol_names d ≡ true → MatchesDefinition d machine members
 
 -- what an export's members for GNU's linker mean: its aliases, then its import
 abbrev pub expected_meanings : MachineType → List ℕ → ExportView → List Meaning
@@ -142,9 +142,9 @@ pub record GnuReadBack (d : DefinitionView) (machine : MachineType) (members : L
       (reverse (drop 2 members)) ≡ map Some meanings
   -- export by export, its aliases and its import
   pub by_export : meanings ≡ flat_map (expected_meanings machine d.import_name) (public_exports (renamed d))
-  -- the imports are those that are meant, in order
+  -- the imports are those that are expected, in order
   pub imports : filter_map import_among meanings ≡ imports_of machine d
-  -- the aliases are those that are meant, in order
+  -- the aliases are those that are expected, in order
   pub aliases : filter_map alias_among meanings ≡ aliases_of d
   -- the code of each export is relocated as its machine's stub, to the address of that export
   pub code : filter_map (λ m. option_and_then code_of_export (file_in m.bytes)) (reverse (drop 2 members))

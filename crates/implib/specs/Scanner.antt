@@ -90,7 +90,7 @@ pub record StartsWord (text : List ℕ) : Type 0 where
 -- the text is trivia, and then `rest`
 pub record PassesTrivia (text rest : List ℕ) : Type 0 where
   pub trivia : List Lexeme
-  pub spelled : text ≡ text_of trivia rest
+  pub text_is : text ≡ text_of trivia rest
   pub each_is_lexeme : EachIsLexeme trivia rest
   pub each_trivia : AllByRecursion IsTrivia trivia
 
@@ -102,7 +102,7 @@ pub record SkipsTrivia (text rest : List ℕ) : Type 0 where
 -- the text is a lexeme with this token, and then `after`
 pub record TakesLexeme (text : List ℕ) (offset : ℕ) (token : TokenView) (after : List ℕ) : Type 0 where
   pub lexeme : Lexeme
-  pub spelled : text ≡ lexeme_text lexeme ++ after
+  pub text_is : text ≡ lexeme_text lexeme ++ after
   pub located : IsLexemeBefore lexeme after
   pub given : tokens_of_lexeme offset lexeme ≡ token ∷ []
 

@@ -15,7 +15,7 @@ pub record ShortImport : Type 0 where
   pub machine : ℕ
   pub time : ℕ
   pub ordinal : ℕ
-  pub kind : ℕ
+  pub import_type : ℕ
   pub name_type : ℕ
   pub symbol : List ℕ
   pub dll : List ℕ
@@ -72,7 +72,7 @@ short_import_with bytes symbol (Some (dll, [])) = Some record {
   machine = u16_at bytes 6;
   time = u32_at bytes 8;
   ordinal = u16_at bytes 16;
-  kind = u16_at bytes 18 % 4;
+  import_type = u16_at bytes 18 % 4;
   name_type = u16_at bytes 18 / 4 % 8;
   symbol = symbol;
   dll = dll;
@@ -121,8 +121,8 @@ ask_of_short_import r =
 -- the import that a short import is, where its types have a meaning
 abbrev pub import_of_short_import : ShortImport → Option Import
 import_of_short_import r =
-    if nat_le r.kind import_const && nat_le r.name_type import_name_undecorate then Some record {
+    if nat_le r.import_type import_const && nat_le r.name_type import_name_undecorate then Some record {
       dll = r.dll;
-      declared = import_symbols (r.kind == import_data) r.symbol;
+      declared = import_symbols (r.import_type == import_data) r.symbol;
       ask = ask_of_short_import r;
     } else None

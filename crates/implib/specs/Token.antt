@@ -86,7 +86,7 @@ begins test (b ∷ rest) = test b
 pub record BeginsWord (run : List ℕ) : Type 0 where
   pub character : ℕ
   pub tail : List ℕ
-  pub spelled : run ≡ encode_utf8 character ++ tail
+  pub text_is : run ≡ encode_utf8 character ++ tail
   pub scalar : IsScalar character
   pub not_white : is_whitespace character ≡ false
   pub not_nul : character ≢ 0
@@ -132,7 +132,7 @@ EachIsLexeme (lexeme ∷ lexemes) end = IsLexemeBefore lexeme (text_of lexemes e
 
 -- the text is these lexemes, and then this end
 pub record Divides (text : List ℕ) (lexemes : List Lexeme) (end : List ℕ) : Type 0 where
-  pub spelled : text ≡ text_of lexemes end
+  pub text_is : text ≡ text_of lexemes end
   pub each_is_lexeme : EachIsLexeme lexemes end
   pub ends : IsEnd end
 

@@ -51,8 +51,8 @@ gnu_bytes_at d machine index =
     option_map (λ p. file_bytes p.contents) (slice_get (gnu_specs_of d machine) index)
 
 -- `count` bytes from an offset on of the member of the only export, which has no alias
-abbrev pub part_of_export : ℕ → ℕ → DefinitionView → MachineType → Option (List ℕ)
-part_of_export offset count d machine =
+abbrev pub slice_of_export : ℕ → ℕ → DefinitionView → MachineType → Option (List ℕ)
+slice_of_export offset count d machine =
     option_map (λ bytes. take count (drop offset bytes)) (gnu_bytes_at d machine 2)
 
 -- members by name, length and archive symbols
@@ -122,18 +122,18 @@ pub record WorkedGnuRefusals : Type 0 where
 -- bytes of members
 pub record WorkedGnuBytes : Type 0 where
   pub hint_and_name : Means bar_text AMD64
-      (λ d. part_of_export 368 6 d AMD64 ≡ Some (0 ∷ 0 ∷ 0x62 ∷ 0x61 ∷ 0x72 ∷ 0 ∷ []))
-  pub strings : Means bar_text AMD64 (λ d. part_of_export 446 100 d AMD64 ≡ Some
+      (λ d. slice_of_export 368 6 d AMD64 ≡ Some (0 ∷ 0 ∷ 0x62 ∷ 0x61 ∷ 0x72 ∷ 0 ∷ []))
+  pub strings : Means bar_text AMD64 (λ d. slice_of_export 446 100 d AMD64 ≡ Some
       (0x1C ∷ 0 ∷ 0 ∷ 0 ∷ (codes "_head_foo_dll" ++ nul ++ codes "__imp_bar" ++ nul)))
-  pub stub : Means bar_text AMD64 (λ d. part_of_export 300 18 d AMD64 ≡ Some
+  pub stub : Means bar_text AMD64 (λ d. slice_of_export 300 18 d AMD64 ≡ Some
       (0xFF ∷ 0x25 ∷ 0 ∷ 0 ∷ 0 ∷ 0 ∷ 0x90 ∷ 0x90 ∷ 2 ∷ 0 ∷ 0 ∷ 0 ∷ 2 ∷ 0 ∷ 0 ∷ 0 ∷ 4 ∷ 0 ∷ []))
   pub stub_relocation_i386 : Means bar_text I386
-      (λ d. part_of_export 308 10 d I386 ≡ Some (2 ∷ 0 ∷ 0 ∷ 0 ∷ 2 ∷ 0 ∷ 0 ∷ 0 ∷ 6 ∷ 0 ∷ []))
+      (λ d. slice_of_export 308 10 d I386 ≡ Some (2 ∷ 0 ∷ 0 ∷ 0 ∷ 2 ∷ 0 ∷ 0 ∷ 0 ∷ 6 ∷ 0 ∷ []))
   pub hint : Means (codes "LIBRARY foo.dll\nEXPORTS\nbar @258") AMD64
-      (λ d. part_of_export 368 6 d AMD64 ≡ Some (2 ∷ 1 ∷ 0x62 ∷ 0x61 ∷ 0x72 ∷ 0 ∷ []))
+      (λ d. slice_of_export 368 6 d AMD64 ≡ Some (2 ∷ 1 ∷ 0x62 ∷ 0x61 ∷ 0x72 ∷ 0 ∷ []))
   -- by ordinal: the contents of the export's entries in the two tables, and then the symbols
   pub ordinal_on_i386 : Means (codes "LIBRARY foo.dll\nEXPORTS\nfoo @0 NONAME") I386
-      (λ d. part_of_export 332 8 d I386 ≡ Some
+      (λ d. slice_of_export 332 8 d I386 ≡ Some
       (0 ∷ 0 ∷ 0 ∷ 0x80 ∷ 0 ∷ 0 ∷ 0 ∷ 0x80 ∷ []))
   pub ordinal_size_on_i386 : Means (codes "LIBRARY foo.dll\nEXPORTS\nfoo @0 NONAME") I386
       (λ d. map (λ p. (outline p).size) (gnu_specs_of d I386) ≡ 349 ∷ 452 ∷ 442 ∷ [])

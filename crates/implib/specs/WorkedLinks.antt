@@ -67,7 +67,8 @@ pub record Answers (d : DefinitionView) (machine : MachineType) (l : Layout) (ch
       l.bases.hint_names ≡ Some found.hints
   pub dll : bytes_from (image_of machine l.bases (placed d machine l.bases chosen)) 8 l.dll
       ≡ Some (codes "foo.dll" ++ 0 ∷ [])
-  pub section_addresses : map (λ name. addresses_of name (placed d machine l.bases chosen)) symbols ≡ found.section_addresses
+  pub section_addresses : map (λ name. addresses_of name (placed d machine l.bases chosen)) symbols
+      ≡ found.section_addresses
 
 -- an export that is asked for by its number
 abbrev pub nameless : List ℕ → ℕ → ExportView
@@ -107,8 +108,8 @@ input dll name = record {
 }
 
 -- the two as inputs of a link, their bases, and their objects placed there
-abbrev pub two_parts : List LinkInput
-two_parts = input (codes "foo.dll") (codes "bar") ∷ input (codes "zed.dll") (codes "qux") ∷ []
+abbrev pub two_inputs : List LinkInput
+two_inputs = input (codes "foo.dll") (codes "bar") ∷ input (codes "zed.dll") (codes "qux") ∷ []
 
 abbrev pub bases_of_two : Bases
 bases_of_two = record {
@@ -122,7 +123,7 @@ bases_of_two = record {
 
 abbrev pub placed_two : List Placed
 placed_two =
-    placed_from bases_of_two (objects_in (all_linked AMD64 two_parts))
+    placed_from bases_of_two (objects_in (all_linked AMD64 two_inputs))
 
 -- their descriptors, one after another, the thunks of both, the addresses of their symbols
 pub record TwoLink : Type 0 where
@@ -153,7 +154,7 @@ pub record InputsMayLink (machine : MachineType) (bases : Bases) (inputs : List 
 
 -- linked by hand
 pub record WorkedLinks : Type 0 where
-  pub two_may_link : InputsMayLink AMD64 bases_of_two two_parts
+  pub two_may_link : InputsMayLink AMD64 bases_of_two two_inputs
   pub both_may_link : MayLink (foo (codes "bar") (codes "baz")) AMD64 bases_64 (0 ∷ 1 ∷ [])
   pub two : TwoLink
   pub both : Answers (foo (codes "bar") (codes "baz")) AMD64

@@ -23,13 +23,13 @@ abbrev pub member : List ℕ → Contents → List ℕ → MemberSpec
 member name contents symbol = record { name = name; contents = contents; listed = symbol ∷ [] }
 
 -- the short import of bar
-abbrev pub record_of_bar : Numbers → Contents
-record_of_bar n = AShortImport (record {
+abbrev pub short_import_of_bar : Numbers → Contents
+short_import_of_bar n = AShortImport (record {
   version = 0;
   machine = n.machine;
   time = 0;
   ordinal = 0;
-  kind = 0;
+  import_type = 0;
   name_type = 1;
   symbol = codes "bar";
   dll = foo_dll;
@@ -50,7 +50,11 @@ msvc_member_specs n =
     ∷ member foo_dll (AnObject (null_thunk n)) (0x7F ∷ codes "foo_NULL_THUNK_DATA")
     ∷ member foo_dll (weak_bar n) (codes "bar")
     ∷ member foo_dll (weak_address n) (codes "__imp_bar")
-    ∷ record { name = foo_dll; contents = record_of_bar n; listed = codes "__imp_bar" ∷ codes "bar" ∷ [] }
+    ∷ record {
+      name = foo_dll;
+      contents = short_import_of_bar n;
+      listed = codes "__imp_bar" ∷ codes "bar" ∷ [];
+    }
     ∷ []
 
 -- the members for GNU's linker

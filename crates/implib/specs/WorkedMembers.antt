@@ -104,8 +104,8 @@ abbrev pub of_foo : ℕ → List (List ℕ) → Outline
 of_foo size listed = record { name = codes "foo.dll"; size = size; listed = listed }
 
 -- the member of a short import of foo.dll for a function of three letters
-abbrev pub foo_record : List ℕ → Outline
-foo_record name = of_foo 32 ((codes "__imp_" ++ name) ∷ name ∷ [])
+abbrev pub foo_short_import : List ℕ → Outline
+foo_short_import name = of_foo 32 ((codes "__imp_" ++ name) ∷ name ∷ [])
 
 -- one function, and one with an alias
 abbrev pub bar_text : List ℕ
@@ -124,9 +124,10 @@ self_text = codes "LIBRARY foo.dll\nEXPORTS\nfoo == foo"
 
 -- members by name, length and archive symbols
 pub record WorkedOutlines : Type 0 where
-  pub one_function : TextHasMembers bar_text AMD64 (foo_header ++ foo_record (codes "bar") ∷ [])
-  pub one_function_32 : TextHasMembers bar_text ARMNT (foo_header_members_32 ++ foo_record (codes "bar") ∷ [])
-  pub one_function_arm64 : TextHasMembers bar_text ARM64 (foo_header ++ foo_record (codes "bar") ∷ [])
+  pub one_function : TextHasMembers bar_text AMD64 (foo_header ++ foo_short_import (codes "bar") ∷ [])
+  pub one_function_32 : TextHasMembers bar_text ARMNT
+      (foo_header_members_32 ++ foo_short_import (codes "bar") ∷ [])
+  pub one_function_arm64 : TextHasMembers bar_text ARM64 (foo_header ++ foo_short_import (codes "bar") ∷ [])
   pub with_underscore : TextHasMembers bar_text I386
       (foo_header_members_32 ++ of_foo 33 (codes "__imp__bar" ∷ codes "_bar" ∷ []) ∷ [])
   pub no_export : TextHasMembers (codes "LIBRARY a.dll " ++ nul ++ codes "EXPORTS x") AMD64
@@ -137,9 +138,9 @@ pub record WorkedOutlines : Type 0 where
       (foo_header
       ++ of_foo 162 (codes "foo" ∷ [])
       ∷ of_foo 174 (codes "__imp_foo" ∷ [])
-      ∷ foo_record (codes "foo")
+      ∷ foo_short_import (codes "foo")
       ∷ [])
-  pub own_alias : TextHasMembers self_text AMD64 (foo_header ++ foo_record (codes "foo") ∷ [])
+  pub own_alias : TextHasMembers self_text AMD64 (foo_header ++ foo_short_import (codes "foo") ∷ [])
   pub own_alias_with_underscore : TextHasMembers self_text I386
       (foo_header_members_32
       ++ of_foo 163 (codes "_foo" ∷ [])
@@ -157,11 +158,11 @@ pub record WorkedOutlines : Type 0 where
       (of_dll (codes "foo.dll")
       (record empty_export { name = codes "b" ++ nul; private = true } ∷ plain_export (codes "bar") ∷ []))
       AMD64
-      (foo_header ++ foo_record (codes "bar") ∷ [])
+      (foo_header ++ foo_short_import (codes "bar") ∷ [])
   pub private_empty : HasMembers
       (of_dll (codes "foo.dll") (record empty_export { private = true } ∷ plain_export (codes "bar") ∷ []))
       AMD64
-      (foo_header ++ foo_record (codes "bar") ∷ [])
+      (foo_header ++ foo_short_import (codes "bar") ∷ [])
   pub symbol_name : HasMembers
       (of_dll (codes "foo.dll")
       (record empty_export { name = codes "foo"; symbol_name = codes "_foo@8" } ∷ [])) AMD64
@@ -247,7 +248,7 @@ header_on_amd64 size fields =
 pub record WorkedBytes : Type 0 where
   pub record_on_amd64 : Means bar_text AMD64 (λ d. bytes_at d AMD64 3 ≡ Some
       (header_on_amd64 0x0C (0 ∷ 0 ∷ 4 ∷ 0 ∷ []) ++ codes "bar" ++ nul ++ codes "foo.dll" ++ nul))
-  pub record_with_symbol_name : bytes_at
+  pub short_import_with_symbol_name : bytes_at
       (of_dll (codes "foo.dll")
       (record empty_export { name = codes "foo"; symbol_name = codes "_foo@8" } ∷ [])) AMD64 3 ≡ Some
       (header_on_amd64 0x0F (0 ∷ 0 ∷ 0x0C ∷ 0 ∷ []) ++ codes "_foo@8" ++ nul ++ codes "foo.dll" ++ nul)

@@ -77,8 +77,8 @@ pub record WorkedNames : Type 0 where
   pub number_of_six : five_digits 100000 ≡ codes "100000"
 
 -- the short import of an export of foo.dll
-abbrev pub record_for : MachineType → ExportView → List ℕ
-record_for machine e = short_import_bytes (short_import_of machine foo_dll e)
+abbrev pub short_import_bytes_for : MachineType → ExportView → List ℕ
+short_import_bytes_for machine e = short_import_bytes (short_import_of machine foo_dll e)
 
 -- a function that is linked by another name than the DLL's
 abbrev pub under_symbol : List ℕ → List ℕ → ExportView
@@ -91,29 +91,31 @@ texts symbol dll = symbol ++ 0 ∷ (dll ++ 0 ∷ [])
 -- Whole short imports. The last four bytes of a header are the ordinal or hint, and the import type with 4
 -- times the name type.
 pub record WorkedRecords : Type 0 where
-  pub on_i386 : record_for I386 bar
+  pub on_i386 : short_import_bytes_for I386 bar
       ≡ hex "00 00 ff ff 00 00 4c 01 00 00 00 00 0c 00 00 00 00 00 04 00" ++ texts (codes "bar") foo_dll
-  pub on_armnt : record_for ARMNT bar
+  pub on_armnt : short_import_bytes_for ARMNT bar
       ≡ hex "00 00 ff ff 00 00 c4 01 00 00 00 00 0c 00 00 00 00 00 04 00" ++ texts (codes "bar") foo_dll
-  pub on_amd64 : record_for AMD64 bar
+  pub on_amd64 : short_import_bytes_for AMD64 bar
       ≡ hex "00 00 ff ff 00 00 64 86 00 00 00 00 0c 00 00 00 00 00 04 00" ++ texts (codes "bar") foo_dll
-  pub on_arm64 : record_for ARM64 bar
+  pub on_arm64 : short_import_bytes_for ARM64 bar
       ≡ hex "00 00 ff ff 00 00 64 aa 00 00 00 00 0c 00 00 00 00 00 04 00" ++ texts (codes "bar") foo_dll
-  pub hint : record_for AMD64 (record bar { ordinal = 0x1234 })
+  pub hint : short_import_bytes_for AMD64 (record bar { ordinal = 0x1234 })
       ≡ hex "00 00 ff ff 00 00 64 86 00 00 00 00 0c 00 00 00 34 12 04 00" ++ texts (codes "bar") foo_dll
-  pub constant_by_ordinal : record_for AMD64 (record bar { constant = true; no_name = true; ordinal = 2 })
+  pub constant_by_ordinal :
+      short_import_bytes_for AMD64 (record bar { constant = true; no_name = true; ordinal = 2 })
       ≡ hex "00 00 ff ff 00 00 64 86 00 00 00 00 0c 00 00 00 02 00 02 00" ++ texts (codes "bar") foo_dll
-  pub data_without_prefix : record_for I386 (record empty_export { name = codes "_v"; is_data = true })
+  pub data_without_prefix :
+      short_import_bytes_for I386 (record empty_export { name = codes "_v"; is_data = true })
       ≡ hex "00 00 ff ff 00 00 4c 01 00 00 00 00 0b 00 00 00 00 00 09 00" ++ texts (codes "_v") foo_dll
-  pub undecorated : record_for AMD64 (under_symbol (codes "f") (codes "_f@8"))
+  pub undecorated : short_import_bytes_for AMD64 (under_symbol (codes "f") (codes "_f@8"))
       ≡ hex "00 00 ff ff 00 00 64 86 00 00 00 00 0d 00 00 00 00 00 0c 00" ++ texts (codes "_f@8") foo_dll
   -- a short import byte by byte
-  pub bytes : record_for AMD64 bar
+  pub bytes : short_import_bytes_for AMD64 bar
       ≡ hex "00 00 ff ff 00 00 64 86 00 00 00 00 0c 00 00 00 00 00 04 00 62 61 72 00 66 6f 6f 2e 64 6c 6c 00"
 
 -- the last two bytes of a short import's header
 abbrev pub types_of : MachineType → ExportView → List ℕ
-types_of machine e = take 2 (drop 18 (record_for machine e))
+types_of machine e = take 2 (drop 18 (short_import_bytes_for machine e))
 
 -- Which name type is taken where several rules hold.
 pub record WorkedNameTypes : Type 0 where

@@ -10,7 +10,7 @@ use Rattle.implib.specs.LinkedMembers.{IsMade, LinkInput, all_linked, objects_in
 use Rattle.implib.specs.Object.{Object}
 use Rattle.implib.specs.Placement.{Bases}
 use Rattle.implib.proofs.LinkedBlocks.{Block, blocks_objects}
-use Rattle.implib.proofs.LinkedInputs.{block_of, parts_objects}
+use Rattle.implib.proofs.LinkedInputs.{block_of, gnu_inputs_objects}
 use Rattle.implib.proofs.Placement.{export, head, tail}
 use Rattle.implib_link.specs.Program.{ClaimsNone, IsProgram, has_tables, linked_symbols, null_descriptor}
 use Rattle.implib_link.proofs.Blocks.{objects_behind}
@@ -55,7 +55,7 @@ none_left (o ∷ objects) all = rw all.0 (none_left objects all.1)
 pub members_have : (machine : MachineType) (inputs : List LinkInput) → AllByRecursion (IsMade machine) inputs →
     AllByRecursion (λ o. has_tables o ≡ true) (objects_in (all_linked machine inputs) ++ null_descriptor ∷ [])
 members_have machine inputs made =
-    subst AllHave (sym (ap (λ members. members ++ null_descriptor ∷ []) (parts_objects machine inputs made) ∙ objects_behind machine (map block_of inputs) (null_descriptor ∷ [])))
+    subst AllHave (sym (ap (λ members. members ++ null_descriptor ∷ []) (gnu_inputs_objects machine inputs made) ∙ objects_behind machine (map block_of inputs) (null_descriptor ∷ [])))
     (blocks_have machine (map block_of inputs) (null_descriptor ∷ []) (null_has, tt))
 
 pub members_are_program : (machine : MachineType) (bases : Bases) (inputs : List LinkInput) → AllByRecursion (IsMade machine) inputs →

@@ -1,4 +1,4 @@
--- Where the descriptors and the address tables of blocks stand, and the null descriptor behind them.
+-- Where the descriptors and the address tables of blocks are, and the null descriptor behind them.
 use Rattle.std.proofs.Common.{◌≡◌, ℕ, zero, suc, ◌+◌, ◌*◌, ◌-◌, List, [], ◌∷◌, ◌++◌, length, map, Some, refl, ap, sym, ◌∙◌, subst, arith}
 use Rattle.std.specs.Prelude.{slice_get}
 use Rattle.std.proofs.Math.Nat.{mul-add, mul-suc, mul-zero}
@@ -53,7 +53,7 @@ unfolding ends_of_blocks
 aligned_blocks machine b [] even = even
 aligned_blocks machine b (k ∷ blocks) even = aligned_blocks machine (ends_of_block machine k.dll b k.exports) blocks (aligned_block machine k.dll b k.exports even)
 
--- the null descriptor stands where the descriptors end
+-- the null descriptor is where the descriptors end
 pub null_located : (machine : MachineType) (linked : List Placed) (image : List Range) (b : Bases) → AreAligned b →
     LocatedFrom machine linked image b (null_descriptor ∷ []) → BytesAt image b.descriptors (zeros 20)
 null_located machine linked image b even located =

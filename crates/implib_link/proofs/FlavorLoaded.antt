@@ -1,4 +1,4 @@
--- What a loader writes stands at the entries of both flavours' address tables, and nowhere else.
+-- What a loader writes is at the entries of both flavours' address tables, and nowhere else.
 use Rattle.std.proofs.Common.{◌≡◌, ℕ, zero, suc, ◌+◌, ◌*◌, ◌≤◌, List, [], ◌∷◌, ◌++◌, length, map, Some, refl, ap, sym, ◌∙◌, subst, arith}
 use Rattle.std.specs.Prelude.{option_map, slice_get}
 use Rattle.std.specs.List.{AllByRecursion}

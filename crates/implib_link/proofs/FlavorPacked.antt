@@ -22,7 +22,7 @@ use Rattle.implib_link.specs.Program.{has_tables}
 use Rattle.implib_link.specs.SectionSymbols.{with_section_symbols}
 use Rattle.implib_link.proofs.FlavorBlock.{behind_descriptor, objects_of, use_for}
 use Rattle.implib_link.proofs.FlavorBlocks.{FlavorBlock, all_objects}
-use Rattle.implib_link.proofs.FlavorParts.{block_in}
+use Rattle.implib_link.proofs.FlavorInputs.{block_in}
 use Rattle.implib_link.proofs.FlavorProgram.{directory_end, kept_are, parts_are}
 use Rattle.implib_link.proofs.NullDescriptor.{all_insert}
 use Rattle.implib_link.proofs.Packed.{admissible, packed_eights}

@@ -38,7 +38,7 @@ use Rattle.implib_link.proofs.FlavorBlock.{OneLinks, behind_descriptor, objects_
 use Rattle.implib_link.proofs.FlavorBlocks.{EachIn, FlavorBlock, all_objects, definitions-all, definitions_all, descriptors_all, directory_in, each_in, ends_all, imported_of, names-all, nth_in, thunks_in}
 use Rattle.implib_link.proofs.Claims.{claimed_placed}
 use Rattle.implib_link.proofs.FlavorClaims.{all_claim_listed, claimed_with_null}
-use Rattle.implib_link.proofs.FlavorParts.{block_in, inputs_link, inputs_objects, inputs_symbols, inputs_taken, null_object, objects_with_null}
+use Rattle.implib_link.proofs.FlavorInputs.{block_in, inputs_link, inputs_objects, inputs_symbols, inputs_taken, null_object, objects_with_null}
 use Rattle.implib_link.proofs.NullDescriptor.{EndsNothing, addresses_same, among_same, descriptors_end_same, descriptors_same, dll_names_same, finds_same, hint_names_same, lookups_same, null_filled, null_once, others_same, undefined_same}
 use Rattle.implib_link.proofs.Others.{contributions_kept, definitions_kept, placed_kept}
 use Rattle.implib_link.proofs.Packed.{end_kept}
@@ -221,7 +221,7 @@ module _ (machine : MachineType) (b : Bases) (inputs : List FlavorInput) (object
         dll_names = group_from DllNames all.dll_names (dll_names_same machine b front back none ends_even linked);
       }
 
-  -- the null descriptor stands at its base
+  -- the null descriptor is at its base
   null_located : BytesAt image b.directory_ends (zeros 20)
   unfolding Among
   null_located =

@@ -31,7 +31,7 @@ use Rattle.implib_link.proofs.Blocks.{table_sum}
 use Rattle.implib_link.proofs.FlavorBlock.{behind_descriptor, ends_in, ends_of_askings, objects_of, symbols_of, use_for, wide_in}
 use Rattle.implib_link.proofs.FlavorBlocks.{FlavorBlock, addresses_one, all_objects, ends_one, thunks_in}
 use Rattle.implib_link.proofs.FlavorLoaded.{entry_of, flavors_load}
-use Rattle.implib_link.proofs.FlavorParts.{block_in, inputs_symbols}
+use Rattle.implib_link.proofs.FlavorInputs.{block_in, inputs_symbols}
 use Rattle.implib_link.proofs.FlavorProgram.{flavors_link, placed_among, thunks_are, wide}
 use Rattle.implib_link.proofs.Loaded.{times_next, times_none}
 use Rattle.implib_link.proofs.SearchLists.{among_at, flat_map_among}

@@ -26,7 +26,7 @@ use Rattle.implib.proofs.Asked.{asks_for_words}
 use Rattle.implib.proofs.LinkedMembers.{all_at}
 use Rattle.implib.proofs.SymbolNames.{parsed_lacks}
 use Rattle.implib_link.specs.FlavorProgram.{FlavorInput, InputImports, IsFlavorProgram, IsMadeFor, SymbolsAt, SymbolsGet, ask_in, descriptor_in, dll_of, exports_chosen, symbol_in, thunks_of}
-use Rattle.implib_link.specs.FlavorTexts.{FlavorSource, FlavorTextLinks, FlavorTextsLink, IsFlavorSource, input_meant, input_of}
+use Rattle.implib_link.specs.FlavorTexts.{FlavorSource, FlavorTextLinks, FlavorTextsLink, IsFlavorSource, input_parsed, input_of}
 use Rattle.implib_link.specs.Texts.{Stated, ask_stated, chosen_stated, stated}
 use Rattle.implib_link.proofs.FlavorProgram.{flavors_link}
 use Rattle.implib_link.proofs.Texts.{all_chosen, all_filter, chosen_renamed, stated_ask, statements_are}
@@ -109,32 +109,32 @@ from_parts : (machine : MachineType) (image : List Range) (linked : List Placed)
     ImportsOf machine image linked descriptor table p.flavor (dll_of p) (exports_chosen p) → InputImports machine image linked descriptor table p
 from_parts machine image linked descriptor table p i = record { top = i.top; loads = i.loads; table_located = i.table_located; entries = i.entries; gets = i.gets }
 
-same_imports : (machine : MachineType) (image : List Range) (linked : List Placed) (descriptor table : ℕ) (s : FlavorSource) (meant : DefinitionView) →
-    s.source.library ≡ record { definition = renamed meant; machine = machine; flavor = s.flavor } →
-    InputImports machine image linked descriptor table (input_of s) → InputImports machine image linked descriptor table (input_meant meant s)
-same_imports machine image linked descriptor table s meant held imports =
-    let exports_same : chosen_exports s.source.library.definition s.source.chosen ≡ chosen_exports meant s.source.chosen = chosen_renamed s.source.library meant machine s.flavor s.source.chosen held in
-    let name_same : s.source.library.definition.import_name ≡ meant.import_name = ap (λ (l : LibraryView). l.definition.import_name) held in
-    from_parts machine image linked descriptor table (input_meant meant s)
-    (subst (λ (es : List ExportView). ImportsOf machine image linked descriptor table s.flavor meant.import_name es) exports_same
+same_imports : (machine : MachineType) (image : List Range) (linked : List Placed) (descriptor table : ℕ) (s : FlavorSource) (parsed : DefinitionView) →
+    s.source.library ≡ record { definition = renamed parsed; machine = machine; flavor = s.flavor } →
+    InputImports machine image linked descriptor table (input_of s) → InputImports machine image linked descriptor table (input_parsed parsed s)
+same_imports machine image linked descriptor table s parsed held imports =
+    let exports_same : chosen_exports s.source.library.definition s.source.chosen ≡ chosen_exports parsed s.source.chosen = chosen_renamed s.source.library parsed machine s.flavor s.source.chosen held in
+    let name_same : s.source.library.definition.import_name ≡ parsed.import_name = ap (λ (l : LibraryView). l.definition.import_name) held in
+    from_parts machine image linked descriptor table (input_parsed parsed s)
+    (subst (λ (es : List ExportView). ImportsOf machine image linked descriptor table s.flavor parsed.import_name es) exports_same
     (subst (λ (name : List ℕ). ImportsOf machine image linked descriptor table s.flavor name (chosen_exports s.source.library.definition s.source.chosen)) name_same
     (to_parts machine image linked descriptor table (input_of s) imports)))
 
 text_links : (machine : MachineType) (image : List Range) (linked : List Placed) (descriptor table : ℕ) (s : FlavorSource) → IsFlavorSource machine s →
     InputImports machine image linked descriptor table (input_of s) → FlavorTextLinks machine image linked descriptor table s
 text_links machine image linked descriptor table s is imports =
-    let meant : DefinitionView = is.of_text.meant in
-    let words = asks_for_words s.source.text machine meant is.of_text.parses in
-    let lacks = parsed_lacks s.source.text machine meant is.of_text.parses in
+    let parsed : DefinitionView = is.of_text.parsed in
+    let words = asks_for_words s.source.text machine parsed is.of_text.parses in
+    let lacks = parsed_lacks s.source.text machine parsed is.of_text.parses in
     record {
-      meant = meant;
+      parsed = parsed;
       parses = is.of_text.parses;
-      imports = same_imports machine image linked descriptor table s meant is.of_text.held imports;
-      statements = statements_are machine meant (exports_of_text is.of_text.parses.statements) words s.source.chosen;
-      names = names_are s.flavor (chosen_exports meant s.source.chosen)
-          (all_chosen (λ (e : ExportView). e.symbol_name ≡ []) (public_exports (renamed meant)) s.source.chosen
-          (all_filter (λ (e : ExportView). e.symbol_name ≡ []) (λ e. not e.private) (renamed meant).exports (all_empty (renamed meant).exports lacks.renamed)));
-      asks = asks_are s.flavor machine meant (exports_of_text is.of_text.parses.statements) words s.source.chosen;
+      imports = same_imports machine image linked descriptor table s parsed is.of_text.held imports;
+      statements = statements_are machine parsed (exports_of_text is.of_text.parses.statements) words s.source.chosen;
+      names = names_are s.flavor (chosen_exports parsed s.source.chosen)
+          (all_chosen (λ (e : ExportView). e.symbol_name ≡ []) (public_exports (renamed parsed)) s.source.chosen
+          (all_filter (λ (e : ExportView). e.symbol_name ≡ []) (λ e. not e.private) (renamed parsed).exports (all_empty (renamed parsed).exports lacks.renamed)));
+      asks = asks_are s.flavor machine parsed (exports_of_text is.of_text.parses.statements) words s.source.chosen;
     }
 
 pub flavor_texts_link : (machine : MachineType) (bases : Bases) (sources : List FlavorSource) (objects : List Object) → AllByRecursion (IsFlavorSource machine) sources →

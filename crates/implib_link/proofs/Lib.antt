@@ -30,7 +30,7 @@ pub mod FlavorBlock
 pub mod FlavorBlocks
 pub mod NullDescriptor
 pub mod FlavorClaims
-pub mod FlavorParts
+pub mod FlavorInputs
 pub mod FlavorProgram
 pub mod WorkedExpansion
 pub mod WorkedFlavors

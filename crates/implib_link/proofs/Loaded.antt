@@ -1,4 +1,4 @@
--- What a loader writes stands at the entries of the address tables, and nowhere else.
+-- What a loader writes is at the entries of the address tables, and nowhere else.
 use Rattle.std.proofs.Common.{◌≡◌, ℕ, zero, suc, ◌+◌, ◌*◌, ◌-◌, ◌≤◌, true, false, List, [], ◌∷◌, ◌++◌, length, map, Some, refl, ap, sym, ◌∙◌, subst, arith}
 use Rattle.std.specs.Prelude.{nat_le, nat_lt, slice_get, slice_index, option_map}
 use Rattle.std.specs.List.{AllByRecursion, list_any}
@@ -27,7 +27,7 @@ use Rattle.implib_link.proofs.Program.{program_links}
 
 -- Ranges in front of others.
 
--- the bytes of the first range from a position on stand
+-- the bytes of the first range from a position on are located
 front_from : (r : Range) (rs : List Range) (bytes front : List ℕ) (a : ℕ) → r.bytes ≡ front ++ bytes → a ≡ r.start + length front → BytesAt (r ∷ rs) a bytes
 unfolding BytesAt
 front_from r rs [] front a is at = tt
@@ -49,7 +49,7 @@ past_end a r past =
     let below = ltb-true a (range_end r) (and_parts (nat_le r.start a) (nat_lt a (range_end r)) within).1 in
     omega arith)
 
--- bytes behind the end of the first range stand as they do without it
+-- bytes behind the end of the first range are as they are without it
 behind_front : (r : Range) (rs : List Range) (bytes : List ℕ) (a : ℕ) → range_end r ≤ a → BytesAt rs a bytes → BytesAt (r ∷ rs) a bytes
 unfolding BytesAt
 behind_front r rs [] a past located = tt

@@ -29,7 +29,7 @@ use Rattle.implib_link.specs.Search.{HaveSame, left_by}
 use Rattle.implib_link.specs.SectionSymbols.{with_section_symbols}
 use Rattle.implib_link.proofs.FlavorBlock.{asking, use_for}
 use Rattle.implib_link.proofs.FlavorClaims.{claims_asking, claims_descriptor, claims_null, claims_thunk}
-use Rattle.implib_link.proofs.FlavorParts.{descriptor_at, descriptor_taken, null_at, null_taken, read_of, short_at, short_taken, thunk_at, thunk_taken}
+use Rattle.implib_link.proofs.FlavorInputs.{descriptor_at, descriptor_taken, null_at, null_taken, read_of, short_at, short_taken, thunk_at, thunk_taken}
 use Rattle.implib_link.proofs.Search.{in_nothing, only_one, wanted_name, wants}
 use Rattle.implib_link.proofs.SearchLists.{all_listed, among_any, among_either, among_mapped, any_among, contains_among, listed_is, listed_once, one_member}
 use Rattle.implib_link.proofs.Taken.{taken_descriptor, taken_null, taken_null_thunk}

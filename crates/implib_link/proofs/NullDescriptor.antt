@@ -107,7 +107,7 @@ unfolding ends_behind
 placed-append b [] ys = refl
 placed-append b (o ∷ xs) ys = ap (λ ps. record { object = o; section_addresses = section_addresses_of b o.sections } ∷ ps) (placed-append (ends_after b o.sections) xs ys)
 
--- nothing of `.idata$3` stands in such objects
+-- nothing of `.idata$3` is in such objects
 contribution_none : (b : Bases) (flags : ℕ) (bytes : List ℕ) (g : Option Group) → is_end g ≡ false → contribution_at DirectoryEnds (address_after b flags g) bytes ≡ []
 contribution_none b flags bytes None none = refl
 contribution_none b flags bytes (Some Descriptors) none = refl

@@ -10,7 +10,7 @@ use Rattle.implib.specs.LinkedMembers.{IsMade, LinkInput, all_linked, objects_in
 use Rattle.implib.specs.ImportTables.{zeros}
 use Rattle.implib.specs.Object.{Object, ObjectSection}
 use Rattle.implib.specs.Placement.{Addresses, Bases, Descriptors, DirectoryEnds, DllNames, Group, HintNames, Lookups, Placed, alignment, base_of, end_after, ends_after, group_named, next_multiple, address_after, section_address_of, placed_from, section_addresses_of, same_group, with_base}
-use Rattle.implib.proofs.LinkedInputs.{block_of, parts_objects}
+use Rattle.implib.proofs.LinkedInputs.{block_of, gnu_inputs_objects}
 use Rattle.implib.proofs.Placement.{at_least}
 use Rattle.implib_link.specs.Packed.{end_with, group_end, packed, packed_addresses, packed_descriptors, packed_directory_ends, packed_dll_names, packed_end, packed_hint_names, packed_lookups, sections_end}
 use Rattle.implib_link.specs.Program.{IsProgram, has_tables, is_table, linked_symbols, null_descriptor}
@@ -160,7 +160,7 @@ ends_rise group n (o ∷ objects) =
     let rest = ends_rise group (sections_end group n o.sections) objects in
     omega arith
 
--- Ranges that stand one behind another, from an address to another.
+-- Ranges one behind another, from an address to another.
 Rising : ℕ → ℕ → List Range → Type 0
 Rising low high [] = low ≤ high
 Rising low high (r ∷ rs) = (low ≤ r.start) × Rising (range_end r) high rs
@@ -290,7 +290,7 @@ pub packed_is_admissible : (machine : MachineType) (first : ℕ) (inputs : List 
 packed_is_admissible machine first inputs objects made tables above below =
     admissible machine first objects
     (subst (AllByRecursion IsSized)
-    (sym (tables ∙ ap (λ members. members ++ null_descriptor ∷ []) (parts_objects machine inputs made) ∙ objects_behind machine (map block_of inputs) (null_descriptor ∷ [])))
+    (sym (tables ∙ ap (λ members. members ++ null_descriptor ∷ []) (gnu_inputs_objects machine inputs made) ∙ objects_behind machine (map block_of inputs) (null_descriptor ∷ [])))
     (blocks_sized machine (map block_of inputs))) above below
 
 pub packed_is_program : (machine : MachineType) (first : ℕ) (inputs : List LinkInput) → AllByRecursion (IsMade machine) inputs →

@@ -18,7 +18,7 @@ use Rattle.implib.proofs.Definitions.{only_definition}
 use Rattle.implib.proofs.Linked.{LocatedFrom}
 use Rattle.implib.proofs.LinkedBlocks.{Block, EachLinks, each_located, blocks_definitions, blocks_objects, definitions-blocks, each_links, ends, ends_of_blocks, even, names-blocks, starts}
 use Rattle.implib.proofs.LinkedMembers.{among_map}
-use Rattle.implib.proofs.LinkedInputs.{block_of, parts_fit, parts_linked, parts_objects, parts_symbols}
+use Rattle.implib.proofs.LinkedInputs.{block_of, gnu_inputs_fit, gnu_inputs_linked, gnu_inputs_objects, gnu_inputs_symbols}
 use Rattle.implib.proofs.Ranges.{Among, among_first, among_later}
 use Rattle.implib_link.specs.Program.{ClaimsNone, EachGets, GetsAddress, ImportsBy, IsProgram, LinksAmong, claimed_names, has_tables, linked_symbols, names_claimed_in, null_descriptor, thunks_before, with_tables}
 use Rattle.implib_link.proofs.Claims.{claimed_blocks, claimed_placed}
@@ -80,7 +80,7 @@ module _ (machine : MachineType) (b : Bases) (inputs : List LinkInput) (objects 
   kept_are : filter has_tables objects ≡ blocks_objects machine dlls behind
   kept_are =
       program.tables
-      ∙ ap (λ members. members ++ behind) (parts_objects machine inputs made)
+      ∙ ap (λ members. members ++ behind) (gnu_inputs_objects machine inputs made)
       ∙ objects_behind machine dlls behind
 
   group_located : (group : Group) → BytesAt image (base_of group b) (filled (base_of group b) (contributions machine linked group linked)) →
@@ -104,7 +104,7 @@ module _ (machine : MachineType) (b : Bases) (inputs : List LinkInput) (objects 
   defined = blocks_definitions machine b dlls
 
   names_are : map (λ (d : SymbolDefinition). d.name) defined ≡ linked_symbols machine inputs
-  names_are = names-blocks machine b dlls ∙ sym (parts_symbols machine inputs made)
+  names_are = names-blocks machine b dlls ∙ sym (gnu_inputs_symbols machine inputs made)
 
   only : (d : SymbolDefinition) → Among d (blocks_definitions machine b (map block_of inputs)) → definitions_of d.name (placed_from b objects) ≡ d ∷ []
   only d m =
@@ -117,7 +117,7 @@ module _ (machine : MachineType) (b : Bases) (inputs : List LinkInput) (objects 
 
   pub each : EachLinks machine (placed_from b objects) (image_of machine b (placed_from b objects)) b (map block_of inputs) (null_descriptor ∷ [])
   each = each_links machine linked image behind (starts machine b objects program.admissible) (ends machine b objects program.admissible)
-      dlls b (parts_fit machine inputs made) (even machine b objects program.admissible) only located
+      dlls b (gnu_inputs_fit machine inputs made) (even machine b objects program.admissible) only located
 
   null : BytesAt image (ends_of_blocks machine b (map block_of inputs)).descriptors (zeros 20)
   null = null_located machine linked image (ends_of_blocks machine b dlls) (aligned_blocks machine b dlls (even machine b objects program.admissible)) each.located
@@ -138,7 +138,7 @@ pub program_links : (machine : MachineType) (bases : Bases) (inputs : List LinkI
 program_links machine b inputs objects made program =
     let found = each machine b inputs objects made program in
     record {
-      linked = parts_linked machine inputs made;
+      linked = gnu_inputs_linked machine inputs made;
       imports = nth_imports machine b inputs objects made program;
       directory = directory_of machine (placed_from b objects) (image_of machine b (placed_from b objects)) inputs b found.imports (null machine b inputs objects made program);
       targets = subst (AllByRecursion (AllFind (placed_from b objects))) (sym (kept_placed machine b inputs objects made program)) (found.targets ((tt, tt), tt));
@@ -147,5 +147,5 @@ program_links machine b inputs objects made program =
           (once_of (placed_from b objects) (defined machine b inputs objects made program) (only machine b inputs objects made program));
       claimed = ap names_claimed_in (kept_placed machine b inputs objects made program)
           ∙ claimed_placed b (blocks_objects machine (map block_of inputs) (null_descriptor ∷ []))
-          ∙ claimed_blocks machine (map block_of inputs) ∙ sym (parts_symbols machine inputs made);
+          ∙ claimed_blocks machine (map block_of inputs) ∙ sym (gnu_inputs_symbols machine inputs made);
     }

@@ -21,7 +21,7 @@ use Rattle.implib_link.proofs.Stubs.{same_address}
 pub differ : (n m : ℕ) → n ≡ m → n < m → ⊥
 differ n m same less = omega arith
 
--- whether bytes stand in an image
+-- whether bytes are in an image
 abbrev is_byte : Option ℕ → ℕ → Bool
 is_byte None n = false
 is_byte (Some m) n = nat_eq m n

@@ -21,7 +21,7 @@ use Rattle.implib.specs.Resolution.{SymbolDefinition, address_or_zero, definitio
 use Rattle.implib.proofs.Linked.{address_found, aligned_block, ends_of_block}
 use Rattle.implib.proofs.LinkedBlocks.{Block, blocks_objects, ends, even, linked_symbols as block_symbols, starts}
 use Rattle.implib.proofs.LinkedMembers.{among_contains, among_map}
-use Rattle.implib.proofs.LinkedInputs.{block_of, parts_symbols}
+use Rattle.implib.proofs.LinkedInputs.{block_of, gnu_inputs_symbols}
 use Rattle.implib.proofs.Placement.{AreAligned, after_head, aligned_after, aligned_head, ends_of_all, ends_of_export, ends_of_exports, ends_of_head, placed-export, placed-head, placed-tail, placed_export}
 use Rattle.implib.proofs.Ranges.{Among, address_bounds, all_among, among_first, among_front, among_later}
 use Rattle.implib_link.specs.Directory.{imported}
@@ -126,7 +126,7 @@ among_filter test x (y ∷ xs) m =
       | inr is ↦ inr (among_filter test x xs (rw is at m))
     ]
 
--- Entries stand below 2^31.
+-- Entries are below 2^31.
 
 byte_below : (image : List Range) → AllByRecursion (λ r. 0 < r.start) image → AllByRecursion (λ r. range_end r < 2 ^ 31) image → (a : ℕ) (bytes : List ℕ) → 0 < length bytes →
     BytesAt image a bytes → a < 2 ^ 31
@@ -200,7 +200,7 @@ unfolding Among
 name_listed machine inputs i j p e made input chosen is =
     let exports : List ExportView = chosen_exports p.definition p.chosen in
     let own : Among e.name (export_listed e) = rw is (inl refl) in
-    subst (Among e.name) (sym (parts_symbols machine inputs made))
+    subst (Among e.name) (sym (gnu_inputs_symbols machine inputs made))
     (flat_map_among (λ (k : Block). block_symbols machine k.dll k.exports) e.name (map block_of inputs) (block_of p) (among_map block_of p inputs (among_at p inputs i input))
     (among_later _ _ _ (among_front e.name (flat_map export_listed exports) _ (flat_map_among export_listed e.name exports e (among_at e exports j chosen) own))))
 

@@ -1,4 +1,4 @@
--- Where what a linker takes the members for Microsoft's linker for is placed, and what stands there.
+-- Where a linker places what it takes Microsoft's members for, and what is there.
 use Rattle.std.proofs.Common.{◌≡◌, ℕ, ◌+◌, ◌-◌, ◌%◌, ◌<◌, ◌^◌, true, List, [], ◌∷◌, ◌++◌, length, refl, ap, ◌∙◌, arith, subst}
 use Rattle.std.specs.List.{AllByRecursion}
 use Rattle.std.proofs.lemmas.List.{length-replicate}
@@ -153,7 +153,7 @@ wide_null_thunk machine b even = record {
   addresses = wide_next machine b.addresses even.addresses;
 }
 
--- What stands at these positions.
+-- What is at these positions.
 
 -- a contribution without a gap before it, and what follows
 step : (image : List Range) (a : ℕ) (bytes : List ℕ) (others : List Contribution) (n : ℕ) → length bytes ≡ n →

@@ -23,7 +23,7 @@ use Rattle.implib.proofs.Asked.{asks_for_words}
 use Rattle.implib.proofs.LinkedMembers.{all_at}
 use Rattle.implib.proofs.Renaming.{renamed_twice}
 use Rattle.implib_link.specs.Program.{ImportsBy, IsProgram, thunks_before}
-use Rattle.implib_link.specs.Texts.{IsSource, Source, Stated, TextLinks, TextsLink, ask_stated, chosen_stated, part_of, stated}
+use Rattle.implib_link.specs.Texts.{IsSource, Source, Stated, TextLinks, TextsLink, ask_stated, chosen_stated, link_input_of, stated}
 use Rattle.implib_link.proofs.Program.{program_links}
 
 -- the exports of a list that is stated are those of the list
@@ -38,10 +38,10 @@ exports_stated machine (e ∷ exports) (s ∷ statements) each = ap (λ others. 
 AsksAsStated : MachineType → Stated → Type 0
 AsksAsStated machine s = expected_ask machine s.export ≡ ask_stated s
 
-pub stated_ask : (no_name : Bool) (ordinal : ℕ) (meant word : List ℕ) → (no_name ≡ false → meant ≡ word) →
-    (if no_name then Ordinal ordinal else Name meant ordinal) ≡ (if no_name then Ordinal ordinal else Name word ordinal)
-stated_ask true ordinal meant word same = refl
-stated_ask false ordinal meant word same = ap (λ text. Name text ordinal) (same refl)
+pub stated_ask : (no_name : Bool) (ordinal : ℕ) (expected word : List ℕ) → (no_name ≡ false → expected ≡ word) →
+    (if no_name then Ordinal ordinal else Name expected ordinal) ≡ (if no_name then Ordinal ordinal else Name word ordinal)
+stated_ask true ordinal expected word same = refl
+stated_ask false ordinal expected word same = ap (λ text. Name text ordinal) (same refl)
 
 each_stated : (machine : MachineType) (exports : List ExportView) (statements : List Export) → EachAsksForItsWord machine exports statements →
     AllByRecursion (AsksAsStated machine) (stated exports statements)
@@ -50,7 +50,7 @@ each_stated machine [] [] each = tt
 each_stated machine [] (s ∷ statements) each = absurd each
 each_stated machine (e ∷ exports) [] each = absurd each
 each_stated machine (e ∷ exports) (s ∷ statements) each =
-    (stated_ask e.no_name e.ordinal _ (external_word s) each.0.meant, each_stated machine exports statements each.1)
+    (stated_ask e.no_name e.ordinal _ (external_word s) each.0.expected, each_stated machine exports statements each.1)
 
 pub all_filter : {X : Type 0} (P : X → Type 0) (test : X → Bool) (xs : List X) → AllByRecursion P xs → AllByRecursion P (filter test xs)
 all_filter P test [] all = tt
@@ -106,46 +106,46 @@ module _ (machine : MachineType) (d : DefinitionView) (statements : List Export)
       (all_filter (AsksAsStated machine) (λ s. not s.export.private) (stated (renamed d).exports statements) (each_stated machine (renamed d).exports statements each)))
 
 -- a source's part is made
-source_made : (machine : MachineType) (s : Source) → IsSource machine s → IsMade machine (part_of s)
+source_made : (machine : MachineType) (s : Source) → IsSource machine s → IsMade machine (link_input_of s)
 source_made machine s is =
     let here : AreMembersOf s.library.definition machine Gnu s.members =
     subst (λ (l : LibraryView). AreMembersOf s.library.definition l.machine l.flavor s.members) is.of_text.held is.made in
     here
 
-sources_made : (machine : MachineType) (sources : List Source) → AllByRecursion (IsSource machine) sources → AllByRecursion (IsMade machine) (map part_of sources)
+sources_made : (machine : MachineType) (sources : List Source) → AllByRecursion (IsSource machine) sources → AllByRecursion (IsMade machine) (map link_input_of sources)
 sources_made machine [] are = tt
 sources_made machine (s ∷ sources) are = (source_made machine s are.0, sources_made machine sources are.1)
 
 -- exports under their names to link by are chosen as others
-pub chosen_renamed : (library : LibraryView) (meant : DefinitionView) (machine : MachineType) (flavor : Flavor) (chosen : List ℕ) →
-    library ≡ record { definition = renamed meant; machine = machine; flavor = flavor } → chosen_exports library.definition chosen ≡ chosen_exports meant chosen
-chosen_renamed library meant machine flavor chosen held =
+pub chosen_renamed : (library : LibraryView) (parsed : DefinitionView) (machine : MachineType) (flavor : Flavor) (chosen : List ℕ) →
+    library ≡ record { definition = renamed parsed; machine = machine; flavor = flavor } → chosen_exports library.definition chosen ≡ chosen_exports parsed chosen
+chosen_renamed library parsed machine flavor chosen held =
     ap (λ (l : LibraryView). chosen_exports l.definition chosen) held
-    ∙ ap (λ (d : DefinitionView). filter_map (slice_get (public_exports d)) chosen) (renamed_twice meant)
+    ∙ ap (λ (d : DefinitionView). filter_map (slice_get (public_exports d)) chosen) (renamed_twice parsed)
 
 text_links : (machine : MachineType) (image : List Range) (linked : List Placed) (descriptor table : ℕ) (s : Source) → IsSource machine s →
     ImportsBy machine image linked descriptor table s.library.definition.import_name (chosen_exports s.library.definition s.chosen) →
     TextLinks machine image linked descriptor table s
 text_links machine image linked descriptor table s is imports =
-    let meant : DefinitionView = is.of_text.meant in
-    let words = asks_for_words s.text machine meant is.of_text.parses in
+    let parsed : DefinitionView = is.of_text.parsed in
+    let words = asks_for_words s.text machine parsed is.of_text.parses in
     record {
-      meant = meant;
+      parsed = parsed;
       parses = is.of_text.parses;
-      imports = subst (λ (es : List ExportView). ImportsBy machine image linked descriptor table meant.import_name es) (chosen_renamed s.library meant machine Gnu s.chosen is.of_text.held)
+      imports = subst (λ (es : List ExportView). ImportsBy machine image linked descriptor table parsed.import_name es) (chosen_renamed s.library parsed machine Gnu s.chosen is.of_text.held)
           (subst (λ (name : List ℕ). ImportsBy machine image linked descriptor table name (chosen_exports s.library.definition s.chosen))
           (ap (λ (l : LibraryView). l.definition.import_name) is.of_text.held) imports);
-      statements = statements_are machine meant (exports_of_text is.of_text.parses.statements) words s.chosen;
-      asks = asks_are machine meant (exports_of_text is.of_text.parses.statements) words s.chosen;
+      statements = statements_are machine parsed (exports_of_text is.of_text.parses.statements) words s.chosen;
+      asks = asks_are machine parsed (exports_of_text is.of_text.parses.statements) words s.chosen;
     }
 
 pub texts_link : (machine : MachineType) (bases : Bases) (sources : List Source) (objects : List Object) → AllByRecursion (IsSource machine) sources →
-    IsProgram machine bases (map part_of sources) objects → TextsLink machine bases sources objects
+    IsProgram machine bases (map link_input_of sources) objects → TextsLink machine bases sources objects
 texts_link machine bases sources objects are program =
-    let among = program_links machine bases (map part_of sources) objects (sources_made machine sources are) program in
+    let among = program_links machine bases (map link_input_of sources) objects (sources_made machine sources are) program in
     record {
       among = among;
       imports = λ i s is. text_links machine (image_of machine bases (placed_from bases objects)) (placed_from bases objects) (bases.descriptors + 20 * i)
-          (bases.addresses + thunk_width machine * thunks_before i (map part_of sources)) s (all_at (IsSource machine) sources i s are is)
-          (among.imports i (part_of s) (slice_get-map part_of sources i ∙ ap (option_map part_of) is));
+          (bases.addresses + thunk_width machine * thunks_before i (map link_input_of sources)) s (all_at (IsSource machine) sources i s are is)
+          (among.imports i (link_input_of s) (slice_get-map link_input_of sources i ∙ ap (option_map link_input_of) is));
     }

@@ -17,7 +17,7 @@ use Rattle.implib.specs.Placement.{next_multiple}
 use Rattle.implib.specs.Writer.{long_names, name_location, layout_of, symbol_written, with_long_name, with_name}
 use Rattle.implib.proofs.Ranges.{apart_as_they_rise, ends_below}
 use Rattle.implib_link.specs.Program.{ClaimsNone, claimed_names, has_tables, linked_symbols}
-use Rattle.implib_link.specs.WorkedPrograms.{WorkedProgram, WorkedPrograms, WorkedStubs, another, both_parts, caller, expected_4, expected_8, program_image, touching_4, touching_8}
+use Rattle.implib_link.specs.WorkedPrograms.{WorkedProgram, WorkedPrograms, WorkedStubs, another, both_inputs, caller, expected_4, expected_8, program_image, touching_4, touching_8}
 
 -- what the computing has to open
 abbrev opened : Unit {0}
@@ -53,9 +53,9 @@ unfolding opened refusal renamed_refusal alias_specs encoded_size weak_object ha
 amd64 = record {
   made = (record { accepted = refl; made = refl; ordinals = refl }, (record { accepted = refl; made = refl; ordinals = refl }, tt));
   program = record {
-    distinct = distinct_by (linked_symbols AMD64 (both_parts AMD64)) refl;
+    distinct = distinct_by (linked_symbols AMD64 (both_inputs AMD64)) refl;
     tables = refl;
-    others = (claims_none_by (linked_symbols AMD64 (both_parts AMD64)) (caller AMD64) refl, (claims_none_by (linked_symbols AMD64 (both_parts AMD64)) (another AMD64) refl, tt));
+    others = (claims_none_by (linked_symbols AMD64 (both_inputs AMD64)) (caller AMD64) refl, (claims_none_by (linked_symbols AMD64 (both_inputs AMD64)) (another AMD64) refl, tt));
     admissible = record {
       descriptors = (omega arith, refl);
       directory_ends = (omega arith, refl);
@@ -82,9 +82,9 @@ unfolding opened refusal renamed_refusal alias_specs encoded_size weak_object ha
 arm64 = record {
   made = (record { accepted = refl; made = refl; ordinals = refl }, (record { accepted = refl; made = refl; ordinals = refl }, tt));
   program = record {
-    distinct = distinct_by (linked_symbols ARM64 (both_parts ARM64)) refl;
+    distinct = distinct_by (linked_symbols ARM64 (both_inputs ARM64)) refl;
     tables = refl;
-    others = (claims_none_by (linked_symbols ARM64 (both_parts ARM64)) (caller ARM64) refl, (claims_none_by (linked_symbols ARM64 (both_parts ARM64)) (another ARM64) refl, tt));
+    others = (claims_none_by (linked_symbols ARM64 (both_inputs ARM64)) (caller ARM64) refl, (claims_none_by (linked_symbols ARM64 (both_inputs ARM64)) (another ARM64) refl, tt));
     admissible = record {
       descriptors = (omega arith, refl);
       directory_ends = (omega arith, refl);
@@ -111,9 +111,9 @@ unfolding opened refusal renamed_refusal alias_specs encoded_size weak_object ha
 i386 = record {
   made = (record { accepted = refl; made = refl; ordinals = refl }, (record { accepted = refl; made = refl; ordinals = refl }, tt));
   program = record {
-    distinct = distinct_by (linked_symbols I386 (both_parts I386)) refl;
+    distinct = distinct_by (linked_symbols I386 (both_inputs I386)) refl;
     tables = refl;
-    others = (claims_none_by (linked_symbols I386 (both_parts I386)) (caller I386) refl, (claims_none_by (linked_symbols I386 (both_parts I386)) (another I386) refl, tt));
+    others = (claims_none_by (linked_symbols I386 (both_inputs I386)) (caller I386) refl, (claims_none_by (linked_symbols I386 (both_inputs I386)) (another I386) refl, tt));
     admissible = record {
       descriptors = (omega arith, refl);
       directory_ends = (omega arith, refl);
@@ -140,9 +140,9 @@ unfolding opened refusal renamed_refusal alias_specs encoded_size weak_object ha
 armnt = record {
   made = (record { accepted = refl; made = refl; ordinals = refl }, (record { accepted = refl; made = refl; ordinals = refl }, tt));
   program = record {
-    distinct = distinct_by (linked_symbols ARMNT (both_parts ARMNT)) refl;
+    distinct = distinct_by (linked_symbols ARMNT (both_inputs ARMNT)) refl;
     tables = refl;
-    others = (claims_none_by (linked_symbols ARMNT (both_parts ARMNT)) (caller ARMNT) refl, (claims_none_by (linked_symbols ARMNT (both_parts ARMNT)) (another ARMNT) refl, tt));
+    others = (claims_none_by (linked_symbols ARMNT (both_inputs ARMNT)) (caller ARMNT) refl, (claims_none_by (linked_symbols ARMNT (both_inputs ARMNT)) (another ARMNT) refl, tt));
     admissible = record {
       descriptors = (omega arith, refl);
       directory_ends = (omega arith, refl);

@@ -26,10 +26,10 @@ pub data Use : Type 0 where
 
 -- the use that an import type says, if it is one of the specification's
 abbrev pub use_of : ℕ → Option Use
-use_of kind =
-    if kind == import_code then Some Code
-    else if kind == import_data then Some Data
-    else if kind == import_const then Some Constant
+use_of import_type =
+    if import_type == import_code then Some Code
+    else if import_type == import_data then Some Data
+    else if import_type == import_const then Some Constant
     else None
 
 -- A DLL's name up to its last full stop. For example, `a.b` of a.b.dll, and `foo` of foo.drv.
@@ -131,7 +131,7 @@ is_import_for machine r = (r.machine == machine_number machine) && nat_le r.name
 abbrev pub expansion : MachineType → ShortImport → Option Object
 expansion machine r =
     if is_import_for machine r
-    then option_map (asking_object machine r.dll r.symbol (ask_of_short_import r)) (use_of r.kind)
+    then option_map (asking_object machine r.dll r.symbol (ask_of_short_import r)) (use_of r.import_type)
     else None
 
 -- what a linker for a machine takes a file for

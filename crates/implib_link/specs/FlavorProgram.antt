@@ -107,7 +107,7 @@ IsFoundByName Gnu dll = Unit {0}
 -- `null_from`: an input for Microsoft's linker, whose null descriptor is linked, put in anywhere (`before`,
 -- `behind`) among the members (`members`);
 -- `tables`: the objects with import tables are what these are taken for;
--- `others`: the other objects stand anywhere before, between and behind, and claim none of the members'
+-- `others`: the other objects are anywhere before, between and behind, and claim none of the members'
 -- symbols;
 -- `found`: linkers find each descriptor by its DLL's name.
 pub record AreFlavorObjects (machine : MachineType) (inputs : List FlavorInput) (objects : List Object)
@@ -158,7 +158,7 @@ abbrev pub imp_symbols : FlavorInput → List (List ℕ)
 imp_symbols p = map (λ e. imp_symbol (symbol_in p.flavor e)) (exports_chosen p)
 
 -- A DLL's chosen exports are imported by the descriptor at an address, whose symbol has this address: a
--- strict loader finds the DLL and what they ask for, the address table stands at this address, and `__imp_`
+-- strict loader finds the DLL and what they ask for, the address table is at this address, and `__imp_`
 -- symbols are its entries.
 pub record InputImports (machine : MachineType) (image : List Range) (linked : List Placed)
     (descriptor table : ℕ) (p : FlavorInput) : Type 0 where
@@ -184,9 +184,9 @@ thunks_of i inputs = thunks_before i (map (λ p. p.input) inputs)
 
 -- What a link of a program gives, of objects placed at bases:
 -- `linked`: what is linked of each definition are its members;
--- `imports`: the i-th DLL's descriptor is the i-th from the descriptors' base, its address table stands
+-- `imports`: the i-th DLL's descriptor is the i-th from the descriptors' base, its address table is
 -- behind those of the DLLs before it, and its imports are as above;
--- `directory`: at the base stands a directory of just these imports;
+-- `directory`: at the base is a directory of just these imports;
 -- `null`: it is the null descriptor that ends it, whose symbol has this address (`ended`);
 -- `targets`: every relocation of a member finds its target;
 -- `defined`: every symbol that a member leaves to others is defined once, at an address;

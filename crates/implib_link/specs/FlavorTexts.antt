@@ -15,7 +15,7 @@ use Rattle.implib.specs.Object.{Object}
 use Rattle.implib.specs.Parses.{Parses}
 use Rattle.implib.specs.Placement.{Bases, Placed, placed_from}
 use Rattle.implib_link.specs.FlavorProgram.{FlavorInput, FlavorsLink, InputImports, IsFlavorProgram, ask_in, symbol_in, thunks_of}
-use Rattle.implib_link.specs.Texts.{Source, ask_stated, chosen_stated, part_of, source_of}
+use Rattle.implib_link.specs.Texts.{Source, ask_stated, chosen_stated, link_input_of, source_of}
 
 -- a source in a flavour
 pub record FlavorSource : Type 0 where
@@ -30,11 +30,11 @@ pub record IsFlavorSource (machine : MachineType) (s : FlavorSource) : Type 0 wh
 
 -- what is linked of a source
 abbrev pub input_of : FlavorSource → FlavorInput
-input_of s = record { flavor = s.flavor; input = part_of s.source }
+input_of s = record { flavor = s.flavor; input = link_input_of s.source }
 
 -- the same of a definition that its text means
-abbrev pub input_meant : DefinitionView → FlavorSource → FlavorInput
-input_meant d s = record {
+abbrev pub input_parsed : DefinitionView → FlavorSource → FlavorInput
+input_parsed d s = record {
   flavor = s.flavor;
   input = record { definition = d; members = s.source.members; chosen = s.source.chosen };
 }
@@ -43,16 +43,16 @@ input_meant d s = record {
 -- address, each under its name, and each asks for the word of its own statement.
 pub record FlavorTextLinks (machine : MachineType) (image : List Range) (linked : List Placed)
     (descriptor table : ℕ) (s : FlavorSource) : Type 0 where
-  pub meant : DefinitionView
-  pub parses : Parses s.source.text machine meant
-  pub imports : InputImports machine image linked descriptor table (input_meant meant s)
+  pub parsed : DefinitionView
+  pub parses : Parses s.source.text machine parsed
+  pub imports : InputImports machine image linked descriptor table (input_parsed parsed s)
   pub statements : map (λ t. t.export)
-      (chosen_stated meant (exports_of_text parses.statements) s.source.chosen)
-      ≡ chosen_exports meant s.source.chosen
-  pub names : map (symbol_in s.flavor) (chosen_exports meant s.source.chosen)
-      ≡ map (λ e. e.name) (chosen_exports meant s.source.chosen)
-  pub asks : map (ask_in s.flavor machine) (chosen_exports meant s.source.chosen)
-      ≡ map ask_stated (chosen_stated meant (exports_of_text parses.statements) s.source.chosen)
+      (chosen_stated parsed (exports_of_text parses.statements) s.source.chosen)
+      ≡ chosen_exports parsed s.source.chosen
+  pub names : map (symbol_in s.flavor) (chosen_exports parsed s.source.chosen)
+      ≡ map (λ e. e.name) (chosen_exports parsed s.source.chosen)
+  pub asks : map (ask_in s.flavor machine) (chosen_exports parsed s.source.chosen)
+      ≡ map ask_stated (chosen_stated parsed (exports_of_text parses.statements) s.source.chosen)
 
 -- What linking texts' members among objects gives: the program's link, and that of each text.
 pub record FlavorTextsLink (machine : MachineType) (bases : Bases) (sources : List FlavorSource)

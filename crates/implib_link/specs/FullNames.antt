@@ -27,7 +27,7 @@ decimal_in (digit ∷ digits) = digits_behind 0 (digit ∷ digits)
 abbrev pub text_in : List ℕ → ℕ → Option (List ℕ)
 text_in strings offset = before_nul (drop offset strings)
 
--- the full name of the section whose header has these bytes for it; none, where a slash stands in front and
+-- the full name of the section whose header has these bytes for it; none, where a slash is in front and
 -- no such offset follows
 unfoldable pub full_name : Option (List ℕ) → List ℕ → Option (List ℕ)
 full_name strings [] = Some []
@@ -50,7 +50,7 @@ abbrev pub by_full_names : Option (List ℕ) → Object → Option Object
 by_full_names strings o =
     option_map (λ sections. record o { sections = sections }) (sections_by_full_names strings o.sections)
 
--- the string table of a file, which stands behind the records of 18 bytes of the symbol table
+-- the string table of a file, which is behind the records of 18 bytes of the symbol table
 unfoldable pub strings_of : List ℕ → Option (List ℕ)
 strings_of bytes =
     option_and_then

@@ -30,14 +30,14 @@ Writes image width gives address (i ∷ others) written =
     ((written ≡ entries_written width table (gives i.dll) i.asks ++ behind)
     × Writes image width gives (address + 20) others behind)))
 
--- at the only definition of a symbol stand these bytes
+-- at the only definition of a symbol are these bytes
 pub record HoldsAt (image : List Range) (linked : List Placed) (name : List ℕ) (bytes : List ℕ) : Type 0 where
   pub address : ℕ
   pub once : definitions_of name linked ≡ record { name = name; address = Some address } ∷ []
   pub located : BytesAt image address bytes
 
 -- The program with what was written in front of its image, so that it counts first:
--- `entries`: at each chosen export's `__imp_` symbol stands what its DLL gives for what it asks;
+-- `entries`: at each chosen export's `__imp_` symbol is what its DLL gives for what it asks;
 -- `within`: what was written is in the address tables;
 -- `kept`: where nothing was written, each byte is as it was linked.
 pub record IsLoaded (machine : MachineType) (bases : Bases) (inputs : List LinkInput) (objects : List Object)

@@ -64,7 +64,7 @@ linked_symbols machine inputs = flat_map (λ m. m.symbols) (all_linked machine i
 
 -- What may be linked with the members of these inputs, objects with the full names of their sections, as
 -- `object_by_full_names` reads them: the objects with import tables are the members and,
--- behind them, the null descriptor; the others may stand anywhere before, between and behind, and claim
+-- behind them, the null descriptor; the others may be anywhere before, between and behind, and claim
 -- none of the members' symbols; no two members are listed for one symbol; the bases are admissible.
 pub record IsProgram (machine : MachineType) (bases : Bases) (inputs : List LinkInput) (objects : List Object)
     : Type 0 where
@@ -80,7 +80,7 @@ GetsAddress linked name address =
     (p : Placed) (s : ObjectSymbol) → Contains linked p → Contains p.object.entries (ASymbol s) →
     is_undefined_external s ≡ true → s.name ≡ name → symbol_address linked p (ASymbol s) ≡ Some address
 
--- the undefined `__imp_` symbol of each export has the address of its own entry; the entries stand one
+-- the undefined `__imp_` symbol of each export has the address of its own entry; the entries are one
 -- after another from an address on
 unfoldable pub EachGets : List Placed → ℕ → ℕ → List ExportView → Type 0
 EachGets linked width address [] = Unit {0}
@@ -88,7 +88,7 @@ EachGets linked width address (e ∷ exports) =
     GetsAddress linked (imp_symbol e.name) address × EachGets linked width (address + width) exports
 
 -- A DLL's chosen exports are imported by the descriptor at an address: a strict loader finds the DLL and
--- what they ask for, the address table stands at this address, and `__imp_` symbols are its entries.
+-- what they ask for, the address table is at this address, and `__imp_` symbols are its entries.
 pub record ImportsBy (machine : MachineType) (image : List Range) (linked : List Placed)
     (descriptor table : ℕ) (dll : List ℕ)
     (exports : List ExportView) : Type 0 where
@@ -113,9 +113,9 @@ names_claimed_in linked = flat_map (λ p. claimed_names p.object) linked
 
 -- What a link of a program gives, of objects placed at bases:
 -- `linked`: what is linked of each definition are its members;
--- `imports`: the i-th DLL's descriptor is the i-th from the descriptors' base, its address table stands
+-- `imports`: the i-th DLL's descriptor is the i-th from the descriptors' base, its address table is
 -- behind those of the DLLs before it, and its imports are as above;
--- `directory`: at the base stands a directory of just these imports;
+-- `directory`: at the base is a directory of just these imports;
 -- `targets`: every relocation of a member finds its target;
 -- `defined`: every symbol that a member leaves to others is defined once, at an address;
 -- `listed`: every symbol that a member is listed for is defined once;

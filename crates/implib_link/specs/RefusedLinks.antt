@@ -63,7 +63,8 @@ timed = image_by_hand (descriptor_bytes 0x1028 1 0x1058 0x1040) table_8 table_8 
 
 abbrev pub endless : List Range
 endless =
-    image_by_hand (descriptor_bytes 0x1030 0 0x1058 0x1040) (zeros 8 ++ (ordinal_8 5 ++ ordinal_8 6)) table_8 foo
+    image_by_hand (descriptor_bytes 0x1030 0 0x1058 0x1040) (zeros 8 ++ (ordinal_8 5 ++ ordinal_8 6))
+    table_8 foo
 
 abbrev pub wide_image : List Range
 wide_image = image_by_hand (descriptor_bytes 0x1028 0 0x1058 0x1040) table_4_in_8 table_4_in_8 foo

@@ -90,7 +90,7 @@ abbrev pub HaveSame : {X : Type 0} → List X → List X → Type 0
 HaveSame {X} first second =
     (x : X) → (Contains first x → Contains second x) × (Contains second x → Contains first x)
 
--- what is taken, each member once, in an order in which the head stands first and the tail last, as linkers
+-- what is taken, each member once, in an order in which the head is first and the tail last, as linkers
 -- have it that sort by member name
 pub record IsArranged (machine : MachineType) (dll : List ℕ) (taken arranged : List MemberView) : Type 0 where
   pub between : List MemberView
@@ -107,7 +107,8 @@ pub record IsLinkedOfWanted (machine : MachineType) (d : DefinitionView) (wanted
   pub linked : arranged ≡ linked_members d machine chosen
 
 -- A program of what a linker took of an archive, in such an order, and of other objects: the objects with
--- import tables are those members and, behind them, the null descriptor; the others claim no symbol of theirs.
+-- import tables are those members and, behind them, the null descriptor; the others claim no symbol of
+-- theirs.
 pub record IsLinkedWith (machine : MachineType) (dll : List ℕ) (bases : Bases) (taken : List MemberView)
     (objects : List Object) : Type 0 where
   pub arranged : List MemberView

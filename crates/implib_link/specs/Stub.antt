@@ -129,7 +129,7 @@ pub record JumpsThrough (machine : MachineType) (image_base : ℕ) (linked : Lis
       ≡ Some (image_base + entry)
 
 -- A call of a name reaches these bytes: its code jumps through an entry, the only definition of its
--- `__imp_` symbol, and there the bytes stand.
+-- `__imp_` symbol, and there the bytes are.
 pub record CallReaches (machine : MachineType) (image_base : ℕ) (image : List Range) (linked : List Placed)
     (name bytes : List ℕ)
     : Type 0 where

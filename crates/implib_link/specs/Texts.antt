@@ -34,8 +34,8 @@ pub record IsSource (machine : MachineType) (s : Source) : Type 0 where
   pub made : AreMembersOf s.library.definition s.library.machine s.library.flavor s.members
 
 -- what is linked of a source
-abbrev pub part_of : Source → LinkInput
-part_of s = record { definition = s.library.definition; members = s.members; chosen = s.chosen }
+abbrev pub link_input_of : Source → LinkInput
+link_input_of s = record { definition = s.library.definition; members = s.members; chosen = s.chosen }
 
 -- an export, and what the text states of it
 pub record Stated : Type 0 where
@@ -63,23 +63,23 @@ ask_stated s =
 pub record TextLinks (machine : MachineType) (image : List Range) (linked : List Placed)
     (descriptor table : ℕ) (s : Source)
     : Type 0 where
-  pub meant : DefinitionView
-  pub parses : Parses s.text machine meant
-  pub imports : ImportsBy machine image linked descriptor table meant.import_name
-      (chosen_exports meant s.chosen)
-  pub statements : map (λ t. t.export) (chosen_stated meant (exports_of_text parses.statements) s.chosen)
-      ≡ chosen_exports meant s.chosen
-  pub asks : map (expected_ask machine) (chosen_exports meant s.chosen)
-      ≡ map ask_stated (chosen_stated meant (exports_of_text parses.statements) s.chosen)
+  pub parsed : DefinitionView
+  pub parses : Parses s.text machine parsed
+  pub imports : ImportsBy machine image linked descriptor table parsed.import_name
+      (chosen_exports parsed s.chosen)
+  pub statements : map (λ t. t.export) (chosen_stated parsed (exports_of_text parses.statements) s.chosen)
+      ≡ chosen_exports parsed s.chosen
+  pub asks : map (expected_ask machine) (chosen_exports parsed s.chosen)
+      ≡ map ask_stated (chosen_stated parsed (exports_of_text parses.statements) s.chosen)
 
 -- What linking texts' members among objects gives: the program's link, and that of each text.
 pub record TextsLink (machine : MachineType) (bases : Bases) (sources : List Source)
     (objects : List Object) : Type 0 where
-  pub among : LinksAmong machine bases (map part_of sources) objects
+  pub among : LinksAmong machine bases (map link_input_of sources) objects
   pub imports : (i : ℕ) (s : Source) → slice_get sources i ≡ Some s →
       TextLinks machine (image_of machine bases (placed_from bases objects)) (placed_from bases objects)
       (bases.descriptors + 20 * i)
-      (bases.addresses + thunk_width machine * thunks_before i (map part_of sources)) s
+      (bases.addresses + thunk_width machine * thunks_before i (map link_input_of sources)) s
 
 abbrev pub source_of : List ℕ → LibraryView → List MemberView → List ℕ → Source
 source_of text library members chosen =
@@ -91,5 +91,5 @@ abbrev pub LinkAsStated : List ℕ → MachineType → List MemberView → Type 
 LinkAsStated text machine members =
     (library : LibraryView) × (LibraryOf text machine Gnu library ×
     ((chosen : List ℕ) (bases : Bases) (objects : List Object) →
-    IsProgram machine bases (part_of (source_of text library members chosen) ∷ []) objects →
+    IsProgram machine bases (link_input_of (source_of text library members chosen) ∷ []) objects →
     TextsLink machine bases (source_of text library members chosen ∷ []) objects))

@@ -48,25 +48,26 @@ abbrev pub zed_dll : MachineType → DefinitionView
 zed_dll machine = of_dll (codes "zed.dll") (plain_export (symbol_on machine (codes "queue")) ∷ [])
 
 -- a definition's members, with a choice of exports
-abbrev pub chosen_part : MachineType → DefinitionView → List ℕ → LinkInput
-chosen_part machine d chosen = record {
+abbrev pub chosen_input : MachineType → DefinitionView → List ℕ → LinkInput
+chosen_input machine d chosen = record {
   definition = d;
   members = map member_of (member_specs (renamed d) machine Gnu);
   chosen = chosen;
 }
 
-abbrev pub foo_part : MachineType → LinkInput
-foo_part machine = chosen_part machine (foo_dll machine) (2 ∷ 0 ∷ 1 ∷ 3 ∷ [])
+abbrev pub foo_input : MachineType → LinkInput
+foo_input machine = chosen_input machine (foo_dll machine) (2 ∷ 0 ∷ 1 ∷ 3 ∷ [])
 
-abbrev pub zed_part : MachineType → LinkInput
-zed_part machine = chosen_part machine (zed_dll machine) (0 ∷ [])
+abbrev pub zed_input : MachineType → LinkInput
+zed_input machine = chosen_input machine (zed_dll machine) (0 ∷ [])
 
-abbrev pub both_parts : MachineType → List LinkInput
-both_parts machine = foo_part machine ∷ zed_part machine ∷ []
+abbrev pub both_inputs : MachineType → List LinkInput
+both_inputs machine = foo_input machine ∷ zed_input machine ∷ []
 
 -- a symbol of an object that was not made here
 abbrev pub symbol_of_class : List ℕ → ℕ → ℕ → ObjectSymbol
-symbol_of_class name section_number class = record { name = name; value = 0; section = section_number; kind = 0; class = class }
+symbol_of_class name section_number class =
+    record { name = name; value = 0; section = section_number; kind = 0; class = class }
 
 -- an object with code and these symbols
 abbrev pub code_object : List ObjectSymbol → Object
@@ -91,15 +92,15 @@ abbrev pub another : MachineType → Object
 another machine = code_object (symbol_of_class (symbol_on machine (codes "stat")) 1 class_static ∷ [])
 
 -- what is linked: the caller, foo.dll's members, the other object, zed.dll's members, the null descriptor
-abbrev pub part_objects : MachineType → LinkInput → List Object
-part_objects machine p = objects_in (linked_members p.definition machine p.chosen)
+abbrev pub input_objects : MachineType → LinkInput → List Object
+input_objects machine p = objects_in (linked_members p.definition machine p.chosen)
 
 abbrev pub program_objects : MachineType → List Object
 program_objects machine =
     caller machine
-    ∷ (part_objects machine (foo_part machine)
+    ∷ (input_objects machine (foo_input machine)
     ++ (another machine
-    ∷ (part_objects machine (zed_part machine)
+    ∷ (input_objects machine (zed_input machine)
     ++ null_descriptor ∷ [])))
 
 -- bases whose ranges touch, for thunks of 8 and of 4 bytes
@@ -163,8 +164,8 @@ program_image machine bases = image_of machine bases (program_placed machine bas
 
 -- The program of a machine meets all that the laws ask for, and its image holds what is expected.
 pub record WorkedProgram (machine : MachineType) (bases : Bases) (expected : Expected) : Type 0 where
-  pub made : AllByRecursion (IsMade machine) (both_parts machine)
-  pub program : IsProgram machine bases (both_parts machine) (program_objects machine)
+  pub made : AllByRecursion (IsMade machine) (both_inputs machine)
+  pub program : IsProgram machine bases (both_inputs machine) (program_objects machine)
   pub descriptors : numbers_from (program_image machine bases) 4 15 4 ≡ Some expected.descriptors
   pub lookups : numbers_from (program_image machine bases) (thunk_width machine) 7 bases.lookups
       ≡ Some expected.thunks

@@ -46,9 +46,9 @@ MayTake d names taken_names =
 
 -- The members of three exports are an archive that the law speaks of. For these names a linker may take the
 -- first function's member, then the head, for it the tail, and at last the variable's; not the other
--- function's. A name of another library takes nothing. The descriptor's symbol takes the head and the tail and
--- no export, which the laws leave out; a variable's bare name takes its alias, where it has one, which the law
--- of one definition leaves out and that of libraries does not.
+-- function's. A name of another library takes nothing. The descriptor's symbol takes the head and the tail
+-- and no export, which the laws leave out; a variable's bare name takes its alias, where it has one, which
+-- the law of one definition leaves out and that of libraries does not.
 pub record WorkedSearch : Type 0 where
   pub made : AreMembersOf three AMD64 Gnu (members_of three)
   pub distinct : IsDistinct bytes_eq (flat_map (λ m. m.symbols) (members_of three))

@@ -9,8 +9,8 @@ mod expansion;
 mod file;
 mod image;
 mod object;
-mod record;
 mod search;
+mod short_import;
 
 use bound::bound;
 pub use bound::given;
@@ -21,8 +21,8 @@ pub use file::{File, Purpose, file_in};
 pub use image::{Bases, Image, Misplaced};
 pub use object::Flaw;
 use object::{Object, Relocation, Section, Symbol, object_in, u32_at};
-pub use record::Ask;
 pub use search::Archive;
+pub use short_import::Ask;
 use std::alloc::{AllocError, Global};
 use std::test::Fail;
 

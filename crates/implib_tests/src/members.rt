@@ -384,7 +384,7 @@ const PIECES: [(&str, MachineType, Flavor, usize, usize, &[u8]); 20] = [
         456,
         b"\x26\0\0\0_head_foo_dll\0__imp__head_foo_dll\0",
     ),
-    // Records.
+    // Short imports.
     (
         "LIBRARY a.dll\nEXPORTS\nf\n_g@8\n@h@4 @ 7 NONAME",
         MachineType::I386,
@@ -401,7 +401,7 @@ const PIECES: [(&str, MachineType, Flavor, usize, usize, &[u8]); 20] = [
         16,
         b"\x07\0\0\0",
     ),
-    // Types of records.
+    // Import types and name types.
     (
         "LIBRARY foo.dll\nEXPORTS\nbar",
         MachineType::AMD64,

@@ -106,7 +106,7 @@ line_within_front document more before line after begins s inside =
     let place : length document - 1 ≡ length before + k = omega arith in
     byte_in_line (document ++ more) before line after s k (omega arith) (subst (λ n. get_or (document ++ more) n 0 ≡ 10) place last))
 
--- a separating line that begins in the front stands in it, where the front ends as a line does
+-- a separating line that begins in the front is in it, where the front ends as a line does
 separates_front : (document more before line after : List ℕ) → LineBeginsAfter document → Separates (document ++ more) before line after → length before < length document
     → Separates document before line (drop (length before + length line) document)
 separates_front document more before line after begins s inside =

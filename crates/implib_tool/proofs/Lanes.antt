@@ -51,22 +51,22 @@ abbrev pub line_of_digits : List ℕ → List ℕ
 line_of_digits digits = get_or digits 0 0 ∷ get_or digits 16 0 ∷ 32 ∷ get_or digits 1 0 ∷ get_or digits 17 0 ∷ 32 ∷ get_or digits 2 0 ∷ get_or digits 18 0 ∷ 32 ∷ get_or digits 3 0 ∷ get_or digits 19 0 ∷ 32 ∷ get_or digits 4 0 ∷ get_or digits 20 0 ∷ 32 ∷ get_or digits 5 0 ∷ get_or digits 21 0 ∷ 32 ∷ get_or digits 6 0 ∷ get_or digits 22 0 ∷ 32 ∷ get_or digits 7 0 ∷ get_or digits 23 0 ∷ 32 ∷ get_or digits 8 0 ∷ get_or digits 24 0 ∷ 32 ∷ get_or digits 9 0 ∷ get_or digits 25 0 ∷ 32 ∷ get_or digits 10 0 ∷ get_or digits 26 0 ∷ 32 ∷ get_or digits 11 0 ∷ get_or digits 27 0 ∷ 32 ∷ get_or digits 12 0 ∷ get_or digits 28 0 ∷ 32 ∷ get_or digits 13 0 ∷ get_or digits 29 0 ∷ 32 ∷ get_or digits 14 0 ∷ get_or digits 30 0 ∷ 32 ∷ get_or digits 15 0 ∷ get_or digits 31 0 ∷ 10 ∷ []
 
 -- it is the listing of these bytes
-pub line_spelled : (bytes : List ℕ) → length bytes ≡ 16 → line_of_digits (map hex_digit (map (λ b. b / 16) bytes) ++ map hex_digit (map (λ b. b % 16) bytes)) ≡ bytes_listing bytes
-line_spelled [] size = absurd (omega (arith, size))
-line_spelled (a0 ∷ []) size = absurd (omega (arith, size))
-line_spelled (a0 ∷ a1 ∷ []) size = absurd (omega (arith, size))
-line_spelled (a0 ∷ a1 ∷ a2 ∷ []) size = absurd (omega (arith, size))
-line_spelled (a0 ∷ a1 ∷ a2 ∷ a3 ∷ []) size = absurd (omega (arith, size))
-line_spelled (a0 ∷ a1 ∷ a2 ∷ a3 ∷ a4 ∷ []) size = absurd (omega (arith, size))
-line_spelled (a0 ∷ a1 ∷ a2 ∷ a3 ∷ a4 ∷ a5 ∷ []) size = absurd (omega (arith, size))
-line_spelled (a0 ∷ a1 ∷ a2 ∷ a3 ∷ a4 ∷ a5 ∷ a6 ∷ []) size = absurd (omega (arith, size))
-line_spelled (a0 ∷ a1 ∷ a2 ∷ a3 ∷ a4 ∷ a5 ∷ a6 ∷ a7 ∷ []) size = absurd (omega (arith, size))
-line_spelled (a0 ∷ a1 ∷ a2 ∷ a3 ∷ a4 ∷ a5 ∷ a6 ∷ a7 ∷ a8 ∷ []) size = absurd (omega (arith, size))
-line_spelled (a0 ∷ a1 ∷ a2 ∷ a3 ∷ a4 ∷ a5 ∷ a6 ∷ a7 ∷ a8 ∷ a9 ∷ []) size = absurd (omega (arith, size))
-line_spelled (a0 ∷ a1 ∷ a2 ∷ a3 ∷ a4 ∷ a5 ∷ a6 ∷ a7 ∷ a8 ∷ a9 ∷ a10 ∷ []) size = absurd (omega (arith, size))
-line_spelled (a0 ∷ a1 ∷ a2 ∷ a3 ∷ a4 ∷ a5 ∷ a6 ∷ a7 ∷ a8 ∷ a9 ∷ a10 ∷ a11 ∷ []) size = absurd (omega (arith, size))
-line_spelled (a0 ∷ a1 ∷ a2 ∷ a3 ∷ a4 ∷ a5 ∷ a6 ∷ a7 ∷ a8 ∷ a9 ∷ a10 ∷ a11 ∷ a12 ∷ []) size = absurd (omega (arith, size))
-line_spelled (a0 ∷ a1 ∷ a2 ∷ a3 ∷ a4 ∷ a5 ∷ a6 ∷ a7 ∷ a8 ∷ a9 ∷ a10 ∷ a11 ∷ a12 ∷ a13 ∷ []) size = absurd (omega (arith, size))
-line_spelled (a0 ∷ a1 ∷ a2 ∷ a3 ∷ a4 ∷ a5 ∷ a6 ∷ a7 ∷ a8 ∷ a9 ∷ a10 ∷ a11 ∷ a12 ∷ a13 ∷ a14 ∷ []) size = absurd (omega (arith, size))
-line_spelled (a0 ∷ a1 ∷ a2 ∷ a3 ∷ a4 ∷ a5 ∷ a6 ∷ a7 ∷ a8 ∷ a9 ∷ a10 ∷ a11 ∷ a12 ∷ a13 ∷ a14 ∷ a15 ∷ []) size = refl
-line_spelled (a0 ∷ a1 ∷ a2 ∷ a3 ∷ a4 ∷ a5 ∷ a6 ∷ a7 ∷ a8 ∷ a9 ∷ a10 ∷ a11 ∷ a12 ∷ a13 ∷ a14 ∷ a15 ∷ b ∷ bytes) size = absurd (omega (arith, size))
+pub line_text : (bytes : List ℕ) → length bytes ≡ 16 → line_of_digits (map hex_digit (map (λ b. b / 16) bytes) ++ map hex_digit (map (λ b. b % 16) bytes)) ≡ bytes_listing bytes
+line_text [] size = absurd (omega (arith, size))
+line_text (a0 ∷ []) size = absurd (omega (arith, size))
+line_text (a0 ∷ a1 ∷ []) size = absurd (omega (arith, size))
+line_text (a0 ∷ a1 ∷ a2 ∷ []) size = absurd (omega (arith, size))
+line_text (a0 ∷ a1 ∷ a2 ∷ a3 ∷ []) size = absurd (omega (arith, size))
+line_text (a0 ∷ a1 ∷ a2 ∷ a3 ∷ a4 ∷ []) size = absurd (omega (arith, size))
+line_text (a0 ∷ a1 ∷ a2 ∷ a3 ∷ a4 ∷ a5 ∷ []) size = absurd (omega (arith, size))
+line_text (a0 ∷ a1 ∷ a2 ∷ a3 ∷ a4 ∷ a5 ∷ a6 ∷ []) size = absurd (omega (arith, size))
+line_text (a0 ∷ a1 ∷ a2 ∷ a3 ∷ a4 ∷ a5 ∷ a6 ∷ a7 ∷ []) size = absurd (omega (arith, size))
+line_text (a0 ∷ a1 ∷ a2 ∷ a3 ∷ a4 ∷ a5 ∷ a6 ∷ a7 ∷ a8 ∷ []) size = absurd (omega (arith, size))
+line_text (a0 ∷ a1 ∷ a2 ∷ a3 ∷ a4 ∷ a5 ∷ a6 ∷ a7 ∷ a8 ∷ a9 ∷ []) size = absurd (omega (arith, size))
+line_text (a0 ∷ a1 ∷ a2 ∷ a3 ∷ a4 ∷ a5 ∷ a6 ∷ a7 ∷ a8 ∷ a9 ∷ a10 ∷ []) size = absurd (omega (arith, size))
+line_text (a0 ∷ a1 ∷ a2 ∷ a3 ∷ a4 ∷ a5 ∷ a6 ∷ a7 ∷ a8 ∷ a9 ∷ a10 ∷ a11 ∷ []) size = absurd (omega (arith, size))
+line_text (a0 ∷ a1 ∷ a2 ∷ a3 ∷ a4 ∷ a5 ∷ a6 ∷ a7 ∷ a8 ∷ a9 ∷ a10 ∷ a11 ∷ a12 ∷ []) size = absurd (omega (arith, size))
+line_text (a0 ∷ a1 ∷ a2 ∷ a3 ∷ a4 ∷ a5 ∷ a6 ∷ a7 ∷ a8 ∷ a9 ∷ a10 ∷ a11 ∷ a12 ∷ a13 ∷ []) size = absurd (omega (arith, size))
+line_text (a0 ∷ a1 ∷ a2 ∷ a3 ∷ a4 ∷ a5 ∷ a6 ∷ a7 ∷ a8 ∷ a9 ∷ a10 ∷ a11 ∷ a12 ∷ a13 ∷ a14 ∷ []) size = absurd (omega (arith, size))
+line_text (a0 ∷ a1 ∷ a2 ∷ a3 ∷ a4 ∷ a5 ∷ a6 ∷ a7 ∷ a8 ∷ a9 ∷ a10 ∷ a11 ∷ a12 ∷ a13 ∷ a14 ∷ a15 ∷ []) size = refl
+line_text (a0 ∷ a1 ∷ a2 ∷ a3 ∷ a4 ∷ a5 ∷ a6 ∷ a7 ∷ a8 ∷ a9 ∷ a10 ∷ a11 ∷ a12 ∷ a13 ∷ a14 ∷ a15 ∷ b ∷ bytes) size = absurd (omega (arith, size))

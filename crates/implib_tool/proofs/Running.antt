@@ -174,7 +174,7 @@ module _ (machine : MachineType) (flavor : Flavor) where
   document_refused text lists left document (Some rest) cause l d refused =
       l.refused cause (refused_first left.now document rest.now cause d refused)
 
-  -- what `members_of` answers, as an answer of `members_of_parts`
+  -- what `members_of` answers, as an answer of `members_of_documents`
   pub document_fault : (text : List ℕ) (lists : List (List MemberView)) (left : Bor (List ℕ)) (document : List ℕ) (after : Option (Bor (List ℕ))) (error : RunError) → DocumentsLeft text machine flavor lists (Some left)
       → Divided left.now document after → OnDocumentFault document machine flavor error → OnTextFault text machine flavor error
   document_fault text lists left document after (Refused fault) l d h = document_refused text lists left document after (cause_of fault) l d h

@@ -9,7 +9,7 @@ use Rattle.std.proofs.lemmas.List.{map-append, take_more, take_more_set, take-ap
 use Rattle.std.specs.List.{enumerate_from, list_all}
 use Rattle.implib_tool.specs.Listing.{after_byte, byte_listing, bytes_listing, escaped, escaped_byte, hex_byte, hex_digit, is_plain}
 
--- a name of plain bytes stands as it is
+-- a name of plain bytes is shown unchanged
 pub plain_name : (name : List ℕ) → list_all is_plain name ≡ true → escaped name ≡ name
 plain_name [] h = refl
 plain_name (byte ∷ name) h =
@@ -118,7 +118,7 @@ byte_more bytes line start index x y order within room is_x is_y before =
     subst (λ m. take (3 * m) (set (set (set line (3 * n) x) (3 * n + 1) y) (3 * n + 2) 32) ≡ flat_map spaced_byte (enumerate_from start (take m (drop start bytes)))) (sym next)
     (line_more spaced_byte start n (drop start bytes) line x y 32 (omega (arith, length-drop start bytes)) room shown before)
 
--- a space stands after a byte that ends no line
+-- a space follows a byte that ends no line
 space_after : (count index : ℕ) → index % 16 < 15 → index + 1 < count → after_byte count index ≡ 32
 space_after count index inside more =
     let not_fifteen : index % 16 ≡ 15 → ⊥ = λ same. omega arith in
@@ -135,13 +135,13 @@ front_shown count index (byte ∷ front) short more =
     ap (λ c. (hex_byte byte ++ c ∷ []) ++ flat_map (byte_listing count) (enumerate_from (index + 1) front)) here
     ∙ ap (λ t. (hex_byte byte ++ 32 ∷ []) ++ t) others
 
--- a line end stands after the last byte of a line
+-- a line end follows the last byte of a line
 line_end_after : (count index : ℕ) → (index % 16 ≡ 15) ⊎ (index + 1 ≡ count) → after_byte count index ≡ 10
 line_end_after count index (inl fifteen) = rw (eq-eqb (index % 16) 15 fifteen) refl
 line_end_after count index (inr last) =
     ap (λ test. cond (index % 16 == 15 || test) 10 32) (eq-eqb (index + 1) count last) ∙ ap (λ test. cond test 10 32) (or-true (index % 16 == 15))
 
--- the same stands after a byte of a whole line, whatever stands before the line
+-- the same follows a byte of a whole line, whatever is before the line
 same_after : (count start index : ℕ) → start % 16 ≡ 0 → index < 16 → start + 16 ≤ count → after_byte 16 index ≡ after_byte count (start + index)
 same_after count start index first few room = elim (cases_lt index 15) [
   | inl below ↦ space_after 16 index (omega arith) (omega arith) ∙ sym (space_after count (start + index) (omega arith) (omega arith))

@@ -42,7 +42,8 @@ pub record Divides (text document rest : List ℕ) : Type 0 where
 abbrev pub Documents : List ℕ → List (List ℕ) → Type 0
 Documents text [] = ⊥
 Documents text (document ∷ []) = (text ≡ document) × IsUndivided document
-Documents text (document ∷ next ∷ documents) = (rest : List ℕ) × Divides text document rest × Documents rest (next ∷ documents)
+Documents text (document ∷ next ∷ documents) =
+    (rest : List ℕ) × Divides text document rest × Documents rest (next ∷ documents)
 
 -- the text has one list of documents
 pub record HasOneParting (text : List ℕ) : Type 0 where

@@ -42,29 +42,29 @@ AreReadAs Gnu members meanings =
 
 -- the members are read as the imports and the aliases of a definition, each once and in order, and as nothing
 -- else
-pub record ReadAsMeant (meant : DefinitionView) (machine : MachineType) (flavor : Flavor)
+pub record ReadAsParsed (parsed : DefinitionView) (machine : MachineType) (flavor : Flavor)
     (members : List MemberView) : Type 0 where
   pub meanings : List Meaning
   pub read : AreReadAs flavor members meanings
-  pub imports : filter_map import_among meanings ≡ imports_of machine meant
-  pub aliases : filter_map alias_among meanings ≡ aliases_of meant
+  pub imports : filter_map import_among meanings ≡ imports_of machine parsed
+  pub aliases : filter_map alias_among meanings ≡ aliases_of parsed
 
 -- the members are those of the definition that the text means, renamed, and are read as the imports and the
 -- aliases that it means
 pub record MembersOf (text : List ℕ) (machine : MachineType) (flavor : Flavor) (members : List MemberView)
     : Type 0 where
-  pub meant : DefinitionView
-  pub parses : Parses text machine meant
-  pub made : AreMembersOf (renamed meant) machine flavor members
-  pub reads : ReadBack (renamed meant) machine flavor members
-  pub read_as_meant : ReadAsMeant meant machine flavor members
+  pub parsed : DefinitionView
+  pub parses : Parses text machine parsed
+  pub made : AreMembersOf (renamed parsed) machine flavor members
+  pub reads : ReadBack (renamed parsed) machine flavor members
+  pub read_as_parsed : ReadAsParsed parsed machine flavor members
 
 -- the definition that the text means, renamed, has no members, for this cause
 pub record HasNoMembers (text : List ℕ) (machine : MachineType) (flavor : Flavor) (cause : Cause)
     : Type 0 where
-  pub meant : DefinitionView
-  pub parses : Parses text machine meant
-  pub refused : refusal (renamed meant) machine flavor ≡ Some cause
+  pub parsed : DefinitionView
+  pub parses : Parses text machine parsed
+  pub refused : refusal (renamed parsed) machine flavor ≡ Some cause
 
 -- a text is refused by the grammar, or for what it means
 abbrev pub IsRefused : List ℕ → MachineType → Flavor → Cause → Type 0

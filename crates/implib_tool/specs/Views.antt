@@ -16,12 +16,14 @@ use Rattle.implib_tool.specs.Device.{AppendsBeginning}
 use Rattle.implib_tool.specs.Documents.{Documents}
 use Rattle.implib_tool.specs.Run.{EachMade, FirstRefused, IsRefused}
 
--- from start to end a line stands in the text, and next is where the next one begins: past the line end, or at the text's end
+-- a line of the text from start to end, and where the next one begins: past the line end, or at the
+-- text's end
 pub record IsLineAt (text : List ℕ) (start end next : ℕ) : Type 0 where
   pub after : start ≤ end
   pub within : end ≤ length text
   pub line : (k : ℕ) → start ≤ k → k < end → slice_index text k ≢ 10
-  pub ends : ((end ≡ length text) × (next ≡ end)) ⊎ ((end < length text) × (slice_index text end ≡ 10) × (next ≡ end + 1))
+  pub ends : ((end ≡ length text) × (next ≡ end))
+      ⊎ ((end < length text) × (slice_index text end ≡ 10) × (next ≡ end + 1))
 
 -- a writer with the bytes that wait for it: what it has, where it tells that, and whether it has failed
 pub record Buffered : Type 0 where
@@ -114,8 +116,8 @@ size_left (Some rest) = length rest.now + 1
 
 -- what is made, and then the members of what is left, are those of the text; what is left is refused only as
 -- the text is
-pub record DocumentsLeft (text : List ℕ) (machine : MachineType) (flavor : Flavor) (made : List (List MemberView))
-    (rest : Option (Bor (List ℕ)))
+pub record DocumentsLeft (text : List ℕ) (machine : MachineType) (flavor : Flavor)
+    (made : List (List MemberView)) (rest : Option (Bor (List ℕ)))
     : Type 0 where
   pub lists : (more : List (List MemberView)) → MadeLeft rest machine flavor more →
       MembersOfDocuments text machine flavor (made ++ more)

@@ -19,15 +19,15 @@ imports_just_these text machine members given = record {
       let image = image_of machine bases (placed_from bases objects) in
       let links = given.1.1 chosen bases objects program in
       let here = links.imports 0 (source_of text given.0 members chosen) refl in
-      let asks = map ask_stated (chosen_stated here.meant (exports_of_text here.parses.statements) chosen) in
+      let asks = map ask_stated (chosen_stated here.parsed (exports_of_text here.parses.statements) chosen) in
       record {
-        meant = here.meant;
+        parsed = here.parsed;
         parses = here.parses;
         loads =
-            subst (λ (descriptor : ℕ). Loads image (thunk_width machine) descriptor here.meant.import_name asks)
+            subst (λ (descriptor : ℕ). Loads image (thunk_width machine) descriptor here.parsed.import_name asks)
             (add-zero bases.descriptors)
             (subst
-            (λ (asks : List Ask). Loads image (thunk_width machine) (bases.descriptors + 0) here.meant.import_name asks)
+            (λ (asks : List Ask). Loads image (thunk_width machine) (bases.descriptors + 0) here.parsed.import_name asks)
             here.asks here.imports.strictly.loads.plain);
       };
 }

@@ -19,7 +19,7 @@ use Rattle.implib.specs.ReadBack.{ReadBack}
 use Rattle.implib.specs.Token.{Lexed, TokenView}
 use Rattle.implib.specs.Writer.{WriterState}
 use Rattle.implib_link.specs.Program.{IsProgram}
-use Rattle.implib_link.specs.Texts.{ask_stated, chosen_stated, part_of, source_of}
+use Rattle.implib_link.specs.Texts.{ask_stated, chosen_stated, link_input_of, source_of}
 
 -- the members are read back as those of the definition that the text means
 pub record AreReadAsText (text : List ℕ) (machine : MachineType) (flavor : Flavor) (members : List MemberView)
@@ -39,7 +39,8 @@ one_export dll name = record empty_definition {
 abbrev pub data_object : MachineType → List ℕ → List ℕ → WriterState
 data_object machine name bytes = record {
   machine = machine;
-  sections = record { name = codes ".data" ++ 0 ∷ 0 ∷ 0 ∷ []; flags = 0xC030_0040; bytes = bytes; relocations = [] } ∷ [];
+  sections =
+      record { name = codes ".data" ++ 0 ∷ 0 ∷ 0 ∷ []; flags = 0xC030_0040; bytes = bytes; relocations = [] } ∷ [];
   symbols = record { name = name; value = 0; place = Section 1; class = 2; aux = None } ∷ [];
 }
 
@@ -56,15 +57,15 @@ pub record HasExportsAt (text : List ℕ) (at : ℕ) : Type 0 where
 -- just the words by which the text names the chosen exports (or for their ordinals).
 pub record LoadsAsStated (text : List ℕ) (machine : MachineType) (chosen : List ℕ) (bases : Bases)
     (objects : List Object) : Type 0 where
-  pub meant : DefinitionView
-  pub parses : Parses text machine meant
-  pub loads : Loads (image_of machine bases (placed_from bases objects)) (thunk_width machine) bases.descriptors
-      meant.import_name (map ask_stated (chosen_stated meant (exports_of_text parses.statements) chosen))
+  pub parsed : DefinitionView
+  pub parses : Parses text machine parsed
+  pub loads : Loads (image_of machine bases (placed_from bases objects)) (thunk_width machine)
+      bases.descriptors parsed.import_name (map ask_stated (chosen_stated parsed (exports_of_text parses.statements) chosen))
 
 -- Members of a text load so, whichever exports are chosen, at whichever bases, among whichever objects of a
 -- program.
 pub record ImportsJustThese (text : List ℕ) (machine : MachineType) (members : List MemberView) : Type 0 where
   pub library : LibraryView
   pub loads : (chosen : List ℕ) (bases : Bases) (objects : List Object) →
-      IsProgram machine bases (part_of (source_of text library members chosen) ∷ []) objects →
+      IsProgram machine bases (link_input_of (source_of text library members chosen) ∷ []) objects →
       LoadsAsStated text machine chosen bases objects

@@ -22,7 +22,7 @@ use crate::import_tables::imp_symbol;
 use crate::machine::MachineType;
 use crate::members::{Flavor, Member};
 use crate::msvc::objects::{descriptor_member, null_descriptor_member, null_thunk_member};
-use crate::msvc::short_import::record_member;
+use crate::msvc::short_import::short_import_member;
 use crate::refusal::names_fault;
 use crate::weak_external::{MEMBERS_OF_ALIAS, is_alias, weak_member};
 
@@ -126,7 +126,7 @@ fn push_export(
     if has_aliases(export) {
         push_weak_externals(members, export, machine, dll)?;
     }
-    members.push(record_member(*members.allocator(), export, machine, dll)?)?;
+    members.push(short_import_member(*members.allocator(), export, machine, dll)?)?;
     Ok(())
 }
 

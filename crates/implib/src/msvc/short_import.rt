@@ -10,7 +10,7 @@ ghost use Rattle.implib.specs.Members.{has_u16_ordinal, is_too_long, member_spec
 ghost use Rattle.implib.specs.MemberSpec.{member_of};
 ghost use Rattle.implib.specs.MsvcMembers.{short_import_spec};
 ghost use Rattle.implib.specs.Pass.{Puts};
-ghost use Rattle.implib.specs.Msvc.{asked_by_short_import, kind_of, name_type_of, short_import_bytes, short_import_data_size, short_import_header, short_import_listed, short_import_of, short_import_size, short_import_symbol};
+ghost use Rattle.implib.specs.Msvc.{asked_by_short_import, import_type_of, name_type_of, short_import_bytes, short_import_data_size, short_import_header, short_import_listed, short_import_of, short_import_size, short_import_symbol};
 ghost use Rattle.implib.specs.ShortImport.{asked_by_name_type, before_at_sign, without_prefix};
 ghost use Rattle.std.specs.List.{list_all, list_any, position};
 ghost use Rattle.std.specs.Prelude.{false, map, nat_lt, string_bytes, true, ◌+◌, ◌<◌, ◌==◌, ◌≡◌, ◌≤◌, IfNone, IfOk, IfSome, OnOk, length};
@@ -37,8 +37,8 @@ const RECORD_HEADER_SIZE: usize = 20;
 const RECORD_NULS: usize = 2;
 
 // The import type.
-fn kind(export: &ShortExport) -> u16
-    ensures number { result ≡ kind_of (export_view export.now) }
+fn import_type(export: &ShortExport) -> u16
+    ensures number { result ≡ import_type_of (export_view export.now) }
     ensures at_most { result ≤ IMPORT_CONST }
 {
     if export.is_data {
@@ -111,7 +111,7 @@ fn put_header(
     pass.put_u32(0);
     pass.put_u32(data_size);
     pass.put_u16(export.ordinal);
-    pass.put_u16(kind(export) + 4 * name_type(export, machine));
+    pass.put_u16(import_type(export) + 4 * name_type(export, machine));
 }
 
 // The archive symbols of the export's short import.
@@ -128,7 +128,7 @@ fn short_import_listed(alloc: Global, export: &ShortExport) -> Result<Vec<String
 }
 
 /// The member of the export's short import.
-pub(crate) fn record_member(
+pub(crate) fn short_import_member(
     alloc: Global,
     export: &ShortExport,
     machine: MachineType,

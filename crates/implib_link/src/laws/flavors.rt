@@ -38,7 +38,7 @@ pub fn flavored_texts_link()
         FlavorTextsLink machine bases sources objects }
 {}
 
-/// Whatever a loader writes that walks the directory of a program: at each `__imp_` symbol stands what the
+/// Whatever a loader writes that walks the directory of a program: at each `__imp_` symbol is what the
 /// DLL gives for the export, and no byte outside the address tables changed. Such a loader can write.
 ///
 /// What a DLL gives has as many bytes as an entry.

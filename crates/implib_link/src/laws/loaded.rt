@@ -13,7 +13,7 @@ ghost use Rattle.implib_link.specs.Program.{IsProgram};
 ghost use Rattle.std.specs.List.{AllByRecursion};
 ghost use Rattle.std.specs.Prelude.{◌≡◌, ℕ, List, length, map};
 
-/// Whatever a loader writes that walks the directory of a program: at each `__imp_` symbol stands what the
+/// Whatever a loader writes that walks the directory of a program: at each `__imp_` symbol is what the
 /// DLL gives for the export, and no byte outside the address tables changed. Such a loader can write.
 ///
 /// What a DLL gives has as many bytes as an entry.

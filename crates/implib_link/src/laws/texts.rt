@@ -4,7 +4,7 @@ ghost use Rattle.implib.specs.Object.{Object};
 ghost use Rattle.implib.specs.Placement.{Bases};
 ghost use Rattle.implib.specs.declared.machine.MachineType.{MachineType};
 ghost use Rattle.implib_link.specs.Program.{IsProgram};
-ghost use Rattle.implib_link.specs.Texts.{IsSource, Source, TextsLink, part_of};
+ghost use Rattle.implib_link.specs.Texts.{IsSource, Source, TextsLink, link_input_of};
 ghost use Rattle.std.specs.List.{AllByRecursion};
 ghost use Rattle.std.specs.Prelude.{List, map};
 
@@ -13,6 +13,6 @@ ghost use Rattle.std.specs.Prelude.{List, map};
 pub fn texts_link()
     ensures links { (machine : MachineType) (bases : Bases) (sources : List Source) (objects : List Object) →
         AllByRecursion (IsSource machine) sources →
-        IsProgram machine bases (map part_of sources) objects →
+        IsProgram machine bases (map link_input_of sources) objects →
         TextsLink machine bases sources objects }
 {}

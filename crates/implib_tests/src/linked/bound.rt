@@ -2,7 +2,7 @@
 
 use super::directory::Import;
 use super::image::Image;
-use super::record::Ask;
+use super::short_import::Ask;
 use std::alloc::Global;
 use std::test::Fail;
 

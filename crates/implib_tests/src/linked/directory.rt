@@ -5,7 +5,7 @@ ghost use Rattle.std.specs.Prelude.{◌<◌};
 
 use super::image::Image;
 use super::object::{Flaw, bytes_from, text_in, u16_at, u32_at, u64_at, usize_at};
-use super::record::Ask;
+use super::short_import::Ask;
 use std::alloc::Global;
 use std::test::Fail;
 

@@ -2,7 +2,7 @@
 
 use super::code::{AMD64, ARM64, ARMNT, I386};
 use super::object::{Flaw, Object, Relocation, Section, Symbol};
-use super::record::{Ask, Record, is_record, record_in};
+use super::short_import::{Ask, ShortImport, is_short_import, short_import_in};
 use std::alloc::Global;
 use std::test::Fail;
 
@@ -23,35 +23,35 @@ pub struct Expansion {
 /// What a linker for a machine takes a file for, if that is a short import which it takes: one for the
 /// machine, with an import type and a name type that the specification has.
 pub fn expanded(alloc: Global, file: &[u8], machine: u16) -> Result<Option<Expansion>, Fail> {
-    if !is_record(file) {
+    if !is_short_import(file) {
         return Ok(None);
     }
-    let record = record_in(file)?;
-    match record.ask() {
-        Ok(ask) if record.machine == machine && record.import_type() != 3 => {
-            Ok(Some(expansion_of(alloc, &record, ask)?))
+    let import = short_import_in(file)?;
+    match import.ask() {
+        Ok(ask) if import.machine == machine && import.import_type() != 3 => {
+            Ok(Some(expansion_of(alloc, &import, ask)?))
         }
         _ => Ok(None),
     }
 }
 
 /// The expansion of a short import that asks so.
-fn expansion_of(alloc: Global, record: &Record, ask: Ask) -> Result<Expansion, Fail> {
-    let name = record.symbol;
-    let base = match record.dll.rsplit_once('.') {
+fn expansion_of(alloc: Global, import: &ShortImport, ask: Ask) -> Result<Expansion, Fail> {
+    let name = import.symbol;
+    let base = match import.dll.rsplit_once('.') {
         Some((base, _)) => base,
-        None => record.dll,
+        None => import.dll,
     };
     let (thunk, hint_name) = match ask {
-        Ask::Ordinal(ordinal) => (thunk_by_ordinal(alloc, record.machine, ordinal)?, None),
+        Ask::Ordinal(ordinal) => (thunk_by_ordinal(alloc, import.machine, ordinal)?, None),
         Ask::Name(name, hint) => (
-            Vec::from_slice(alloc, thunk_of_zeros(record.machine))?,
+            Vec::from_slice(alloc, thunk_of_zeros(import.machine))?,
             Some(hint_name(alloc, name, hint)?),
         ),
     };
     Ok(Expansion {
-        machine: record.machine,
-        import_type: record.import_type(),
+        machine: import.machine,
+        import_type: import.import_type(),
         descriptor: format!(in alloc; "__IMPORT_DESCRIPTOR_{base}")?,
         symbol: String::from_str(alloc, name)?,
         entry: format!(in alloc; "__imp_{name}")?,

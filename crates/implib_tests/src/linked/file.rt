@@ -1,14 +1,14 @@
 //! What the members of a library are for, read from their bytes alone.
 
 use super::object::{Flaw, Object, Section, Symbol, bytes_from, object_in, text_in, u16_at};
-use super::record::{Ask, Record, is_record, record_in};
+use super::short_import::{Ask, ShortImport, is_short_import, short_import_in};
 use std::alloc::Global;
 use std::test::Fail;
 
 /// A member's file.
 #[derive(Drop)]
 pub enum File<'a> {
-    Record(Record<'a>),
+    ShortImport(ShortImport<'a>),
     Object(Object<'a>),
 }
 
@@ -25,8 +25,8 @@ pub enum Purpose<'a> {
 
 /// The file in bytes.
 pub fn file_in(alloc: Global, bytes: &[u8]) -> Result<File<'_>, Fail> {
-    if is_record(bytes) {
-        Ok(File::Record(record_in(bytes)?))
+    if is_short_import(bytes) {
+        Ok(File::ShortImport(short_import_in(bytes)?))
     } else {
         Ok(File::Object(object_in(alloc, bytes)?))
     }
@@ -36,7 +36,7 @@ impl<'a> File<'a> {
     /// The number of its machine.
     pub fn machine(&self) -> u16 {
         match self {
-            File::Record(record) => record.machine,
+            File::ShortImport(import) => import.machine,
             File::Object(object) => object.machine,
         }
     }
@@ -44,7 +44,7 @@ impl<'a> File<'a> {
     /// Whether it declares a symbol: defines it for others, or makes it weak.
     pub fn declares(&self, name: &str) -> bool {
         match self {
-            File::Record(record) => record.declares(name),
+            File::ShortImport(import) => import.declares(name),
             File::Object(object) => object.symbols.iter().flatten().any(|symbol| {
                 symbol.name == name && (symbol.is_defined() || symbol.is_weak())
             }),
@@ -54,7 +54,7 @@ impl<'a> File<'a> {
     /// What it is for, among the files of a library.
     pub fn purpose(&self, files: &[File<'a>]) -> Result<Purpose<'a>, Fail> {
         match self {
-            File::Record(record) => Ok(Purpose::Import(record.dll, record.ask()?)),
+            File::ShortImport(import) => Ok(Purpose::Import(import.dll, import.ask()?)),
             File::Object(object) => object_purpose(object, files),
         }
     }

@@ -1,5 +1,5 @@
-//! Definitions that no text gives: made by hand, with symbols for records, empty names and NULs. Beside
-//! each value that is refused stands one that is not. (A member that is too long needs gigabytes, and
+//! Definitions that no text gives: made by hand, with symbol names, empty names and NULs. Beside
+//! each value that is refused is one that is not. (A member that is too long needs gigabytes, and
 //! has no row.)
 
 use super::answer;
@@ -274,7 +274,7 @@ const ROWS: [Row; 26] = [
         "foo.dll 30 __imp__ _; asks foo.dll for _, hint 0\n",
         "foo_dll_a_s00000.o 462 _ __imp__; asks foo.dll for _, hint 0\n",
     ),
-    // Symbols of records, and aliases beside them.
+    // Symbol names, and aliases beside them.
     (
         "foo.dll",
         MachineType::AMD64,
@@ -398,9 +398,9 @@ fn a_record_has_a_symbol_of_its_own(rt: HostRuntime) -> Result<(), Fail> {
     };
     let def = definition(rt.alloc(), "foo.dll", &[export])?;
     let members = ImportLibrary::from_def(def, MachineType::AMD64, Flavor::Msvc).members()?;
-    let record = members.as_slice().get(3).ok_or("the record is missing")?;
+    let import = members.as_slice().get(3).ok_or("the short import is missing")?;
     assert_eq!(rt;
-        record.bytes.as_slice(),
+        import.bytes.as_slice(),
         b"\0\0\xff\xff\0\0\x64\x86\0\0\0\0\x0f\0\0\0\0\0\x0c\0_foo@8\0foo.dll\0".as_slice()
     );
     Ok(())

@@ -4,7 +4,7 @@ use Rattle.implib_c.specs.Encoding.{encoded_number, encoded_text}
 use Rattle.implib_c.specs.Fill.{Fills}
 use Rattle.implib_c.proofs.encoding.put_symbols.Given as goal
 
--- the symbols stand in the buffer up to here
+-- the symbols are in the buffer up to here
 abbrev pub invariant-loop-symbol : goal.invariant-loop-symbol
 invariant-loop-symbol l = Fills l.fn.buffer l.buffer l.fn.start l.at
     (encoded_number (length l.symbols) ++ flat_map encoded_text (map string_bytes (take l.symbol-index l.symbols)))

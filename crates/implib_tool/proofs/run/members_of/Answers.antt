@@ -1,6 +1,6 @@
 use Rattle.std.proofs.Common.{map}
 use Rattle.implib.specs.Library.{member_view}
-use Rattle.implib_tool.proofs.Meant.{members_of}
+use Rattle.implib_tool.proofs.ParsedReadings.{members_of}
 use Rattle.implib_tool.proofs.run.members_of.Goals as goal
 
 pub returns-clause-ok : goal.returns-clause-ok

@@ -38,7 +38,7 @@ write_table-requires c =
     refl in
     rw same (CanBeHeld-export_object c.args.machine c.args.dll.now (export_view c.args.export.now) c.requires.dll_text c.requires.name_text c.requires.filled)
 
--- the table that is written is the one that is meant
+-- the table that is written is the one that is expected
 same : (c : After-drop-hint_name) → table_view c.args.machine (c.section.result ∷ c.empty_section.result ∷ c.empty_section-2.result ∷ c.section-2.result ∷ c.section-3.result ∷ c.section-4.result ∷ c.section-5.result ∷ []) c.if-export.symbols.now ≡ export_object c.args.machine c.args.dll.now (export_view c.args.export.now)
 unfolding export_object relocations_of_thunk
 same c =

@@ -26,7 +26,7 @@ write_table-requires c =
     )
     (CanBeHeld-head_object c.args.machine c.args.dll.now c.requires.dll_text)
 
--- the table that is written is the one that is meant
+-- the table that is written is the one that is expected
 same : (c : After-write_table) → table_view c.args.machine c.head_or_tail_sections-sections.result (c.file_symbol.result ∷ c.symbol.result ∷ c.symbol-2.result ∷ c.symbol-3.result ∷ c.symbol-4.result ∷ []) ≡ head_object c.args.machine c.args.dll.now
 unfolding head_object
 same c =

@@ -25,7 +25,7 @@ write_table-requires c =
     )
     (CanBeHeld-tail_object c.args.machine c.args.dll.now c.requires.dll_text)
 
--- the table that is written is the one that is meant
+-- the table that is written is the one that is expected
 same : (c : After-drop-thunk-2) → table_view c.args.machine c.head_or_tail_sections-sections.result (c.file_symbol.result ∷ c.symbol.result ∷ []) ≡ tail_object c.args.machine c.args.dll.now
 unfolding tail_object
 same c =

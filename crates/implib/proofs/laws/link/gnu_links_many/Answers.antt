@@ -1,9 +1,9 @@
 use Rattle.implib.specs.LinkedMembers.{bases_of}
-use Rattle.implib.proofs.LinkedInputs.{parts_link, parts_made, parts_rise}
+use Rattle.implib.proofs.LinkedInputs.{gnu_inputs_link, gnu_inputs_made, gnu_inputs_rise}
 use Rattle.implib.proofs.laws.link.gnu_links_many.Goals as goal
 
 pub returns : goal.returns
 returns c = record {
-  links = parts_link c.args.machine (bases_of c.args.bases) _ (parts_made c.args.machine _ c.requires.parts) c.requires.distinct c.requires.admissible;
-  names_rise = parts_rise c.args.machine _ c.requires.parts c.requires.rising c.requires.apart;
+  links = gnu_inputs_link c.args.machine (bases_of c.args.bases) _ (gnu_inputs_made c.args.machine _ c.requires.parts) c.requires.distinct c.requires.admissible;
+  names_rise = gnu_inputs_rise c.args.machine _ c.requires.parts c.requires.rising c.requires.apart;
 }

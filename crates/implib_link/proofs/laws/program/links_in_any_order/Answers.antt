@@ -1,5 +1,5 @@
-use Rattle.implib.proofs.LinkedInputs.{parts_link}
+use Rattle.implib.proofs.LinkedInputs.{gnu_inputs_link}
 use Rattle.implib_link.proofs.laws.program.links_in_any_order.Goals as goal
 
 pub returns : goal.returns
-returns c = record { links = parts_link }
+returns c = record { links = gnu_inputs_link }

@@ -3,7 +3,7 @@ use Rattle.std.specs.Simd.Lanes.{Each1}
 use Rattle.std.proofs.lemmas.List.{take_all}
 use Rattle.std.proofs.lemmas.Simd.{chunk-fits}
 use Rattle.implib_tool.specs.Listing.{bytes_listing, hex_digit}
-use Rattle.implib_tool.proofs.Lanes.{highs_below, line_of_digits, line_spelled}
+use Rattle.implib_tool.proofs.Lanes.{highs_below, line_of_digits, line_text}
 use Rattle.implib_tool.proofs.listing.line.line_of.Goals as goal
 
 pub digits_of-high-requires : goal.digits_of-high-requires
@@ -16,4 +16,4 @@ returns c =
     let high = c.digits_of-high.ensures ∙ ap (map hex_digit) (c.high_of.ensures ∙ ap (map (λ b. b / 16)) whole) in
     let low = c.digits_of-low.ensures ∙ ap (map hex_digit) (c.low_of.ensures ∙ ap (map (λ b. b % 16)) whole) in
     subst (λ t. line_of_digits t ≡ bytes_listing bytes) (sym (ap (λ t. t ++ c.digits_of-low.result) high ∙ ap (λ t. map hex_digit (map (λ b. b / 16) bytes) ++ t) low))
-    (line_spelled bytes c.requires)
+    (line_text bytes c.requires)

@@ -1,11 +1,11 @@
-//! Reads short import records, by the PE/COFF specification and, for what is asked for by the name
+//! Reads short imports, by the PE/COFF specification and, for what is asked for by the name
 //! types, by `docs/FORMATS.md`.
 
 use super::object::{Flaw, bytes_from, text_in, text_of, u16_at, usize_at};
 
-/// A short import record.
+/// A short import.
 #[derive(Clone, Copy)]
-pub struct Record<'a> {
+pub struct ShortImport<'a> {
     pub machine: u16,
     pub dll: &'a str,
     pub symbol: &'a str,
@@ -21,24 +21,24 @@ pub enum Ask<'a> {
     Name(&'a str, u16),
 }
 
-/// Whether a file is a short import record, and no object.
-pub fn is_record(bytes: &[u8]) -> bool {
+/// Whether a file is a short import, and no object.
+pub fn is_short_import(bytes: &[u8]) -> bool {
     bytes.starts_with(&[0, 0, 0xFF, 0xFF])
 }
 
-/// The record in a file's bytes: a header, and two texts to the end.
-pub fn record_in(bytes: &[u8]) -> Result<Record<'_>, Flaw> {
+/// The short import in a file's bytes: a header, and two texts to the end.
+pub fn short_import_in(bytes: &[u8]) -> Result<ShortImport<'_>, Flaw> {
     let texts = bytes_from(bytes, 20)?;
     let symbol = text_in(texts)?;
     let rest = bytes_from(texts, symbol.len().saturating_add(1))?;
     let dll = text_in(rest)?;
     if usize_at(bytes, 12)? != texts.len() || dll.len().saturating_add(1) != rest.len() {
-        return Err("a record has another size");
+        return Err("a short import has another size");
     }
     if u16_at(bytes, 4)? != 0 {
-        return Err("a record has another version");
+        return Err("a short import has another version");
     }
-    Ok(Record {
+    Ok(ShortImport {
         machine: u16_at(bytes, 6)?,
         dll,
         symbol,
@@ -47,7 +47,7 @@ pub fn record_in(bytes: &[u8]) -> Result<Record<'_>, Flaw> {
     })
 }
 
-impl<'a> Record<'a> {
+impl<'a> ShortImport<'a> {
     /// The import type: 0 code, 1 data, 2 a constant.
     pub fn import_type(&self) -> u16 {
         self.types % 4
@@ -67,7 +67,7 @@ impl<'a> Record<'a> {
             1 => self.symbol,
             2 => without_prefix(self.symbol)?,
             3 => undecorated(without_prefix(self.symbol)?),
-            _ => return Err("a record has another name type"),
+            _ => return Err("a short import has another name type"),
         };
         Ok(Ask::Name(name, self.ordinal))
     }

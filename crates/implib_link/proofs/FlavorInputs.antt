@@ -22,7 +22,7 @@ use Rattle.implib.specs.LinkedMembers.{chosen_exports, linked_specs, numbered_sp
 use Rattle.implib.specs.Machine.{machine_number}
 use Rattle.implib.specs.MemberSpec.{AShortImport, AnObject, Contents, MemberSpec, MemberView, file_bytes, member_of}
 use Rattle.implib.specs.Members.{AreMembersOf, member_specs}
-use Rattle.implib.specs.Msvc.{kind_of, name_type_of, short_import_listed, short_import_of, short_import_symbol}
+use Rattle.implib.specs.Msvc.{import_type_of, name_type_of, short_import_listed, short_import_of, short_import_symbol}
 use Rattle.implib.specs.MsvcMembers.{descriptor_spec, export_specs, header_specs, null_descriptor_spec, null_thunk_spec, short_import_spec, weak_specs}
 use Rattle.implib.specs.MsvcObjects.{descriptor_symbol}
 use Rattle.implib.specs.Object.{Object, object_in}
@@ -67,8 +67,8 @@ pub short_import_taken : (machine : MachineType) (dll : List ℕ) (e : ExportVie
 short_import_taken machine dll e =
     let known : nat_le (name_type_of machine e) import_name_undecorate ≡ true = le-leb (name_type_of machine e) import_name_undecorate (name_type_of_fits machine e) in
     let passes : is_import_for machine (short_import_of machine dll e) ≡ true = rw (same_machine machine, known) refl in
-    ap (λ test. if test then option_map (asking_object machine dll (short_import_symbol e) (ask_of_short_import (short_import_of machine dll e))) (use_of (kind_of e)) else None) passes
-    ∙ ap (λ ask. option_map (asking_object machine dll (short_import_symbol e) ask) (use_of (kind_of e))) (ask_is machine dll e)
+    ap (λ test. if test then option_map (asking_object machine dll (short_import_symbol e) (ask_of_short_import (short_import_of machine dll e))) (use_of (import_type_of e)) else None) passes
+    ∙ ap (λ ask. option_map (asking_object machine dll (short_import_symbol e) ask) (use_of (import_type_of e))) (ask_is machine dll e)
     ∙ ap (option_map (asking_object machine dll (short_import_symbol e) (ask_in Msvc machine e))) (use_is e.is_data e.constant)
 
 -- What a short import asks for has no NUL.

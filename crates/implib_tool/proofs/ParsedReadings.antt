@@ -13,19 +13,19 @@ use Rattle.implib.specs.Renaming.{renamed}
 use Rattle.implib.proofs.Renaming.{renamed_twice}
 use Rattle.implib.proofs.SymbolNames.{parsed_lacks}
 use Rattle.implib.specs.SymbolNames.{LacksSymbolNames}
-use Rattle.implib_tool.specs.Run.{MembersOf, ReadAsMeant}
+use Rattle.implib_tool.specs.Run.{MembersOf, ReadAsParsed}
 
 -- in each flavour, where the definition has no symbol names and renaming it twice is renaming it once
-read_in : (meant : DefinitionView) (machine : MachineType) (flavor : Flavor) (members : List MemberView) → LacksSymbolNames meant → renamed (renamed meant) ≡ renamed meant
-    → ReadBack (renamed meant) machine flavor members → ReadAsMeant meant machine flavor members
-read_in meant machine Msvc members lacks once reads =
-    let means = reads.meant lacks.renamed in record {
+read_in : (parsed : DefinitionView) (machine : MachineType) (flavor : Flavor) (members : List MemberView) → LacksSymbolNames parsed → renamed (renamed parsed) ≡ renamed parsed
+    → ReadBack (renamed parsed) machine flavor members → ReadAsParsed parsed machine flavor members
+read_in parsed machine Msvc members lacks once reads =
+    let means = reads.matches lacks.renamed in record {
       meanings = means.meanings;
       read = means.read;
       imports = means.imports ∙ ap (λ (d : DefinitionView). map (expected_import machine d.import_name) (public_exports d)) once;
       aliases = means.aliases ∙ ap (λ (d : DefinitionView). flat_map (λ e. aliases_for e.name e.alias_target) (public_exports d)) once;
     }
-read_in meant machine Gnu members lacks once reads = record {
+read_in parsed machine Gnu members lacks once reads = record {
   meanings = reads.meanings;
   read = (reads.tail, reads.head, record { tail_read = reads.tail_read; head_read = reads.head_read }, reads.meanings_read);
   imports = reads.imports ∙ ap (λ (d : DefinitionView). map (expected_import machine d.import_name) (public_exports d)) once;
@@ -36,10 +36,10 @@ read_in meant machine Gnu members lacks once reads = record {
 pub members_of : (text : List ℕ) (machine : MachineType) (flavor : Flavor) (library : LibraryView) (members : List MemberView) → LibraryOf text machine flavor library
     → AreMembersOf library.definition library.machine library.flavor members → ReadBack library.definition library.machine library.flavor members → MembersOf text machine flavor members
 members_of text machine flavor library members of made reads =
-    let read : ReadBack (renamed of.meant) machine flavor members = subst (λ (l : LibraryView). ReadBack l.definition l.machine l.flavor members) of.held reads in record {
-      meant = of.meant;
+    let read : ReadBack (renamed of.parsed) machine flavor members = subst (λ (l : LibraryView). ReadBack l.definition l.machine l.flavor members) of.held reads in record {
+      parsed = of.parsed;
       parses = of.parses;
       made = subst (λ (l : LibraryView). AreMembersOf l.definition l.machine l.flavor members) of.held made;
       reads = read;
-      read_as_meant = read_in of.meant machine flavor members (parsed_lacks text machine of.meant of.parses) (renamed_twice of.meant) read;
+      read_as_parsed = read_in of.parsed machine flavor members (parsed_lacks text machine of.parsed of.parses) (renamed_twice of.parsed) read;
     }
