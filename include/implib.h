@@ -60,10 +60,11 @@ enum implib_status {
     IMPLIB_UNKNOWN_MACHINE = 4,
     IMPLIB_UNKNOWN_FLAVOR = 5,
 
-    /* The text is no definition. */
+    /* The text is no definition. *place is the offset in bytes, from 0, of the token at which it is
+     * refused. */
     IMPLIB_UNKNOWN_DIRECTIVE = 16,   /* a statement begins with something that is no directive */
-    IMPLIB_EXPECTED_IDENTIFIER = 17, /* something else stands where an identifier was expected */
-    IMPLIB_EXPECTED_EQUAL = 18,      /* something else stands where `=` was expected */
+    IMPLIB_EXPECTED_IDENTIFIER = 17, /* something else is where an identifier was expected */
+    IMPLIB_EXPECTED_EQUAL = 18,      /* something else is where `=` was expected */
     IMPLIB_EXPECTED_INTEGER = 19,    /* an identifier is no number of the expected range */
     IMPLIB_INVALID_ORDINAL = 20,     /* what follows the attribute `@` is no number of 16 bits */
     IMPLIB_LONE_AT = 21,             /* the target of an export, after `=`, is `@` */

@@ -10,7 +10,7 @@ use Rattle.implib.specs.Fault.{Cause, cause_of, export_index}
 use Rattle.implib.specs.MemberSpec.{MemberView}
 use Rattle.implib_c.specs.declared.outcome.Failure.{Failure}
 use Rattle.implib_c.specs.declared.outcome.Failure.TheVariants as failure
-use Rattle.implib_c.specs.Answer.{Answers, EndsSo, MembersOf, Success, BufferTooSmall, OutOfMemory, NotUtf8, Refused, UnknownFlavor, UnknownMachine, WithInput, flavor_numbered}
+use Rattle.implib_c.specs.Answer.{Answers, EndsSo, MembersOf, Success, BufferTooSmall, OutOfMemory, NotUtf8, Refused, SyntaxError, UnknownFlavor, UnknownMachine, WithInput, flavor_numbered}
 use Rattle.implib_c.specs.Encoding.{encoded_members}
 use Rattle.implib_c.specs.Given.{OnTextFault, PutsInto, length_given, place_given, status_given}
 use Rattle.implib_c.specs.Status.{cause_status, status_number}
@@ -35,6 +35,10 @@ module _ (text old : List ℕ) (machine flavor : ℕ) where
   pub answers_not_utf8 : (m : MachineType) (f : Flavor) → machine_numbered machine ≡ Some m → flavor_numbered flavor ≡ Some f
       → (offset : ℕ) → ¬ (IsUtf8 text) → offset ≡ utf8_valid_len text → Answers text machine flavor old old 0 offset 3
   answers_not_utf8 m f machine_is flavor_is offset ends is = record { outcome = NotUtf8; ends = (there (machine_numbered machine) m machine_is, there (flavor_numbered flavor) f flavor_is, ends); status_is = refl; length_is = refl; place_is = is; buffer_is = refl; buffer_reads = tt }
+
+  pub answers_syntax_error : (cause : Cause) (offset : ℕ) → EndsSo text machine flavor (length old) (SyntaxError cause offset)
+      → Answers text machine flavor old old 0 offset (status_number (cause_status cause))
+  answers_syntax_error cause offset ends = record { outcome = SyntaxError cause offset; ends = ends; status_is = refl; length_is = refl; place_is = refl; buffer_is = refl; buffer_reads = tt }
 
   pub answers_refused : (cause : Cause) → EndsSo text machine flavor (length old) (Refused cause)
       → Answers text machine flavor old old 0 (unwrap_or (export_index cause) 0) (status_number (cause_status cause))
@@ -61,6 +65,7 @@ module _ (text old : List ℕ) (machine flavor : ℕ) (m : MachineType) (f : Fla
   answers_fault (failure.NotUtf8 offset) h = absurd h
   answers_fault failure.UnknownMachine h = absurd h
   answers_fault failure.UnknownFlavor h = absurd h
+  answers_fault (failure.SyntaxError fault offset) h = answers_syntax_error text old machine flavor (cause_of fault) offset (with_input _ h)
   answers_fault (failure.Refused fault) h = answers_refused text old machine flavor (cause_of fault) (with_input _ h)
 
   -- the members are put into the buffer, or not
@@ -96,4 +101,5 @@ module _ (text old : List ℕ) (machine flavor : ℕ) (m : MachineType) (f : Fla
   answers_put members new (Err (failure.NotUtf8 offset)) made puts = absurd puts
   answers_put members new (Err failure.UnknownMachine) made puts = absurd puts
   answers_put members new (Err failure.UnknownFlavor) made puts = absurd puts
+  answers_put members new (Err (failure.SyntaxError fault offset)) made puts = absurd puts
   answers_put members new (Err (failure.Refused fault)) made puts = absurd puts

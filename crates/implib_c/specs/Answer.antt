@@ -12,7 +12,7 @@ use Rattle.implib.specs.Fault.{Cause, export_index}
 use Rattle.implib.specs.Library.{LibraryOf, LibraryView}
 use Rattle.implib.specs.Members.{AreMembersOf, refusal}
 use Rattle.implib.specs.MemberSpec.{MemberView}
-use Rattle.implib.specs.Parses.{Refuses}
+use Rattle.implib.specs.Parses.{RefusesAt}
 use Rattle.implib.specs.ReadBack.{ReadBack}
 use Rattle.implib_c.specs.declared.status.Status.{Status}
 use Rattle.implib_c.specs.declared.status.Status.TheVariants as status
@@ -38,11 +38,7 @@ pub record HasNoMembers (text : List ℕ) (machine : MachineType) (flavor : Flav
   pub of_text : LibraryOf text machine flavor library
   pub refused : refusal library.definition machine flavor ≡ Some cause
 
--- the text is refused by the grammar, or for what it means
-abbrev pub IsRefused : List ℕ → MachineType → Flavor → Cause → Type 0
-IsRefused text machine flavor cause = Refuses text cause ⊎ HasNoMembers text machine flavor cause
-
--- how a call ends
+-- How a call ends. A syntax error has its cause and its offset, and a definition without members the cause.
 pub data Outcome : Type 0 where
   Success : List MemberView → Outcome
   BufferTooSmall : List MemberView → Outcome
@@ -50,6 +46,7 @@ pub data Outcome : Type 0 where
   NotUtf8 : Outcome
   UnknownMachine : Outcome
   UnknownFlavor : Outcome
+  SyntaxError : Cause → ℕ → Outcome
   Refused : Cause → Outcome
 
 -- the numbers are those of a machine and of a flavour, the text is UTF-8, and with the three this holds
@@ -74,8 +71,10 @@ EndsSo text machine flavor room NotUtf8 =
 EndsSo text machine flavor room UnknownMachine = machine_numbered machine ≡ None
 EndsSo text machine flavor room UnknownFlavor =
     IsSome (machine_numbered machine) × (flavor_numbered flavor ≡ None)
+EndsSo text machine flavor room (SyntaxError cause offset) =
+    WithInput text machine flavor (λ m f. RefusesAt text cause offset)
 EndsSo text machine flavor room (Refused cause) =
-    WithInput text machine flavor (λ m f. IsRefused text m f cause)
+    WithInput text machine flavor (λ m f. HasNoMembers text m f cause)
 
 -- the status
 abbrev pub status_of : Outcome → Status
@@ -85,6 +84,7 @@ status_of OutOfMemory = status.OutOfMemory
 status_of NotUtf8 = status.NotUtf8
 status_of UnknownMachine = status.UnknownMachine
 status_of UnknownFlavor = status.UnknownFlavor
+status_of (SyntaxError cause offset) = cause_status cause
 status_of (Refused cause) = cause_status cause
 
 -- the length of the encoding, where there are members; else 0
@@ -93,10 +93,11 @@ length_of (Success members) = length (encoded_members members)
 length_of (BufferTooSmall members) = length (encoded_members members)
 length_of _ = 0
 
--- what is at fault: the index of the export, where it is one's fault; in a text that is not UTF-8 the offset
--- up to which it is; else 0
+-- what is at fault: in a text that is not UTF-8 the offset up to which it is; the offset of the token that is
+-- a syntax error; the index of an export, where the fault is one's; else 0
 abbrev pub place_of : List ℕ → Outcome → ℕ
 place_of text NotUtf8 = utf8_valid_len text
+place_of text (SyntaxError cause offset) = offset
 place_of text (Refused cause) = unwrap_or (export_index cause) 0
 place_of text _ = 0
 

@@ -3,16 +3,19 @@ use Rattle.std.specs.Prelude.{◌≡◌, ℕ, ◌<◌, ◌≤◌, ◌^◌, List,
 use Rattle.std.specs.Option.{unwrap_or}
 use Rattle.implib.specs.declared.error.Error.{Error}
 use Rattle.implib.specs.declared.error.Error.TheVariants as error
+use Rattle.implib.specs.declared.error.ParseError.{ParseError}
+use Rattle.implib.specs.declared.error.ParseError.TheVariants as parse_error
 use Rattle.implib.specs.declared.machine.MachineType.{MachineType}
 use Rattle.implib.specs.declared.members.Flavor.{Flavor}
 use Rattle.implib.specs.Fault.{cause_of, export_index}
 use Rattle.implib.specs.MemberSpec.{MemberView}
+use Rattle.implib.specs.Parses.{RefusesAt}
 use Rattle.implib_c.specs.declared.outcome.Failure.{Failure}
 use Rattle.implib_c.specs.declared.outcome.Failure.TheVariants.{BufferTooSmall, OutOfMemory, NotUtf8}
-use Rattle.implib_c.specs.declared.outcome.Failure.TheVariants.{UnknownMachine, UnknownFlavor, Refused}
+use Rattle.implib_c.specs.declared.outcome.Failure.TheVariants.{UnknownMachine, UnknownFlavor, SyntaxError, Refused}
 use Rattle.implib_c.specs.declared.status.Status.{Status}
 use Rattle.implib_c.specs.declared.status.Status.TheVariants as status
-use Rattle.implib_c.specs.Answer.{IsRefused}
+use Rattle.implib_c.specs.Answer.{HasNoMembers}
 use Rattle.implib_c.specs.Encoding.{encoded_members}
 use Rattle.implib_c.specs.Status.{cause_status}
 
@@ -21,6 +24,11 @@ abbrev pub failure_of : Error → Failure
 failure_of (error.Invalid fault) = Refused fault
 failure_of (error.OutOfMemory refused) = OutOfMemory
 
+-- what an error of the parser becomes
+abbrev pub failure_of_parsing : ParseError → Failure
+failure_of_parsing (parse_error.Invalid fault position) = SyntaxError fault position.offset
+failure_of_parsing (parse_error.OutOfMemory refused) = OutOfMemory
+
 -- the status of a failure
 abbrev pub failure_status : Failure → Status
 failure_status (BufferTooSmall needed) = status.BufferTooSmall
@@ -28,6 +36,7 @@ failure_status OutOfMemory = status.OutOfMemory
 failure_status (NotUtf8 offset) = status.NotUtf8
 failure_status UnknownMachine = status.UnknownMachine
 failure_status UnknownFlavor = status.UnknownFlavor
+failure_status (SyntaxError fault offset) = cause_status (cause_of fault)
 failure_status (Refused fault) = cause_status (cause_of fault)
 
 -- the status of an answer
@@ -43,6 +52,7 @@ length_given (Err OutOfMemory) = 0
 length_given (Err (NotUtf8 offset)) = 0
 length_given (Err UnknownMachine) = 0
 length_given (Err UnknownFlavor) = 0
+length_given (Err (SyntaxError fault offset)) = 0
 length_given (Err (Refused fault)) = 0
 
 -- the place that an answer tells
@@ -53,6 +63,7 @@ place_given (Err OutOfMemory) = 0
 place_given (Err (NotUtf8 offset)) = offset
 place_given (Err UnknownMachine) = 0
 place_given (Err UnknownFlavor) = 0
+place_given (Err (SyntaxError fault offset)) = offset
 place_given (Err (Refused fault)) = unwrap_or (export_index (cause_of fault)) 0
 
 -- the text is refused, or memory was
@@ -62,7 +73,8 @@ OnTextFault text machine flavor OutOfMemory = Unit {0}
 OnTextFault text machine flavor (NotUtf8 offset) = ⊥
 OnTextFault text machine flavor UnknownMachine = ⊥
 OnTextFault text machine flavor UnknownFlavor = ⊥
-OnTextFault text machine flavor (Refused fault) = IsRefused text machine flavor (cause_of fault)
+OnTextFault text machine flavor (SyntaxError fault offset) = RefusesAt text (cause_of fault) offset
+OnTextFault text machine flavor (Refused fault) = HasNoMembers text machine flavor (cause_of fault)
 
 -- the members' encoding is put at the beginning of the buffer, where there is room; else nothing is
 abbrev pub PutsInto : List MemberView → List ℕ → List ℕ → Result ℕ Failure → Type 0
@@ -75,4 +87,5 @@ PutsInto members old new (Err OutOfMemory) = new ≡ old
 PutsInto members old new (Err (NotUtf8 offset)) = ⊥
 PutsInto members old new (Err UnknownMachine) = ⊥
 PutsInto members old new (Err UnknownFlavor) = ⊥
+PutsInto members old new (Err (SyntaxError fault offset)) = ⊥
 PutsInto members old new (Err (Refused fault)) = ⊥

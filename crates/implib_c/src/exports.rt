@@ -15,9 +15,10 @@ use std::alloc::Global;
 ///
 /// `machine` is a number of the PE/COFF specification, "Machine Types"; `flavor` is 0 for Microsoft's linker
 /// and 1 for GNU's. `length` gets the length of the encoding in bytes, where the status is 0 or 1 (the buffer
-/// is too small), and otherwise 0. `place` gets the index of the export, from 0, where one is at fault; the
-/// length of the longest beginning that is UTF-8, where the text is not; and otherwise 0. Where the status is
-/// not 0 the buffer is as it was, and where it is 0, what follows the encoding.
+/// is too small), and otherwise 0. `place` gets the length of the longest beginning that is UTF-8, where the
+/// text is not; the offset in bytes of the token at which a text is refused; the index of the export, from 0,
+/// where one is at fault; and otherwise 0. Where the status is not 0 the buffer is as it was, and where it is
+/// 0, what follows the encoding.
 #[unsafe(no_mangle)]
 pub extern "C" fn implib_members(
     alloc: Global,

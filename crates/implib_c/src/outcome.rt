@@ -9,7 +9,8 @@ ghost use Rattle.std.specs.Prelude.{◌≡◌, IfErr, IfOk, map};
 
 use crate::encoding::{members_length, put_members};
 use crate::status::Status;
-use implib::{Error, Fault, Flavor, ImportLibrary, MachineType, Member};
+use implib::def::ModuleDef;
+use implib::{Error, Fault, Flavor, ImportLibrary, MachineType, Member, ParseError};
 use std::alloc::Global;
 
 /// Why no members are put into the buffer.
@@ -25,8 +26,23 @@ pub enum Failure {
     UnknownMachine,
     /// No flavour has this number.
     UnknownFlavor,
-    /// The text is refused.
+    /// The text is no definition: the fault, and the offset of its token in bytes.
+    SyntaxError(Fault, usize),
+    /// The definition has no members.
     Refused(Fault),
+}
+
+impl From<ParseError> for Failure {
+    ghost use Rattle.implib_c.specs.Given.{failure_of_parsing};
+
+    ghost from_gives = { λ error given. given ≡ failure_of_parsing error };
+
+    fn from(error: ParseError) -> Failure {
+        match error {
+            ParseError::Invalid(fault, position) => Failure::SyntaxError(fault, position.offset),
+            ParseError::OutOfMemory(_) => Failure::OutOfMemory,
+        }
+    }
 }
 
 impl From<Error> for Failure {
@@ -53,7 +69,7 @@ impl Failure {
             Failure::NotUtf8(_) => Status::NotUtf8,
             Failure::UnknownMachine => Status::UnknownMachine,
             Failure::UnknownFlavor => Status::UnknownFlavor,
-            Failure::Refused(fault) => Status::of_fault(fault),
+            Failure::SyntaxError(fault, _) | Failure::Refused(fault) => Status::of_fault(fault),
         }
     }
 }
@@ -68,7 +84,7 @@ pub fn status_of(answer: &Result<usize, Failure>) -> Status
     }
 }
 
-/// The length of the encoding that an answer tells; else 0.
+/// The length of the encoding that an answer gives; else 0.
 pub fn length_of(answer: &Result<usize, Failure>) -> usize
     ensures { result ≡ length_given answer.now }
 {
@@ -78,12 +94,12 @@ pub fn length_of(answer: &Result<usize, Failure>) -> usize
     }
 }
 
-/// The index or the offset that an answer tells; else 0.
+/// The offset or the index that an answer gives; else 0.
 pub fn place_of(answer: &Result<usize, Failure>) -> usize
     ensures { result ≡ place_given answer.now }
 {
     match answer {
-        Err(Failure::NotUtf8(offset)) => *offset,
+        Err(Failure::NotUtf8(offset) | Failure::SyntaxError(_, offset)) => *offset,
         Err(Failure::Refused(fault)) => fault.export_index().unwrap_or(0),
         _ => 0,
     }
@@ -117,7 +133,8 @@ fn members_of(
     ensures ok { IfOk result (λ members. MembersOf text.now machine flavor (map member_view members.items)) }
     ensures fault { IfErr result (OnTextFault text.now machine flavor) }
 {
-    let library = ImportLibrary::new(alloc, text, machine, flavor)?;
+    let def = ModuleDef::parse_with_position(alloc, text, machine)?;
+    let library = ImportLibrary::from_def(def, machine, flavor);
     let members = library.members()?;
     Ok(members)
 }
@@ -140,8 +157,8 @@ fn put_into(buffer: &mut [u8], members: &[Member]) -> Result<usize, Failure>
 ///
 /// # Errors
 ///
-/// The first that applies: `UnknownMachine`, `UnknownFlavor`, `NotUtf8`, `Refused`, `BufferTooSmall`.
-/// `OutOfMemory` can precede the last two.
+/// The first that applies: `UnknownMachine`, `UnknownFlavor`, `NotUtf8`, `SyntaxError`, `Refused`,
+/// `BufferTooSmall`. `OutOfMemory` can precede the last three.
 pub fn members_into(
     alloc: Global,
     text: &[u8],

@@ -101,7 +101,7 @@ impl Status {
         }
     }
 
-    /// What is to be told of it, in ASCII without NUL. A fault's is its displayed text, less the value that
+    /// Its text, in ASCII without NUL. A fault's is its displayed text, less the value that
     /// this ends with.
     pub fn text(self) -> &'static str
         ensures text { result.now ≡ status_text self }

@@ -1,8 +1,9 @@
 -- What the callers conclude.
-use Rattle.std.specs.Prelude.{◌≡◌, ℕ, List, [], ◌∷◌, ◌++◌, map, None, codes}
+use Rattle.std.specs.Prelude.{◌≡◌, ℕ, List, [], ◌∷◌, ◌++◌, map, Option, None, Some, codes}
 use Rattle.std.specs.List.{Contains}
 use Rattle.implib.specs.declared.coff.object.Place.TheVariants.{Section}
 use Rattle.implib.specs.declared.def.lexer.TokenKind.TheVariants.{KwExports}
+use Rattle.implib.specs.declared.def.position.Position.{Position}
 use Rattle.implib.specs.declared.members.Flavor.{Flavor}
 use Rattle.implib.specs.declared.machine.MachineType.{MachineType}
 use Rattle.implib.specs.Definition.{DefinitionView, empty_definition, empty_export}
@@ -13,8 +14,10 @@ use Rattle.implib.specs.Image.{image_of}
 use Rattle.implib.specs.ImportTables.{thunk_width}
 use Rattle.implib.specs.Load.{Loads}
 use Rattle.implib.specs.Object.{Object}
-use Rattle.implib.specs.Parses.{Parses}
+use Rattle.implib.specs.Fault.{Cause}
+use Rattle.implib.specs.Parses.{Parses, RefusesAt}
 use Rattle.implib.specs.Placement.{Bases, placed_from}
+use Rattle.implib.specs.Position.{position_at}
 use Rattle.implib.specs.ReadBack.{ReadBack}
 use Rattle.implib.specs.Token.{Lexed, TokenView}
 use Rattle.implib.specs.Writer.{WriterState}
@@ -53,6 +56,12 @@ pub record HasExportsAt (text : List ℕ) (at : ℕ) : Type 0 where
   pub kind : token.kind ≡ KwExports
   pub here : token.at ≡ at
 
+-- None where the text means a definition; otherwise the position of the token that its refusal names
+abbrev pub IsErrorIn : List ℕ → MachineType → Option Position → Type 0
+IsErrorIn text machine None = (d : DefinitionView) × Parses text machine d
+IsErrorIn text machine (Some position) =
+    (cause : Cause) × RefusesAt text cause position.offset × (position ≡ position_at text position.offset)
+
 -- The loader that reads the first import descriptor of an image finds the DLL of the text, and is asked for
 -- just the words by which the text names the chosen exports (or for their ordinals).
 pub record LoadsAsStated (text : List ℕ) (machine : MachineType) (chosen : List ℕ) (bases : Bases)
@@ -60,7 +69,8 @@ pub record LoadsAsStated (text : List ℕ) (machine : MachineType) (chosen : Lis
   pub parsed : DefinitionView
   pub parses : Parses text machine parsed
   pub loads : Loads (image_of machine bases (placed_from bases objects)) (thunk_width machine)
-      bases.descriptors parsed.import_name (map ask_stated (chosen_stated parsed (exports_of_text parses.statements) chosen))
+      bases.descriptors parsed.import_name
+      (map ask_stated (chosen_stated parsed (exports_of_text parses.statements) chosen))
 
 -- Members of a text load so, whichever exports are chosen, at whichever bases, among whichever objects of a
 -- program.
