@@ -1,5 +1,5 @@
 pub mod Dividing
 pub mod Lanes
-pub mod Meant
+pub mod ParsedReadings
 pub mod Running
 pub mod Shown
