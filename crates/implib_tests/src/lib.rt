@@ -1,6 +1,5 @@
-//! Tests of the library `implib` by its public calls, with a reader of objects and short imports, a
-//! linker and a loader of their own. The library has no tests of its own, since a crate with tests is
-//! proved twice.
+//! Tests of the library `implib` by its public calls, with a reader of objects and short imports of their
+//! own (`implib_test_linker`). The library has no tests of its own, since a crate with tests is proved twice.
 #![tactic(auto)]
 
 #[cfg(test)]
@@ -9,10 +8,6 @@ mod calls;
 mod conversions;
 #[cfg(test)]
 mod displayed;
-#[cfg(test)]
-mod linked;
-#[cfg(test)]
-mod links;
 #[cfg(test)]
 mod members;
 #[cfg(test)]

@@ -1,8 +1,8 @@
 //! What members are called, how long they are, which symbols they are listed for and what they are
 //! for, in lines of text. All but the name and the symbols is read from their bytes.
 
-use crate::linked::{Ask, Purpose, file_in};
 use implib::{MachineType, Member};
+use implib_test_linker::{Ask, Purpose, file_in};
 use std::alloc::{AllocError, Global};
 use std::test::Fail;
 

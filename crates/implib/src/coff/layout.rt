@@ -27,7 +27,7 @@ const SYMBOL_SIZE: u32 = 18;
 const STRING_TABLE_SIZE_FIELD: u32 = 4;
 
 /// The location of a symbol's name.
-#[derive(Clone, Copy, Debug)]
+#[derive(Clone, Copy)]
 pub(crate) enum SymbolName<'a> {
     /// In its record: 1 to 8 bytes.
     InRecord(&'a str),
@@ -36,7 +36,7 @@ pub(crate) enum SymbolName<'a> {
 }
 
 /// A symbol to be written.
-#[derive(Clone, Copy, Debug)]
+#[derive(Clone, Copy)]
 pub(crate) struct LayoutSymbol<'a> {
     /// The name.
     pub(crate) name: SymbolName<'a>,
@@ -79,7 +79,7 @@ impl<'a> LayoutSymbol<'a> {
 }
 
 /// An object to be written.
-#[derive(Clone, Copy, Debug)]
+#[derive(Clone, Copy)]
 pub(crate) struct ObjectLayout<'a> {
     /// The number of the machine.
     pub(crate) machine: u16,

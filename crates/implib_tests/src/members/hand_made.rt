@@ -398,7 +398,10 @@ fn a_record_has_a_symbol_of_its_own(rt: HostRuntime) -> Result<(), Fail> {
     };
     let def = definition(rt.alloc(), "foo.dll", &[export])?;
     let members = ImportLibrary::from_def(def, MachineType::AMD64, Flavor::Msvc).members()?;
-    let import = members.as_slice().get(3).ok_or("the short import is missing")?;
+    let import = members
+        .as_slice()
+        .get(3)
+        .ok_or("the short import is missing")?;
     assert_eq!(rt;
         import.bytes.as_slice(),
         b"\0\0\xff\xff\0\0\x64\x86\0\0\0\0\x0f\0\0\0\0\0\x0c\0_foo@8\0foo.dll\0".as_slice()

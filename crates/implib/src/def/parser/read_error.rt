@@ -8,7 +8,7 @@ use crate::error::{Error, Fault};
 use std::alloc::{AllocError, AllocFailed};
 
 /// A refused token, or a failed allocation.
-#[derive(Debug, Drop)]
+#[derive(Drop)]
 pub enum ReadError {
     /// A token is refused for the fault; its value begins at this offset. The offset is 0 where no token is
     /// left, which no text leads to: `Eof` is its last token, and no reader takes it and goes on.

@@ -1,8 +1,8 @@
 //! The members for Microsoft's linker, alone and beside those for GNU's.
 
 use super::{CLOSE, FIRST, HEAD, MACHINES, TAIL, TWO, WIDE, members_of, symbols_of};
-use crate::linked::{Bases, Expansion, Linked, expanded, link_objects, object_of};
 use implib::{Flavor, ImportLibrary, MachineType, Member};
+use implib_test_linker::{Bases, Expansion, Linked, expanded, link_objects, object_of};
 use std::alloc::Global;
 use std::process::Abort;
 use std::test::Fail;

@@ -1,8 +1,8 @@
 //! The loaded program: what the loader writes, and where.
 
 use super::{FIRST, HEAD, MACHINES, SECOND, TAIL, TWO, WIDE, chosen, members_of, symbols_of};
-use crate::linked::{Ask, Bases, Image, Linked, given, link};
 use implib::MachineType;
+use implib_test_linker::{Ask, Bases, Image, Linked, given, link};
 use std::alloc::Global;
 use std::process::Abort;
 use std::test::Fail;

@@ -2,8 +2,8 @@
 
 use super::others::caller;
 use super::{Files, MACHINES, WIDE, members_of};
-use crate::linked::{Archive, Unlinked, link, refusal};
 use implib::{MachineType, Member};
+use implib_test_linker::{Archive, Unlinked, link, refusal};
 use std::alloc::{AllocError, Global};
 use std::process::Abort;
 use std::test::Fail;

@@ -9,8 +9,8 @@ mod refused;
 mod search;
 mod stubs;
 
-use crate::linked::Bases;
 use implib::{Flavor, ImportLibrary, MachineType, Member};
+use implib_test_linker::Bases;
 use std::alloc::{AllocError, Global};
 use std::test::Fail;
 

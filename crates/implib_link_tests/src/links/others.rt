@@ -5,9 +5,9 @@ ghost use Rattle.implib.specs.Layout.{HasNoNul};
 ghost use Rattle.std.specs.Prelude.{◌<◌, length};
 
 use super::{FIRST, HEAD, MACHINES, SECOND, TAIL, TWO, WIDE, chosen, members_of, symbols_of};
-use crate::linked::{Unlinked, link, refusal};
 use implib::coff::{ObjectWriter, Place, Relocation, Section, Symbol, class, relocation};
 use implib::{Error, MachineType};
+use implib_test_linker::{Unlinked, link, refusal};
 use std::alloc::Global;
 use std::test::Fail;
 

@@ -2,8 +2,8 @@
 //! once, and images that are wrong in one way.
 
 use super::{CLOSE, FIRST, HEAD, SECOND, TAIL, TWO, WIDE, chosen, members_of};
-use crate::linked::{Bases, Flaw, Misplaced, Unlinked, link, refusal};
 use implib::MachineType;
+use implib_test_linker::{Bases, Flaw, Misplaced, Unlinked, link, refusal};
 use std::alloc::Global;
 use std::process::Abort;
 use std::test::Fail;

@@ -1,8 +1,8 @@
 //! What a loader finds in the import directory.
 
 use super::{CLOSE, FIRST, Files, HEAD, SECOND, TAIL, TWO, WIDE, chosen, members_of};
-use crate::linked::{Bases, link};
 use implib::MachineType;
+use implib_test_linker::{Bases, link};
 use std::alloc::Global;
 use std::process::Abort;
 use std::test::Fail;

@@ -1,8 +1,8 @@
 //! The stubs: their jumps read the exports' own entries.
 
 use super::{FIRST, HEAD, SECOND, TAIL, TWO, WIDE, chosen, members_of, symbols_of};
-use crate::linked::{Bases, Flaw, flaw, link};
 use implib::MachineType;
+use implib_test_linker::{Bases, Flaw, flaw, link};
 use std::alloc::Global;
 use std::process::Abort;
 use std::test::Fail;

@@ -1,6 +1,8 @@
 //! A linker and a loader for tests: of objects they know the names and the bytes alone. The linker reads the
 //! objects, places their sections, resolves their symbols and relocates them; the loader reads the image.
 //! The rules are those of the PE/COFF specification and, for the placement, of `docs/FORMATS.md`.
+//! They are test equipment: proved safe and total, like all code here, and held to no further contract.
+#![tactic(auto)]
 
 mod bound;
 mod code;
