@@ -1,5 +1,5 @@
-//! Tests of the library `implib` by its public calls, with a reader of objects and short imports of their
-//! own (`implib_test_linker`). The library has no tests of its own, since a crate with tests is proved twice.
+//! Tests of the library `implib` by its public calls. The library has no tests of its own, since a crate with
+//! tests is proved twice.
 #![tactic(auto)]
 
 #[cfg(test)]
@@ -9,8 +9,6 @@ mod conversions;
 #[cfg(test)]
 mod displayed;
 #[cfg(test)]
-mod members;
-#[cfg(test)]
 mod memory;
 #[cfg(test)]
 mod objects;
@@ -18,8 +16,6 @@ mod objects;
 mod pass;
 #[cfg(test)]
 mod positions;
-#[cfg(test)]
-mod readings;
 #[cfg(test)]
 mod statements;
 #[cfg(test)]

@@ -3,7 +3,7 @@
 use super::{CLOSE, FIRST, HEAD, MACHINES, TAIL, TWO, WIDE, members_of, symbols_of};
 use implib::{Flavor, ImportLibrary, MachineType, Member};
 use implib_test_linker::{Bases, Expansion, Linked, expanded, link_objects, object_of};
-use std::alloc::Global;
+use std::alloc::{AllocError, Global};
 use std::process::Abort;
 use std::test::Fail;
 
@@ -197,28 +197,51 @@ fn dlls_of_both_flavours_are_loaded(rt: HostRuntime) -> Result<(), Fail> {
     Ok(())
 }
 
+// Whether a linker for a machine takes a short import for an object.
+fn is_taken(alloc: Global, file: &[u8], machine: MachineType) -> Result<bool, Fail> {
+    Ok(expanded(alloc, file, machine.number())?.is_some())
+}
+
+// A short import with other types.
+fn with_types(alloc: Global, file: &[u8], types: [u8; 2]) -> Result<Vec<u8>, AllocError> {
+    let mut bytes = Vec::from_slice(alloc, file)?;
+    if let Some(field) = bytes.as_mut_slice().get_mut(18..20) {
+        field.copy_from_slice(&types);
+    }
+    Ok(bytes)
+}
+
+// Holds what a linker for the machine takes of a short import for it, and one for another machine.
+fn expect_own_taken(
+    rt: &impl Abort,
+    alloc: Global,
+    machine: MachineType,
+    file: &[u8],
+) -> Result<(), Fail> {
+    let other = if machine == MachineType::AMD64 {
+        MachineType::ARM64
+    } else {
+        MachineType::AMD64
+    };
+    assert!(rt; is_taken(alloc, file, machine)?, "{machine:?}");
+    assert!(rt; !is_taken(alloc, file, other)?, "{machine:?}");
+    // Import type 3, and name type 4.
+    for types in [[7u8, 0], [16, 0]] {
+        let bytes = with_types(alloc, file, types)?;
+        assert!(rt;
+            !is_taken(alloc, bytes.as_slice(), machine)?,
+            "{machine:?}: {types:?}"
+        );
+    }
+    Ok(())
+}
+
 #[test]
 fn short_imports_of_other_machines_and_types_are_not_taken(rt: HostRuntime) -> Result<(), Fail> {
     for machine in MACHINES {
         let files = taken(rt.alloc(), machine, TWO)?;
-        let (member, own) = files.get(3).ok_or("there is no such member")?;
-        assert!(rt; own.is_some(), "{machine:?}");
-        let other = if machine == MachineType::AMD64 {
-            MachineType::ARM64
-        } else {
-            MachineType::AMD64
-        };
-        let taken = expanded(rt.alloc(), member.bytes.as_slice(), other.number())?;
-        assert!(rt; taken.is_none(), "{machine:?}");
-        // Import type 3, and name type 4.
-        for types in [[7u8, 0], [16, 0]] {
-            let mut bytes = Vec::from_slice(rt.alloc(), member.bytes.as_slice())?;
-            if let Some(field) = bytes.as_mut_slice().get_mut(18..20) {
-                field.copy_from_slice(&types);
-            }
-            let taken = expanded(rt.alloc(), bytes.as_slice(), machine.number())?;
-            assert!(rt; taken.is_none(), "{machine:?}: {types:?}");
-        }
+        let (member, _) = files.get(3).ok_or("there is no such member")?;
+        expect_own_taken(&rt, rt.alloc(), machine, member.bytes.as_slice())?;
     }
     Ok(())
 }

@@ -4,11 +4,14 @@
 ghost use Rattle.implib.specs.Layout.{HasNoNul};
 ghost use Rattle.std.specs.Prelude.{◌<◌, length};
 
-use super::{FIRST, HEAD, MACHINES, SECOND, TAIL, TWO, WIDE, chosen, members_of, symbols_of};
+use super::{
+    FIRST, Files, HEAD, MACHINES, SECOND, TAIL, TWO, WIDE, chosen, members_of, symbols_of,
+};
 use implib::coff::{ObjectWriter, Place, Relocation, Section, Symbol, class, relocation};
 use implib::{Error, MachineType};
-use implib_test_linker::{Unlinked, link, refusal};
-use std::alloc::Global;
+use implib_test_linker::{Linked, Unlinked, link, refusal};
+use std::alloc::{AllocError, Global};
+use std::process::Abort;
 use std::test::Fail;
 
 // The type of an image-relative relocation.
@@ -59,33 +62,51 @@ pub fn caller(alloc: Global, machine: MachineType) -> Result<Vec<u8>, Error> {
 
 const CALLER: &str = "caller.o";
 
+// Files with an object before, between and behind them.
+fn among<'a>(alloc: Global, files: Files<'a>, other: &'a [u8]) -> Result<Files<'a>, AllocError> {
+    let mut all = Vec::new(alloc);
+    for file in files {
+        all.push((CALLER, other))?;
+        all.push(file)?;
+    }
+    all.push((CALLER, other))?;
+    Ok(all)
+}
+
+// Holds the fields of the five callers against the addresses of the export's symbols.
+fn expect_own_entries(
+    rt: &impl Abort,
+    alloc: Global,
+    linked: &Linked,
+    machine: MachineType,
+) -> Result<(), Fail> {
+    let (name, entry) = symbols_of(alloc, machine, "bar")?;
+    let code = linked.code_of(alloc, CALLER)?;
+    assert_eq!(rt; code.len(), 5);
+    for address in code.iter() {
+        let got = linked.word_at(*address)?;
+        assert_eq!(rt; got, linked.address_of(entry.as_str())?, "{machine:?}");
+        let got = linked.word_at(address.saturating_add(4))?;
+        assert_eq!(rt; got, linked.address_of(name.as_str())?, "{machine:?}");
+    }
+    Ok(())
+}
+
+// Links the members of a DLL among callers, for a machine.
+fn expect_callers_linked(rt: &impl Abort, alloc: Global, machine: MachineType) -> Result<(), Fail> {
+    let libraries = members_of(alloc, machine, &[TWO])?;
+    let members = chosen(alloc, libraries.as_slice(), &[HEAD, SECOND, FIRST, TAIL])?;
+    let caller = caller(alloc, machine)?;
+    let files = among(alloc, members, caller.as_slice())?;
+    let linked = link(alloc, files.as_slice(), WIDE)?;
+    assert_eq!(rt; linked.check_directory(), Ok(1));
+    expect_own_entries(rt, alloc, &linked, machine)
+}
+
 #[test]
 fn an_undefined_imp_symbol_is_its_exports_own_entry(rt: HostRuntime) -> Result<(), Fail> {
     for machine in MACHINES {
-        let libraries = members_of(rt.alloc(), machine, &[TWO])?;
-        let members = chosen(
-            rt.alloc(),
-            libraries.as_slice(),
-            &[HEAD, SECOND, FIRST, TAIL],
-        )?;
-        let caller = caller(rt.alloc(), machine)?;
-        let mut files = Vec::new(rt.alloc());
-        for file in members {
-            files.push((CALLER, caller.as_slice()))?;
-            files.push(file)?;
-        }
-        files.push((CALLER, caller.as_slice()))?;
-        let linked = link(rt.alloc(), files.as_slice(), WIDE)?;
-        assert_eq!(rt; linked.check_directory(), Ok(1));
-        let (name, entry) = symbols_of(rt.alloc(), machine, "bar")?;
-        let code = linked.code_of(rt.alloc(), CALLER)?;
-        assert_eq!(rt; code.len(), 5);
-        for address in code.iter() {
-            let got = linked.word_at(*address)?;
-            assert_eq!(rt; got, linked.address_of(entry.as_str())?, "{machine:?}");
-            let got = linked.word_at(address.saturating_add(4))?;
-            assert_eq!(rt; got, linked.address_of(name.as_str())?, "{machine:?}");
-        }
+        expect_callers_linked(&rt, rt.alloc(), machine)?;
     }
     Ok(())
 }
