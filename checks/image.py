@@ -9,7 +9,7 @@ from dataclasses import dataclass
 from targets import MARK
 
 
-class Broken(Exception):
+class BadImage(Exception):
     """An image that a loader cannot follow, with what is wrong."""
 
 
@@ -49,7 +49,7 @@ class Image:
             if start <= address and address + count <= start + max(size, file_size):
                 inside = self.data[place + address - start : place + file_size][:count]
                 return inside.ljust(count, b"\0")
-        raise Broken(f"{count} bytes at {address:#x} are in no section")
+        raise BadImage(f"{count} bytes at {address:#x} are in no section")
 
     def number_at(self, address, width=4):
         return int.from_bytes(self.bytes_at(address, width), "little")
@@ -68,7 +68,7 @@ class Image:
             if thunk >> (8 * self.width - 1):
                 found.append(thunk & 0xFFFF)
             elif thunk >> 31:
-                raise Broken(f"a thunk is {thunk:#x}")
+                raise BadImage(f"a thunk is {thunk:#x}")
             else:
                 found.append((self.text_at(thunk + 2), self.number_at(thunk, 2)))
         return found
@@ -81,7 +81,7 @@ class Image:
             lookups, _, _, name, addresses = struct.unpack("<5I", self.bytes_at(place, 20))
             dll = Dll(self.text_at(name), self.asks(lookups), self.asks(addresses), addresses)
             if dll.lookups != dll.addresses:
-                raise Broken(f"{dll.name}: lookup table {dll.lookups}, address table {dll.addresses}")
+                raise BadImage(f"{dll.name}: lookup table {dll.lookups}, address table {dll.addresses}")
             found.append(dll)
             place += 20
         return found
@@ -110,7 +110,7 @@ class Image:
     def entry_of_jump(self, stub):
         """I386 and AMD64: `jmp [address]`, which on AMD64 is relative to the next instruction."""
         if self.bytes_at(stub, 2) != b"\xff\x25":
-            raise Broken(f"no jump at {stub:#x}")
+            raise BadImage(f"no jump at {stub:#x}")
         field = self.number_at(stub + 2)
         return field - self.base if self.machine == 0x14C else (stub + 6 + field) & 0xFFFFFFFF
 
@@ -120,7 +120,7 @@ class Image:
         movw, low, movt, high, *load = struct.unpack("<6H", self.bytes_at(stub, 12))
         kinds = [movw & 0xFBF0, low & 0x8F00, movt & 0xFBF0, high & 0x8F00, *load]
         if kinds != [0xF240, 0x0C00, 0xF2C0, 0x0C00, 0xF8DC, 0xF000]:
-            raise Broken(f"no Thumb stub at {stub:#x}")
+            raise BadImage(f"no Thumb stub at {stub:#x}")
         numbers = [
             (first & 15) << 12 | (first >> 10 & 1) << 11 | (second >> 12 & 7) << 8 | second & 255
             for first, second in ((movw, low), (movt, high))
@@ -131,7 +131,7 @@ class Image:
         """ARM64: `adrp x16, page`, `ldr x16, [x16, offset]`, `br x16`."""
         page, load, jump = struct.unpack("<3I", self.bytes_at(stub, 12))
         if (page & 0x9F00001F, load & 0xFFC003FF, jump) != (0x90000010, 0xF9400210, 0xD61F0200):
-            raise Broken(f"no stub at {stub:#x}")
+            raise BadImage(f"no stub at {stub:#x}")
         pages = (page >> 5 & 0x7FFFF) << 2 | page >> 29 & 3
         pages -= (pages & 0x100000) << 1
         return (stub & ~0xFFF) + (pages << 12) + (load >> 10 & 0xFFF) * 8

@@ -142,8 +142,8 @@ CONSTANTS = {
 OPEN, CLOSE = definition("zoo.dll", "zoo_open"), definition("zoo.dll", "zoo_close")
 TWO_RIGHT = entries("zoo.dll", "zoo_open", "zoo_close")
 SECOND_LOST = entries("zoo.dll", "zoo_open") | lost("zoo_close")
-STEMS = definition("a.b.dll", "zoo_open"), definition("a_b.dll", "zoo_close")
-STEMS_RIGHT = entries("a.b.dll", "zoo_open") | entries("a_b.dll", "zoo_close")
+ALIKE = definition("a.b.dll", "zoo_open"), definition("a_b.dll", "zoo_close")
+ALIKE_RIGHT = entries("a.b.dll", "zoo_open") | entries("a_b.dll", "zoo_close")
 BEGINNINGS = definition("zoo", "zoo_open"), definition("zoo_a_i.dll", "zoo_close")
 BEGINNINGS_RIGHT = entries("zoo", "zoo_open") | entries("zoo_a_i.dll", "zoo_close")
 DLLS = definition("zoo.dll", "zoo_open"), definition("yak.dll", "yak_open")
@@ -159,12 +159,12 @@ SEVERAL = {
         Trial(ALL, X86, msvc(OPEN) + gnu(CLOSE), TWO_RIGHT),
         Trial(ALL, X86, gnu(OPEN) + msvc(CLOSE), TWO_RIGHT),
     ],
-    "one-stem": [
-        Trial(LLD, EVERY, gnu(*STEMS), entries("a.b.dll", "zoo_open") | lost("zoo_close")),
-        Trial(GNU, X86, gnu(*STEMS), entries("a.b.dll", "zoo_open", "zoo_close")),
+    "one-mangled-name": [
+        Trial(LLD, EVERY, gnu(*ALIKE), entries("a.b.dll", "zoo_open") | lost("zoo_close")),
+        Trial(GNU, X86, gnu(*ALIKE), entries("a.b.dll", "zoo_open", "zoo_close")),
         *(
-            Trial(ALL, EVERY, libraries, STEMS_RIGHT)
-            for libraries in (gnu(STEMS[0]) + msvc(STEMS[1]), msvc(STEMS[0]) + gnu(STEMS[1]), msvc(*STEMS))
+            Trial(ALL, EVERY, libraries, ALIKE_RIGHT)
+            for libraries in (gnu(ALIKE[0]) + msvc(ALIKE[1]), msvc(ALIKE[0]) + gnu(ALIKE[1]), msvc(*ALIKE))
         ),
     ],
     "beginnings": [

@@ -412,18 +412,18 @@ def weak_externals(export, machine):
 
 
 def gnu_members(import_name, exports, machine):
-    stem = import_name.replace(".", "_")
+    mangled = import_name.replace(".", "_")
     lead = "_" if machine is I386 else ""
-    head, name = f"{lead}_head_{stem}", f"{lead}{stem}_iname"
+    head, name = f"{lead}_head_{mangled}", f"{lead}{mangled}_iname"
     built = []
     for number, export in enumerate(exports):
         for letter, (symbol, data) in zip("wx", weak_externals(export, machine)):
-            built.append(Member(f"{stem}_a_{letter}{number:05}.o", data, [symbol]))
+            built.append(Member(f"{mangled}_a_{letter}{number:05}.o", data, [symbol]))
         data = gnu_export(export, head, machine)
         symbols = [] if export.is_data else [export.name]
-        built.append(Member(f"{stem}_a_s{number:05}.o", data, [*symbols, "__imp_" + export.name]))
-    tail = Member(f"{stem}_a_t.o", gnu_tail(import_name, name, machine), [name])
-    return [tail, Member(f"{stem}_a_h.o", gnu_head(head, name, machine), [head]), *built[::-1]]
+        built.append(Member(f"{mangled}_a_s{number:05}.o", data, [*symbols, "__imp_" + export.name]))
+    tail = Member(f"{mangled}_a_t.o", gnu_tail(import_name, name, machine), [name])
+    return [tail, Member(f"{mangled}_a_h.o", gnu_head(head, name, machine), [head]), *built[::-1]]
 
 
 FIRST_SECTIONS = [
@@ -549,7 +549,7 @@ def msvc_descriptor(import_name, descriptor, null_descriptor, null_thunk, machin
 
 
 def msvc_null(machine, names, flags, size, symbol):
-    """An object of sections of zeros, whose one symbol stands at the front of the first."""
+    """An object of sections of zeros, whose one symbol is at the start of the first."""
     sections = [Section(name, flags, bytes(size)) for name in names]
     return object_of(machine, sections, [Symbol(symbol, 1, EXTERNAL)], [0], msvc_characteristics(machine))
 

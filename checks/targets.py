@@ -17,7 +17,7 @@ class Target:
     ld_lld: str
     gnu_ld: str | None
     width: int
-    # what stands in front of each symbol that C names
+    # the prefix of each symbol that C names
     lead: str = ""
 
     @property

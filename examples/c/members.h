@@ -23,7 +23,7 @@ struct member {
     size_t symbols;
 };
 
-/* Each of these reads what stands at the front, and gives 0 where it is not there. */
+/* Each of these reads what is at the front, and gives 0 where it is not there. */
 int read_number(struct reader *reader, size_t *number);
 int read_text(struct reader *reader, struct slice *text);
 int read_member(struct reader *reader, struct member *member);

@@ -55,15 +55,15 @@ pub filled-head_symbol : (machine : MachineType) (dll : List ℕ) → 0 < length
 unfolding head_symbol
 filled-head_symbol machine dll = filled-prefixed_symbol machine _ (omega arith)
 
-pub holds-name_symbol : (machine : MachineType) (dll : List ℕ) → holds 0 dll ≡ false → holds 0 (iname_symbol machine dll) ≡ false
+pub holds-iname_symbol : (machine : MachineType) (dll : List ℕ) → holds 0 dll ≡ false → holds 0 (iname_symbol machine dll) ≡ false
 unfolding iname_symbol
-holds-name_symbol machine dll free =
+holds-iname_symbol machine dll free =
     holds-prefixed_symbol machine (mangled_name dll ++ codes "_iname")
     (list_any-append (λ b. nat_eq b 0) (mangled_name dll) (codes "_iname") ∙ or_from (holds 0 (mangled_name dll)) false (holds-mangled_name dll free) refl)
 
-pub filled-name_symbol : (machine : MachineType) (dll : List ℕ) → 0 < length (iname_symbol machine dll)
+pub filled-iname_symbol : (machine : MachineType) (dll : List ℕ) → 0 < length (iname_symbol machine dll)
 unfolding iname_symbol
-filled-name_symbol machine dll = filled-prefixed_symbol machine (mangled_name dll ++ codes "_iname") (omega (arith, length-append (mangled_name dll) (codes "_iname")))
+filled-iname_symbol machine dll = filled-prefixed_symbol machine (mangled_name dll ++ codes "_iname") (omega (arith, length-append (mangled_name dll) (codes "_iname")))
 
 pub filled_text : (text : List ℕ) → is_empty_text text ≡ false → 0 < length text
 filled_text [] filled = cc
@@ -124,7 +124,7 @@ IsSound-head_object machine dll free =
             symbol_sound 6 (codes ".idata$4") (Section 6) class_static (omega arith) refl (omega arith, omega arith),
             (
               symbol_sound 6 head (Section 4) class_external (filled-head_symbol machine dll) (holds-head_symbol machine dll free) (omega arith, omega arith),
-              (symbol_sound 6 name Undefined class_external (filled-name_symbol machine dll) (holds-name_symbol machine dll free) tt, tt),
+              (symbol_sound 6 name Undefined class_external (filled-iname_symbol machine dll) (holds-iname_symbol machine dll free) tt, tt),
             ),
           ),
         ),
@@ -159,7 +159,7 @@ IsSound-tail_object machine dll free =
           (plain_sound symbols (codes ".idata$7") _ _ refl (omega arith));
       symbols = (
         file_symbol_sound 6,
-        (symbol_sound 6 name (Section 6) class_external (filled-name_symbol machine dll) (holds-name_symbol machine dll free) (omega arith, omega arith), tt),
+        (symbol_sound 6 name (Section 6) class_external (filled-iname_symbol machine dll) (holds-iname_symbol machine dll free) (omega arith, omega arith), tt),
       );
     }
 

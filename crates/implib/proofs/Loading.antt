@@ -58,8 +58,8 @@ same_asks x y xs ys first rest = cc
 pub table_once : (image : List Range) (width : ℕ) (xs ys : List Ask) (a : ℕ) → TableAt image width a xs → TableAt image width a ys → xs ≡ ys
 unfolding TableAt
 table_once image width [] [] a first second = refl
-table_once image width [] (y ∷ ys) a first second = absurd (second.0.goes_on (number_once image width a second.0.thunk 0 second.0.located first))
-table_once image width (x ∷ xs) [] a first second = absurd (first.0.goes_on (number_once image width a first.0.thunk 0 first.0.located second))
+table_once image width [] (y ∷ ys) a first second = absurd (second.0.not_zero (number_once image width a second.0.thunk 0 second.0.located first))
+table_once image width (x ∷ xs) [] a first second = absurd (first.0.not_zero (number_once image width a first.0.thunk 0 first.0.located second))
 table_once image width (x ∷ xs) (y ∷ ys) a first second =
     let thunks : first.0.thunk ≡ second.0.thunk = number_once image width a first.0.thunk second.0.thunk first.0.located second.0.located in
     same_asks x y xs ys

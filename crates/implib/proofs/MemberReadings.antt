@@ -87,11 +87,11 @@ weak_reads machine weak target weak_free target_free short =
 
 -- what the specifications of a list of exports are read as, one after another
 module _ (machine : MachineType) (dll : List ℕ) (dll_free : holds 0 dll ≡ false) where
-  weak_plans_read : (e : ExportView) → Sound e → (test : Bool) →
+  weak_specs_read : (e : ExportView) → Sound e → (test : Bool) →
       list_any is_too_long (if test then weak_spec machine dll (short_import_symbol e) e.alias_target ∷ weak_spec machine dll (imp_symbol (short_import_symbol e)) (imp_symbol e.alias_target) ∷ [] else []) ≡ false →
       AllByRecursion (λ p. ReadsBack p.contents) (if test then weak_spec machine dll (short_import_symbol e) e.alias_target ∷ weak_spec machine dll (imp_symbol (short_import_symbol e)) (imp_symbol e.alias_target) ∷ [] else [])
-  weak_plans_read e sound false short = tt
-  weak_plans_read e sound true short =
+  weak_specs_read e sound false short = tt
+  weak_specs_read e sound true short =
       let first = or_parts (is_too_long (weak_spec machine dll (short_import_symbol e) e.alias_target)) _ short in
       let second = or_parts (is_too_long (weak_spec machine dll (imp_symbol (short_import_symbol e)) (imp_symbol e.alias_target))) false first.1 in
       let symbol_free : holds 0 (short_import_symbol e) ≡ false = symbol_without_nul e.symbol_name e.name sound.symbol_name sound.name in (
@@ -99,28 +99,28 @@ module _ (machine : MachineType) (dll : List ℕ) (dll_free : holds 0 dll ≡ fa
         (weak_reads machine (imp_symbol (short_import_symbol e)) (imp_symbol e.alias_target) symbol_free sound.alias_target (short_enough (weak_spec machine dll (imp_symbol (short_import_symbol e)) (imp_symbol e.alias_target)) second.0), tt),
       )
 
-  export_plans_read : (e : ExportView) → Sound e → list_any is_too_long (export_specs machine dll e) ≡ false → AllByRecursion (λ p. ReadsBack p.contents) (export_specs machine dll e)
+  export_specs_read : (e : ExportView) → Sound e → list_any is_too_long (export_specs machine dll e) ≡ false → AllByRecursion (λ p. ReadsBack p.contents) (export_specs machine dll e)
   unfolding weak_specs
-  export_plans_read e sound short =
+  export_specs_read e sound short =
       let parts = or_parts (list_any is_too_long (weak_specs machine dll e)) (is_too_long (short_import_spec machine dll e) || false)
       (sym (list_any-append is_too_long (weak_specs machine dll e) (short_import_spec machine dll e ∷ [])) ∙ short) in
       let last = or_parts (is_too_long (short_import_spec machine dll e)) false parts.1 in
       all_append (λ p. ReadsBack p.contents) (weak_specs machine dll e) (short_import_spec machine dll e ∷ [])
-      (weak_plans_read e sound (is_alias e.alias_target (short_import_symbol e)) parts.0)
+      (weak_specs_read e sound (is_alias e.alias_target (short_import_symbol e)) parts.0)
       (short_import_reads (short_import_of machine dll e) (FitsShortImport-short_import_of machine dll e sound.name sound.symbol_name dll_free sound.ordinal) (short_enough (short_import_spec machine dll e) last.0), tt)
 
-  exports_plans_read : (exports : List ExportView) → AllByRecursion Sound exports → list_any is_too_long (flat_map (export_specs machine dll) exports) ≡ false →
+  exports_specs_read : (exports : List ExportView) → AllByRecursion Sound exports → list_any is_too_long (flat_map (export_specs machine dll) exports) ≡ false →
       AllByRecursion (λ p. ReadsBack p.contents) (flat_map (export_specs machine dll) exports)
-  exports_plans_read [] sound short = tt
-  exports_plans_read (e ∷ exports) sound short =
+  exports_specs_read [] sound short = tt
+  exports_specs_read (e ∷ exports) sound short =
       let parts = or_parts (list_any is_too_long (export_specs machine dll e)) (list_any is_too_long (flat_map (export_specs machine dll) exports))
       (sym (list_any-append is_too_long (export_specs machine dll e) (flat_map (export_specs machine dll) exports)) ∙ short) in
       all_append (λ p. ReadsBack p.contents) (export_specs machine dll e) (flat_map (export_specs machine dll) exports)
-      (export_plans_read e sound.0 parts.0) (exports_plans_read exports sound.1 parts.1)
+      (export_specs_read e sound.0 parts.0) (exports_specs_read exports sound.1 parts.1)
 
-  header_plans_read : list_any is_too_long (header_specs machine dll) ≡ false → AllByRecursion (λ p. ReadsBack p.contents) (header_specs machine dll)
+  header_specs_read : list_any is_too_long (header_specs machine dll) ≡ false → AllByRecursion (λ p. ReadsBack p.contents) (header_specs machine dll)
   unfolding header_specs descriptor_spec null_descriptor_spec null_thunk_spec descriptor null_descriptor null_thunk
-  header_plans_read short =
+  header_specs_read short =
       let first = or_parts (nat_lt 0xFFFF_FFFF (encoded_size (descriptor machine dll))) _ short in
       let second = or_parts (nat_lt 0xFFFF_FFFF (encoded_size (null_descriptor machine))) _ first.1 in
       let third = or_parts (nat_lt 0xFFFF_FFFF (encoded_size (null_thunk machine dll))) false second.1 in (
@@ -139,7 +139,7 @@ module _ (machine : MachineType) (dll : List ℕ) (dll_free : holds 0 dll ≡ fa
       let parts = or_parts (list_any is_too_long (header_specs machine dll)) (list_any is_too_long (flat_map (export_specs machine dll) exports))
       (sym (list_any-append is_too_long (header_specs machine dll) (flat_map (export_specs machine dll) exports)) ∙ short) in
       all_append (λ p. ReadsBack p.contents) (header_specs machine dll) (flat_map (export_specs machine dll) exports)
-      (header_plans_read parts.0) (exports_plans_read exports sound parts.1)
+      (header_specs_read parts.0) (exports_specs_read exports sound parts.1)
 
 pub map_same : {X Y : Type 0} (f g : X → Y) (xs : List X) → AllByRecursion (λ x. f x ≡ g x) xs → map f xs ≡ map g xs
 map_same f g [] same = refl

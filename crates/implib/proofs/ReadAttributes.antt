@@ -138,12 +138,12 @@ abbrev pub TargetRefused : TokenView → Cause → Type 0
 TargetRefused t cause = IsNotIdentifier t cause ⊎ IsLoneTarget t cause
 
 -- what an export has without a target
-abbrev pub goes_on_no_target : Option (List ℕ) → List TokenKind
-goes_on_no_target None = Equal ∷ []
-goes_on_no_target (Some value) = []
+abbrev pub first_of_absent_target : Option (List ℕ) → List TokenKind
+first_of_absent_target None = Equal ∷ []
+first_of_absent_target (Some value) = []
 
 abbrev pub TargetRead : List TokenView → Option (List ℕ) × List TokenView → Type 0
-TargetRead tokens target = StartsWith tokens (target_terminals target.0) target.1 × IsAfter (goes_on_no_target target.0) target.1
+TargetRead tokens target = StartsWith tokens (target_terminals target.0) target.1 × IsAfter (first_of_absent_target target.0) target.1
 
 abbrev pub TargetCut : List TokenView → Refusal → Type 0
 TargetCut tokens refusal = CutAfter tokens (Of Equal ∷ []) TargetRefused refusal

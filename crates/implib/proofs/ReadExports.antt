@@ -12,7 +12,7 @@ use Rattle.implib.specs.Token.{TokenView}
 use Rattle.implib.proofs.StartsWith.{IsAfter-append, StartsWith-append, StartsWith-shorter, IsAfter, AtFront}
 use Rattle.implib.proofs.Many.{bind_outcome, Chain, ItemRead, AllRead, Stopped, all_outcome}
 use Rattle.implib.proofs.ReadTerminals.{IsAfter-none}
-use Rattle.implib.proofs.ReadAttributes.{OrdinalRefused, TargetRefused, AttributeLocated, NoAttribute, AttributeCut, AttributesRead, AttributesCut, PlainFront, attributes_outcome, attributes_begin, attributes_end, goes_on_no_target, TargetRead, TargetCut, target_outcome}
+use Rattle.implib.proofs.ReadAttributes.{OrdinalRefused, TargetRefused, AttributeLocated, NoAttribute, AttributeCut, AttributesRead, AttributesCut, PlainFront, attributes_outcome, attributes_begin, attributes_end, first_of_absent_target, TargetRead, TargetCut, target_outcome}
 use Rattle.implib.proofs.TokenKinds.{none_at}
 use Rattle.implib.proofs.Words.{IsAtWord}
 
@@ -67,7 +67,7 @@ NoExport tokens = IsAfter (Identifier ∷ []) tokens
 abbrev pub ExportRead : List TokenView → Option Export × List TokenView → Type 0
 ExportRead tokens found = ItemRead ExportLocated NoExport tokens found
 
-after_target : (target : Option (List ℕ)) (items : List Attribute) (mid rest : List TokenView) → IsAfter (goes_on_no_target target) mid → Chain AttributeLocated NoAttribute items mid rest → IsAfter (follow_target target items) rest
+after_target : (target : Option (List ℕ)) (items : List Attribute) (mid rest : List TokenView) → IsAfter (first_of_absent_target target) mid → Chain AttributeLocated NoAttribute items mid rest → IsAfter (follow_target target items) rest
 after_target None [] mid rest h chain = subst (IsAfter (Equal ∷ [])) chain h
 after_target None (a ∷ items) mid rest h chain = IsAfter-none rest
 after_target (Some value) items mid rest h chain = IsAfter-none rest

@@ -11,7 +11,7 @@ use Rattle.implib.specs.SyntaxError.{IsNotIdentifier, IsNoneOf, attribute_kinds,
 use Rattle.implib.specs.Token.{TokenView}
 use Rattle.implib.proofs.StartsWith.{IsNoneOf-append, IsNoneOf-parts, IsAfter-parts, StartsWith-parted, StartsWith-shorter, IsAfter}
 use Rattle.implib.proofs.Many.{bind_ok, bind_err, Takes, AreRead, all_again, all_refused}
-use Rattle.implib.proofs.ReadAttributes.{OrdinalRefused, TargetRefused, NoAttribute, goes_on_no_target, attribute_nonempty}
+use Rattle.implib.proofs.ReadAttributes.{OrdinalRefused, TargetRefused, NoAttribute, first_of_absent_target, attribute_nonempty}
 use Rattle.implib.proofs.ReadExports.{ExportEnds}
 use Rattle.implib.proofs.TerminalsRead.{word_again, word_refused}
 use Rattle.implib.proofs.TokenKinds.{none_at}
@@ -173,7 +173,7 @@ not_lone_target word Lone is other = absurd (other is)
 not_lone_target word (WithOrdinal n) is other = refl
 not_lone_target word Plain is other = refl
 
-target_again : (target : Option (List ℕ)) (tokens rest : List TokenView) → StartsWith tokens (target_terminals target) rest → IsAfter (goes_on_no_target target) rest → target_read tokens ≡ Ok (target, rest)
+target_again : (target : Option (List ℕ)) (tokens rest : List TokenView) → StartsWith tokens (target_terminals target) rest → IsAfter (first_of_absent_target target) rest → target_read tokens ≡ Ok (target, rest)
 target_again None tokens rest h after = ap target_read h ∙ no_target rest after
 target_again (Some value) [] rest h after = absurd h
 target_again (Some value) (t ∷ []) rest h after = absurd h.1
@@ -194,7 +194,7 @@ target_refused t u rest cause e (inr h) =
 
 -- ---- one export
 
-before_attributes : (target : Option (List ℕ)) (items : List Attribute) (tokens rest : List TokenView) → StartsWith tokens (flat_map attribute_terminals items) rest → IsAfter (follow_target target items) rest → IsAfter (goes_on_no_target target) tokens
+before_attributes : (target : Option (List ℕ)) (items : List Attribute) (tokens rest : List TokenView) → StartsWith tokens (flat_map attribute_terminals items) rest → IsAfter (follow_target target items) rest → IsAfter (first_of_absent_target target) tokens
 before_attributes None [] tokens rest h after = subst (IsAfter (Equal ∷ [])) (sym h) after
 before_attributes None (a ∷ items) [] rest h after = tt
 before_attributes None (a ∷ items) (t ∷ tokens) rest h after = (attribute_first a (flat_map attribute_terminals items) (t ∷ tokens) rest h).1

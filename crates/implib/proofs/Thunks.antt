@@ -123,7 +123,7 @@ ordinal_located machine image n a small located =
       plain = record {
         thunk = number_in (ordinal_thunk machine n);
         located = here;
-        goes_on = top_nonzero machine (number_in (ordinal_thunk machine n)) high;
+        not_zero = top_nonzero machine (number_in (ordinal_thunk machine n)) high;
         asks = (high, ordinal_low machine n small);
       };
       whole = record { thunk = number_in (ordinal_thunk machine n); located = here; whole = ordinal_whole machine n small };
@@ -161,7 +161,7 @@ module _ (machine : MachineType) (image : List Range) (starts : AllByRecursion (
         plain = record {
           thunk = place;
           located = here;
-          goes_on = λ none. omega arith;
+          not_zero = λ none. omega arith;
           asks = (
             below_top machine place small,
             subst (λ n. NumberAt image 2 n hint) low (record { bytes = u16_bytes hint; located = parts.0; count = length-u16 hint; value = number-u16 hint hint_small }),

@@ -1,4 +1,4 @@
--- Kinds of tokens are told apart by numbers.
+-- Kinds of tokens are distinguished by numbers.
 use Rattle.std.proofs.Common.{◌≡◌, ◌≢◌, ℕ, Bool, true, ◌&&◌, not, eqb, List, [], ◌∷◌, sym, ap, subst, ◌∙◌, eq-eqb}
 use Rattle.std.proofs.lemmas.Bool.{and_parts, false≢true}
 use Rattle.implib.specs.declared.def.lexer.TokenKind.{TokenKind}

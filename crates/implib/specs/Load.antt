@@ -40,7 +40,7 @@ ThunkAsksFor image width thunk (Name text hint) =
 pub record ThunkAt (image : List Range) (width : ℕ) (address : ℕ) (ask : Ask) : Type 0 where
   pub thunk : ℕ
   pub located : NumberAt image width address thunk
-  pub goes_on : thunk ≢ 0
+  pub not_zero : thunk ≢ 0
   pub asks : ThunkAsksFor image width thunk ask
 
 -- thunks of `width` bytes, one after another from an address on, ask for these; a zero

@@ -16,9 +16,9 @@ use Rattle.implib.specs.WeakExternal.{weak_object}
 use Rattle.implib.proofs.LinkedMembers.{among_contains}
 use Rattle.implib.proofs.Placement.{export, head, tail}
 use Rattle.implib.proofs.Ranges.{Among, all_among, among_back, among_first, among_front, among_later}
-use Rattle.implib_link.specs.Archives.{IsArchive, IsLibrary, IsWeakData, Library, NamesNoLinkageOf, TakesOfLibraries, archive_of, exports_of, input_if_any, inputs_wanted, is_weak, others_among, wanted_with, weak_among}
+use Rattle.implib_link.specs.Archives.{IsArchive, IsLibrary, IsWeakData, Library, NamesNoHeadOrTailOf, TakesOfLibraries, archive_of, exports_of, input_if_any, inputs_wanted, is_weak, others_among, wanted_with, weak_among}
 use Rattle.implib_link.specs.Program.{IsProgram, LinksAmong, claimed_names}
-use Rattle.implib_link.specs.Search.{IsTakenInTurn, NamesNoLinkage, Takes, exports_wanted, first_listed, is_listed_for, is_wanted, left_by, linked_if_any, names_claimed, names_left}
+use Rattle.implib_link.specs.Search.{IsTakenInTurn, NamesNoHeadOrTail, Takes, exports_wanted, first_listed, is_listed_for, is_wanted, left_by, linked_if_any, names_claimed, names_left}
 use Rattle.implib_link.proofs.ArchiveGroups.{export_of, first_is, head_of, tail_of, weak_of}
 use Rattle.implib_link.proofs.ArchiveMembers.{Found, FoundExport, FoundHead, FoundTail, FoundWeak, claimed_weak, export_found, export_not_weak, export_object_is, found, head_found, head_not_weak, head_object_is, tail_found, tail_not_weak, tail_object_is, weak_found, weak_is_weak, weak_object_is}
 use Rattle.implib_link.proofs.Claims.{claimed_export, claimed_head, claimed_tail}
@@ -181,12 +181,12 @@ module _ (machine : MachineType) (libraries : List Library) (archive : IsArchive
   alias_is_weak m l held n e is alias same =
       weak_is_weak machine m e.name e.alias_target (ap (λ (y : MemberView). object_in y.bytes) same ∙ weak_object_is machine l (made_of l held) n e is alias)
 
-  module _ (wanted : List (List ℕ)) (taken : List MemberView) (plain : NamesNoLinkageOf machine libraries (wanted_with wanted taken)) where
+  module _ (wanted : List (List ℕ)) (taken : List MemberView) (plain : NamesNoHeadOrTailOf machine libraries (wanted_with wanted taken)) where
     abbrev all_wanted : List (List ℕ)
     all_wanted = wanted_with wanted taken
 
-    plain_of : (l : Library) → Among l libraries → NamesNoLinkage machine l.definition.import_name all_wanted
-    plain_of l held = all_among (λ (x : Library). NamesNoLinkage machine x.definition.import_name (wanted_with wanted taken)) l libraries held plain
+    plain_of : (l : Library) → Among l libraries → NamesNoHeadOrTail machine l.definition.import_name all_wanted
+    plain_of l held = all_among (λ (x : Library). NamesNoHeadOrTail machine x.definition.import_name (wanted_with wanted taken)) l libraries held plain
 
     -- a member that a wanted name finds
     needed_by_wanted : (name : List ℕ) (m : MemberView) → Found machine libraries archive name m → Among name all_wanted → IsNeeded all_wanted m
@@ -233,14 +233,14 @@ module _ (machine : MachineType) (libraries : List Library) (archive : IsArchive
     needed [] there turn m held = absurd held
     needed (t ∷ earlier) there turn m (inr held) = needed earlier (λ x behind. there x (inr behind)) turn.1 m held
     needed (t ∷ earlier) there turn m (inl e) =
-        let asks = turn.0.1 in
+        let pulls = turn.0.1 in
         let before = needed earlier (λ x behind. there x (inr behind)) turn.1 in
         subst (IsNeeded all_wanted) (sym e)
-        (elim (among_either turn.0.0 wanted (flat_map left_by (objects_in earlier)) (contains_among turn.0.0 _ asks.named)) [
-          | inl want ↦ needed_by_wanted turn.0.0 t (found machine libraries archive turn.0.0 t asks.listed) (among_front turn.0.0 wanted (names_left (weak_among taken)) want)
+        (elim (among_either turn.0.0 wanted (flat_map left_by (objects_in earlier)) (contains_among turn.0.0 _ pulls.named)) [
+          | inl want ↦ needed_by_wanted turn.0.0 t (found machine libraries archive turn.0.0 t pulls.listed) (among_front turn.0.0 wanted (names_left (weak_among taken)) want)
           | inr left ↦
               let from = name_read left_by turn.0.0 earlier left in
-              needed_by_left from.0 (before from.0 from.2) (there from.0 (inr from.2)) from.1 from.3 turn.0.0 from.4 t asks.listed
+              needed_by_left from.0 (before from.0 from.2) (there from.0 (inr from.2)) from.1 from.3 turn.0.0 from.4 t pulls.listed
         ])
 
     module _ (takes : Takes (archive_of libraries) wanted taken) where
@@ -350,5 +350,5 @@ module _ (machine : MachineType) (libraries : List Library) (archive : IsArchive
       }
 
 pub libraries_taken : (machine : MachineType) (libraries : List Library) (taken : List MemberView) (wanted : List (List ℕ)) → IsArchive machine libraries →
-    NamesNoLinkageOf machine libraries (wanted_with wanted taken) → Takes (archive_of libraries) wanted taken → TakesOfLibraries machine libraries wanted taken
+    NamesNoHeadOrTailOf machine libraries (wanted_with wanted taken) → Takes (archive_of libraries) wanted taken → TakesOfLibraries machine libraries wanted taken
 libraries_taken machine libraries taken wanted archive plain takes = takes_of machine libraries archive wanted taken plain takes

@@ -5,7 +5,7 @@ use Rattle.implib.specs.Load.{BytesAt, LoadsStrictly, NumberAt}
 use Rattle.implib.specs.ImportTables.{zeros}
 use Rattle.implib.proofs.Loading.{asks_once, dll_once, number_once}
 use Rattle.implib.proofs.Ranges.{located_parts}
-use Rattle.implib_link.specs.Directory.{DirectoryAt, GoesOnBy, Imported, StopsAt, WalkFinds}
+use Rattle.implib_link.specs.Directory.{DirectoryAt, FindsBy, Imported, StopsAt, WalkFinds}
 
 -- the null descriptor stops a walk
 null_stops : (image : List Range) (address : ℕ) → BytesAt image address (zeros 20) → NumberAt image 4 (address + 12) 0
@@ -33,8 +33,8 @@ same_imports first second firsts seconds dll asks others =
     ∙ ap (λ rest. second ∷ rest) others
 
 -- no walk goes on at the null descriptor, and none stops at another
-goes_on_once : (image : List Range) (width address : ℕ) (i : Imported) → BytesAt image address (zeros 20) → GoesOnBy image width address i → ⊥
-goes_on_once image width address i null step =
+null_ends_once : (image : List Range) (width address : ℕ) (i : Imported) → BytesAt image address (zeros 20) → FindsBy image width address i → ⊥
+null_ends_once image width address i null step =
     nonzero step.loads.name 0 (number_once image 4 (address + 12) step.loads.name 0 step.loads.name_field (null_stops image address null)) step.has_name refl
 
 stops_once : (image : List Range) (width address : ℕ) (i : Imported) → LoadsStrictly image width address i.dll i.asks → StopsAt image address → ⊥
@@ -47,7 +47,7 @@ pub walk_once : (image : List Range) (width address : ℕ) (imports others : Lis
     DirectoryAt image width address imports → WalkFinds image width address others → imports ≡ others
 unfolding DirectoryAt WalkFinds
 walk_once image width address [] [] directory walk = refl
-walk_once image width address [] (j ∷ others) directory walk = absurd (goes_on_once image width address j directory walk.0)
+walk_once image width address [] (j ∷ others) directory walk = absurd (null_ends_once image width address j directory walk.0)
 walk_once image width address (i ∷ imports) [] directory walk = absurd (stops_once image width address i directory.0 walk)
 walk_once image width address (i ∷ imports) (j ∷ others) directory walk =
     same_imports i j imports others

@@ -23,7 +23,7 @@ use Rattle.implib.proofs.LinkedMembers.{among_contains, among_map}
 use Rattle.implib.proofs.Ranges.{Among, among_back, among_first, among_flat, among_front, among_later}
 use Rattle.implib_link.specs.Expansion.{Code, Constant, Data, Use, asking_object, descriptor_wanted, taken_in}
 use Rattle.implib_link.specs.FlavorProgram.{ask_in, objects_taken, specs_in}
-use Rattle.implib_link.specs.MsvcSearch.{AreTakenInTurn, AsksFor, NamesNoHeader, TakesFor, claimed_in, is_short_wanted, left_in, msvc_if_any, numbers_passing, shorts_wanted}
+use Rattle.implib_link.specs.MsvcSearch.{AreTakenInTurn, PullsInFor, NamesNoHeader, TakesFor, claimed_in, is_short_wanted, left_in, msvc_if_any, numbers_passing, shorts_wanted}
 use Rattle.implib_link.specs.Program.{claimed_names}
 use Rattle.implib_link.specs.Search.{HaveSame, left_by}
 use Rattle.implib_link.specs.SectionSymbols.{with_section_symbols}
@@ -282,7 +282,7 @@ module _ (d : DefinitionView) (machine : MachineType) (members : List MemberView
   of_descriptor m name held listed any (inr (inl is)) = TheThunk (is_T m name held listed is) any
   of_descriptor m name held listed any (inr (inr nothing)) = absurd nothing
 
-  -- a name that a needed member leaves asks for a needed one
+  -- a name that a needed member leaves pulls in a needed one
   from_left : (m x : MemberView) (name : List ℕ) (o : Object) → Among m members → Among name m.symbols → Needed machine d.import_name (public_exports (renamed d)) wanted x →
       taken_in machine x.bytes ≡ Some o → Among name (left_by o) → Needed machine d.import_name (public_exports (renamed d)) wanted m
   from_left m x name o held listed (TheDescriptor same any) is left =
@@ -304,11 +304,11 @@ module _ (d : DefinitionView) (machine : MachineType) (members : List MemberView
       TheDescriptor (is_D m name held listed (named ∙ found)) (record { export = e; held = among; want = want })
 
   needed_next : (earlier : List MemberView) → ((x : MemberView) → Among x earlier → Needed machine d.import_name (public_exports (renamed d)) wanted x) → (m : MemberView) (name : List ℕ) →
-      AsksFor machine members wanted earlier name m → Needed machine d.import_name (public_exports (renamed d)) wanted m
+      PullsInFor machine members wanted earlier name m → Needed machine d.import_name (public_exports (renamed d)) wanted m
   unfolding left_in
-  needed_next earlier needed m name asks =
-      let listed = listed_is members name m asks.listed in
-      elim (among_either name wanted (left_in machine earlier) (contains_among name (wanted ++ left_in machine earlier) asks.named)) [
+  needed_next earlier needed m name pulls =
+      let listed = listed_is members name m pulls.listed in
+      elim (among_either name wanted (left_in machine earlier) (contains_among name (wanted ++ left_in machine earlier) pulls.named)) [
         | inl held ↦ from_wanted m name (kind m listed.0) listed.1 held
         | inr left ↦
             let x = taken_name machine left_by name earlier left in
@@ -318,7 +318,7 @@ module _ (d : DefinitionView) (machine : MachineType) (members : List MemberView
   all_needed : (taken : List MemberView) → AreTakenInTurn machine members wanted taken → (m : MemberView) → Among m taken → Needed machine d.import_name (public_exports (renamed d)) wanted m
   unfolding AreTakenInTurn Among
   all_needed [] turn m held = absurd held
-  all_needed (x ∷ earlier) turn m (inl e) = needed_next earlier (all_needed earlier turn.1) m turn.0.0 (subst (λ y. AsksFor machine members wanted earlier turn.0.0 y) (sym e) turn.0.1)
+  all_needed (x ∷ earlier) turn m (inl e) = needed_next earlier (all_needed earlier turn.1) m turn.0.0 (subst (λ y. PullsInFor machine members wanted earlier turn.0.0 y) (sym e) turn.0.1)
   all_needed (x ∷ earlier) turn m (inr held) = all_needed earlier turn.1 m held
 
   -- all members that are taken are among those of the archive

@@ -48,7 +48,7 @@ number image width a n bytes is count value = record { bytes = bytes; located = 
 
 thunk_8 : (image : List Range) (a n : ℕ) → n < 2 ^ 8 → NumberAt image 8 a (0x8000_0000_0000_0000 + n) → ThunkAt image 8 a (Ordinal n)
 unfolding ThunkAsksFor
-thunk_8 image a n small located = record { thunk = 0x8000_0000_0000_0000 + n; located = located; goes_on = λ none. omega arith; asks = (omega arith, omega arith) }
+thunk_8 image a n small located = record { thunk = 0x8000_0000_0000_0000 + n; located = located; not_zero = λ none. omega arith; asks = (omega arith, omega arith) }
 
 whole_8 : (image : List Range) (a n : ℕ) → NumberAt image 8 a (0x8000_0000_0000_0000 + n) → WholeThunkAt image 8 a (Ordinal n)
 unfolding IsWhole
@@ -221,11 +221,11 @@ unfolding TableAt
 wide loads =
     let position : loads.plain.lookups ≡ 0x1028 = number_once wide_image 4 0x1000 loads.plain.lookups 0x1028 loads.plain.lookups_field wide_field in
     let second : ThunkAt wide_image 4 0x102C (Ordinal 6) = subst (λ n. ThunkAt wide_image 4 (n + 4) (Ordinal 6)) position loads.plain.lookup_table.1.0 in
-    second.goes_on (number_once wide_image 4 0x102C second.thunk 0 second.located wide_second)
+    second.not_zero (number_once wide_image 4 0x102C second.thunk 0 second.located wide_second)
 
 thunk_4 : (a : ℕ) → NumberAt wide_image 4 a 0x8000_0005 → ThunkAt wide_image 4 a (Ordinal 5)
 unfolding ThunkAsksFor
-thunk_4 a located = record { thunk = 0x8000_0005; located = located; goes_on = λ none. differ 0 0x8000_0005 (sym none) (omega arith); asks = (omega arith, refl) }
+thunk_4 a located = record { thunk = 0x8000_0005; located = located; not_zero = λ none. differ 0 0x8000_0005 (sym none) (omega arith); asks = (omega arith, refl) }
 
 wide_stops : Loads wide_image 4 0x1000 foo (Ordinal 5 ∷ [])
 unfolding TableAt u32_bytes

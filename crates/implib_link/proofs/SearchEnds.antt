@@ -7,7 +7,7 @@ use Rattle.std.proofs.lemmas.Slice.Eq.{bytes_eq-Decides}
 use Rattle.implib.specs.MemberSpec.{MemberView}
 use Rattle.implib.proofs.LinkedMembers.{among_contains}
 use Rattle.implib.proofs.Ranges.{Among}
-use Rattle.implib_link.specs.Search.{Asks, IsTakenInTurn, Takes, names_claimed, names_left}
+use Rattle.implib_link.specs.Search.{PullsIn, IsTakenInTurn, Takes, names_claimed, names_left}
 use Rattle.implib_link.proofs.ArchiveGroups.{first_is, found_or_not}
 use Rattle.implib_link.proofs.SearchLists.{contains_among}
 
@@ -124,27 +124,27 @@ fewer (m ∷ archive) taken t (inr held) new =
     ]
 
 module _ (archive : List MemberView) (wanted : List (List ℕ)) where
-  -- an undefined name that asks for a member, of these
-  Asked : List MemberView → List (List ℕ) → Type 0
-  Asked taken names = (name : List ℕ) × (m : MemberView) × Among name names × Asks archive wanted taken name m
+  -- an undefined name that pulls in a member, of these
+  PulledIn : List MemberView → List (List ℕ) → Type 0
+  PulledIn taken names = (name : List ℕ) × (m : MemberView) × Among name names × PullsIn archive wanted taken name m
 
-  NoneAsks : List MemberView → List (List ℕ) → Type 0
-  NoneAsks taken names = (name : List ℕ) (m : MemberView) → Among name names → Asks archive wanted taken name m → ⊥
+  NonePullsIn : List MemberView → List (List ℕ) → Type 0
+  NonePullsIn taken names = (name : List ℕ) (m : MemberView) → Among name names → PullsIn archive wanted taken name m → ⊥
 
   same_first : (m other : MemberView) → Some m ≡ Some other → m ≡ other
   same_first m other e = cc
 
   one_asks : (taken : List MemberView) (name : List ℕ) → Contains (wanted ++ names_left taken) name →
-      ((m : MemberView) × Asks archive wanted taken name m) ⊎ ((m : MemberView) → Asks archive wanted taken name m → ⊥)
+      ((m : MemberView) × PullsIn archive wanted taken name m) ⊎ ((m : MemberView) → PullsIn archive wanted taken name m → ⊥)
   one_asks taken name named =
       elim (cases_Bool (list_any (bytes_eq name) (names_claimed taken))) [
-        | inl claimed ↦ inr (λ m asks. true≢false (sym claimed ∙ asks.undefined))
+        | inl claimed ↦ inr (λ m pulls. true≢false (sym claimed ∙ pulls.undefined))
         | inr undefined ↦ elim (found_or_not name archive) [
-          | inl none ↦ inr (λ m asks. (let found : None ≡ Some m = sym none ∙ asks.listed in cc))
+          | inl none ↦ inr (λ m pulls. (let found : None ≡ Some m = sym none ∙ pulls.listed in cc))
           | inr found ↦ elim (cases_Bool (is_taken taken found.0)) [
-            | inl is ↦ inr (λ m asks.
-                let same : m ≡ found.0 = same_first m found.0 (sym asks.listed ∙ found.1) in
-                asks.new (among_contains m taken (subst (λ x. Among x taken) (sym same) (taken_among taken found.0 is))))
+            | inl is ↦ inr (λ m pulls.
+                let same : m ≡ found.0 = same_first m found.0 (sym pulls.listed ∙ found.1) in
+                pulls.new (among_contains m taken (subst (λ x. Among x taken) (sym same) (taken_among taken found.0 is))))
             | inr none ↦ inl (
               found.0,
               record {
@@ -158,18 +158,18 @@ module _ (archive : List MemberView) (wanted : List (List ℕ)) where
         ]
       ]
 
-  asks_or_not : (taken : List MemberView) (names : List (List ℕ)) → ((name : List ℕ) → Among name names → Contains (wanted ++ names_left taken) name) →
-      Asked taken names ⊎ NoneAsks taken names
-  unfolding Asked NoneAsks Among
-  asks_or_not taken [] within = inr (λ name m held asks. held)
-  asks_or_not taken (x ∷ names) within =
+  pulls_or_not : (taken : List MemberView) (names : List (List ℕ)) → ((name : List ℕ) → Among name names → Contains (wanted ++ names_left taken) name) →
+      PulledIn taken names ⊎ NonePullsIn taken names
+  unfolding PulledIn NonePullsIn Among
+  pulls_or_not taken [] within = inr (λ name m held pulls. held)
+  pulls_or_not taken (x ∷ names) within =
       elim (one_asks taken x (within x (inl refl))) [
         | inl found ↦ inl (x, found.0, inl refl, found.1)
-        | inr none ↦ elim (asks_or_not taken names (λ name held. within name (inr held))) [
+        | inr none ↦ elim (pulls_or_not taken names (λ name held. within name (inr held))) [
           | inl later ↦ inl (later.0, later.1, inr later.2, later.3)
-          | inr others ↦ inr (λ name m held asks. elim held [
-            | inl e ↦ none m (subst (λ n. Asks archive wanted taken n m) e asks)
-            | inr behind ↦ others name m behind asks
+          | inr others ↦ inr (λ name m held pulls. elim held [
+            | inl e ↦ none m (subst (λ n. PullsIn archive wanted taken n m) e pulls)
+            | inr behind ↦ others name m behind pulls
           ])
         ]
       ]
@@ -180,22 +180,22 @@ module _ (archive : List MemberView) (wanted : List (List ℕ)) where
   less_left : (n m k : ℕ) → n < m → m ≤ suc k → n ≤ k
   less_left n m k less most = omega arith
 
-  is_new : (taken : List MemberView) (name : List ℕ) (m : MemberView) → Asks archive wanted taken name m → is_taken taken m ≡ false
-  is_new taken name m asks = false_from_ne_true (is_taken taken m) (λ is. asks.new (among_contains m taken (taken_among taken m is)))
+  is_new : (taken : List MemberView) (name : List ℕ) (m : MemberView) → PullsIn archive wanted taken name m → is_taken taken m ≡ false
+  is_new taken name m pulls = false_from_ne_true (is_taken taken m) (λ is. pulls.new (among_contains m taken (taken_among taken m is)))
 
   -- from members that are taken, with at most so many left
   ends_from : (most : ℕ) (taken : List MemberView) → not_taken archive taken ≤ most → IsTakenInTurn archive wanted taken → (t : List MemberView) × Takes archive wanted t
-  unfolding Asked NoneAsks IsTakenInTurn
+  unfolding PulledIn NonePullsIn IsTakenInTurn
   ends_from zero taken few turn =
-      elim (asks_or_not taken (wanted ++ names_left taken) (λ name held. among_contains name (wanted ++ names_left taken) held)) [
-        | inr none ↦ (taken, record { in_turn = turn; ended = λ name m asks. none name m (contains_among name (wanted ++ names_left taken) asks.named) asks })
+      elim (pulls_or_not taken (wanted ++ names_left taken) (λ name held. among_contains name (wanted ++ names_left taken) held)) [
+        | inr none ↦ (taken, record { in_turn = turn; ended = λ name m pulls. none name m (contains_among name (wanted ++ names_left taken) pulls.named) pulls })
         | inl found ↦
             let less = fewer archive taken found.1 (first_is found.0 archive found.1 found.3.listed).0 (is_new taken found.0 found.1 found.3) in
             absurd (none_left (not_taken archive (found.1 ∷ taken)) (not_taken archive taken) less few)
       ]
   ends_from (suc most) taken few turn =
-      elim (asks_or_not taken (wanted ++ names_left taken) (λ name held. among_contains name (wanted ++ names_left taken) held)) [
-        | inr none ↦ (taken, record { in_turn = turn; ended = λ name m asks. none name m (contains_among name (wanted ++ names_left taken) asks.named) asks })
+      elim (pulls_or_not taken (wanted ++ names_left taken) (λ name held. among_contains name (wanted ++ names_left taken) held)) [
+        | inr none ↦ (taken, record { in_turn = turn; ended = λ name m pulls. none name m (contains_among name (wanted ++ names_left taken) pulls.named) pulls })
         | inl found ↦
             let less = fewer archive taken found.1 (first_is found.0 archive found.1 found.3.listed).0 (is_new taken found.0 found.1 found.3) in
             ends_from most (found.1 ∷ taken) (less_left (not_taken archive (found.1 ∷ taken)) (not_taken archive taken) most less few) ((found.0, found.3), turn)

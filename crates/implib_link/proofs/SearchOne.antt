@@ -18,8 +18,8 @@ use Rattle.implib.specs.Object.{object_in}
 use Rattle.implib.specs.Renaming.{renamed}
 use Rattle.implib.proofs.LinkedMembers.{among_contains}
 use Rattle.implib.proofs.Ranges.{Among, among_first, among_later}
-use Rattle.implib_link.specs.Archives.{IsArchive, Library, NamesNoLinkageOf, archive_of, inputs_wanted, is_weak, others_among, symbols_of_export, symbols_of_library, wanted_with, weak_among}
-use Rattle.implib_link.specs.Search.{HaveSame, IsTakenInTurn, NamesNoLinkage, Takes, exports_wanted, linked_if_any, names_left}
+use Rattle.implib_link.specs.Archives.{IsArchive, Library, NamesNoHeadOrTailOf, archive_of, inputs_wanted, is_weak, others_among, symbols_of_export, symbols_of_library, wanted_with, weak_among}
+use Rattle.implib_link.specs.Search.{HaveSame, IsTakenInTurn, NamesNoHeadOrTail, Takes, exports_wanted, linked_if_any, names_left}
 use Rattle.implib_link.proofs.ArchiveMembers.{export_not_weak, export_object_is, head_not_weak, head_object_is, tail_not_weak, tail_object_is}
 use Rattle.implib_link.proofs.Archives.{input_linked, libraries_taken}
 use Rattle.implib_link.proofs.Search.{IsHead, IsTail, Kind, Needed, OfAnExport, kind, linked_if_needed, needed_if_linked, no_alias, numbers_are_wanted}
@@ -107,7 +107,7 @@ module _ (d : DefinitionView) (machine : MachineType) (members : List MemberView
   not_weak m (OfAnExport x) =
       export_not_weak machine m d.import_name x.export (ap (λ (y : MemberView). object_in y.bytes) x.same ∙ export_object_is machine one made x.number x.export x.is)
 
-  module _ (wanted : List (List ℕ)) (plain : NamesNoLinkage machine d.import_name wanted) (taken : List MemberView) (takes : Takes members wanted taken) where
+  module _ (wanted : List (List ℕ)) (plain : NamesNoHeadOrTail machine d.import_name wanted) (taken : List MemberView) (takes : Takes members wanted taken) where
     none : AllByRecursion (λ m. is_weak m ≡ false) taken
     none = each_member (λ m. is_weak m ≡ false) taken
         (λ m held. not_weak m (kind d machine members made distinct m (taken_held members wanted taken takes.in_turn m held)))
@@ -116,8 +116,8 @@ module _ (d : DefinitionView) (machine : MachineType) (members : List MemberView
     unfolding names_left
     wanted_alone = rw (none_weak taken none) (append-nil wanted)
 
-    plain_of_one : NamesNoLinkageOf machine (record { definition = d; members = members } ∷ []) (wanted_with wanted taken)
-    plain_of_one = (subst (NamesNoLinkage machine d.import_name) (sym wanted_alone) plain, tt)
+    plain_of_one : NamesNoHeadOrTailOf machine (record { definition = d; members = members } ∷ []) (wanted_with wanted taken)
+    plain_of_one = (subst (NamesNoHeadOrTail machine d.import_name) (sym wanted_alone) plain, tt)
 
     one_archive : archive_of (record { definition = d; members = members } ∷ []) ≡ members
     unfolding archive_of
@@ -143,6 +143,6 @@ module _ (d : DefinitionView) (machine : MachineType) (members : List MemberView
         (linked_if_needed d machine wanted (exports_wanted d wanted) (numbers_are_wanted exports wanted) m need)))
 
 pub takes_wanted : (machine : MachineType) (d : DefinitionView) (members taken : List MemberView) (wanted : List (List ℕ)) → AreMembersOf d machine Gnu members →
-    IsDistinct bytes_eq (all_listed members) → NamesNoLinkage machine d.import_name wanted → Takes members wanted taken →
+    IsDistinct bytes_eq (all_listed members) → NamesNoHeadOrTail machine d.import_name wanted → Takes members wanted taken →
     HaveSame taken (linked_if_any d machine (exports_wanted d wanted))
 takes_wanted machine d members taken wanted made distinct plain takes = takes_just d machine members made distinct wanted plain taken takes

@@ -18,7 +18,7 @@ use Rattle.implib.specs.GnuMembers.{export_spec, head_spec, tail_spec}
 use Rattle.implib.specs.Renaming.{renamed}
 use Rattle.implib.proofs.LinkedMembers.{among_contains, head_before_tail, head_first, tail_last}
 use Rattle.implib.proofs.Ranges.{Among, among_first, among_later}
-use Rattle.implib_link.specs.Search.{HaveSame, IsArranged, NamesNoLinkage, Takes, exports_wanted}
+use Rattle.implib_link.specs.Search.{HaveSame, IsArranged, NamesNoHeadOrTail, Takes, exports_wanted}
 use Rattle.implib_link.proofs.SearchLists.{all_listed, contains_among}
 use Rattle.implib_link.proofs.Search.{AnExport, AnyWanted, Needed, TheHead, TheTail, numbers_are_wanted}
 use Rattle.implib_link.proofs.SearchOne.{needed, taken_if_needed}
@@ -127,7 +127,7 @@ ordered first last (x ∷ members) rise (inl e) (inr held) apart behind before =
     (rest.0, ap (λ m. m ∷ members) (sym e) ∙ ap (λ ms. first ∷ ms) rest.1)
 
 pub sorted_is_arranged : (machine : MachineType) (d : DefinitionView) (members taken arranged : List MemberView) (wanted : List (List ℕ)) (number : ℕ) →
-    AreMembersOf d machine Gnu members → IsDistinct bytes_eq (all_listed members) → NamesNoLinkage machine d.import_name wanted → Takes members wanted taken →
+    AreMembersOf d machine Gnu members → IsDistinct bytes_eq (all_listed members) → NamesNoHeadOrTail machine d.import_name wanted → Takes members wanted taken →
     Contains (exports_wanted d wanted) number → HaveSame taken arranged → AllRise (map (λ (m : MemberView). m.name) arranged) → IsArranged machine d.import_name taken arranged
 sorted_is_arranged machine d members taken arranged wanted number made distinct plain takes some same rise =
     let exports : List ExportView = public_exports (renamed d) in

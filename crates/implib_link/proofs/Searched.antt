@@ -18,7 +18,7 @@ use Rattle.implib.specs.Renaming.{renamed}
 use Rattle.implib.proofs.LinkedMembers.{among_contains, among_map}
 use Rattle.implib.proofs.Ranges.{Among, among_first, among_front, among_later}
 use Rattle.implib_link.specs.Program.{ClaimsNone, IsProgram, has_tables, null_descriptor}
-use Rattle.implib_link.specs.Search.{HaveSame, ImportsWanted, IsArranged, IsLinkedOfWanted, IsLinkedWith, NamesNoLinkage, Takes, exports_wanted, is_wanted}
+use Rattle.implib_link.specs.Search.{HaveSame, ImportsWanted, IsArranged, IsLinkedOfWanted, IsLinkedWith, NamesNoHeadOrTail, Takes, exports_wanted, is_wanted}
 use Rattle.implib_link.proofs.Program.{program_links}
 use Rattle.implib_link.proofs.SearchOne.{needed, taken_held, taken_if_needed}
 use Rattle.implib_link.proofs.SearchLists.{all_listed, among_either, among_mapped, apart_none, contains_among, distinct_apart, some_distinct}
@@ -52,7 +52,7 @@ numbers_of machine dll exports wanted (x ∷ members) all =
     first_or_later k n ns held here there = elim (among_either k (n ∷ []) ns held) [ inl e ↦ here (only_one k n e) | inr m ↦ there m ]
 
 module _ (machine : MachineType) (d : DefinitionView) (members taken arranged : List MemberView) (wanted : List (List ℕ))
-    (made : AreMembersOf d machine Gnu members) (distinct : IsDistinct bytes_eq (all_listed members)) (plain : NamesNoLinkage machine d.import_name wanted)
+    (made : AreMembersOf d machine Gnu members) (distinct : IsDistinct bytes_eq (all_listed members)) (plain : NamesNoHeadOrTail machine d.import_name wanted)
     (takes : Takes members wanted taken) (is_arranged : IsArranged machine d.import_name taken arranged) where
   abbrev exports : List ExportView
   exports = public_exports (renamed d)
@@ -159,13 +159,13 @@ module _ (machine : MachineType) (d : DefinitionView) (members taken arranged : 
   }
 
 pub linked_in_order : (machine : MachineType) (d : DefinitionView) (members taken arranged : List MemberView) (wanted : List (List ℕ)) → AreMembersOf d machine Gnu members →
-    IsDistinct bytes_eq (all_listed members) → NamesNoLinkage machine d.import_name wanted → Takes members wanted taken →
+    IsDistinct bytes_eq (all_listed members) → NamesNoHeadOrTail machine d.import_name wanted → Takes members wanted taken →
     IsArranged machine d.import_name taken arranged → IsLinkedOfWanted machine d wanted arranged
 linked_in_order machine d members taken arranged wanted made distinct plain takes is_arranged =
     linked_of_wanted machine d members taken arranged wanted made distinct plain takes is_arranged
 
 pub searched_links : (machine : MachineType) (d : DefinitionView) (members taken : List MemberView) (wanted : List (List ℕ)) (bases : Bases) (objects : List Object) →
-    AreMembersOf d machine Gnu members → IsDistinct bytes_eq (all_listed members) → NamesNoLinkage machine d.import_name wanted → Takes members wanted taken →
+    AreMembersOf d machine Gnu members → IsDistinct bytes_eq (all_listed members) → NamesNoHeadOrTail machine d.import_name wanted → Takes members wanted taken →
     IsLinkedWith machine d.import_name bases taken objects → ImportsWanted machine d members wanted bases objects
 searched_links machine d members taken wanted bases objects made distinct plain takes program =
     imports_wanted machine d members taken program.arranged wanted made distinct plain takes program.is_arranged bases objects

@@ -12,7 +12,7 @@ use Rattle.implib.specs.WorkedStatements.{plain_export}
 use Rattle.implib_link.specs.Archives.{archive_of, is_weak, symbols_of_library}
 use Rattle.implib_link.specs.Search.{IsTakenInTurn, Takes, left_by, names_claimed, names_left}
 use Rattle.implib_link.specs.WorkedArchives.{WorkedArchives, both_wanted, two_libraries}
-use Rattle.implib_link.proofs.WorkedSearch.{asks_now, opened, settled_ends}
+use Rattle.implib_link.proofs.WorkedSearch.{pulls_in_now, opened, settled_ends}
 
 abbrev foo_weak : MemberView
 foo_weak = member_of (weak_spec AMD64 (weak_name (codes "foo.dll") 0) (codes "bar") (codes "baz"))
@@ -42,18 +42,18 @@ both_takes : Takes (archive_of two_libraries) both_wanted both_taken
 unfolding opened alias_specs encoded_size names_left names_claimed left_by IsTakenInTurn weak_object archive_of
 both_takes = record {
   in_turn = (
-    (codes "zed_dll_iname", asks_now archive both_wanted (head_named (codes "zed.dll") ∷ zed_queue ∷ foo_taken) (codes "zed_dll_iname") (tail_named (codes "zed.dll")) refl refl refl refl),
+    (codes "zed_dll_iname", pulls_in_now archive both_wanted (head_named (codes "zed.dll") ∷ zed_queue ∷ foo_taken) (codes "zed_dll_iname") (tail_named (codes "zed.dll")) refl refl refl refl),
     (
-      (codes "_head_zed_dll", asks_now archive both_wanted (zed_queue ∷ foo_taken) (codes "_head_zed_dll") (head_named (codes "zed.dll")) refl refl refl refl),
+      (codes "_head_zed_dll", pulls_in_now archive both_wanted (zed_queue ∷ foo_taken) (codes "_head_zed_dll") (head_named (codes "zed.dll")) refl refl refl refl),
       (
-        (codes "__imp_queue", asks_now archive both_wanted foo_taken (codes "__imp_queue") zed_queue refl refl refl refl),
+        (codes "__imp_queue", pulls_in_now archive both_wanted foo_taken (codes "__imp_queue") zed_queue refl refl refl refl),
         (
-          (codes "foo_dll_iname", asks_now archive both_wanted (head_named (codes "foo.dll") ∷ foo_baz ∷ foo_weak ∷ []) (codes "foo_dll_iname") (tail_named (codes "foo.dll")) refl refl refl refl),
+          (codes "foo_dll_iname", pulls_in_now archive both_wanted (head_named (codes "foo.dll") ∷ foo_baz ∷ foo_weak ∷ []) (codes "foo_dll_iname") (tail_named (codes "foo.dll")) refl refl refl refl),
           (
-            (codes "_head_foo_dll", asks_now archive both_wanted (foo_baz ∷ foo_weak ∷ []) (codes "_head_foo_dll") (head_named (codes "foo.dll")) refl refl refl refl),
+            (codes "_head_foo_dll", pulls_in_now archive both_wanted (foo_baz ∷ foo_weak ∷ []) (codes "_head_foo_dll") (head_named (codes "foo.dll")) refl refl refl refl),
             (
-              (codes "baz", asks_now archive both_wanted (foo_weak ∷ []) (codes "baz") foo_baz refl refl refl refl),
-              ((codes "bar", asks_now archive both_wanted [] (codes "bar") foo_weak refl refl refl refl), tt),
+              (codes "baz", pulls_in_now archive both_wanted (foo_weak ∷ []) (codes "baz") foo_baz refl refl refl refl),
+              ((codes "bar", pulls_in_now archive both_wanted [] (codes "bar") foo_weak refl refl refl refl), tt),
             ),
           ),
         ),

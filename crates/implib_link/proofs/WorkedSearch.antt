@@ -17,11 +17,11 @@ use Rattle.implib.specs.Layout.{auxiliary_bytes, auxiliary_count, contents, cont
 use Rattle.implib.specs.Writer.{long_names, name_location, layout_of, symbol_written, with_long_name, with_name}
 use Rattle.implib.proofs.LinkedMembers.{among_contains, among_map}
 use Rattle.implib.proofs.Ranges.{Among}
-use Rattle.implib_link.specs.Search.{Asks, IsTakenInTurn, first_listed, left_by, names_claimed, names_left}
+use Rattle.implib_link.specs.Search.{PullsIn, IsTakenInTurn, first_listed, left_by, names_claimed, names_left}
 use Rattle.implib_link.specs.WorkedSearch.{MayTake, WorkedSearch, members_of, three, wanted}
 use Rattle.implib_link.proofs.SearchLists.{among_any, any_among, contains_among}
 
--- whether a name asks for no member any more
+-- whether a name pulls in no member any more
 abbrev is_settled : List MemberView → List MemberView → List ℕ → Bool
 is_settled archive taken name = list_any (bytes_eq name) (names_claimed taken) || is_none (first_listed archive name)
 
@@ -33,18 +33,18 @@ all_settled P (n ∷ names) name all (inr held) = all_settled P names name (and_
 
 -- a search is at its end where each name is settled
 pub settled_ends : (archive : List MemberView) (names : List (List ℕ)) (taken : List MemberView) → list_all (is_settled archive taken) (names ++ names_left taken) ≡ true →
-    (name : List ℕ) (m : MemberView) → Asks archive names taken name m → ⊥
-settled_ends archive names taken all name m asks =
+    (name : List ℕ) (m : MemberView) → PullsIn archive names taken name m → ⊥
+settled_ends archive names taken all name m pulls =
     let settled : is_settled archive taken name ≡ true =
-    all_settled (is_settled archive taken) (names ++ names_left taken) name all (contains_among name (names ++ names_left taken) asks.named) in
-    let is : false ≡ true = rw (asks.undefined, asks.listed) at settled in
+    all_settled (is_settled archive taken) (names ++ names_left taken) name all (contains_among name (names ++ names_left taken) pulls.named) in
+    let is : false ≡ true = rw (pulls.undefined, pulls.listed) at settled in
     true≢false (sym is)
 
--- a name asks for a member by what is computed
-pub asks_now : (archive : List MemberView) (names : List (List ℕ)) (taken : List MemberView) (name : List ℕ) (m : MemberView) →
+-- a name pulls in a member by what is computed
+pub pulls_in_now : (archive : List MemberView) (names : List (List ℕ)) (taken : List MemberView) (name : List ℕ) (m : MemberView) →
     list_any (bytes_eq name) (names ++ names_left taken) ≡ true → list_any (bytes_eq name) (names_claimed taken) ≡ false → first_listed archive name ≡ Some m →
-    list_any (bytes_eq m.name) (map (λ (x : MemberView). x.name) taken) ≡ false → Asks archive names taken name m
-asks_now archive names taken name m named undefined listed new = record {
+    list_any (bytes_eq m.name) (map (λ (x : MemberView). x.name) taken) ≡ false → PullsIn archive names taken name m
+pulls_in_now archive names taken name m named undefined listed new = record {
   named = among_contains name (names ++ names_left taken) (any_among name (names ++ names_left taken) named);
   undefined = undefined;
   listed = listed;
@@ -74,13 +74,13 @@ takes_three = (
   qux ∷ the_tail ∷ the_head ∷ bar ∷ [],
   record {
     in_turn = (
-      (codes "__imp_qux", asks_now (members_of three) wanted (the_tail ∷ the_head ∷ bar ∷ []) (codes "__imp_qux") qux refl refl refl refl),
+      (codes "__imp_qux", pulls_in_now (members_of three) wanted (the_tail ∷ the_head ∷ bar ∷ []) (codes "__imp_qux") qux refl refl refl refl),
       (
-        (codes "foo_dll_iname", asks_now (members_of three) wanted (the_head ∷ bar ∷ []) (codes "foo_dll_iname") the_tail refl refl refl refl),
+        (codes "foo_dll_iname", pulls_in_now (members_of three) wanted (the_head ∷ bar ∷ []) (codes "foo_dll_iname") the_tail refl refl refl refl),
         (
-          (codes "_head_foo_dll", asks_now (members_of three) wanted (bar ∷ []) (codes "_head_foo_dll") the_head refl refl refl refl),
+          (codes "_head_foo_dll", pulls_in_now (members_of three) wanted (bar ∷ []) (codes "_head_foo_dll") the_head refl refl refl refl),
           (
-            (codes "bar", asks_now (members_of three) wanted [] (codes "bar") bar refl refl refl refl),
+            (codes "bar", pulls_in_now (members_of three) wanted [] (codes "bar") bar refl refl refl refl),
             tt,
           ),
         ),
@@ -101,9 +101,9 @@ takes_head_and_tail = (
   the_tail ∷ the_head ∷ [],
   record {
     in_turn = (
-      (codes "foo_dll_iname", asks_now (members_of three) (codes "_head_foo_dll" ∷ []) (the_head ∷ []) (codes "foo_dll_iname") the_tail refl refl refl refl),
+      (codes "foo_dll_iname", pulls_in_now (members_of three) (codes "_head_foo_dll" ∷ []) (the_head ∷ []) (codes "foo_dll_iname") the_tail refl refl refl refl),
       (
-        (codes "_head_foo_dll", asks_now (members_of three) (codes "_head_foo_dll" ∷ []) [] (codes "_head_foo_dll") the_head refl refl refl refl),
+        (codes "_head_foo_dll", pulls_in_now (members_of three) (codes "_head_foo_dll" ∷ []) [] (codes "_head_foo_dll") the_head refl refl refl refl),
         tt,
       ),
     );

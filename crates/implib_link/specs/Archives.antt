@@ -14,7 +14,7 @@ use Rattle.implib.specs.Members.{AreMembersOf}
 use Rattle.implib.specs.MemberSpec.{MemberView}
 use Rattle.implib.specs.Object.{ASymbol, Auxiliary, Entry, Object, object_in}
 use Rattle.implib.specs.Renaming.{renamed}
-use Rattle.implib_link.specs.Search.{HaveSame, NamesNoLinkage, exports_wanted, names_left}
+use Rattle.implib_link.specs.Search.{HaveSame, NamesNoHeadOrTail, exports_wanted, names_left}
 
 -- a definition and its members
 pub record Library : Type 0 where
@@ -89,9 +89,9 @@ pub record IsArchive (machine : MachineType) (libraries : List Library) : Type 0
   pub distinct : IsDistinct bytes_eq (flat_map (symbols_of_library machine) libraries)
 
 -- no name is one by which only members name each other, in any library
-abbrev pub NamesNoLinkageOf : MachineType → List Library → List (List ℕ) → Type 0
-NamesNoLinkageOf machine libraries names =
-    AllByRecursion (λ l. NamesNoLinkage machine l.definition.import_name names) libraries
+abbrev pub NamesNoHeadOrTailOf : MachineType → List Library → List (List ℕ) → Type 0
+NamesNoHeadOrTailOf machine libraries names =
+    AllByRecursion (λ l. NamesNoHeadOrTail machine l.definition.import_name names) libraries
 
 -- A weak external of an export that is data and whose bare name is among these. For every other name of an
 -- export, its own member is the first.

@@ -28,7 +28,7 @@ DirectoryAt image width address (i ∷ others) =
     LoadsStrictly image width address i.dll i.asks × DirectoryAt image width (address + 20) others
 
 -- a descriptor by which a loader goes on: the addresses of its name and of its address table are not 0
-pub record GoesOnBy (image : List Range) (width : ℕ) (address : ℕ) (i : Imported) : Type 0 where
+pub record FindsBy (image : List Range) (width : ℕ) (address : ℕ) (i : Imported) : Type 0 where
   pub loads : Loads image width address i.dll i.asks
   pub has_name : 0 < loads.name
   pub has_addresses : 0 < loads.addresses
@@ -41,4 +41,4 @@ StopsAt image address = NumberAt image 4 (address + 12) 0 ⊎ NumberAt image 4 (
 unfoldable pub WalkFinds : List Range → ℕ → ℕ → List Imported → Type 0
 WalkFinds image width address [] = StopsAt image address
 WalkFinds image width address (i ∷ others) =
-    GoesOnBy image width address i × WalkFinds image width (address + 20) others
+    FindsBy image width address i × WalkFinds image width (address + 20) others

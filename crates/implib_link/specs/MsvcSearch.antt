@@ -21,29 +21,29 @@ left_in machine members = flat_map left_by (objects_taken machine members)
 unfoldable pub claimed_in : MachineType → List MemberView → List (List ℕ)
 claimed_in machine members = flat_map claimed_names (objects_taken machine members)
 
--- An undefined name asks for a member: the name is wanted or left by a member that is taken, no member that
+-- An undefined name pulls in a member: the name is wanted or left by a member that is taken, no member that
 -- is taken defines it, and the first member that it is listed for is this one, which is not taken.
-pub record AsksFor (machine : MachineType) (archive : List MemberView) (wanted : List (List ℕ))
+pub record PullsInFor (machine : MachineType) (archive : List MemberView) (wanted : List (List ℕ))
     (taken : List MemberView) (name : List ℕ) (m : MemberView) : Type 0 where
   pub named : Contains (wanted ++ left_in machine taken) name
   pub undefined : list_any (bytes_eq name) (claimed_in machine taken) ≡ false
   pub listed : first_listed archive name ≡ Some m
   pub new : Contains taken m → ⊥
 
--- Members are taken one after another, the last one first: each is asked for by some name that is undefined
+-- Members are taken one after another, the last one first: each is pulled in by some name that is undefined
 -- after those before it. The linker may take up the undefined names in any order.
 unfoldable pub AreTakenInTurn : MachineType → List MemberView → List (List ℕ) → List MemberView → Type 0
 AreTakenInTurn machine archive wanted [] = Unit {0}
 AreTakenInTurn machine archive wanted (m ∷ earlier) =
-    ((name : List ℕ) × AsksFor machine archive wanted earlier name m)
+    ((name : List ℕ) × PullsInFor machine archive wanted earlier name m)
     × AreTakenInTurn machine archive wanted earlier
 
--- What a linker takes of an archive for wanted names: it takes members in turn until no undefined name asks
--- for another.
+-- What a linker takes of an archive for wanted names: it takes members in turn until no undefined name pulls
+-- in another.
 pub record TakesFor (machine : MachineType) (archive : List MemberView) (wanted : List (List ℕ))
     (taken : List MemberView) : Type 0 where
   pub in_turn : AreTakenInTurn machine archive wanted taken
-  pub ended : (name : List ℕ) (m : MemberView) → AsksFor machine archive wanted taken name m → ⊥
+  pub ended : (name : List ℕ) (m : MemberView) → PullsInFor machine archive wanted taken name m → ⊥
 
 -- whether an export is wanted: one of the symbols that its short import is listed for is
 abbrev pub is_short_wanted : List (List ℕ) → ExportView → Bool

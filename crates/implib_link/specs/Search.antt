@@ -38,27 +38,27 @@ names_left members = flat_map left_by (objects_in members)
 unfoldable pub names_claimed : List MemberView → List (List ℕ)
 names_claimed members = flat_map claimed_names (objects_in members)
 
--- An undefined name asks for a member: the name is wanted or left by a member that is taken, no member that
+-- An undefined name pulls in a member: the name is wanted or left by a member that is taken, no member that
 -- is taken defines it, and the first member that it is listed for is this one, which is not taken.
-pub record Asks (archive : List MemberView) (wanted : List (List ℕ)) (taken : List MemberView)
+pub record PullsIn (archive : List MemberView) (wanted : List (List ℕ)) (taken : List MemberView)
     (name : List ℕ) (m : MemberView) : Type 0 where
   pub named : Contains (wanted ++ names_left taken) name
   pub undefined : list_any (bytes_eq name) (names_claimed taken) ≡ false
   pub listed : first_listed archive name ≡ Some m
   pub new : Contains taken m → ⊥
 
--- Members are taken one after another, the last one first: each is asked for by some name that is undefined
+-- Members are taken one after another, the last one first: each is pulled in by some name that is undefined
 -- after those before it. The linker may take up the undefined names in any order.
 unfoldable pub IsTakenInTurn : List MemberView → List (List ℕ) → List MemberView → Type 0
 IsTakenInTurn archive wanted [] = Unit {0}
 IsTakenInTurn archive wanted (m ∷ earlier) =
-    ((name : List ℕ) × Asks archive wanted earlier name m) × IsTakenInTurn archive wanted earlier
+    ((name : List ℕ) × PullsIn archive wanted earlier name m) × IsTakenInTurn archive wanted earlier
 
--- What a linker takes of an archive for wanted names: it takes members in turn until no undefined name asks
--- for another.
+-- What a linker takes of an archive for wanted names: it takes members in turn until no undefined name pulls
+-- in another.
 pub record Takes (archive : List MemberView) (wanted : List (List ℕ)) (taken : List MemberView) : Type 0 where
   pub in_turn : IsTakenInTurn archive wanted taken
-  pub ended : (name : List ℕ) (m : MemberView) → Asks archive wanted taken name m → ⊥
+  pub ended : (name : List ℕ) (m : MemberView) → PullsIn archive wanted taken name m → ⊥
 
 -- whether an export is wanted: one of its symbols is, its name, where it is no data, or `__imp_` and its name
 abbrev pub is_wanted : List (List ℕ) → ExportView → Bool
@@ -81,7 +81,7 @@ linked_if_any d machine [] = []
 linked_if_any d machine (n ∷ chosen) = linked_members d machine (n ∷ chosen)
 
 -- no wanted name is one of the two by which only members name each other: the descriptor's and the DLL name's
-pub record NamesNoLinkage (machine : MachineType) (dll : List ℕ) (wanted : List (List ℕ)) : Type 0 where
+pub record NamesNoHeadOrTail (machine : MachineType) (dll : List ℕ) (wanted : List (List ℕ)) : Type 0 where
   pub head : list_any (bytes_eq (head_symbol machine dll)) wanted ≡ false
   pub name : list_any (bytes_eq (iname_symbol machine dll)) wanted ≡ false
 

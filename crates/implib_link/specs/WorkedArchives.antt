@@ -5,7 +5,7 @@ use Rattle.implib.specs.Definition.{DefinitionView}
 use Rattle.implib.specs.MemberSpec.{MemberView}
 use Rattle.implib.specs.WorkedMembers.{of_dll}
 use Rattle.implib.specs.WorkedStatements.{plain_export}
-use Rattle.implib_link.specs.Archives.{IsArchive, Library, NamesNoLinkageOf, archive_of, inputs_wanted, weak_among, wanted_with}
+use Rattle.implib_link.specs.Archives.{IsArchive, Library, NamesNoHeadOrTailOf, archive_of, inputs_wanted, weak_among, wanted_with}
 use Rattle.implib_link.specs.Search.{Takes}
 use Rattle.implib_link.specs.WorkedSearch.{aliased, members_of}
 
@@ -37,6 +37,6 @@ pub record WorkedArchives : Type 0 where
   pub weak : map (λ m. m.name) (weak_among taken) ≡ codes "foo_dll_a_w00000.o" ∷ []
   pub wanted : wanted_with both_wanted taken
       ≡ codes "bar" ∷ codes "__imp_queue" ∷ codes "printf" ∷ codes "baz" ∷ []
-  pub plain : NamesNoLinkageOf AMD64 two_libraries (wanted_with both_wanted taken)
+  pub plain : NamesNoHeadOrTailOf AMD64 two_libraries (wanted_with both_wanted taken)
   pub chosen : map (λ p. p.chosen) (inputs_wanted two_libraries (wanted_with both_wanted taken))
       ≡ (1 ∷ []) ∷ (0 ∷ []) ∷ []

@@ -10,7 +10,7 @@ use Rattle.implib.specs.MemberSpec.{MemberView, member_of}
 use Rattle.implib.specs.Renaming.{renamed}
 use Rattle.implib.specs.WorkedMembers.{of_dll}
 use Rattle.implib.specs.WorkedStatements.{plain_export}
-use Rattle.implib_link.specs.Search.{NamesNoLinkage, Takes, exports_wanted, first_listed}
+use Rattle.implib_link.specs.Search.{NamesNoHeadOrTail, Takes, exports_wanted, first_listed}
 
 -- the members of a definition on AMD64
 abbrev pub members_of : DefinitionView → List MemberView
@@ -52,7 +52,7 @@ MayTake d names taken_names =
 pub record WorkedSearch : Type 0 where
   pub made : AreMembersOf three AMD64 Gnu (members_of three)
   pub distinct : IsDistinct bytes_eq (flat_map (λ m. m.symbols) (members_of three))
-  pub plain : NamesNoLinkage AMD64 (codes "foo.dll") wanted
+  pub plain : NamesNoHeadOrTail AMD64 (codes "foo.dll") wanted
   pub numbers : exports_wanted three wanted ≡ 0 ∷ 2 ∷ []
   pub firsts :
       map (found three)

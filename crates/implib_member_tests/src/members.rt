@@ -289,7 +289,7 @@ fn exports_are_listed_and_asked_for(rt: HostRuntime) -> Result<(), Fail> {
 
 /// Bytes in members: a text, its machine and its flavour, the index of a member, an offset in its file, and
 /// the bytes there.
-const PIECES: [(&str, MachineType, Flavor, usize, usize, &[u8]); 20] = [
+const EXCERPTS: [(&str, MachineType, Flavor, usize, usize, &[u8]); 20] = [
     // The descriptor: its header, the offsets of its names, and the size of its string table.
     (
         "LIBRARY foo.dll\nEXPORTS\nbar",
@@ -461,13 +461,13 @@ const PIECES: [(&str, MachineType, Flavor, usize, usize, &[u8]); 20] = [
 ];
 
 /// Holds what bytes members have.
-fn expect_pieces(
+fn expect_excerpts(
     rt: &impl Abort,
     alloc: Global,
     rows: &[(&str, MachineType, Flavor, usize, usize, &[u8])],
 ) -> Result<(), Fail> {
     for row in rows {
-        let (text, machine, flavor, index, offset, piece) = *row;
+        let (text, machine, flavor, index, offset, bytes) = *row;
         let members = ImportLibrary::new(alloc, text, machine, flavor)?.members()?;
         let member = members.as_slice().get(index).ok_or("a member is missing")?;
         let rest = member
@@ -476,7 +476,7 @@ fn expect_pieces(
             .get(offset..)
             .ok_or("a member is short")?;
         assert!(rt;
-            rest.starts_with(piece),
+            rest.starts_with(bytes),
             "{text:?}, {machine:?}, at {offset}"
         );
     }
@@ -485,5 +485,5 @@ fn expect_pieces(
 
 #[test]
 fn members_have_their_bytes_at_offsets(rt: HostRuntime) -> Result<(), Fail> {
-    expect_pieces(&rt, rt.alloc(), &PIECES)
+    expect_excerpts(&rt, rt.alloc(), &EXCERPTS)
 }

@@ -30,13 +30,13 @@ fn push_mangled_name(out: &mut String, dll: &str) -> Result<(), AllocError>
 }
 
 // Room for what follows the mangled name in a member's name, which is seldom more: `_a_s00000.o`.
-const AFTER_STEM: usize = 11;
+const AFTER_MANGLED_NAME: usize = 11;
 
 // The DLL's name with each full stop as an underscore, and then this text; there is room for more.
 fn mangled_name_with(alloc: Global, dll: &str, end: &str) -> Result<String, AllocError>
     ensures { IfOk result (λ name. string_bytes name ≡ mangled_name dll.now ++ end.now) }
 {
-    let mut name = String::with_capacity(alloc, dll.len().saturating_add(AFTER_STEM))?;
+    let mut name = String::with_capacity(alloc, dll.len().saturating_add(AFTER_MANGLED_NAME))?;
     push_mangled_name(&mut name, dll)?;
     name.push_str(end)?;
     Ok(name)

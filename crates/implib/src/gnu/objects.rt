@@ -44,7 +44,7 @@ const ENTRY_FLAGS: u32 = flags::ALIGN_4BYTES | flags::MEM_READ | flags::MEM_WRIT
 const ORDINAL_BYTE: u8 = 0x80;
 
 // The index of the symbol of an export's address, where the export has code.
-const ADDRESS_SYMBOL: u32 = 2;
+const IMP_SYMBOL: u32 = 2;
 
 // The auxiliary record of the file's name.
 const FILE_AUXILIARY: [u8; 18] = *b"fake\0\0\0\0\0\0\0\0\0\0\0\0\0\0";
@@ -211,28 +211,28 @@ fn stub_relocations(export: &ShortExport, machine: MachineType) -> &'static [Rel
     match machine {
         MachineType::I386 => &[Relocation {
             offset: 2,
-            symbol: ADDRESS_SYMBOL,
+            symbol: IMP_SYMBOL,
             kind: relocation::I386_DIR32,
         }],
         MachineType::ARMNT => &[Relocation {
             offset: 8,
-            symbol: ADDRESS_SYMBOL,
+            symbol: IMP_SYMBOL,
             kind: relocation::ARM_REL32,
         }],
         MachineType::AMD64 => &[Relocation {
             offset: 2,
-            symbol: ADDRESS_SYMBOL,
+            symbol: IMP_SYMBOL,
             kind: relocation::AMD64_REL32,
         }],
         MachineType::ARM64 => &[
             Relocation {
                 offset: 0,
-                symbol: ADDRESS_SYMBOL,
+                symbol: IMP_SYMBOL,
                 kind: relocation::ARM64_PAGEBASE_REL21,
             },
             Relocation {
                 offset: 4,
-                symbol: ADDRESS_SYMBOL,
+                symbol: IMP_SYMBOL,
                 kind: relocation::ARM64_PAGEOFFSET_12L,
             },
         ],

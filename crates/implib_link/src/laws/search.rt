@@ -10,9 +10,9 @@ ghost use Rattle.implib.specs.declared.members.Flavor.TheVariants.{Gnu};
 ghost use Rattle.implib.specs.declared.machine.MachineType.{MachineType};
 ghost use Rattle.implib_link.specs.WorkedArchives.{WorkedArchives};
 ghost use Rattle.implib_link.specs.WorkedSearch.{WorkedSearch};
-ghost use Rattle.implib_link.specs.Archives.{IsArchive, Library, NamesNoLinkageOf, TakesOfLibraries, archive_of, inputs_wanted, wanted_with};
+ghost use Rattle.implib_link.specs.Archives.{IsArchive, Library, NamesNoHeadOrTailOf, TakesOfLibraries, archive_of, inputs_wanted, wanted_with};
 ghost use Rattle.implib_link.specs.Program.{IsProgram, LinksAmong};
-ghost use Rattle.implib_link.specs.Search.{HaveSame, ImportsWanted, IsArranged, IsLinkedOfWanted, IsLinkedWith, NamesNoLinkage, Takes, exports_wanted, linked_if_any};
+ghost use Rattle.implib_link.specs.Search.{HaveSame, ImportsWanted, IsArranged, IsLinkedOfWanted, IsLinkedWith, NamesNoHeadOrTail, Takes, exports_wanted, linked_if_any};
 ghost use Rattle.std.specs.List.{Contains, IsDistinct, flat_map};
 ghost use Rattle.std.specs.Prelude.{ℕ, List, bytes_eq, map};
 
@@ -25,7 +25,7 @@ pub fn search_takes_wanted()
     ensures takes { (machine : MachineType) (d : DefinitionView) (members taken : List MemberView)
         (wanted : List (List ℕ)) →
         AreMembersOf d machine Gnu members → IsDistinct bytes_eq (flat_map (λ m. m.symbols) members) →
-        NamesNoLinkage machine d.import_name wanted → Takes members wanted taken →
+        NamesNoHeadOrTail machine d.import_name wanted → Takes members wanted taken →
         HaveSame taken (linked_if_any d machine (exports_wanted d wanted)) }
 {}
 
@@ -37,7 +37,7 @@ pub fn searched_program_links()
         (wanted : List (List ℕ)) →
         AreMembersOf d machine Gnu members →
         IsDistinct bytes_eq (flat_map (λ m. m.symbols) members) →
-        NamesNoLinkage machine d.import_name wanted →
+        NamesNoHeadOrTail machine d.import_name wanted →
         Takes members wanted taken →
         IsArranged machine d.import_name taken arranged →
         IsLinkedOfWanted machine d wanted arranged }
@@ -45,7 +45,7 @@ pub fn searched_program_links()
         (wanted : List (List ℕ)) (number : ℕ) →
         AreMembersOf d machine Gnu members →
         IsDistinct bytes_eq (flat_map (λ m. m.symbols) members) →
-        NamesNoLinkage machine d.import_name wanted →
+        NamesNoHeadOrTail machine d.import_name wanted →
         Takes members wanted taken →
         Contains (exports_wanted d wanted) number →
         HaveSame taken arranged →
@@ -55,7 +55,7 @@ pub fn searched_program_links()
         (wanted : List (List ℕ)) (bases : Bases) (objects : List Object) →
         AreMembersOf d machine Gnu members →
         IsDistinct bytes_eq (flat_map (λ m. m.symbols) members) →
-        NamesNoLinkage machine d.import_name wanted →
+        NamesNoHeadOrTail machine d.import_name wanted →
         Takes members wanted taken →
         IsLinkedWith machine d.import_name bases taken objects →
         ImportsWanted machine d members wanted bases objects }
@@ -71,7 +71,7 @@ pub fn libraries_are_searched()
     ensures takes { (machine : MachineType) (libraries : List Library) (taken : List MemberView)
         (wanted : List (List ℕ)) →
         IsArchive machine libraries →
-        NamesNoLinkageOf machine libraries (wanted_with wanted taken) →
+        NamesNoHeadOrTailOf machine libraries (wanted_with wanted taken) →
         Takes (archive_of libraries) wanted taken →
         TakesOfLibraries machine libraries wanted taken }
     ensures links { (machine : MachineType) (libraries : List Library) (wanted : List (List ℕ))

@@ -50,11 +50,11 @@ fn expect_stored(
     let mut rest = member.bytes.as_slice();
     for line in lines.lines() {
         let want = digits(alloc, line)?;
-        let (piece, after) = rest
+        let (bytes, after) = rest
             .split_at_checked(want.len() / 2)
             .ok_or("a member is short")?;
         let mut got = String::new(alloc);
-        for byte in piece {
+        for byte in bytes {
             write!(got, "{byte:02x}")?;
         }
         assert_eq!(rt; got, want, "{name}: {line}");
