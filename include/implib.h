@@ -61,7 +61,7 @@ enum implib_status {
     IMPLIB_UNKNOWN_FLAVOR = 5,
 
     /* The text is no definition. *place is the offset in bytes, from 0, of the token at which it is
-     * refused; of a name in quotes, behind the quote. */
+     * refused; of a name in quotes, that of its value, behind the quote and white space. */
     IMPLIB_UNKNOWN_DIRECTIVE = 16,   /* a statement begins with something that is no directive */
     IMPLIB_EXPECTED_IDENTIFIER = 17, /* something else is where an identifier was expected */
     IMPLIB_EXPECTED_EQUAL = 18,      /* something else is where `=` was expected */

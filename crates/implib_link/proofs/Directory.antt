@@ -1,9 +1,9 @@
 -- A directory has one reading.
-use Rattle.std.proofs.Common.{◌≡◌, ℕ, ◌+◌, ◌<◌, List, [], ◌∷◌, refl, ap, ◌∙◌, inl, inr, arith}
+use Rattle.std.proofs.Common.{◌≡◌, ℕ, ◌+◌, ◌<◌, List, [], ◌∷◌, ◌++◌, refl, ap, ◌∙◌, inl, inr, arith, subst}
 use Rattle.implib.specs.Image.{Range}
-use Rattle.implib.specs.Load.{BytesAt, LoadsStrictly, NumberAt}
+use Rattle.implib.specs.Load.{BytesAt, LoadsStrictly, NumberAt, TableAt}
 use Rattle.implib.specs.ImportTables.{zeros}
-use Rattle.implib.proofs.Loading.{asks_once, dll_once, number_once}
+use Rattle.implib.proofs.Loading.{number_once, table_once, text_once}
 use Rattle.implib.proofs.Ranges.{located_parts}
 use Rattle.implib_link.specs.Directory.{DirectoryAt, FindsBy, Imported, StopsAt, WalkFinds}
 
@@ -18,7 +18,18 @@ pub directory_walk : (image : List Range) (width address : ℕ) (imports : List 
 unfolding DirectoryAt WalkFinds
 directory_walk image width address [] null = inl (null_stops image address null)
 directory_walk image width address (i ∷ imports) directory = (
-  record { loads = directory.0.plain; has_name = directory.0.has_name; has_addresses = directory.0.has_addresses },
+  record {
+    name = directory.0.plain.name;
+    name_field = directory.0.plain.name_field;
+    has_name = directory.0.has_name;
+    name_text = directory.0.plain.name_text;
+    addresses = directory.0.plain.addresses;
+    addresses_field = directory.0.plain.addresses_field;
+    has_addresses = directory.0.has_addresses;
+    table = directory.0.plain.lookups;
+    table_field = inl directory.0.plain.lookups_field;
+    thunks = directory.0.plain.lookup_table;
+  },
   directory_walk image width (address + 20) imports directory.1,
 )
 
@@ -35,13 +46,35 @@ same_imports first second firsts seconds dll asks others =
 -- no walk goes on at the null descriptor, and none stops at another
 null_ends_once : (image : List Range) (width address : ℕ) (i : Imported) → BytesAt image address (zeros 20) → FindsBy image width address i → ⊥
 null_ends_once image width address i null step =
-    nonzero step.loads.name 0 (number_once image 4 (address + 12) step.loads.name 0 step.loads.name_field (null_stops image address null)) step.has_name refl
+    nonzero step.name 0 (number_once image 4 (address + 12) step.name 0 step.name_field (null_stops image address null)) step.has_name refl
 
 stops_once : (image : List Range) (width address : ℕ) (i : Imported) → LoadsStrictly image width address i.dll i.asks → StopsAt image address → ⊥
 stops_once image width address i loads (inl no_name) =
     nonzero loads.plain.name 0 (number_once image 4 (address + 12) loads.plain.name 0 loads.plain.name_field no_name) loads.has_name refl
 stops_once image width address i loads (inr no_addresses) =
     nonzero loads.plain.addresses 0 (number_once image 4 (address + 16) loads.plain.addresses 0 loads.plain.addresses_field no_addresses) loads.has_addresses refl
+
+-- the name is that of the field at 12
+same_dll : (image : List Range) (width address : ℕ) (i j : Imported) → LoadsStrictly image width address i.dll i.asks → FindsBy image width address j → i.dll ≡ j.dll
+same_dll image width address i j strict step =
+    let names : strict.plain.name ≡ step.name =
+    number_once image 4 (address + 12) strict.plain.name step.name strict.plain.name_field step.name_field in
+    text_once image i.dll j.dll step.name strict.plain.name_text.no_nul step.name_text.no_nul
+    (subst (λ n. BytesAt image n (i.dll ++ 0 ∷ [])) names strict.plain.name_text.located) step.name_text.located
+
+-- both tables ask for the same
+same_asks_by : (image : List Range) (width address : ℕ) (i j : Imported) → LoadsStrictly image width address i.dll i.asks → FindsBy image width address j →
+    i.asks ≡ j.asks
+same_asks_by image width address i j strict step = elim step.table_field [
+  | inl lookups ↦
+      (let tables : strict.plain.lookups ≡ step.table =
+      number_once image 4 address strict.plain.lookups step.table strict.plain.lookups_field lookups in
+      table_once image width i.asks j.asks step.table (subst (λ n. TableAt image width n i.asks) tables strict.plain.lookup_table) step.thunks)
+  | inr addresses ↦
+      (let tables : strict.plain.addresses ≡ step.table =
+      number_once image 4 (address + 16) strict.plain.addresses step.table strict.plain.addresses_field addresses in
+      table_once image width i.asks j.asks step.table (subst (λ n. TableAt image width n i.asks) tables strict.plain.address_table) step.thunks)
+]
 
 pub walk_once : (image : List Range) (width address : ℕ) (imports others : List Imported) →
     DirectoryAt image width address imports → WalkFinds image width address others → imports ≡ others
@@ -51,6 +84,6 @@ walk_once image width address [] (j ∷ others) directory walk = absurd (null_en
 walk_once image width address (i ∷ imports) [] directory walk = absurd (stops_once image width address i directory.0 walk)
 walk_once image width address (i ∷ imports) (j ∷ others) directory walk =
     same_imports i j imports others
-    (dll_once image width address i.dll j.dll i.asks j.asks directory.0.plain walk.0.loads)
-    (asks_once image width address i.dll j.dll i.asks j.asks directory.0.plain walk.0.loads)
+    (same_dll image width address i j directory.0 walk.0)
+    (same_asks_by image width address i j directory.0 walk.0)
     (walk_once image width (address + 20) imports others directory.1 walk.1)

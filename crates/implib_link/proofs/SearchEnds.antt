@@ -1,5 +1,5 @@
 -- A search of any archive ends: each member that is taken was not taken before, and an archive has so many.
-use Rattle.std.proofs.Common.{◌≡◌, ℕ, zero, suc, ◌+◌, ◌<◌, ◌≤◌, Bool, true, false, List, [], ◌∷◌, ◌++◌, Some, None, refl, ap, sym, ◌∙◌, subst, inl, inr, ◌⊎◌, arith, if◌then◌else◌}
+use Rattle.std.proofs.Common.{◌≡◌, ℕ, zero, suc, ◌+◌, ◌<◌, ◌≤◌, Bool, true, false, List, [], ◌∷◌, ◌++◌, length, Some, None, refl, ap, sym, ◌∙◌, subst, inl, inr, ◌⊎◌, arith, if◌then◌else◌}
 use Rattle.std.specs.Prelude.{◌&&◌, ◌||◌, bytes_eq}
 use Rattle.std.specs.List.{Contains, list_any}
 use Rattle.std.proofs.lemmas.Bool.{and_parts, cases_Bool, false_from_ne_true, true≢false}
@@ -200,6 +200,31 @@ module _ (archive : List MemberView) (wanted : List (List ℕ)) where
             let less = fewer archive taken found.1 (first_is found.0 archive found.1 found.3.listed).0 (is_new taken found.0 found.1 found.3) in
             ends_from most (found.1 ∷ taken) (less_left (not_taken archive (found.1 ∷ taken)) (not_taken archive taken) most less few) ((found.0, found.3), turn)
       ]
+
+  -- each member that is taken leaves fewer
+  taken_and_left : (taken : List MemberView) → IsTakenInTurn archive wanted taken → length taken + not_taken archive taken ≤ not_taken archive []
+  unfolding IsTakenInTurn
+  taken_and_left [] turn = omega arith
+  taken_and_left (m ∷ earlier) turn =
+      let less : not_taken archive (m ∷ earlier) < not_taken archive earlier =
+      fewer archive earlier m (first_is turn.0.0 archive m turn.0.1.listed).0 (is_new earlier turn.0.0 m turn.0.1) in
+      let before : length earlier + not_taken archive earlier ≤ not_taken archive [] = taken_and_left earlier turn.1 in
+      let counted : length (m ∷ earlier) ≡ suc (length earlier) = refl in
+      omega arith
+
+none_taken : (archive : List MemberView) → not_taken archive [] ≤ length archive
+unfolding not_taken is_taken
+none_taken [] = omega arith
+none_taken (m ∷ archive) =
+    let behind : not_taken archive [] ≤ length archive = none_taken archive in
+    let counted : length (m ∷ archive) ≡ suc (length archive) = refl in
+    omega arith
+
+pub search_bounded : (archive taken : List MemberView) (wanted : List (List ℕ)) → IsTakenInTurn archive wanted taken → length taken ≤ length archive
+search_bounded archive taken wanted turn =
+    let most : length taken + not_taken archive taken ≤ not_taken archive [] = taken_and_left archive wanted taken turn in
+    let first : not_taken archive [] ≤ length archive = none_taken archive in
+    omega arith
 
 pub search_ends : (archive : List MemberView) (wanted : List (List ℕ)) → (taken : List MemberView) × Takes archive wanted taken
 unfolding IsTakenInTurn

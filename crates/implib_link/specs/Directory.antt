@@ -5,7 +5,7 @@ use Rattle.implib.specs.declared.machine.MachineType.{MachineType}
 use Rattle.implib.specs.Image.{Range}
 use Rattle.implib.specs.Import.{Ask, expected_ask}
 use Rattle.implib.specs.LinkedMembers.{LinkInput, chosen_exports}
-use Rattle.implib.specs.Load.{BytesAt, Loads, LoadsStrictly, NumberAt}
+use Rattle.implib.specs.Load.{BytesAt, LoadsStrictly, NumberAt, TableAt, TextAt}
 use Rattle.implib.specs.ImportTables.{zeros}
 
 -- a DLL, and all that is asked of it
@@ -27,11 +27,19 @@ DirectoryAt image width address [] = BytesAt image address (zeros 20)
 DirectoryAt image width address (i ∷ others) =
     LoadsStrictly image width address i.dll i.asks × DirectoryAt image width (address + 20) others
 
--- a descriptor by which a loader goes on: the addresses of its name and of its address table are not 0
+-- A descriptor by which a loader goes on: the addresses of its name and of its address table are not 0. Of the
+-- two tables the loader reads one, whichever it likes: that of the field at 0, or that of the field at 16.
 pub record FindsBy (image : List Range) (width : ℕ) (address : ℕ) (i : Imported) : Type 0 where
-  pub loads : Loads image width address i.dll i.asks
-  pub has_name : 0 < loads.name
-  pub has_addresses : 0 < loads.addresses
+  pub name : ℕ
+  pub name_field : NumberAt image 4 (address + 12) name
+  pub has_name : 0 < name
+  pub name_text : TextAt image name i.dll
+  pub addresses : ℕ
+  pub addresses_field : NumberAt image 4 (address + 16) addresses
+  pub has_addresses : 0 < addresses
+  pub table : ℕ
+  pub table_field : NumberAt image 4 address table ⊎ NumberAt image 4 (address + 16) table
+  pub thunks : TableAt image width table i.asks
 
 -- a descriptor at which a loader stops: the address of its name or of its address table is 0
 abbrev pub StopsAt : List Range → ℕ → Type 0

@@ -12,9 +12,9 @@ ghost use Rattle.implib_link.specs.WorkedArchives.{WorkedArchives};
 ghost use Rattle.implib_link.specs.WorkedSearch.{WorkedSearch};
 ghost use Rattle.implib_link.specs.Archives.{IsArchive, Library, NamesNoHeadOrTailOf, TakesOfLibraries, archive_of, inputs_wanted, wanted_with};
 ghost use Rattle.implib_link.specs.Program.{IsProgram, LinksAmong};
-ghost use Rattle.implib_link.specs.Search.{HaveSame, ImportsWanted, IsArranged, IsLinkedOfWanted, IsLinkedWith, NamesNoHeadOrTail, Takes, exports_wanted, linked_if_any};
+ghost use Rattle.implib_link.specs.Search.{HaveSame, ImportsWanted, IsArranged, IsLinkedOfWanted, IsLinkedWith, IsTakenInTurn, NamesNoHeadOrTail, Takes, exports_wanted, linked_if_any};
 ghost use Rattle.std.specs.List.{Contains, IsDistinct, flat_map};
-ghost use Rattle.std.specs.Prelude.{ℕ, List, bytes_eq, map};
+ghost use Rattle.std.specs.Prelude.{◌≤◌, ℕ, List, bytes_eq, length, map};
 
 /// A linker takes of an archive of the members just the head, the members of the exports that are wanted and
 /// the tail, whichever undefined name it takes up first; nothing, where no export is wanted.
@@ -63,7 +63,8 @@ pub fn searched_program_links()
 
 /// Of an archive of several libraries, whose exports may have aliases, a linker takes just what is linked of
 /// the wanted exports of each library, and weak externals, whose targets are then wanted, too; and a program
-/// of it and of any other objects imports just these exports from these DLLs.
+/// of what the wanted exports link, in the libraries' order, and of any other objects imports just these
+/// exports from these DLLs.
 ///
 /// The weak externals are those of data whose bare name is undefined. In a program they are among the other
 /// objects.
@@ -81,10 +82,13 @@ pub fn libraries_are_searched()
         LinksAmong machine bases (inputs_wanted libraries wanted) objects }
 {}
 
-/// A search of any archive for any names comes to an end.
+/// A search of any archive for any names comes to an end, whichever undefined name the linker takes up first: it
+/// can go on until no undefined name pulls in a member, and never takes more members than the archive has.
 pub fn search_ends()
-    ensures { (archive : List MemberView) (wanted : List (List ℕ)) →
+    ensures found { (archive : List MemberView) (wanted : List (List ℕ)) →
         (taken : List MemberView) × Takes archive wanted taken }
+    ensures bounded { (archive taken : List MemberView) (wanted : List (List ℕ)) →
+        IsTakenInTurn archive wanted taken → length taken ≤ length archive }
 {}
 
 /// Searches by hand: of the members of three exports, and of two libraries with an alias.

@@ -5,8 +5,8 @@ ghost use Rattle.implib_link.specs.WorkedExpansion.{WorkedExpansion};
 ghost use Rattle.implib_link.specs.WorkedFlavors.{RefusedTables, WorkedFlavors};
 ghost use Rattle.implib_link.specs.WorkedPrograms.{WorkedPrograms, WorkedStubs};
 
-/// Programs that were linked by hand, on each machine, meet what the laws ask for and have these tables
-/// and stubs.
+/// Programs that were linked by hand, on each machine, meet what the laws ask for and have these tables,
+/// and but for ARMNT these stubs.
 pub fn worked_programs()
     ensures programs { WorkedPrograms }
     ensures stubs { WorkedStubs }

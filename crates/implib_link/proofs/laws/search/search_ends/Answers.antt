@@ -1,5 +1,5 @@
-use Rattle.implib_link.proofs.SearchEnds.{search_ends}
+use Rattle.implib_link.proofs.SearchEnds.{search_bounded, search_ends}
 use Rattle.implib_link.proofs.laws.search.search_ends.Goals as goal
 
 pub returns : goal.returns
-returns c = search_ends
+returns c = record { found = search_ends; bounded = search_bounded }
