@@ -5,7 +5,7 @@ use Rattle.std.proofs.lemmas.Bool.{or_parts, false≢true}
 use Rattle.implib.specs.Ascii.{holds}
 use Rattle.implib.specs.Import.{Ask, Name, Ordinal}
 use Rattle.implib.specs.Image.{Range, byte_at}
-use Rattle.implib.specs.Load.{ThunkAsksFor, BytesAt, Loads, NumberAt, TableAt, number_in}
+use Rattle.implib.specs.Load.{ThunkAsksFor, BytesAt, Loads, NumberAt, TableAt, TextAt, number_in}
 use Rattle.implib.specs.Layout.{HasNoNul}
 
 same_byte : (o : Option ℕ) (x y : ℕ) → o ≡ Some x → o ≡ Some y → x ≡ y
@@ -66,15 +66,26 @@ table_once image width (x ∷ xs) (y ∷ ys) a first second =
     (ask_once image width second.0.thunk x y (subst (λ t. ThunkAsksFor image width t x) thunks first.0.asks) second.0.asks)
     (table_once image width xs ys (a + width) first.1 second.1)
 
+-- what two fields at one place lead to
+
+pub text_led_to : (image : List Range) (field n m : ℕ) (xs ys : List ℕ) → NumberAt image 4 field n → NumberAt image 4 field m → TextAt image n xs → TextAt image m ys →
+    xs ≡ ys
+text_led_to image field n m xs ys first second text other =
+    let same : n ≡ m = number_once image 4 field n m first second in
+    text_once image xs ys m text.no_nul other.no_nul (subst (λ a. BytesAt image a (xs ++ 0 ∷ [])) same text.located) other.located
+
+pub table_led_to : (image : List Range) (width field n m : ℕ) (xs ys : List Ask) → NumberAt image 4 field n → NumberAt image 4 field m → TableAt image width n xs →
+    TableAt image width m ys → xs ≡ ys
+table_led_to image width field n m xs ys first second table other =
+    let same : n ≡ m = number_once image 4 field n m first second in
+    table_once image width xs ys m (subst (λ a. TableAt image width a xs) same table) other
+
 pub dll_once : (image : List Range) (width descriptor : ℕ) (dll other : List ℕ) (asks others : List Ask) →
     Loads image width descriptor dll asks → Loads image width descriptor other others → dll ≡ other
 dll_once image width descriptor dll other asks others first second =
-    let section_addresses : first.name ≡ second.name = number_once image 4 (descriptor + 12) first.name second.name first.name_field second.name_field in
-    text_once image dll other second.name first.name_text.no_nul second.name_text.no_nul
-    (subst (λ n. BytesAt image n (dll ++ 0 ∷ [])) section_addresses first.name_text.located) second.name_text.located
+    text_led_to image (descriptor + 12) first.name second.name dll other first.name_field second.name_field first.name_text second.name_text
 
 pub asks_once : (image : List Range) (width descriptor : ℕ) (dll other : List ℕ) (asks others : List Ask) →
     Loads image width descriptor dll asks → Loads image width descriptor other others → asks ≡ others
 asks_once image width descriptor dll other asks others first second =
-    let section_addresses : first.lookups ≡ second.lookups = number_once image 4 descriptor first.lookups second.lookups first.lookups_field second.lookups_field in
-    table_once image width asks others second.lookups (subst (λ n. TableAt image width n asks) section_addresses first.lookup_table) second.lookup_table
+    table_led_to image width descriptor first.lookups second.lookups asks others first.lookups_field second.lookups_field first.lookup_table second.lookup_table

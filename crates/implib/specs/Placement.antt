@@ -71,8 +71,8 @@ with_base HintNames n b = record b { hint_names = n }
 with_base DllNames n b = record b { dll_names = n }
 
 -- The alignment in bytes that a section's flags say (PE/COFF specification, "Section Flags"): their field of
--- mask 0xF00000 is 1 more than its exponent. For example, of 0xC0300040 it is 4. A field of 0, which no member
--- has, gives 1 here; linkers differ.
+-- mask 0xF00000 is 1 more than its exponent. For example, of 0xC0300040 it is 4. A field of 0, which no
+-- section of the import tables has, gives 1 here.
 abbrev pub alignment : ℕ → ℕ
 alignment flags = 2 ^ (flags / 0x0010_0000 % 16 - 1)
 

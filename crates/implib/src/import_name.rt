@@ -104,8 +104,8 @@ fn asked_by_short_import(export: &ShortExport, machine: MachineType) -> &[u8]
     }
 }
 
-/// The name in the export's hint/name table entry: on I386 without the leading underscore, which compilers for
-/// I386 put before each name of C, and which the names that a DLL exports lack.
+/// The name in the export's hint/name table entry: on I386 without the leading underscore, which compilers
+/// for I386 put before each name of C, and which the names that a DLL exports lack.
 pub(crate) fn asked_by_hint_name(export: &ShortExport, machine: MachineType) -> &[u8]
     ensures { result.now ≡ asked_name machine (export_view export.now).name }
 {

@@ -1,9 +1,9 @@
 -- A directory has one reading.
-use Rattle.std.proofs.Common.{◌≡◌, ℕ, ◌+◌, ◌<◌, List, [], ◌∷◌, ◌++◌, refl, ap, ◌∙◌, inl, inr, arith, subst}
+use Rattle.std.proofs.Common.{◌≡◌, ℕ, ◌+◌, ◌<◌, List, [], ◌∷◌, refl, ap, ◌∙◌, inl, inr, arith}
 use Rattle.implib.specs.Image.{Range}
-use Rattle.implib.specs.Load.{BytesAt, LoadsStrictly, NumberAt, TableAt}
+use Rattle.implib.specs.Load.{BytesAt, LoadsStrictly, NumberAt}
 use Rattle.implib.specs.ImportTables.{zeros}
-use Rattle.implib.proofs.Loading.{number_once, table_once, text_once}
+use Rattle.implib.proofs.Loading.{number_once, table_led_to, text_led_to}
 use Rattle.implib.proofs.Ranges.{located_parts}
 use Rattle.implib_link.specs.Directory.{DirectoryAt, FindsBy, Imported, StopsAt, WalkFinds}
 
@@ -54,26 +54,13 @@ stops_once image width address i loads (inl no_name) =
 stops_once image width address i loads (inr no_addresses) =
     nonzero loads.plain.addresses 0 (number_once image 4 (address + 16) loads.plain.addresses 0 loads.plain.addresses_field no_addresses) loads.has_addresses refl
 
--- the name is that of the field at 12
-same_dll : (image : List Range) (width address : ℕ) (i j : Imported) → LoadsStrictly image width address i.dll i.asks → FindsBy image width address j → i.dll ≡ j.dll
-same_dll image width address i j strict step =
-    let names : strict.plain.name ≡ step.name =
-    number_once image 4 (address + 12) strict.plain.name step.name strict.plain.name_field step.name_field in
-    text_once image i.dll j.dll step.name strict.plain.name_text.no_nul step.name_text.no_nul
-    (subst (λ n. BytesAt image n (i.dll ++ 0 ∷ [])) names strict.plain.name_text.located) step.name_text.located
-
 -- both tables ask for the same
-same_asks_by : (image : List Range) (width address : ℕ) (i j : Imported) → LoadsStrictly image width address i.dll i.asks → FindsBy image width address j →
-    i.asks ≡ j.asks
-same_asks_by image width address i j strict step = elim step.table_field [
-  | inl lookups ↦
-      (let tables : strict.plain.lookups ≡ step.table =
-      number_once image 4 address strict.plain.lookups step.table strict.plain.lookups_field lookups in
-      table_once image width i.asks j.asks step.table (subst (λ n. TableAt image width n i.asks) tables strict.plain.lookup_table) step.thunks)
-  | inr addresses ↦
-      (let tables : strict.plain.addresses ≡ step.table =
-      number_once image 4 (address + 16) strict.plain.addresses step.table strict.plain.addresses_field addresses in
-      table_once image width i.asks j.asks step.table (subst (λ n. TableAt image width n i.asks) tables strict.plain.address_table) step.thunks)
+same_asks : (image : List Range) (width address : ℕ) (i j : Imported) → LoadsStrictly image width address i.dll i.asks → FindsBy image width address j → i.asks ≡ j.asks
+same_asks image width address i j strict step = elim step.table_field [
+  | inl field ↦
+      table_led_to image width address strict.plain.lookups step.table i.asks j.asks strict.plain.lookups_field field strict.plain.lookup_table step.thunks
+  | inr field ↦
+      table_led_to image width (address + 16) strict.plain.addresses step.table i.asks j.asks strict.plain.addresses_field field strict.plain.address_table step.thunks
 ]
 
 pub walk_once : (image : List Range) (width address : ℕ) (imports others : List Imported) →
@@ -84,6 +71,7 @@ walk_once image width address [] (j ∷ others) directory walk = absurd (null_en
 walk_once image width address (i ∷ imports) [] directory walk = absurd (stops_once image width address i directory.0 walk)
 walk_once image width address (i ∷ imports) (j ∷ others) directory walk =
     same_imports i j imports others
-    (same_dll image width address i j directory.0 walk.0)
-    (same_asks_by image width address i j directory.0 walk.0)
+    (text_led_to image (address + 12) directory.0.plain.name walk.0.name i.dll j.dll directory.0.plain.name_field walk.0.name_field directory.0.plain.name_text
+    walk.0.name_text)
+    (same_asks image width address i j directory.0 walk.0)
     (walk_once image width (address + 20) imports others directory.1 walk.1)

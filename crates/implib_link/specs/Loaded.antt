@@ -39,7 +39,7 @@ pub record HoldsAt (image : List Range) (linked : List Placed) (name : List ℕ)
 -- The program with what was written in front of its image, so that it counts first:
 -- `entries`: at each chosen export's `__imp_` symbol is what its DLL gives for what it asks;
 -- `within`: what was written is in the address tables;
--- `kept`: where nothing was written, each byte is as it was linked, since what was written is looked up first.
+-- `kept`: where nothing was written, each byte is as it was linked: what was written is looked up first.
 pub record IsLoaded (machine : MachineType) (bases : Bases) (inputs : List LinkInput) (objects : List Object)
     (gives : List ℕ → Ask → List ℕ) (written : List Range) : Type 0 where
   pub entries : (i j : ℕ) (p : LinkInput) (e : ExportView) → slice_get inputs i ≡ Some p →

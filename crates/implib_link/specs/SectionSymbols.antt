@@ -39,16 +39,20 @@ section_number_from number (s ∷ sections) name =
     if bytes_eq s.name name then number else section_number_from (number + 1) sections name
 
 -- an entry of an object with these sections: a symbol that stands for a section is a static one at its front,
--- whatever its value is, which in other tools' descriptors has the section's flags
+-- whatever value it has
 abbrev pub entry_with : List ObjectSection → Entry → Entry
 entry_with sections (Auxiliary bytes) = Auxiliary bytes
 entry_with sections (ASymbol s) =
     if is_section_symbol s
-    then ASymbol (record s { value = 0; section = section_number_from 1 sections s.name; class = class_static })
+    then ASymbol (record s {
+      value = 0;
+      section = section_number_from 1 sections s.name;
+      class = class_static;
+    })
     else ASymbol s
 
--- An object with the sections that its symbols stand for. For example, the import descriptor gets a section 3,
--- `.idata$4`, and a section 4, `.idata$5`, without bytes, in which its symbols 3 and 4 are.
+-- An object with the sections that its symbols stand for. For example, the import descriptor gets a section
+-- 3, `.idata$4`, and a section 4, `.idata$5`, without bytes, in which its symbols 3 and 4 are.
 unfoldable pub with_section_symbols : Object → Object
 with_section_symbols o = record o {
   sections = sections_with o.sections o.entries;

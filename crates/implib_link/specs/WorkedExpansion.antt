@@ -2,7 +2,7 @@
 use Rattle.std.specs.Prelude.{◌≡◌, ℕ, List, [], ◌∷◌, ◌++◌, codes, Some, None}
 use Rattle.implib.specs.declared.coff.object.Relocation.{Relocation}
 use Rattle.implib.specs.declared.machine.MachineType.TheVariants.{I386, AMD64, ARM64}
-use Rattle.implib.specs.Object.{Entry, Object, ObjectSection}
+use Rattle.implib.specs.Object.{ASymbol, Entry, Object, ObjectSection}
 use Rattle.implib_link.specs.Expansion.{before_last_stop, descriptor_wanted, entry, taken_in}
 use Rattle.implib_link.specs.SectionSymbols.{with_section_symbols}
 
@@ -85,14 +85,19 @@ expanded_pi = an_object 0x14C
     ∷ entry (codes "_pi") 2 2
     ∷ [])
 
+-- a symbol of class section for `.idata$5`, whose value is the flags 0xC0000040
+abbrev pub with_flags : Entry
+with_flags =
+    ASymbol (record { name = codes ".idata$5"; value = 0xC000_0040; section = 0; kind = 0; class = 104 })
+
 -- an object with a section `.idata$4` of its own: its symbols stand for that one, two others for one that is
--- new, and one of no group for none
+-- new, whatever value they have, and one of no group for none
 abbrev pub with_symbols : Object
 with_symbols = an_object 0x8664
     (a_section (codes ".idata$4") 0xC030_0040 (1 ∷ 2 ∷ 3 ∷ 4 ∷ []) [] ∷ [])
     (entry (codes ".idata$4") 0 104
     ∷ entry (codes ".idata$5") 0 104
-    ∷ entry (codes ".idata$5") 0 104
+    ∷ with_flags
     ∷ entry (codes ".rdata") 0 104
     ∷ entry (codes ".idata$6") 0 2
     ∷ [])

@@ -43,7 +43,7 @@ const ENTRY_FLAGS: u32 = flags::ALIGN_4BYTES | flags::MEM_READ | flags::MEM_WRIT
 // The top bit of a thunk, in its last byte, says that it is an ordinal.
 const ORDINAL_BYTE: u8 = 0x80;
 
-// The index of the symbol of an export's address, where the export has code.
+// The index of an export's `__imp_` symbol, where the export has code.
 const IMP_SYMBOL: u32 = 2;
 
 // The auxiliary record of the file's name.

@@ -41,8 +41,8 @@ pub fn members_are_program()
         IsProgram machine bases inputs (objects_in (all_linked machine inputs) ++ null_descriptor ∷ []) }
 {}
 
-/// A loader that walks a directory and reads either table of each descriptor, however lenient it is otherwise,
-/// finds what the directory lists, and nothing else.
+/// A loader that walks a directory and reads either table of each descriptor, however lenient it is
+/// otherwise, finds what the directory lists, and nothing else.
 pub fn directory_once()
     ensures walk { (image : List Range) (width address : ℕ) (imports : List Imported) →
         DirectoryAt image width address imports → WalkFinds image width address imports }
