@@ -1,5 +1,5 @@
--- Characters of names, as their codes in ASCII, and whether a text holds one.
-use Rattle.std.specs.Prelude.{ℕ, Bool, ◌==◌, List}
+-- Characters of names, as their codes in ASCII, whether a text holds one, and whether it begins with one.
+use Rattle.std.specs.Prelude.{ℕ, Bool, false, ◌==◌, List, [], ◌∷◌}
 use Rattle.std.specs.List.{list_any}
 
 -- `@`
@@ -21,3 +21,17 @@ underscore = 0x5F
 -- whether a text holds this byte
 abbrev pub holds : ℕ → List ℕ → Bool
 holds byte text = list_any (λ b. b == byte) text
+
+-- the text begins with a byte that passes the test
+abbrev pub begins : (ℕ → Bool) → List ℕ → Bool
+begins test [] = false
+begins test (b ∷ rest) = test b
+
+-- whether a name begins with this byte
+abbrev pub begins_with : ℕ → List ℕ → Bool
+begins_with byte name = begins (λ b. b == byte) name
+
+-- a name without its first byte
+abbrev pub without_first : List ℕ → List ℕ
+without_first [] = []
+without_first (first ∷ rest) = rest

@@ -1,14 +1,14 @@
 -- What the exports of a text ask their DLL for: the words of the text.
 use Rattle.std.specs.Prelude.{◌≡◌, ℕ, false, List, [], ◌∷◌}
 use Rattle.std.specs.List.{flat_map}
-use Rattle.implib.specs.declared.members.Flavor.{Flavor}
+use Rattle.implib.specs.declared.flavor.Flavor.{Flavor}
 use Rattle.implib.specs.declared.machine.MachineType.{MachineType}
 use Rattle.implib.specs.Definition.{DefinitionView, ExportView}
-use Rattle.implib.specs.Grammar.{Export, Statement}
-use Rattle.implib.specs.Import.{asked_name}
-use Rattle.implib.specs.Meaning.{exports_in}
-use Rattle.implib.specs.NameRules.{asked_in}
-use Rattle.implib.specs.Parses.{Parses}
+use Rattle.implib.specs.Text.Grammar.{Export, Statement}
+use Rattle.implib.specs.Underscore.{asked_name}
+use Rattle.implib.specs.Text.Meaning.{exports_in}
+use Rattle.implib.specs.Members.NameRules.{asked_in}
+use Rattle.implib.specs.Text.Parses.{Parses}
 use Rattle.implib.specs.Renaming.{renamed}
 
 -- the word by which others know an export: the one that the text gives it first, unchanged

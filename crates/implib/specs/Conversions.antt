@@ -1,8 +1,8 @@
 -- Names and numbers of machines and flavours, and what converting from them gives.
 use Rattle.std.specs.Prelude.{◌≡◌, ℕ, ◌==◌, List, Option, None, Some, MatchOption, Result, Ok, IsErr, codes, if◌then◌else◌}
 use Rattle.std.specs.Str.{bytes_eq}
-use Rattle.implib.specs.declared.members.Flavor.{Flavor}
-use Rattle.implib.specs.declared.members.Flavor.TheVariants.{Msvc, Gnu}
+use Rattle.implib.specs.declared.flavor.Flavor.{Flavor}
+use Rattle.implib.specs.declared.flavor.Flavor.TheVariants.{Msvc, Gnu}
 use Rattle.implib.specs.declared.machine.MachineType.{MachineType}
 use Rattle.implib.specs.declared.machine.MachineType.TheVariants.{I386, ARMNT, AMD64, ARM64}
 use Rattle.implib.specs.Machine.{machine_number}

@@ -6,9 +6,8 @@ use Rattle.std.specs.List.{filter, flat_map}
 use Rattle.implib.specs.declared.machine.MachineType.{MachineType}
 pub use Rattle.implib.specs.Ascii.{at_sign, holds, underscore}
 use Rattle.implib.specs.Definition.{DefinitionView, ExportView}
-use Rattle.implib.specs.Machine.{has_leading_underscore}
 use Rattle.implib.specs.Renaming.{renamed}
-use Rattle.implib.specs.Token.{begins}
+use Rattle.implib.specs.Underscore.{asked_name}
 
 -- what is asked of the DLL: an ordinal, or a name with a hint where to look for it
 -- (PE/COFF specification, "Import Lookup Table" and "Hint/Name Table")
@@ -21,25 +20,6 @@ pub record Import : Type 0 where
   pub dll : List ℕ
   pub declared : List (List ℕ)
   pub ask : Ask
-
--- whether a name begins with this byte
-abbrev pub begins_with : ℕ → List ℕ → Bool
-begins_with byte name = begins (λ b. b == byte) name
-
--- a name without its first byte
-abbrev pub without_first : List ℕ → List ℕ
-without_first [] = []
-without_first (first ∷ rest) = rest
-
--- whether a name has the underscore that I386 puts before an undecorated name
-abbrev pub has_underscore : MachineType → List ℕ → Bool
-has_underscore machine name =
-    has_leading_underscore machine && begins_with underscore name && not (holds at_sign name)
-
--- The name that an export asks for: its name without that underscore. For example, on I386 `_bar` asks for
--- bar, and `_f@8` for `_f@8`.
-abbrev pub asked_name : MachineType → List ℕ → List ℕ
-asked_name machine name = if has_underscore machine name then without_first name else name
 
 -- the symbol of the address that the loader fills in
 abbrev pub imp_symbol : List ℕ → List ℕ

@@ -1,16 +1,14 @@
 -- What an import library holds, and what a member shows.
 use Rattle.std.specs.Prelude.{◌≡◌, ℕ, List, map}
 use Rattle.std.specs.String.{string_bytes}
-use Rattle.std.specs.declared.vec.Vec.{Vec}
 use Rattle.implib.specs.declared.def.definition.ModuleDef.{ModuleDef}
-use Rattle.implib.specs.declared.members.Flavor.{Flavor}
-use Rattle.implib.specs.declared.members.Member.{Member}
+use Rattle.implib.specs.declared.flavor.Flavor.{Flavor}
+use Rattle.implib.specs.declared.member.Member.{Member}
 use Rattle.implib.specs.declared.machine.MachineType.{MachineType}
 use Rattle.implib.specs.Definition.{DefinitionView, definition_view}
-use Rattle.implib.specs.MemberSpec.{MemberView}
+use Rattle.implib.specs.Members.MemberSpec.{MemberView}
 use Rattle.implib.specs.Renaming.{renamed}
-use Rattle.implib.specs.Parses.{Parses}
-use Rattle.implib.specs.LinkedMembers.{LinkInput, inputs_of}
+use Rattle.implib.specs.Text.Parses.{Parses}
 
 -- a definition, and what its members are made for
 pub record LibraryView : Type 0 where
@@ -40,10 +38,3 @@ pub record LibraryOf (text : List ℕ) (machine : MachineType) (flavor : Flavor)
   pub parsed : DefinitionView
   pub parses : Parses text machine parsed
   pub held : library ≡ record { definition = renamed parsed; machine = machine; flavor = flavor }
-
--- the link inputs that the program's lists of definitions, members and choices make, index by index
-abbrev pub inputs_held : {A B : Type 0} → List ModuleDef → List (Vec Member A) → List (Vec ℕ B) →
-    List LinkInput
-inputs_held definitions members chosen =
-    inputs_of (map definition_view definitions) (map (λ list. map member_view list.items) members)
-    (map (λ list. list.items) chosen)

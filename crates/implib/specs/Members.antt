@@ -1,50 +1,14 @@
--- The members of a definition, each specified before it is encoded, and the definitions that are refused.
-use Rattle.std.specs.Prelude.{◌≡◌, Bool, true, nat_lt, List, ◌++◌, map, Option, Some, None, if◌then◌else◌}
-use Rattle.std.specs.List.{flat_map, list_all, list_any}
-use Rattle.implib.specs.declared.members.Flavor.{Flavor}
-use Rattle.implib.specs.declared.members.Flavor.TheVariants.{Msvc, Gnu}
-use Rattle.implib.specs.declared.machine.MachineType.{MachineType}
-use Rattle.implib.specs.Definition.{DefinitionView, ExportView}
-use Rattle.implib.specs.Fault.{Cause, MemberTooLong}
-use Rattle.implib.specs.Import.{public_exports}
-use Rattle.implib.specs.Renaming.{renamed}
-use Rattle.implib.specs.GnuMembers.{gnu_specs}
-use Rattle.implib.specs.MemberSpec.{MemberSpec, MemberView, file_size, member_of}
-use Rattle.implib.specs.MsvcMembers.{export_specs, header_specs}
-use Rattle.implib.specs.NameRules.{definition_names_refusal, first_of_both}
-
--- the members of a definition whose exports are under their names to link by
-abbrev pub member_specs : DefinitionView → MachineType → Flavor → List MemberSpec
-member_specs d machine Msvc =
-    header_specs machine d.import_name ++ flat_map (export_specs machine d.import_name) (public_exports d)
-member_specs d machine Gnu = gnu_specs machine d.import_name (public_exports d)
-
--- whether a member would be longer than a u32 can say
-abbrev pub is_too_long : MemberSpec → Bool
-is_too_long p = nat_lt 0xFFFF_FFFF (file_size p.contents)
-
--- a member that is too long
-abbrev pub length_refusal : List MemberSpec → Option Cause
-length_refusal specs = if list_any is_too_long specs then Some MemberTooLong else None
-
--- the first rule that such a definition breaks: on the import name, on the exports' names, on lengths
-unfoldable pub renamed_refusal : DefinitionView → MachineType → Flavor → Option Cause
-renamed_refusal d machine flavor =
-    first_of_both (definition_names_refusal d machine flavor) (length_refusal (member_specs d machine flavor))
-
--- the first rule that refuses a definition
-unfoldable pub refusal : DefinitionView → MachineType → Flavor → Option Cause
-refusal d machine flavor = renamed_refusal (renamed d) machine flavor
-
--- whether an ordinal is a 16-bit number, as every ordinal of the program is
-abbrev pub has_u16_ordinal : ExportView → Bool
-has_u16_ordinal e = nat_lt e.ordinal 0x1_0000
-
--- The members are those of the definition, which is not refused. For example, foo.dll with bar on AMD64 has
--- four members for Microsoft's linker, of 358, 127, 159 and 32 bytes, and three for GNU's, of 356, 450 and
--- 474.
-pub record AreMembersOf (d : DefinitionView) (machine : MachineType) (flavor : Flavor)
-    (members : List MemberView) : Type 0 where
-  pub accepted : refusal d machine flavor ≡ None
-  pub made : members ≡ map member_of (member_specs (renamed d) machine flavor)
-  pub ordinals : list_all has_u16_ordinal (public_exports (renamed d)) ≡ true
+-- Members: the tables of both flavours, which definitions have none, and what their bytes are read as.
+pub mod GnuReader
+pub mod ImportTables
+pub mod WeakExternal
+pub mod Msvc
+pub mod MsvcObjects
+pub mod Gnu
+pub mod MemberSpec
+pub mod MsvcMembers
+pub mod GnuMembers
+pub mod NameRules
+pub mod Members
+pub mod ReadBack
+pub mod OfText

@@ -2,7 +2,7 @@
 
 ghost use Rattle.implib.specs.declared.error.Error.TheVariants.{OutOfMemory};
 ghost use Rattle.implib.specs.Fault.{cause_of, export_index};
-ghost use Rattle.implib.specs.RefusedAt.{without_position};
+ghost use Rattle.implib.specs.Text.RefusedAt.{without_position};
 ghost use Rattle.std.specs.Prelude.{◌≡◌};
 
 use crate::def::lexer::TokenKind;

@@ -2,26 +2,23 @@
 //! for GNU's linker").
 
 ghost use Rattle.implib.specs.Definition.{export_view};
-ghost use Rattle.implib.specs.Import.{asked_name, at_sign, begins_with};
-ghost use Rattle.implib.specs.Msvc.{asked_by_short_import, name_type_of, short_import_symbol};
-ghost use Rattle.implib.specs.NameRules.{asked_in};
-ghost use Rattle.implib.specs.ShortImport.{before_at_sign, without_prefix};
+ghost use Rattle.implib.specs.Import.{at_sign};
+ghost use Rattle.implib.specs.Underscore.{asked_name};
+ghost use Rattle.implib.specs.Ascii.{begins_with};
+ghost use Rattle.implib.specs.Members.Msvc.{asked_by_short_import, name_type_of, short_import_symbol};
+ghost use Rattle.implib.specs.Members.NameRules.{asked_in};
+ghost use Rattle.implib.specs.Formats.ShortImport.{before_at_sign, without_prefix};
 ghost use Rattle.std.specs.List.{position};
 ghost use Rattle.std.specs.Prelude.{◌==◌, ◌≡◌, ◌≤◌};
 
+use crate::ascii::begins_with;
+use crate::coff::constants::import_name_type::{
+    IMPORT_NAME, IMPORT_NAME_NOPREFIX, IMPORT_NAME_UNDECORATE, IMPORT_ORDINAL,
+};
 use crate::def::definition::ShortExport;
-use crate::def::lexer::begins_with;
+use crate::flavor::Flavor;
 use crate::machine::MachineType;
-use crate::members::Flavor;
-
-// The name types of a short import (PE/COFF specification, "Import Name Type").
-const IMPORT_ORDINAL: u16 = 0;
-
-const IMPORT_NAME: u16 = 1;
-
-const IMPORT_NAME_NOPREFIX: u16 = 2;
-
-const IMPORT_NAME_UNDECORATE: u16 = 3;
+use crate::underscore::{begins_with_underscore, without_underscore};
 
 /// The name that the export asks the DLL for.
 pub(crate) fn asked(export: &ShortExport, machine: MachineType, flavor: Flavor) -> &[u8]
@@ -57,7 +54,7 @@ pub(crate) fn name_type(export: &ShortExport, machine: MachineType) -> u16
         IMPORT_NAME
     } else if symbol != name {
         IMPORT_NAME_UNDECORATE
-    } else if machine.has_leading_underscore() && begins_with(symbol, b'_') {
+    } else if begins_with_underscore(symbol, machine) {
         IMPORT_NAME_NOPREFIX
     } else {
         IMPORT_NAME
@@ -75,7 +72,7 @@ fn without_prefix(symbol: &[u8]) -> &[u8]
 }
 
 // The symbol up to its first `@`.
-#[tactic(auto, using(crate::proofs::AskedName::take_to_position))]
+#[tactic(auto, using(crate::proofs::Members::AskedName::take_to_position))]
 fn before_at_sign(symbol: &[u8]) -> &[u8]
     ensures { result.now ≡ before_at_sign symbol.now }
 {
@@ -104,14 +101,9 @@ fn asked_by_short_import(export: &ShortExport, machine: MachineType) -> &[u8]
     }
 }
 
-/// The name in the export's hint/name table entry: on I386 without the leading underscore, which compilers
-/// for I386 put before each name of C, and which the names that a DLL exports lack.
+/// The name in the export's hint/name table entry.
 pub(crate) fn asked_by_hint_name(export: &ShortExport, machine: MachineType) -> &[u8]
     ensures { result.now ≡ asked_name machine (export_view export.now).name }
 {
-    let name = export.name.as_bytes();
-    match name {
-        [b'_', rest @ ..] if machine.has_leading_underscore() && !name.contains(&b'@') => rest,
-        _ => name,
-    }
+    without_underscore(export.name.as_bytes(), machine)
 }

@@ -1,8 +1,8 @@
 //! What the import tables of an object are made of, for either linker (docs/FORMATS.md, "Import tables").
 
-ghost use Rattle.implib.specs.Constants.{image_relative};
+ghost use Rattle.implib.specs.Formats.Constants.{image_relative};
 ghost use Rattle.implib.specs.Import.{imp_symbol};
-ghost use Rattle.implib.specs.ImportTables.{relocation, thunk_width, zeros};
+ghost use Rattle.implib.specs.Members.ImportTables.{relocation, thunk_width, zeros};
 ghost use Rattle.std.specs.Prelude.{[], string_bytes, ◌++◌, ◌∷◌, ◌≡◌, IfOk};
 
 use crate::coff::constants::{flags, relocation};

@@ -26,23 +26,25 @@
 //! ```
 #![tactic(auto)]
 
+mod ascii;
 pub mod coff;
-mod conversions;
 pub mod def;
 mod error;
+mod flavor;
 pub mod gnu;
 mod import_name;
 mod import_tables;
 pub mod laws;
 mod library;
 mod machine;
-mod members;
+mod member;
 pub mod msvc;
 mod refusal;
+mod underscore;
 mod weak_external;
 
-pub use conversions::{UnknownFlavor, UnknownMachine};
 pub use error::{Error, Fault, ParseError};
+pub use flavor::{Flavor, UnknownFlavor};
 pub use library::ImportLibrary;
-pub use machine::MachineType;
-pub use members::{Flavor, Member};
+pub use machine::{MachineType, UnknownMachine};
+pub use member::Member;

@@ -3,18 +3,19 @@
 ghost use Rattle.implib.specs.Definition.{definition_view, export_view};
 ghost use Rattle.implib.specs.Fault.{IfInvalid, error_cause};
 ghost use Rattle.implib.specs.Library.{LibraryOf, library_view, member_view};
-ghost use Rattle.implib.specs.Members.{AreMembersOf, refusal};
-ghost use Rattle.implib.specs.NameRules.{RefusesAlways};
-ghost use Rattle.implib.specs.Parses.{Refuses};
-ghost use Rattle.implib.specs.ReadBack.{ReadBack};
+ghost use Rattle.implib.specs.Members.Members.{AreMembersOf, refusal};
+ghost use Rattle.implib.specs.Members.NameRules.{RefusesAlways};
+ghost use Rattle.implib.specs.Text.Parses.{Refuses};
+ghost use Rattle.implib.specs.Members.ReadBack.{ReadBack};
 ghost use Rattle.implib.specs.Renaming.{is_renamed, renamed};
 ghost use Rattle.std.specs.Prelude.{◌≡◌, IfErr, IfOk, None, Some, map, true};
 
 use crate::def::definition::{ModuleDef, rename};
 use crate::error::Error;
+use crate::flavor::Flavor;
 use crate::gnu::members::members as gnu_members;
 use crate::machine::MachineType;
-use crate::members::{Flavor, Member};
+use crate::member::Member;
 use crate::msvc::members::members as msvc_members;
 use std::alloc::Global;
 use std::marker::Model;
@@ -30,7 +31,7 @@ pub struct ImportLibrary {
 impl Model for ImportLibrary {
     ghost use Rattle.implib.specs.Definition.{export_view};
     ghost use Rattle.implib.specs.Library.{LibraryView, library_view};
-    ghost use Rattle.implib.specs.ReadBack.{ReadBack};
+    ghost use Rattle.implib.specs.Members.ReadBack.{ReadBack};
     ghost use Rattle.implib.specs.Renaming.{is_renamed};
     ghost use Rattle.std.specs.Prelude.{◌≡◌, map, true};
 

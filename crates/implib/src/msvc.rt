@@ -3,18 +3,19 @@
 ghost use Rattle.implib.specs.Definition.{definition_view};
 ghost use Rattle.implib.specs.Fault.{IfInvalid};
 ghost use Rattle.implib.specs.Library.{member_view};
-ghost use Rattle.implib.specs.Members.{AreMembersOf, refusal};
-ghost use Rattle.implib.specs.NameRules.{RefusesAlways};
-ghost use Rattle.implib.specs.ReadBack.{ReadBack};
+ghost use Rattle.implib.specs.Members.Members.{AreMembersOf, refusal};
+ghost use Rattle.implib.specs.Members.NameRules.{RefusesAlways};
+ghost use Rattle.implib.specs.Members.ReadBack.{ReadBack};
 ghost use Rattle.implib.specs.Renaming.{renamed};
-ghost use Rattle.implib.specs.declared.members.Flavor.TheVariants.{Msvc};
+ghost use Rattle.implib.specs.declared.flavor.Flavor.TheVariants.{Msvc};
 ghost use Rattle.std.specs.Prelude.{Some, map, ◌≡◌, IfOk};
 
 use crate::def::definition::ModuleDef;
 use crate::error::Error;
+use crate::flavor::Flavor;
 use crate::library::ImportLibrary;
 use crate::machine::MachineType;
-use crate::members::{Flavor, Member};
+use crate::member::Member;
 use std::marker::Model;
 
 pub(crate) mod members;
@@ -30,7 +31,7 @@ pub struct MsvcImportLibrary {
 
 impl Model for MsvcImportLibrary {
     ghost use Rattle.implib.specs.Library.{LibraryView};
-    ghost use Rattle.implib.specs.declared.members.Flavor.TheVariants.{Msvc};
+    ghost use Rattle.implib.specs.declared.flavor.Flavor.TheVariants.{Msvc};
     ghost use Rattle.std.specs.Prelude.{◌≡◌};
 
     ghost Value = { LibraryView };

@@ -3,15 +3,15 @@
 ghost use Rattle.implib.specs.Definition.{definition_view, export_view};
 ghost use Rattle.implib.specs.Fault.{cause_of};
 ghost use Rattle.implib.specs.Import.{holds};
-ghost use Rattle.implib.specs.NameRules.{definition_names_refusal, import_name_refusal, name_refusal, names_refusal};
+ghost use Rattle.implib.specs.Members.NameRules.{definition_names_refusal, import_name_refusal, name_refusal, names_refusal};
 ghost use Rattle.std.specs.Option.{option_map};
 ghost use Rattle.std.specs.Prelude.{map, string_bytes, ◌≡◌};
 
 use crate::def::definition::{ModuleDef, ShortExport};
 use crate::error::Fault;
+use crate::flavor::Flavor;
 use crate::import_name::asked;
 use crate::machine::MachineType;
-use crate::members::Flavor;
 
 /// The first rule on names that the definition breaks: of the import name, then of each export that
 /// is not private, in order.

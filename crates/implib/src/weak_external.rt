@@ -2,15 +2,15 @@
 //! (docs/FORMATS.md, "Weak externals"; PE/COFF specification, "Auxiliary Format 3: Weak Externals").
 
 ghost use Rattle.implib.specs.Fault.{IfInvalid, MemberTooLong};
-ghost use Rattle.implib.specs.File.{AnAlias, meaning_in};
+ghost use Rattle.implib.specs.Formats.File.{AnAlias, meaning_in};
 ghost use Rattle.implib.specs.Import.{holds, is_alias};
-ghost use Rattle.implib.specs.Layout.{encoded, encoded_size};
-ghost use Rattle.implib.specs.LayoutView.{symbol_view};
+ghost use Rattle.implib.specs.Formats.Layout.{encoded, encoded_size};
+ghost use Rattle.implib.specs.Views.Layout.{symbol_view};
 ghost use Rattle.implib.specs.Library.{member_view};
-ghost use Rattle.implib.specs.MemberSpec.{member_of};
-ghost use Rattle.implib.specs.Members.{is_too_long};
-ghost use Rattle.implib.specs.WeakExternal.{weak_object, weak_section, weak_spec, weak_symbols};
-ghost use Rattle.implib.specs.Writer.{section_view};
+ghost use Rattle.implib.specs.Members.MemberSpec.{member_of};
+ghost use Rattle.implib.specs.Members.Members.{is_too_long};
+ghost use Rattle.implib.specs.Members.WeakExternal.{weak_object, weak_section, weak_spec, weak_symbols};
+ghost use Rattle.implib.specs.Formats.Writer.{section_view};
 ghost use Rattle.std.specs.Prelude.{Some, false, map, string_bytes, true, ◌<◌, ◌^◌, ◌≡◌, ◌≤◌, IfOk, OnOk};
 
 use crate::coff::constants::{class, flags, section_number, weak};
@@ -18,7 +18,7 @@ use crate::coff::layout::{LayoutSymbol, ObjectLayout, SymbolName, encode};
 use crate::coff::object::Section;
 use crate::error::Error;
 use crate::machine::MachineType;
-use crate::members::Member;
+use crate::member::Member;
 use std::alloc::Global;
 
 /// The number of members that make an alias: one for the symbol, one for its `__imp_` symbol.
@@ -51,7 +51,7 @@ fn weak_section(alloc: Global) -> Section
 }
 
 // The symbols of a weak external: of the two names in the string table, the second is weak for the first.
-#[tactic(auto, unfolding(crate::specs::Bytes::u32_bytes))]
+#[tactic(auto, unfolding(crate::specs::Formats::Bytes::u32_bytes))]
 fn weak_symbols() -> [LayoutSymbol<'static>; 4]
     ensures { map symbol_view result ≡ weak_symbols }
 {

@@ -4,13 +4,14 @@ use Rattle.std.specs.Option.{IsSome, unwrap_or}
 use Rattle.std.specs.Str.{IsUtf8}
 use Rattle.std.specs.Str.Lossy.{utf8_valid_len}
 use Rattle.implib.specs.declared.machine.MachineType.{MachineType}
-use Rattle.implib.specs.declared.members.Flavor.{Flavor}
+use Rattle.implib.specs.declared.flavor.Flavor.{Flavor}
 use Rattle.implib.specs.Conversions.{machine_numbered}
 use Rattle.implib.specs.Fault.{Cause, cause_of, export_index}
-use Rattle.implib.specs.MemberSpec.{MemberView}
+use Rattle.implib.specs.Members.MemberSpec.{MemberView}
 use Rattle.implib_c.specs.declared.outcome.Failure.{Failure}
 use Rattle.implib_c.specs.declared.outcome.Failure.TheVariants as failure
-use Rattle.implib_c.specs.Answer.{Answers, EndsSo, MembersOf, Success, BufferTooSmall, OutOfMemory, NotUtf8, Refused, SyntaxError, UnknownFlavor, UnknownMachine, WithInput, flavor_numbered}
+use Rattle.implib.specs.Members.OfText.{MembersOf}
+use Rattle.implib_c.specs.Answer.{Answers, EndsSo, Success, BufferTooSmall, OutOfMemory, NotUtf8, Refused, SyntaxError, UnknownFlavor, UnknownMachine, WithInput, flavor_numbered}
 use Rattle.implib_c.specs.Encoding.{encoded_members}
 use Rattle.implib_c.specs.Given.{OnTextFault, PutsInto, length_given, place_given, status_given}
 use Rattle.implib_c.specs.Status.{cause_status, status_number}

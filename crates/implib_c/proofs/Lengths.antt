@@ -1,7 +1,7 @@
 -- The lengths of encodings.
 use Rattle.std.proofs.Common.{◌≡◌, ℕ, ◌+◌, ◌<◌, ◌^◌, List, ◌++◌, Option, None, Some, IfSome, length, flat_map, refl, ◌∙◌, arith, length-append}
 use Rattle.std.specs.Option.{SomeIff}
-use Rattle.implib.specs.MemberSpec.{MemberView}
+use Rattle.implib.specs.Members.MemberSpec.{MemberView}
 use Rattle.implib_c.specs.Encoding.{encoded_list, encoded_member, encoded_members, encoded_number, encoded_text}
 
 pub number_size : (n : ℕ) → length (encoded_number n) ≡ 8

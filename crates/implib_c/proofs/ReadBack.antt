@@ -4,7 +4,7 @@ use Rattle.std.specs.Int.{w64, from_le_bytes}
 use Rattle.std.specs.Option.{option_map}
 use Rattle.std.proofs.lemmas.List.{drop_at, take_at}
 use Rattle.std.proofs.lemmas.Nat.{from_le_bytes-to_le_bytes_8}
-use Rattle.implib.specs.MemberSpec.{MemberView}
+use Rattle.implib.specs.Members.MemberSpec.{MemberView}
 use Rattle.implib_c.specs.Encoding.{bytes_in, encoded_list, encoded_member, encoded_members, encoded_number, encoded_text, items_in, list_in, member_in, members_in, number_in, text_in}
 use Rattle.implib_c.proofs.Lengths.{list_size, member_size, number_size, text_size}
 

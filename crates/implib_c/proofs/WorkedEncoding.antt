@@ -1,6 +1,6 @@
 -- The worked encodings, by computing.
 use Rattle.std.proofs.Common.{refl}
-use Rattle.implib.specs.WorkedDigits.{bytes_of_digits}
+use Rattle.implib.specs.Worked.Digits.{bytes_of_digits}
 use Rattle.implib_c.specs.Encoding.{bytes_in, encoded_member, encoded_members, encoded_number, items_in, list_in, member_in, members_in, number_in, text_in}
 use Rattle.implib_c.specs.WorkedEncoding.{WorkedEncodings, one_member, one_member_bytes, two_members, two_members_bytes}
 

@@ -1,19 +1,17 @@
 -- What the exports answer.
-use Rattle.std.specs.Prelude.{◌≡◌, ◌⊎◌, ℕ, ◌<◌, ◌≤◌, ◌==◌, List, ◌++◌, length, drop, Option, None, Some}
+use Rattle.std.specs.Prelude.{◌≡◌, ℕ, ◌<◌, ◌≤◌, ◌==◌, List, ◌++◌, length, drop, Option, None, Some}
 use Rattle.std.specs.Prelude.{if◌then◌else◌}
 use Rattle.std.specs.Option.{IsSome, unwrap_or}
 use Rattle.std.specs.Str.{IsUtf8}
 use Rattle.std.specs.Str.Lossy.{utf8_valid_len}
 use Rattle.implib.specs.declared.machine.MachineType.{MachineType}
-use Rattle.implib.specs.declared.members.Flavor.{Flavor}
-use Rattle.implib.specs.declared.members.Flavor.TheVariants.{Msvc, Gnu}
+use Rattle.implib.specs.declared.flavor.Flavor.{Flavor}
+use Rattle.implib.specs.declared.flavor.Flavor.TheVariants.{Msvc, Gnu}
 use Rattle.implib.specs.Conversions.{machine_numbered}
 use Rattle.implib.specs.Fault.{Cause, export_index}
-use Rattle.implib.specs.Library.{LibraryOf, LibraryView}
-use Rattle.implib.specs.Members.{AreMembersOf, refusal}
-use Rattle.implib.specs.MemberSpec.{MemberView}
-use Rattle.implib.specs.Parses.{RefusesAt}
-use Rattle.implib.specs.ReadBack.{ReadBack}
+use Rattle.implib.specs.Members.MemberSpec.{MemberView}
+use Rattle.implib.specs.Text.Parses.{RefusesAt}
+use Rattle.implib.specs.Members.OfText.{HasNoMembers, MembersOf}
 use Rattle.implib_c.specs.declared.status.Status.{Status}
 use Rattle.implib_c.specs.declared.status.Status.TheVariants as status
 use Rattle.implib_c.specs.Encoding.{encoded_members, members_in}
@@ -22,21 +20,6 @@ use Rattle.implib_c.specs.Status.{cause_status, status_number}
 -- the flavour with a number
 abbrev pub flavor_numbered : ℕ → Option Flavor
 flavor_numbered number = if number == 0 then Some Msvc else if number == 1 then Some Gnu else None
-
--- the members are those of the library that the text means, and are read back as its definition says
-pub record MembersOf (text : List ℕ) (machine : MachineType) (flavor : Flavor) (members : List MemberView)
-    : Type 0 where
-  pub library : LibraryView
-  pub of_text : LibraryOf text machine flavor library
-  pub made : AreMembersOf library.definition machine flavor members
-  pub reads : ReadBack library.definition machine flavor members
-
--- the text means a library whose definition has no members, for this cause
-pub record HasNoMembers (text : List ℕ) (machine : MachineType) (flavor : Flavor) (cause : Cause)
-    : Type 0 where
-  pub library : LibraryView
-  pub of_text : LibraryOf text machine flavor library
-  pub refused : refusal library.definition machine flavor ≡ Some cause
 
 -- How a call ends. A syntax error has its cause and its offset, and a definition without members the cause.
 pub data Outcome : Type 0 where

@@ -4,7 +4,7 @@ use Rattle.std.specs.Prelude.{drop, Option, None, Some, if◌then◌else◌}
 use Rattle.std.specs.Int.{w64, from_le_bytes, to_le_bytes}
 use Rattle.std.specs.List.{flat_map}
 use Rattle.std.specs.Option.{option_and_then, option_map}
-use Rattle.implib.specs.MemberSpec.{MemberView}
+use Rattle.implib.specs.Members.MemberSpec.{MemberView}
 
 -- What is written.
 

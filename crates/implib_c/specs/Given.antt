@@ -6,16 +6,16 @@ use Rattle.implib.specs.declared.error.Error.TheVariants as error
 use Rattle.implib.specs.declared.error.ParseError.{ParseError}
 use Rattle.implib.specs.declared.error.ParseError.TheVariants as parse_error
 use Rattle.implib.specs.declared.machine.MachineType.{MachineType}
-use Rattle.implib.specs.declared.members.Flavor.{Flavor}
+use Rattle.implib.specs.declared.flavor.Flavor.{Flavor}
 use Rattle.implib.specs.Fault.{cause_of, export_index}
-use Rattle.implib.specs.MemberSpec.{MemberView}
-use Rattle.implib.specs.Parses.{RefusesAt}
+use Rattle.implib.specs.Members.MemberSpec.{MemberView}
+use Rattle.implib.specs.Text.Parses.{RefusesAt}
 use Rattle.implib_c.specs.declared.outcome.Failure.{Failure}
 use Rattle.implib_c.specs.declared.outcome.Failure.TheVariants.{BufferTooSmall, OutOfMemory, NotUtf8}
 use Rattle.implib_c.specs.declared.outcome.Failure.TheVariants.{UnknownMachine, UnknownFlavor, SyntaxError, Refused}
 use Rattle.implib_c.specs.declared.status.Status.{Status}
 use Rattle.implib_c.specs.declared.status.Status.TheVariants as status
-use Rattle.implib_c.specs.Answer.{HasNoMembers}
+use Rattle.implib.specs.Members.OfText.{HasNoMembers}
 use Rattle.implib_c.specs.Encoding.{encoded_members}
 use Rattle.implib_c.specs.Status.{cause_status}
 

@@ -1,7 +1,7 @@
 -- Encodings worked by hand, and buffers that are read.
 use Rattle.std.specs.Prelude.{◌≡◌, ℕ, List, [], ◌∷◌, ◌++◌, None, Some, codes, length}
-use Rattle.implib.specs.MemberSpec.{MemberView}
-use Rattle.implib.specs.WorkedDigits.{hex}
+use Rattle.implib.specs.Members.MemberSpec.{MemberView}
+use Rattle.implib.specs.Worked.Digits.{hex}
 use Rattle.implib_c.specs.Encoding.{encoded_members, members_in}
 
 -- a member of one symbol, with its encoding

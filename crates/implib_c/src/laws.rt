@@ -1,7 +1,7 @@
 //! What a caller may conclude of encodings and of statuses. These functions do nothing: each contract is a
 //! law.
 
-ghost use Rattle.implib.specs.MemberSpec.{MemberView};
+ghost use Rattle.implib.specs.Members.MemberSpec.{MemberView};
 ghost use Rattle.implib_c.specs.Encoding.{ReadsBack};
 ghost use Rattle.implib_c.specs.Status.{NumbersReturn};
 ghost use Rattle.implib_c.specs.WorkedEncoding.{WorkedEncodings};

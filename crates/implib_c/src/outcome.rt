@@ -2,7 +2,8 @@
 
 ghost use Rattle.implib.specs.Conversions.{machine_numbered};
 ghost use Rattle.implib.specs.Library.{member_view};
-ghost use Rattle.implib_c.specs.Answer.{Answers, MembersOf, flavor_numbered};
+ghost use Rattle.implib.specs.Members.OfText.{MembersOf};
+ghost use Rattle.implib_c.specs.Answer.{Answers, flavor_numbered};
 ghost use Rattle.implib_c.specs.Given.{OnTextFault, PutsInto, failure_status, length_given, place_given, status_given};
 ghost use Rattle.implib_c.specs.Status.{status_number};
 ghost use Rattle.std.specs.Prelude.{◌≡◌, IfErr, IfOk, map};

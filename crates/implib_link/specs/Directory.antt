@@ -2,11 +2,11 @@
 -- each DLL, one after another, and the null descriptor.
 use Rattle.std.specs.Prelude.{ℕ, ◌+◌, ◌<◌, ◌⊎◌, List, [], ◌∷◌, map}
 use Rattle.implib.specs.declared.machine.MachineType.{MachineType}
-use Rattle.implib.specs.Image.{Range}
+use Rattle.implib.specs.Link.Image.{Range}
 use Rattle.implib.specs.Import.{Ask, expected_ask}
-use Rattle.implib.specs.LinkedMembers.{LinkInput, chosen_exports}
-use Rattle.implib.specs.Load.{BytesAt, LoadsStrictly, NumberAt, TableAt, TextAt}
-use Rattle.implib.specs.ImportTables.{zeros}
+use Rattle.implib.specs.Link.LinkedMembers.{LinkInput, chosen_exports}
+use Rattle.implib.specs.Link.Load.{BytesAt, LoadsStrictly, NumberAt, TableAt, TextAt}
+use Rattle.implib.specs.Members.ImportTables.{zeros}
 
 -- a DLL, and all that is asked of it
 pub record Imported : Type 0 where

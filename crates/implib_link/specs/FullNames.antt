@@ -3,10 +3,10 @@
 -- "Section Table"). Image files have no such names.
 use Rattle.std.specs.Prelude.{◌≡◌, ℕ, ◌+◌, ◌-◌, ◌*◌, Bool, false, true, ◌&&◌, ◌==◌, nat_le, List, [], ◌∷◌, ◌++◌, codes, drop, take, Option, Some, None, if◌then◌else◌}
 use Rattle.std.specs.Option.{option_and_then, option_map}
-use Rattle.implib.specs.Bytes.{u16_bytes, u32_bytes}
-use Rattle.implib.specs.ImportTables.{zeros}
-use Rattle.implib.specs.Object.{Object, ObjectSection, before_nul, bytes_at, object_in, strings_at, u32_at, up_to_nul}
-use Rattle.implib_link.specs.Program.{has_tables}
+use Rattle.implib.specs.Formats.Bytes.{u16_bytes, u32_bytes}
+use Rattle.implib.specs.Members.ImportTables.{zeros}
+use Rattle.implib.specs.Formats.Object.{Object, ObjectSection, before_nul, bytes_at, object_in, strings_at, u32_at, up_to_nul}
+use Rattle.implib_link.specs.Gnu.Program.{has_tables}
 
 abbrev pub slash : ℕ
 slash = 0x2F

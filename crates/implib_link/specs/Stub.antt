@@ -6,15 +6,15 @@ use Rattle.std.specs.List.{Contains}
 use Rattle.implib.specs.declared.coff.object.Relocation.{Relocation}
 use Rattle.implib.specs.declared.machine.MachineType.{MachineType}
 use Rattle.implib.specs.declared.machine.MachineType.TheVariants.{I386, ARMNT, AMD64, ARM64}
-use Rattle.implib.specs.Bytes.{u32_bytes}
-use Rattle.implib.specs.Constants.{amd64_rel32, arm64_pagebase_rel21, arm64_pageoffset_12l, class_external, i386_dir32}
-use Rattle.implib.specs.Image.{Range}
+use Rattle.implib.specs.Formats.Bytes.{u32_bytes}
+use Rattle.implib.specs.Formats.Constants.{amd64_rel32, arm64_pagebase_rel21, arm64_pageoffset_12l, class_external, i386_dir32}
+use Rattle.implib.specs.Link.Image.{Range}
 use Rattle.implib.specs.Import.{imp_symbol}
-use Rattle.implib.specs.Linked.{IsDefinedOnce}
-use Rattle.implib.specs.Load.{BytesAt, number_in}
-use Rattle.implib.specs.Object.{ASymbol, ObjectSection, ObjectSymbol}
-use Rattle.implib.specs.Placement.{Bases, Placed}
-use Rattle.implib.specs.Resolution.{definitions_of, target_address}
+use Rattle.implib.specs.Link.Linked.{IsDefinedOnce}
+use Rattle.implib.specs.Link.Load.{BytesAt, number_in}
+use Rattle.implib.specs.Formats.Object.{ASymbol, ObjectSection, ObjectSymbol}
+use Rattle.implib.specs.Link.Placement.{Bases, Placed}
+use Rattle.implib.specs.Link.Resolution.{definitions_of, target_address}
 
 -- the four bytes at an offset, as a number, and with another number in their place
 abbrev pub word_at : List ℕ → ℕ → ℕ

@@ -3,6 +3,3 @@
 #![tactic(auto)]
 
 pub mod laws;
-mod members;
-
-pub use members::{members_of_text, msvc_members_of_text};

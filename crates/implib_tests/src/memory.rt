@@ -1,7 +1,7 @@
 //! A writer whose allocations fail. With each allocation of a test failed in turn (`checks/memory`) the
 //! first test still passes, and the other two fail equally often.
 
-ghost use Rattle.implib.specs.Writer.{with_section, with_symbol};
+ghost use Rattle.implib.specs.Formats.Writer.{with_section, with_symbol};
 ghost use Rattle.std.specs.Prelude.{◌≡◌, None, [], OnErr, OnOk, codes};
 
 use implib::coff::{ObjectWriter, Place, Relocation, Section, Symbol, class};

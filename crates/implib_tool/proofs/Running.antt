@@ -4,15 +4,15 @@ use Rattle.std.proofs.KnownBytes.{Appends-kept, Appends-nil, Appends-trans, Keep
 use Rattle.std.proofs.lemmas.List.{take_rest}
 use Rattle.std.specs.Borrow.{Bor}
 use Rattle.std.specs.Io.KnownBytes.{Appends, Keeps}
-use Rattle.implib.specs.declared.members.Flavor.{Flavor}
+use Rattle.implib.specs.declared.flavor.Flavor.{Flavor}
 use Rattle.implib.specs.declared.machine.MachineType.{MachineType}
 use Rattle.implib.specs.Fault.{Cause, cause_of}
-use Rattle.implib.specs.MemberSpec.{MemberView}
+use Rattle.implib.specs.Members.MemberSpec.{MemberView}
 use Rattle.implib_tool.specs.declared.run.RunError.{RunError}
 use Rattle.implib_tool.specs.declared.run.RunError.TheVariants.{Refused, NotUtf8, Read, Write, OutOfMemory}
 use Rattle.implib_tool.specs.Device.{AppendsBeginning}
 use Rattle.implib_tool.specs.Documents.{Divides, IsUndivided}
-use Rattle.implib_tool.specs.Run.{Devices, FirstRefused, IsRefused, MembersOf}
+use Rattle.implib_tool.specs.Run.{Devices, FirstRefused, IsRefused, MembersOfDocument}
 use Rattle.implib_tool.specs.Views.{Buffered, MembersOfDocuments, OnDocumentFault, OnTextFault, DocumentsLeft, Passes, WrittenSoFar, buffered}
 use Rattle.implib_tool.specs.Arguments.{Answers, Performs, TurnsDown, target_named}
 use Rattle.implib_tool.proofs.Dividing.{parting, documents_more}
@@ -99,14 +99,14 @@ written_more before middle after bytes rest count w moved = record {
 }
 
 module _ (machine : MachineType) (flavor : Flavor) where
-  made_last : (text : List ℕ) (members : List MemberView) → IsUndivided text → MembersOf text machine flavor members → MembersOfDocuments text machine flavor (members ∷ [])
+  made_last : (text : List ℕ) (members : List MemberView) → IsUndivided text → MembersOfDocument text machine flavor members → MembersOfDocuments text machine flavor (members ∷ [])
   made_last text members whole made = record {
     documents = text ∷ [];
     divided = (refl, whole);
     made = (made, tt);
   }
 
-  made_more : (text document rest : List ℕ) (members : List MemberView) (lists : List (List MemberView)) → Divides text document rest → MembersOf document machine flavor members
+  made_more : (text document rest : List ℕ) (members : List MemberView) (lists : List (List MemberView)) → Divides text document rest → MembersOfDocument document machine flavor members
       → MembersOfDocuments rest machine flavor lists → MembersOfDocuments text machine flavor (members ∷ lists)
   made_more text document rest members lists d made l = record {
     documents = document ∷ l.documents;
@@ -136,7 +136,7 @@ module _ (machine : MachineType) (flavor : Flavor) where
     refused = refused;
   }
 
-  refused_more : (text document rest : List ℕ) (members : List MemberView) (cause : Cause) → Divides text document rest → MembersOf document machine flavor members → FirstRefused rest machine flavor cause
+  refused_more : (text document rest : List ℕ) (members : List MemberView) (cause : Cause) → Divides text document rest → MembersOfDocument document machine flavor members → FirstRefused rest machine flavor cause
       → FirstRefused text machine flavor cause
   refused_more text document rest members cause d made r = record {
     before = document ∷ r.before;
@@ -153,11 +153,11 @@ module _ (machine : MachineType) (flavor : Flavor) where
   Divided text document after = MatchOption after ((document ≡ text) × IsUndivided text) (λ rest. Divides text document rest.now)
 
   pub document_made : (text : List ℕ) (lists : List (List MemberView)) (members : List MemberView) (left : Bor (List ℕ)) (document : List ℕ) (after : Option (Bor (List ℕ))) → DocumentsLeft text machine flavor lists (Some left)
-      → Divided left.now document after → MembersOf document machine flavor members → DocumentsLeft text machine flavor (lists ++ members ∷ []) after
+      → Divided left.now document after → MembersOfDocument document machine flavor members → DocumentsLeft text machine flavor (lists ++ members ∷ []) after
   document_made text lists members left document None l d made = record {
     lists = λ more none.
         subst (λ t. MembersOfDocuments text machine flavor t) (sym (append-nil (lists ++ members ∷ [])) ∙ ap (λ t. (lists ++ members ∷ []) ++ t) (sym none))
-        (l.lists (members ∷ []) (made_last left.now members d.1 (subst (λ t. MembersOf t machine flavor members) d.0 made)));
+        (l.lists (members ∷ []) (made_last left.now members d.1 (subst (λ t. MembersOfDocument t machine flavor members) d.0 made)));
     refused = λ cause no. absurd no;
   }
   document_made text lists members left document (Some rest) l d made = record {

@@ -7,19 +7,18 @@ use Rattle.std.specs.Io.KnownBytes.{Appends, IsAtEnd, Keeps}
 use Rattle.std.specs.Str.{IsUtf8}
 use Rattle.implib.specs.declared.error.Error.{Error}
 use Rattle.implib.specs.declared.error.Error.TheVariants as error
-use Rattle.implib.specs.declared.members.Flavor.{Flavor}
-use Rattle.implib.specs.declared.members.Flavor.TheVariants.{Msvc, Gnu}
+use Rattle.implib.specs.declared.flavor.Flavor.{Flavor}
+use Rattle.implib.specs.declared.flavor.Flavor.TheVariants.{Msvc, Gnu}
 use Rattle.implib.specs.declared.machine.MachineType.{MachineType}
 use Rattle.implib.specs.Definition.{DefinitionView}
 use Rattle.implib.specs.Fault.{Cause, cause_of}
-use Rattle.implib.specs.File.{File, Meaning, file_in, meaning_in}
-use Rattle.implib.specs.GnuReader.{meaning_with}
+use Rattle.implib.specs.Formats.File.{File, Meaning, file_in, meaning_in}
+use Rattle.implib.specs.Members.GnuReader.{meaning_with}
 use Rattle.implib.specs.Import.{aliases_of, imports_of}
-use Rattle.implib.specs.Members.{AreMembersOf, refusal}
-use Rattle.implib.specs.MemberSpec.{MemberView}
-use Rattle.implib.specs.Parses.{Parses, Refuses}
-use Rattle.implib.specs.ReadBack.{ReadBack, alias_among, file_at, import_among}
-use Rattle.implib.specs.Renaming.{renamed}
+use Rattle.implib.specs.Members.MemberSpec.{MemberView}
+use Rattle.implib.specs.Text.Parses.{Refuses}
+use Rattle.implib.specs.Members.OfText.{HasNoMembers, MembersOf}
+use Rattle.implib.specs.Members.ReadBack.{alias_among, file_at, import_among}
 use Rattle.implib_tool.specs.declared.run.RunError.{RunError}
 use Rattle.implib_tool.specs.declared.run.RunError.TheVariants.{Refused, NotUtf8, Read, Write, OutOfMemory}
 use Rattle.implib_tool.specs.Device.{AppendsBeginning}
@@ -49,22 +48,11 @@ pub record ReadAsParsed (parsed : DefinitionView) (machine : MachineType) (flavo
   pub imports : filter_map import_among meanings ≡ imports_of machine parsed
   pub aliases : filter_map alias_among meanings ≡ aliases_of parsed
 
--- the members are those of the definition that the text means, renamed, and are read as the imports and the
--- aliases that it means
-pub record MembersOf (text : List ℕ) (machine : MachineType) (flavor : Flavor) (members : List MemberView)
-    : Type 0 where
-  pub parsed : DefinitionView
-  pub parses : Parses text machine parsed
-  pub made : AreMembersOf (renamed parsed) machine flavor members
-  pub reads : ReadBack (renamed parsed) machine flavor members
-  pub read_as_parsed : ReadAsParsed parsed machine flavor members
-
--- the definition that the text means, renamed, has no members, for this cause
-pub record HasNoMembers (text : List ℕ) (machine : MachineType) (flavor : Flavor) (cause : Cause)
-    : Type 0 where
-  pub parsed : DefinitionView
-  pub parses : Parses text machine parsed
-  pub refused : refusal (renamed parsed) machine flavor ≡ Some cause
+-- the members are those of the document, and are read as the imports and the aliases that it means
+pub record MembersOfDocument (text : List ℕ) (machine : MachineType) (flavor : Flavor)
+    (members : List MemberView) : Type 0 where
+  pub members_of : MembersOf text machine flavor members
+  pub read_as_parsed : ReadAsParsed members_of.of_text.parsed machine flavor members
 
 -- a text is refused by the grammar, or for what it means
 abbrev pub IsRefused : List ℕ → MachineType → Flavor → Cause → Type 0
@@ -76,7 +64,7 @@ EachMade machine flavor [] [] = Unit {0}
 EachMade machine flavor [] (members ∷ lists) = ⊥
 EachMade machine flavor (text ∷ texts) [] = ⊥
 EachMade machine flavor (text ∷ texts) (members ∷ lists) =
-    MembersOf text machine flavor members × EachMade machine flavor texts lists
+    MembersOfDocument text machine flavor members × EachMade machine flavor texts lists
 
 -- the listing shows the members of each document of the text, in order
 pub record Lists (text : List ℕ) (machine : MachineType) (flavor : Flavor) (listing : List ℕ) : Type 0 where

@@ -4,14 +4,14 @@ use Rattle.std.specs.declared.vec.Vec.{Vec}
 use Rattle.std.specs.Borrow.{Bor}
 use Rattle.std.specs.Io.KnownBytes.{Appends, Keeps}
 use Rattle.std.specs.Str.{IsUtf8}
-use Rattle.implib.specs.declared.members.Flavor.{Flavor}
+use Rattle.implib.specs.declared.flavor.Flavor.{Flavor}
 use Rattle.implib.specs.declared.machine.MachineType.{MachineType}
 use Rattle.implib.specs.Fault.{Cause, cause_of}
-use Rattle.implib.specs.MemberSpec.{MemberView}
+use Rattle.implib.specs.Members.MemberSpec.{MemberView}
 use Rattle.implib_tool.specs.declared.run.RunError.{RunError}
 use Rattle.implib_tool.specs.declared.run.RunError.TheVariants.{Refused, NotUtf8, Read, Write, OutOfMemory}
 use Rattle.implib.specs.Library.{member_view}
-use Rattle.implib.specs.declared.members.Member.{Member}
+use Rattle.implib.specs.declared.member.Member.{Member}
 use Rattle.implib_tool.specs.Device.{AppendsBeginning}
 use Rattle.implib_tool.specs.Documents.{Documents}
 use Rattle.implib_tool.specs.Run.{EachMade, FirstRefused, IsRefused}

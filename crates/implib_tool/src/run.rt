@@ -2,7 +2,7 @@
 
 ghost use Rattle.implib.specs.Library.{member_view};
 ghost use Rattle.implib_tool.specs.Listing.{listing_of};
-ghost use Rattle.implib_tool.specs.Run.{MembersOf, Runs};
+ghost use Rattle.implib_tool.specs.Run.{MembersOfDocument, Runs};
 ghost use Rattle.implib_tool.specs.Views.{MembersOfDocuments, OnInputFault, OnDocumentFault, OnReadFault, OnTextFault, OnWriteFault, Passes, buffered, member_views};
 ghost use Rattle.implib_tool.specs.declared.run.RunError.TheVariants.{OutOfMemory};
 ghost use Rattle.std.specs.Io.KnownBytes.{Appends, Consumes, IsAtEnd};
@@ -93,7 +93,7 @@ fn members_of(
     machine: MachineType,
     flavor: Flavor,
 ) -> Result<Vec<Member>, RunError>
-    ensures ok { IfOk result (λ members. MembersOf document.now machine flavor (map member_view members.items)) }
+    ensures ok { IfOk result (λ members. MembersOfDocument document.now machine flavor (map member_view members.items)) }
     ensures fault { IfErr result (OnDocumentFault document.now machine flavor) }
 {
     let library = ImportLibrary::new(alloc, document, machine, flavor)?;

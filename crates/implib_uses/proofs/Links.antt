@@ -2,13 +2,13 @@
 use Rattle.std.proofs.Common.{◌+◌, ℕ, List, map, refl, subst, add-zero}
 use Rattle.implib.specs.declared.machine.MachineType.{MachineType}
 use Rattle.implib.specs.Asked.{exports_of_text}
-use Rattle.implib.specs.Image.{image_of}
+use Rattle.implib.specs.Link.Image.{image_of}
 use Rattle.implib.specs.Import.{Ask}
-use Rattle.implib.specs.ImportTables.{thunk_width}
-use Rattle.implib.specs.Load.{Loads}
-use Rattle.implib.specs.MemberSpec.{MemberView}
-use Rattle.implib.specs.Placement.{placed_from}
-use Rattle.implib_link.specs.Texts.{LinkAsStated, ask_stated, chosen_stated, source_of}
+use Rattle.implib.specs.Members.ImportTables.{thunk_width}
+use Rattle.implib.specs.Link.Load.{Loads}
+use Rattle.implib.specs.Members.MemberSpec.{MemberView}
+use Rattle.implib.specs.Link.Placement.{placed_from}
+use Rattle.implib_link.specs.Gnu.Texts.{LinkAsStated, ask_stated, chosen_stated, source_of}
 use Rattle.implib_uses.specs.Uses.{ImportsJustThese}
 
 pub imports_just_these : (text : List ℕ) (machine : MachineType) (members : List MemberView) →

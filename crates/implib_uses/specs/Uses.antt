@@ -4,32 +4,23 @@ use Rattle.std.specs.List.{Contains}
 use Rattle.implib.specs.declared.coff.object.Place.TheVariants.{Section}
 use Rattle.implib.specs.declared.def.lexer.TokenKind.TheVariants.{KwExports}
 use Rattle.implib.specs.declared.def.position.Position.{Position}
-use Rattle.implib.specs.declared.members.Flavor.{Flavor}
 use Rattle.implib.specs.declared.machine.MachineType.{MachineType}
 use Rattle.implib.specs.Definition.{DefinitionView, empty_definition, empty_export}
-use Rattle.implib.specs.Library.{LibraryOf, LibraryView}
-use Rattle.implib.specs.MemberSpec.{MemberView}
+use Rattle.implib.specs.Library.{LibraryView}
+use Rattle.implib.specs.Members.MemberSpec.{MemberView}
 use Rattle.implib.specs.Asked.{exports_of_text}
-use Rattle.implib.specs.Image.{image_of}
-use Rattle.implib.specs.ImportTables.{thunk_width}
-use Rattle.implib.specs.Load.{Loads}
-use Rattle.implib.specs.Object.{Object}
+use Rattle.implib.specs.Link.Image.{image_of}
+use Rattle.implib.specs.Members.ImportTables.{thunk_width}
+use Rattle.implib.specs.Link.Load.{Loads}
+use Rattle.implib.specs.Formats.Object.{Object}
 use Rattle.implib.specs.Fault.{Cause}
-use Rattle.implib.specs.Parses.{Parses, RefusesAt}
-use Rattle.implib.specs.Placement.{Bases, placed_from}
-use Rattle.implib.specs.Position.{position_at}
-use Rattle.implib.specs.ReadBack.{ReadBack}
-use Rattle.implib.specs.Token.{Lexed, TokenView}
-use Rattle.implib.specs.Writer.{WriterState}
-use Rattle.implib_link.specs.Program.{IsProgram}
-use Rattle.implib_link.specs.Texts.{ask_stated, chosen_stated, link_input_of, source_of}
-
--- the members are read back as those of the definition that the text means
-pub record AreReadAsText (text : List ℕ) (machine : MachineType) (flavor : Flavor) (members : List MemberView)
-    : Type 0 where
-  pub library : LibraryView
-  pub of_text : LibraryOf text machine flavor library
-  pub reads : ReadBack library.definition machine flavor members
+use Rattle.implib.specs.Text.Parses.{Parses, RefusesAt}
+use Rattle.implib.specs.Link.Placement.{Bases, placed_from}
+use Rattle.implib.specs.Text.Position.{position_at}
+use Rattle.implib.specs.Text.Token.{Lexed, TokenView}
+use Rattle.implib.specs.Formats.Writer.{WriterState}
+use Rattle.implib_link.specs.Gnu.Program.{IsProgram}
+use Rattle.implib_link.specs.Gnu.Texts.{ask_stated, chosen_stated, link_input_of, source_of}
 
 -- the definition of a DLL with one function
 abbrev pub one_export : List ℕ → List ℕ → DefinitionView

@@ -1,16 +1,18 @@
-//! Six callers of `implib`, each with what its own caller can conclude from its contract.
+//! Eight callers of `implib`, each with what its own caller can conclude from its contract.
 //!
 //! `docs/CALLING.md` quotes the first, and the contracts that they stand on.
 #![tactic(auto)]
 
 mod errors;
 mod link;
+mod linked;
 mod members;
 mod objects;
 mod tokens;
 
 pub use errors::error_in;
 pub use link::members_to_link;
+pub use linked::{gnu_members_of_text, msvc_members_of_text};
 pub use members::{members_of_export, members_of_text};
 pub use objects::data_object;
 pub use tokens::first_exports;

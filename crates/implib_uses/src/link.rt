@@ -4,8 +4,8 @@ ghost use Rattle.implib.specs.Library.{member_view};
 ghost use Rattle.implib_uses.specs.Uses.{ImportsJustThese};
 ghost use Rattle.std.specs.Prelude.{IfOk, map};
 
+use crate::linked::gnu_members_of_text;
 use implib::{Error, MachineType, Member};
-use implib_link::members_of_text;
 use std::alloc::Global;
 
 /// The members of a text for GNU's linker. Linked at any admissible bases, any exports chosen, they make
@@ -18,5 +18,5 @@ pub fn members_to_link(
     ensures { IfOk result (λ members.
         ImportsJustThese text.now machine (map member_view members.items)) }
 {
-    members_of_text(alloc, text, machine)
+    gnu_members_of_text(alloc, text, machine)
 }

@@ -2,9 +2,10 @@
 
 ghost use Rattle.implib.specs.Fault.{IfInvalid};
 ghost use Rattle.implib.specs.Library.{member_view};
-ghost use Rattle.implib.specs.Members.{AreMembersOf};
-ghost use Rattle.implib.specs.Parses.{Refuses};
-ghost use Rattle.implib_uses.specs.Uses.{AreReadAsText, one_export};
+ghost use Rattle.implib.specs.Members.Members.{AreMembersOf};
+ghost use Rattle.implib.specs.Text.Parses.{Refuses};
+ghost use Rattle.implib.specs.Members.OfText.{MembersOf};
+ghost use Rattle.implib_uses.specs.Uses.{one_export};
 ghost use Rattle.std.specs.Prelude.{IfOk, map};
 
 use implib::def::{ModuleDef, ShortExport};
@@ -19,7 +20,7 @@ pub fn members_of_text(
     flavor: Flavor,
 ) -> Result<Vec<Member>, Error>
     ensures read { IfOk result (λ members.
-        AreReadAsText text.now machine flavor (map member_view members.items)) }
+        MembersOf text.now machine flavor (map member_view members.items)) }
 {
     let library = ImportLibrary::new(alloc, text, machine, flavor)?;
     library.members()

@@ -1,8 +1,8 @@
 //! An object by the writer of objects.
 
-ghost use Rattle.implib.specs.Layout.{HasNoNul};
-ghost use Rattle.implib.specs.Object.{object_in};
-ghost use Rattle.implib.specs.Writer.{written_object};
+ghost use Rattle.implib.specs.Formats.Layout.{HasNoNul};
+ghost use Rattle.implib.specs.Formats.Object.{object_in};
+ghost use Rattle.implib.specs.Formats.Writer.{written_object};
 ghost use Rattle.implib_uses.specs.Uses.{data_object};
 ghost use Rattle.std.specs.Prelude.{IfOk, Some, length, ◌<◌, ◌≡◌};
 

@@ -1,6 +1,6 @@
 //! Tokens with their offsets.
 
-ghost use Rattle.implib.specs.Token.{Lexed, TokenView};
+ghost use Rattle.implib.specs.Text.Token.{Lexed, TokenView};
 ghost use Rattle.implib_uses.specs.Uses.{HasExportsAt};
 ghost use Rattle.std.specs.Prelude.{IfSome};
 

@@ -84,11 +84,11 @@ pub mod relocation {
     pub const I386_DIR32NB: u16 = 7;
     /// `IMAGE_REL_ARM_ADDR32NB`: the address relative to the image.
     pub const ARM_ADDR32NB: u16 = 2;
-    /// `IMAGE_REL_ARM_REL32`: the address relative to the next instruction, as the stub of ARMNT has it.
+    /// `IMAGE_REL_ARM_REL32`: the address relative to the byte behind the field.
     pub const ARM_REL32: u16 = 0x0A;
     /// `IMAGE_REL_AMD64_ADDR32NB`: the address relative to the image.
     pub const AMD64_ADDR32NB: u16 = 3;
-    /// `IMAGE_REL_AMD64_REL32`: the address relative to the next instruction.
+    /// `IMAGE_REL_AMD64_REL32`: the address relative to the byte behind the field.
     pub const AMD64_REL32: u16 = 4;
     /// `IMAGE_REL_ARM64_ADDR32NB`: the address relative to the image.
     pub const ARM64_ADDR32NB: u16 = 2;
@@ -96,4 +96,26 @@ pub mod relocation {
     pub const ARM64_PAGEBASE_REL21: u16 = 4;
     /// `IMAGE_REL_ARM64_PAGEOFFSET_12L`: the offset of the address in its page, for a load.
     pub const ARM64_PAGEOFFSET_12L: u16 = 7;
+}
+
+/// "Import Type" of a short import.
+pub mod import_type {
+    /// `IMPORT_CODE`: executable code.
+    pub const IMPORT_CODE: u16 = 0;
+    /// `IMPORT_DATA`: data.
+    pub const IMPORT_DATA: u16 = 1;
+    /// `IMPORT_CONST`: a constant.
+    pub const IMPORT_CONST: u16 = 2;
+}
+
+/// "Import Name Type" of a short import: how its import name follows from its symbol.
+pub mod import_name_type {
+    /// `IMPORT_ORDINAL`: by ordinal.
+    pub const IMPORT_ORDINAL: u16 = 0;
+    /// `IMPORT_NAME`: the symbol.
+    pub const IMPORT_NAME: u16 = 1;
+    /// `IMPORT_NAME_NOPREFIX`: the symbol without a `?`, `@` or `_` in front.
+    pub const IMPORT_NAME_NOPREFIX: u16 = 2;
+    /// `IMPORT_NAME_UNDECORATE`: the same, up to the first `@`.
+    pub const IMPORT_NAME_UNDECORATE: u16 = 3;
 }

@@ -1,12 +1,12 @@
 //! Encodes an object from a borrowed layout of it, front to back (docs/FORMATS.md, "The layout of an
 //! object").
 
-ghost use Rattle.implib.specs.Bytes.{u16_bytes, u32_bytes};
+ghost use Rattle.implib.specs.Formats.Bytes.{u16_bytes, u32_bytes};
 ghost use Rattle.implib.specs.Fault.{Cause, IfInvalid};
-ghost use Rattle.implib.specs.Pass.{Puts};
-ghost use Rattle.implib.specs.Layout.{InRecord, InStringTable, Fits, FitsAuxiliary, auxiliary_bytes, auxiliary_count, contents, contents_offset, contents_size, header_bytes, encoded, encoded_size, name_field, pointer_or_zero, record_count, records, relocation_bytes, section_header, section_headers, string_bytes_of, string_size, string_table, string_offsets, strings_size, symbol, symbol_bytes, symbol_table_offset};
-ghost use Rattle.implib.specs.LayoutView.{FitsField, Measured, name_view, layout_view, symbol_view};
-ghost use Rattle.implib.specs.Writer.{section_view};
+ghost use Rattle.implib.specs.Formats.Pass.{Puts};
+ghost use Rattle.implib.specs.Formats.Layout.{InRecord, InStringTable, Fits, FitsAuxiliary, auxiliary_bytes, auxiliary_count, contents, contents_offset, contents_size, header_bytes, encoded, encoded_size, name_field, pointer_or_zero, record_count, records, relocation_bytes, section_header, section_headers, string_bytes_of, string_size, string_table, string_offsets, strings_size, symbol, symbol_bytes, symbol_table_offset};
+ghost use Rattle.implib.specs.Views.Layout.{FitsField, Measured, name_view, layout_view, symbol_view};
+ghost use Rattle.implib.specs.Formats.Writer.{section_view};
 ghost use Rattle.std.specs.Prelude.{All, ◌*◌, ◌+◌, ◌-◌, ◌<◌, ◌^◌, ◌≡◌, ◌≤◌, ℕ, IfErr, IfOk, OnOk, alloc_error, flat_map, length, map, min, slice_index, sum_by};
 
 use crate::coff::object::{Relocation, Section};
@@ -191,7 +191,7 @@ fn records_of(symbols: &[LayoutSymbol]) -> u64
 }
 
 /// The number of auxiliary records of a symbol.
-#[tactic(auto, unfolding(crate::specs::Layout::auxiliary_count))]
+#[tactic(auto, unfolding(crate::specs::Formats::Layout::auxiliary_count))]
 pub(crate) fn auxiliary_count(aux: Option<[u8; 18]>) -> u32
     ensures count { result ≡ auxiliary_count aux }
     ensures whole { FitsAuxiliary aux }
@@ -281,7 +281,7 @@ fn put_section_header(pass: &mut Pass, section: &Section, offset: u32)
 }
 
 // An offset, or 0 where there is nothing at it.
-#[tactic(auto, unfolding(crate::specs::Layout::pointer_or_zero))]
+#[tactic(auto, unfolding(crate::specs::Formats::Layout::pointer_or_zero))]
 fn offset_or_zero(count: usize, offset: u32) -> u32
     ensures { result ≡ pointer_or_zero count offset }
 {
@@ -340,7 +340,7 @@ fn put_symbols(pass: &mut Pass, symbols: &[LayoutSymbol], offsets: &[u32])
 }
 
 // Puts a symbol's record, whose type is 0, and its auxiliary record.
-#[tactic(auto, unfolding(crate::specs::Layout::auxiliary_bytes))]
+#[tactic(auto, unfolding(crate::specs::Formats::Layout::auxiliary_bytes))]
 fn put_symbol(pass: &mut Pass, symbol: &LayoutSymbol, offsets: &[u32])
     requires room { 18 + length (auxiliary_bytes symbol.now.aux) ≤ pass.old.left }
     requires fits { FitsField (length offsets.now) (name_view symbol.now.name) }

@@ -1,6 +1,6 @@
 //! What an object is made of: sections, relocations and symbols.
 
-ghost use Rattle.implib.specs.Writer.{added_view, section_view};
+ghost use Rattle.implib.specs.Formats.Writer.{added_view, section_view};
 ghost use Rattle.std.specs.Prelude.{◌≡◌, [], IfOk, None};
 
 use std::alloc::{AllocError, Global};

@@ -1,7 +1,7 @@
 //! A writer of bytes whose number is known before.
 
-ghost use Rattle.implib.specs.Bytes.{u16_bytes, u32_bytes};
-ghost use Rattle.implib.specs.Pass.{Puts};
+ghost use Rattle.implib.specs.Formats.Bytes.{u16_bytes, u32_bytes};
+ghost use Rattle.implib.specs.Formats.Pass.{Puts};
 ghost use Rattle.std.specs.Prelude.{◌+◌, ◌≡◌, ◌≤◌, [], IfErr, IfOk, alloc_error, length};
 
 use crate::error::Error;
@@ -16,7 +16,7 @@ pub struct Pass {
 }
 
 impl Model for Pass {
-    ghost use Rattle.implib.specs.Pass.{Written};
+    ghost use Rattle.implib.specs.Formats.Pass.{Written};
     ghost use Rattle.std.specs.Prelude.{◌+◌, ◌≤◌, vec_capacity, vec_len};
 
     ghost Value = { Written };
@@ -44,7 +44,7 @@ impl Pass {
     }
 
     /// Appends a number in 2 bytes, the low one first. There is room for them.
-    #[tactic(auto, unfolding(crate::specs::Bytes::u16_bytes))]
+    #[tactic(auto, unfolding(crate::specs::Formats::Bytes::u16_bytes))]
     pub fn put_u16(&mut self, value: u16)
         requires { 2 ≤ self.old.left }
         ensures puts { Puts self.old self.new (u16_bytes value) }
@@ -55,7 +55,7 @@ impl Pass {
     }
 
     /// Appends a number in 4 bytes, the low one first. There is room for them.
-    #[tactic(auto, unfolding(crate::specs::Bytes::u32_bytes))]
+    #[tactic(auto, unfolding(crate::specs::Formats::Bytes::u32_bytes))]
     pub fn put_u32(&mut self, value: u32)
         requires { 4 ≤ self.old.left }
         ensures puts { Puts self.old self.new (u32_bytes value) }

@@ -1,13 +1,13 @@
 //! The writer of objects (docs/FORMATS.md, "The layout of an object").
 
 ghost use Rattle.implib.specs.Fault.{Cause, IfInvalid};
-ghost use Rattle.implib.specs.Object.{object_in, section_numbered};
-ghost use Rattle.implib.specs.Layout.{Fits, HasNoNul, encoded, encoded_size};
-ghost use Rattle.implib.specs.LayoutView.{name_view, symbol_view};
-ghost use Rattle.implib.specs.Writer.{section_view};
-ghost use Rattle.implib.specs.Writer.{HasRoomFor, IsPlaceAmong, IsSymbolIndex, all_entries, entries_added, long_names, name_location, written_object, layout_of, section_number, symbol_written, with_long_name, with_relocation, with_section, with_symbol};
-ghost use Rattle.implib.specs.Writer.{added_view};
-ghost use Rattle.implib.specs.WriterView.{writer_state};
+ghost use Rattle.implib.specs.Formats.Object.{object_in, section_numbered};
+ghost use Rattle.implib.specs.Formats.Layout.{Fits, HasNoNul, encoded, encoded_size};
+ghost use Rattle.implib.specs.Views.Layout.{name_view, symbol_view};
+ghost use Rattle.implib.specs.Formats.Writer.{section_view};
+ghost use Rattle.implib.specs.Formats.Writer.{HasRoomFor, IsPlaceAmong, IsSymbolIndex, all_entries, entries_added, long_names, name_location, written_object, layout_of, section_number, symbol_written, with_long_name, with_relocation, with_section, with_symbol};
+ghost use Rattle.implib.specs.Formats.Writer.{added_view};
+ghost use Rattle.implib.specs.Views.Writer.{writer_state};
 ghost use Rattle.std.specs.Prelude.{◌+◌, ◌<◌, ◌^◌, ◌≡◌, ◌≤◌, Some, [], IfErr, IfOk, IsSomeAnd, OnErr, OnOk, alloc_error, length, map, string_bytes};
 
 use crate::coff::constants::section_number;
@@ -39,8 +39,8 @@ struct Names<'a> {
 }
 
 impl Model for ObjectWriter {
-    ghost use Rattle.implib.specs.Writer.{WriterState};
-    ghost use Rattle.implib.specs.WriterView.{IsSound, writer_state};
+    ghost use Rattle.implib.specs.Formats.Writer.{WriterState};
+    ghost use Rattle.implib.specs.Views.Writer.{IsSound, writer_state};
 
     ghost Value = { WriterState };
 

@@ -1,11 +1,13 @@
 //! The tokens of a module definition, as slices of its text (docs/GRAMMAR.md, "Tokens").
 
-ghost use Rattle.implib.specs.Scanner.{BeginsNoTrivia, PassesTrivia, SkipsTrivia, StartsWord, TakesLexeme, TakesToken, tokens_left};
-ghost use Rattle.implib.specs.Token.{begins, is_delimiter, is_equal_sign, is_quote, kind_of_word, token_view, value_start, IsWordEnd, Lexed, TokenView};
+ghost use Rattle.implib.specs.Views.Scanner.{BeginsNoTrivia, PassesTrivia, SkipsTrivia, StartsWord, TakesLexeme, TakesToken, tokens_left};
+ghost use Rattle.implib.specs.Text.Token.{is_delimiter, is_equal_sign, is_quote, kind_of_word, token_view, value_start, IsWordEnd, Lexed, TokenView};
+ghost use Rattle.implib.specs.Ascii.{begins};
 ghost use Rattle.std.specs.Iterator.{item_count, YieldsFirstBy};
 ghost use Rattle.std.specs.Prelude.{◌≡◌, ◌==◌, ◌+◌, ◌<◌, ◌≤◌, ◌^◌, [], ◌∷◌, drop, length, take, true, List};
 ghost use Rattle.std.specs.Str.{trim, IsCharBoundary, IsUtf8};
 
+use crate::ascii::begins_with;
 use std::fmt;
 use std::marker::Model;
 
@@ -154,14 +156,6 @@ fn skip_trivia(text: &str) -> &str
     rest
 }
 
-/// Whether this is the first byte of the text.
-pub(crate) fn begins_with(text: &str, byte: u8) -> bool
-    ensures { result ≡ begins (λ b. b == byte) text.now }
-{
-    let bytes = text.as_bytes();
-    !bytes.is_empty() && bytes[0] == byte
-}
-
 // What follows the line of a comment.
 fn after_line(comment: &str) -> &str
     ensures passes { PassesTrivia (59 ∷ comment.now) result.now }
@@ -271,7 +265,7 @@ fn word<'a>(text: &'a str, at: usize) -> (Token<'a>, &'a str)
 }
 
 // The kind of a word; a keyword is one in this case alone.
-#[tactic(auto, unfolding(crate::specs::Token::kind_of_word))]
+#[tactic(auto, unfolding(crate::specs::Text::Token::kind_of_word))]
 fn word_kind(word: &str) -> TokenKind
     ensures { result ≡ kind_of_word word.now }
 {

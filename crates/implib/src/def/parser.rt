@@ -2,12 +2,12 @@
 
 ghost use Rattle.implib.specs.Definition.{definition_view};
 ghost use Rattle.implib.specs.Fault.{IfInvalid};
-ghost use Rattle.implib.specs.Parser.{ParsesFrom, RefusesFrom};
-ghost use Rattle.implib.specs.Parses.{Parses, Refuses};
-ghost use Rattle.implib.specs.ParserViews.{all_put, Gives, OfRefusal, one_put, RefusesFromAt, settings_put};
-ghost use Rattle.implib.specs.RefusedAt.{IsRefusedAt};
-ghost use Rattle.implib.specs.TokenReader.{name_read, statement_read, statements_read, with_statement};
-ghost use Rattle.implib.specs.Token.{Lexed};
+ghost use Rattle.implib.specs.Text.Parser.{ParsesFrom, RefusesFrom};
+ghost use Rattle.implib.specs.Text.Parses.{Parses, Refuses};
+ghost use Rattle.implib.specs.Views.Parser.{all_put, Gives, OfRefusal, one_put, RefusesFromAt, settings_put};
+ghost use Rattle.implib.specs.Text.RefusedAt.{IsRefusedAt};
+ghost use Rattle.implib.specs.Views.TokenReader.{name_read, statement_read, statements_read, with_statement};
+ghost use Rattle.implib.specs.Text.Token.{Lexed};
 ghost use Rattle.std.specs.Prelude.{◌≡◌, ◌<◌, ◌≤◌, length, IfErr, IfOk, IsTrue, OnOk};
 
 mod attributes;
@@ -79,7 +79,7 @@ pub struct Parser<'a> {
 }
 
 impl<'a> Model for Parser<'a> {
-    ghost use Rattle.implib.specs.Parser.{Source};
+    ghost use Rattle.implib.specs.Text.Parser.{Source};
 
     ghost Value = { Source };
 
@@ -145,7 +145,7 @@ impl<'a> Tokens<'a> {
     }
 
     // Reads a statement into the definition, and answers false where the tokens end.
-    #[tactic(auto, unfolding(crate::specs::TokenReader::statement_read))]
+    #[tactic(auto, unfolding(crate::specs::Views::TokenReader::statement_read))]
     fn statement(
         &mut self,
         alloc: Global,

@@ -1,6 +1,6 @@
 //! Positions in a text: offsets, lines and columns.
 
-ghost use Rattle.implib.specs.Position.{line_and_column, position_at};
+ghost use Rattle.implib.specs.Text.Position.{line_and_column, position_at};
 ghost use Rattle.std.specs.Prelude.{◌≡◌, length, take};
 
 use std::fmt;

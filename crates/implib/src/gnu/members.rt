@@ -2,27 +2,30 @@
 
 ghost use Rattle.implib.specs.Definition.{definition_view, export_view};
 ghost use Rattle.implib.specs.Fault.{IfInvalid, MemberTooLong};
-ghost use Rattle.implib.specs.Gnu.{export_listed, head_symbol};
+ghost use Rattle.implib.specs.Members.Gnu.{archive_symbols, head_symbol};
 ghost use Rattle.implib.specs.Import.{imp_symbol, holds, is_alias, is_empty_text, public_exports};
 ghost use Rattle.implib.specs.Library.{member_view};
-ghost use Rattle.implib.specs.Members.{AreMembersOf, has_u16_ordinal, is_too_long, member_specs, refusal};
-ghost use Rattle.implib.specs.NameRules.{RefusesAlways, definition_names_refusal, holds_nul};
-ghost use Rattle.implib.specs.GnuMembers.{alias_specs, export_spec, gnu_member_count, head_spec, numbered_specs, numbered_specs_of, tail_spec};
-ghost use Rattle.implib.specs.WeakExternal.{weak_spec};
-ghost use Rattle.implib.specs.MemberSpec.{member_of};
-ghost use Rattle.implib.specs.ReadBack.{ReadBack};
+ghost use Rattle.implib.specs.Members.Members.{AreMembersOf, has_u16_ordinal, is_too_long, member_specs, refusal};
+ghost use Rattle.implib.specs.Members.NameRules.{RefusesAlways, definition_names_refusal, holds_nul};
+ghost use Rattle.implib.specs.Members.GnuMembers.{alias_specs, export_spec, gnu_member_count, head_spec, numbered_specs, numbered_specs_of, tail_spec};
+ghost use Rattle.implib.specs.Members.WeakExternal.{weak_spec};
+ghost use Rattle.implib.specs.Members.MemberSpec.{member_of};
+ghost use Rattle.implib.specs.Members.ReadBack.{ReadBack};
 ghost use Rattle.implib.specs.Renaming.{is_renamed};
-ghost use Rattle.implib.specs.declared.members.Flavor.TheVariants.{Gnu};
+ghost use Rattle.implib.specs.declared.flavor.Flavor.TheVariants.{Gnu};
 ghost use Rattle.std.specs.List.{list_all, list_any, sum_by};
 ghost use Rattle.std.specs.Prelude.{None, Some, [], false, map, min, string_bytes, true, ◌+◌, ◌++◌, ◌∷◌, ◌≡◌, IfOk, OnOk};
 
 use crate::def::definition::{ModuleDef, ShortExport};
 use crate::error::Error;
-use crate::gnu::names::{head_name, head_symbol, iname_symbol, numbered_name, tail_name};
+use crate::flavor::Flavor;
+use crate::gnu::names::{
+    export_name, head_name, head_symbol, iname_symbol, tail_name, weak_address_name, weak_name,
+};
 use crate::gnu::objects::{export_object, head_object, tail_object};
 use crate::import_tables::imp_symbol;
 use crate::machine::MachineType;
-use crate::members::{Flavor, Member};
+use crate::member::Member;
 use crate::refusal::names_fault;
 use crate::weak_external::{MEMBERS_OF_ALIAS, is_alias, weak_member};
 use std::alloc::{AllocError, Global};
@@ -45,7 +48,7 @@ pub(crate) fn members(def: &ModuleDef, machine: MachineType) -> Result<Vec<Membe
 }
 
 // The members of a definition that breaks no rule on names, in order.
-#[tactic(auto, using(crate::proofs::GnuLoop::long_built))]
+#[tactic(auto, using(crate::proofs::Members::GnuLoop::long_built))]
 fn named_members(def: &ModuleDef, machine: MachineType) -> Result<Vec<Member>, Error>
     requires { definition_names_refusal (definition_view def.now) machine Gnu ≡ None }
     ensures ok { IfOk result (λ members. map member_view members.items ≡ map member_of (member_specs (definition_view def.now) machine Gnu)) }
@@ -130,7 +133,7 @@ fn push_head_and_tail(
 }
 
 // The head.
-#[tactic(auto, unfolding(crate::specs::GnuMembers::head_spec))]
+#[tactic(auto, unfolding(crate::specs::Members::GnuMembers::head_spec))]
 fn head_member(alloc: Global, machine: MachineType, dll: &str) -> Result<Member, Error>
     requires { holds 0 dll.now ≡ false }
     ensures ok { IfOk result (λ m. member_view m ≡ member_of (head_spec machine dll.now)) }
@@ -144,7 +147,7 @@ fn head_member(alloc: Global, machine: MachineType, dll: &str) -> Result<Member,
 }
 
 // The tail.
-#[tactic(auto, unfolding(crate::specs::GnuMembers::tail_spec))]
+#[tactic(auto, unfolding(crate::specs::Members::GnuMembers::tail_spec))]
 fn tail_member(alloc: Global, machine: MachineType, dll: &str) -> Result<Member, Error>
     requires { holds 0 dll.now ≡ false }
     ensures ok { IfOk result (λ m. member_view m ≡ member_of (tail_spec machine dll.now)) }
@@ -157,7 +160,7 @@ fn tail_member(alloc: Global, machine: MachineType, dll: &str) -> Result<Member,
 }
 
 // Pushes the weak externals of an export, if any, and then the export; the number is the export's.
-#[tactic(auto, unfolding(crate::specs::GnuMembers::alias_specs))]
+#[tactic(auto, unfolding(crate::specs::Members::GnuMembers::alias_specs))]
 fn push_export(
     members: &mut Vec<Member>,
     export: &ShortExport,
@@ -185,7 +188,7 @@ fn push_export(
 }
 
 // Pushes the weak externals of an export: of its name, and of its address.
-#[tactic(auto, unfolding(crate::specs::GnuMembers::alias_specs))]
+#[tactic(auto, unfolding(crate::specs::Members::GnuMembers::alias_specs))]
 fn push_weak_externals(
     members: &mut Vec<Member>,
     export: &ShortExport,
@@ -204,23 +207,23 @@ fn push_weak_externals(
     let alloc = *members.allocator();
     let weak = export.name.as_str();
     let target = export.alias_target.as_str();
-    let name = numbered_name(alloc, dll, "w", number)?;
+    let name = weak_name(alloc, dll, number)?;
     members.push(weak_member(alloc, machine, name, weak, target)?)?;
     let weak = imp_symbol(alloc, weak)?;
     let target = imp_symbol(alloc, target)?;
-    let name = numbered_name(alloc, dll, "x", number)?;
+    let name = weak_address_name(alloc, dll, number)?;
     members.push(weak_member(alloc, machine, name, weak.as_str(), target.as_str())?)?;
     Ok(())
 }
 
 // The archive symbols of an export, whose `__imp_` symbol is given.
-fn export_listed(
+fn archive_symbols(
     alloc: Global,
     export: &ShortExport,
     address: String,
 ) -> Result<Vec<String>, AllocError>
     requires { string_bytes address ≡ imp_symbol (export_view export.now).name }
-    ensures { IfOk result (λ symbols. map string_bytes symbols.items ≡ export_listed (export_view export.now)) }
+    ensures { IfOk result (λ symbols. map string_bytes symbols.items ≡ archive_symbols (export_view export.now)) }
 {
     if export.is_data {
         return Ok(vec![in alloc; address]?);
@@ -230,7 +233,7 @@ fn export_listed(
 }
 
 // The member of the export of this number.
-#[tactic(auto, unfolding(crate::specs::GnuMembers::export_spec))]
+#[tactic(auto, unfolding(crate::specs::Members::GnuMembers::export_spec))]
 fn export_member(
     alloc: Global,
     export: &ShortExport,
@@ -253,8 +256,8 @@ fn export_member(
     let _ordinal = export.ordinal;
     let address = imp_symbol(alloc, export.name.as_str())?;
     let bytes = export_object(alloc, export, machine, dll, head, address.as_str())?;
-    let symbols = export_listed(alloc, export, address)?;
-    let name = numbered_name(alloc, dll, "s", number)?;
+    let symbols = archive_symbols(alloc, export, address)?;
+    let name = export_name(alloc, dll, number)?;
     Ok(Member {
         name,
         bytes,

@@ -1,10 +1,11 @@
 //! The names of the members for GNU's linker, and of the head's and the tail's symbols.
 
-ghost use Rattle.implib.specs.Gnu.{five_digits, head_name, head_symbol, leading_underscore, iname_symbol, numbered_name, mangled_name, tail_name};
+ghost use Rattle.implib.specs.Members.Gnu.{export_name, five_digits, head_name, head_symbol, iname_symbol, mangled_name, numbered_name, tail_name, weak_address_name, weak_name};
 ghost use Rattle.std.specs.List.{position};
 ghost use Rattle.std.specs.Prelude.{string_bytes, ◌++◌, ◌==◌, ◌≡◌, IfOk, OnOk};
 
 use crate::machine::MachineType;
+use crate::underscore::leading_underscore;
 use std::alloc::{AllocError, Global};
 use std::fmt::Write;
 
@@ -43,7 +44,7 @@ fn mangled_name_with(alloc: Global, dll: &str, end: &str) -> Result<String, Allo
 }
 
 /// The name of the head.
-#[tactic(auto, unfolding(crate::specs::Gnu::head_name))]
+#[tactic(auto, unfolding(crate::specs::Members::Gnu::head_name))]
 pub(crate) fn head_name(alloc: Global, dll: &str) -> Result<String, AllocError>
     ensures { IfOk result (λ name. string_bytes name ≡ head_name dll.now) }
 {
@@ -51,7 +52,7 @@ pub(crate) fn head_name(alloc: Global, dll: &str) -> Result<String, AllocError>
 }
 
 /// The name of the tail.
-#[tactic(auto, unfolding(crate::specs::Gnu::tail_name))]
+#[tactic(auto, unfolding(crate::specs::Members::Gnu::tail_name))]
 pub(crate) fn tail_name(alloc: Global, dll: &str) -> Result<String, AllocError>
     ensures { IfOk result (λ name. string_bytes name ≡ tail_name dll.now) }
 {
@@ -65,9 +66,9 @@ fn push_five_digits(out: &mut String, number: usize) -> Result<(), AllocError>
     write!(out, "{number:05}")
 }
 
-/// The name of a member of the export of this number; the letter says of which.
-#[tactic(auto, unfolding(crate::specs::Gnu::numbered_name))]
-pub(crate) fn numbered_name(
+// The name of a member of the export of this number; the letter says of which.
+#[tactic(auto, unfolding(crate::specs::Members::Gnu::numbered_name))]
+fn numbered_name(
     alloc: Global,
     dll: &str,
     letter: &str,
@@ -82,19 +83,33 @@ pub(crate) fn numbered_name(
     Ok(name)
 }
 
-// The leading underscore of the machine's C symbols, or nothing.
-fn leading_underscore(machine: MachineType) -> &'static str
-    ensures { result.now ≡ leading_underscore machine }
+/// The name of the member of the export of this number.
+pub(crate) fn export_name(alloc: Global, dll: &str, number: usize) -> Result<String, AllocError>
+    ensures { IfOk result (λ name. string_bytes name ≡ export_name dll.now number) }
 {
-    if machine.has_leading_underscore() {
-        "_"
-    } else {
-        ""
-    }
+    numbered_name(alloc, dll, "s", number)
+}
+
+/// The name of the weak external of the symbol of the export of this number.
+pub(crate) fn weak_name(alloc: Global, dll: &str, number: usize) -> Result<String, AllocError>
+    ensures { IfOk result (λ name. string_bytes name ≡ weak_name dll.now number) }
+{
+    numbered_name(alloc, dll, "w", number)
+}
+
+/// The name of the weak external of the address of the export of this number.
+pub(crate) fn weak_address_name(
+    alloc: Global,
+    dll: &str,
+    number: usize,
+) -> Result<String, AllocError>
+    ensures { IfOk result (λ name. string_bytes name ≡ weak_address_name dll.now number) }
+{
+    numbered_name(alloc, dll, "x", number)
 }
 
 /// The symbol of the import descriptor.
-#[tactic(auto, unfolding(crate::specs::Gnu::head_symbol))]
+#[tactic(auto, unfolding(crate::specs::Members::Gnu::head_symbol))]
 pub(crate) fn head_symbol(
     alloc: Global,
     machine: MachineType,
@@ -109,7 +124,7 @@ pub(crate) fn head_symbol(
 }
 
 /// The symbol of the DLL's name.
-#[tactic(auto, unfolding(crate::specs::Gnu::iname_symbol))]
+#[tactic(auto, unfolding(crate::specs::Members::Gnu::iname_symbol))]
 pub(crate) fn iname_symbol(
     alloc: Global,
     machine: MachineType,

@@ -2,14 +2,15 @@
 //! linker").
 
 ghost use Rattle.implib.specs.Definition.{export_view};
-ghost use Rattle.implib.specs.Constants.{align_4bytes, cnt_code, mem_execute_read};
+ghost use Rattle.implib.specs.Formats.Constants.{align_4bytes, cnt_code, mem_execute_read};
 ghost use Rattle.implib.specs.Fault.{IfInvalid, MemberTooLong};
-ghost use Rattle.implib.specs.Gnu.{added, empty_sections, export_object, export_symbols, file_symbol, head_object, head_sections, head_symbol, head_symbols, hint_name, hint_name_symbol, iname_symbol, relocations_of_stub, relocations_of_thunk, section, stub, tail_object, tail_sections, tail_symbols, thunk};
-ghost use Rattle.implib.specs.Import.{imp_symbol, asked_name, holds, is_empty_text};
-ghost use Rattle.implib.specs.ImportTables.{thunk_width};
-ghost use Rattle.implib.specs.Layout.{encoded, encoded_size};
-ghost use Rattle.implib.specs.Table.{section_row, symbol_row};
-ghost use Rattle.implib.specs.Writer.{layout_of};
+ghost use Rattle.implib.specs.Members.Gnu.{added, empty_sections, export_object, export_symbols, file_symbol, head_object, head_sections, head_symbol, head_symbols, hint_name, hint_name_symbol, iname_symbol, relocations_of_stub, relocations_of_thunk, section, stub, tail_object, tail_sections, tail_symbols, thunk};
+ghost use Rattle.implib.specs.Import.{imp_symbol, holds, is_empty_text};
+ghost use Rattle.implib.specs.Underscore.{asked_name};
+ghost use Rattle.implib.specs.Members.ImportTables.{thunk_width};
+ghost use Rattle.implib.specs.Formats.Layout.{encoded, encoded_size};
+ghost use Rattle.implib.specs.Views.Table.{section_row, symbol_row};
+ghost use Rattle.implib.specs.Formats.Writer.{layout_of};
 ghost use Rattle.std.specs.Prelude.{◌+◌, [], false, map, string_bytes, true, ◌∷◌, ◌++◌, ◌<◌, ◌^◌, ◌≡◌, ◌≤◌, IfOk, OnOk, if◌then◌else◌, take};
 
 use crate::coff::constants::{class, flags, relocation};
@@ -186,7 +187,7 @@ pub(crate) fn tail_object(
 }
 
 // The instructions that jump to the address of the import (docs/FORMATS.md, "Stubs"); data has none.
-#[tactic(auto, unfolding(crate::specs::Gnu::stub))]
+#[tactic(auto, unfolding(crate::specs::Members::Gnu::stub))]
 fn stub(export: &ShortExport, machine: MachineType) -> &'static [u8]
     ensures { result.now ≡ stub machine (export_view export.now) }
 {
@@ -201,7 +202,7 @@ fn stub(export: &ShortExport, machine: MachineType) -> &'static [u8]
 }
 
 // The relocations of these instructions.
-#[tactic(auto, unfolding(crate::specs::Gnu::relocations_of_stub))]
+#[tactic(auto, unfolding(crate::specs::Members::Gnu::relocations_of_stub))]
 fn stub_relocations(export: &ShortExport, machine: MachineType) -> &'static [Relocation]
     ensures { result.now ≡ relocations_of_stub machine (export_view export.now) }
 {
@@ -241,7 +242,7 @@ fn stub_relocations(export: &ShortExport, machine: MachineType) -> &'static [Rel
 
 // The entry of the export in the lookup table and in the address table; it is the first bytes of the
 // result, as many as an entry has.
-#[tactic(auto, unfolding(crate::specs::Gnu::thunk, crate::specs::Bytes::u16_bytes))]
+#[tactic(auto, unfolding(crate::specs::Members::Gnu::thunk, crate::specs::Formats::Bytes::u16_bytes))]
 fn thunk(export: &ShortExport, machine: MachineType) -> [u8; 8]
     ensures { take (thunk_width machine) result ≡ thunk machine (export_view export.now) }
 {
@@ -271,7 +272,7 @@ fn entry_relocations<'a>(export: &ShortExport, by_name: &'a [Relocation]) -> &'a
 }
 
 // The hint and the name that the export asks the DLL for.
-#[tactic(auto, unfolding(crate::specs::Gnu::hint_name, crate::specs::Bytes::u16_bytes))]
+#[tactic(auto, unfolding(crate::specs::Members::Gnu::hint_name, crate::specs::Formats::Bytes::u16_bytes))]
 fn hint_name(
     alloc: Global,
     export: &ShortExport,

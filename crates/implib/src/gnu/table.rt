@@ -1,10 +1,10 @@
 //! An object as a table: the rows of its sections and symbols, and the writer that takes them.
 
 ghost use Rattle.implib.specs.Fault.{IfInvalid, MemberTooLong};
-ghost use Rattle.implib.specs.Layout.{encoded, encoded_size};
-ghost use Rattle.implib.specs.Object.{section_numbered};
-ghost use Rattle.implib.specs.Table.{CanBeAdded, CanBeHeld, HasRoomForAll, bare_row, section_row, symbol_row, table_view, with_relocations};
-ghost use Rattle.implib.specs.Writer.{all_entries, layout_of};
+ghost use Rattle.implib.specs.Formats.Layout.{encoded, encoded_size};
+ghost use Rattle.implib.specs.Formats.Object.{section_numbered};
+ghost use Rattle.implib.specs.Views.Table.{CanBeAdded, CanBeHeld, HasRoomForAll, bare_row, section_row, symbol_row, table_view, with_relocations};
+ghost use Rattle.implib.specs.Formats.Writer.{all_entries, layout_of};
 ghost use Rattle.std.specs.List.{AllByRecursion};
 ghost use Rattle.std.specs.Prelude.{◌+◌, ◌++◌, ◌<◌, ◌^◌, ◌≡◌, ◌≤◌, [], IfErr, IfOk, IsSomeAnd, OnOk, alloc_error, length, map};
 

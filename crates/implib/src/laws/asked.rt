@@ -2,7 +2,7 @@
 
 ghost use Rattle.implib.specs.Asked.{AsksForWords};
 ghost use Rattle.implib.specs.Definition.{DefinitionView};
-ghost use Rattle.implib.specs.Parses.{Parses};
+ghost use Rattle.implib.specs.Text.Parses.{Parses};
 
 use crate::machine::MachineType;
 

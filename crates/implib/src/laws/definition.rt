@@ -1,8 +1,8 @@
 //! The law of the definition that a text means.
 
 ghost use Rattle.implib.specs.Definition.{DefinitionView};
-ghost use Rattle.implib.specs.Parses.{Parses};
-ghost use Rattle.implib.specs.SymbolNames.{LacksSymbolNames};
+ghost use Rattle.implib.specs.Text.Parses.{Parses};
+ghost use Rattle.implib.specs.Text.SymbolNames.{LacksSymbolNames};
 
 use crate::machine::MachineType;
 

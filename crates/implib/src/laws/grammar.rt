@@ -2,12 +2,12 @@
 
 ghost use Rattle.implib.specs.Definition.{DefinitionView};
 ghost use Rattle.implib.specs.Fault.{Cause};
-ghost use Rattle.implib.specs.Grammar.{IsSentence, Sentence, Statement};
-ghost use Rattle.implib.specs.Parses.{InGrammar, IsIllFormed, Parses, Refuses, RefusesAt};
-ghost use Rattle.implib.specs.SyntaxError.{IsSyntaxError, HasSyntaxError};
-ghost use Rattle.implib.specs.Token.{EndsInEof, TokenView};
-ghost use Rattle.implib.specs.WorkedPositions.{WorkedLines, WorkedPositions};
-ghost use Rattle.implib.specs.WorkedStatements.{WorkedExports, WorkedFronts, WorkedRefusals, WorkedSettings};
+ghost use Rattle.implib.specs.Text.Grammar.{IsSentence, Sentence, Statement};
+ghost use Rattle.implib.specs.Text.Parses.{InGrammar, IsIllFormed, Parses, Refuses, RefusesAt};
+ghost use Rattle.implib.specs.Text.SyntaxError.{IsSyntaxError, HasSyntaxError};
+ghost use Rattle.implib.specs.Text.Token.{EndsInEof, TokenView};
+ghost use Rattle.implib.specs.Worked.Positions.{WorkedLines, WorkedPositions};
+ghost use Rattle.implib.specs.Worked.Statements.{WorkedExports, WorkedFronts, WorkedRefusals, WorkedSettings};
 ghost use Rattle.implib.specs.declared.machine.MachineType.{MachineType};
 ghost use Rattle.std.specs.Prelude.{◌≡◌, ◌≤◌, ◌⊎◌, ℕ, length, List};
 

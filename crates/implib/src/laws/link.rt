@@ -1,24 +1,25 @@
 //! The law of linking and loading the members for GNU's linker.
 
 ghost use Rattle.implib.specs.Definition.{definition_view};
-ghost use Rattle.implib.specs.Gnu.{export_name, head_name, tail_name};
+ghost use Rattle.implib.specs.Members.Gnu.{export_name, head_name, tail_name};
 ghost use Rattle.implib.specs.Import.{Ask, public_exports};
-ghost use Rattle.implib.specs.Library.{member_view, inputs_held};
-ghost use Rattle.implib.specs.Image.{IsAdmissible, Range};
-ghost use Rattle.implib.specs.Load.{Loads};
-ghost use Rattle.implib.specs.Members.{AreMembersOf};
-ghost use Rattle.implib.specs.Object.{object_in};
+ghost use Rattle.implib.specs.Library.{member_view};
+ghost use Rattle.implib.specs.Link.LinkedMembers.{inputs_held};
+ghost use Rattle.implib.specs.Link.Image.{IsAdmissible, Range};
+ghost use Rattle.implib.specs.Link.Load.{Loads};
+ghost use Rattle.implib.specs.Members.Members.{AreMembersOf};
+ghost use Rattle.implib.specs.Formats.Object.{object_in};
 ghost use Rattle.implib.specs.Renaming.{renamed};
-ghost use Rattle.implib.specs.Linked.{AllLink, Links};
-ghost use Rattle.implib.specs.LinkedMembers.{AllRise, IsLinkInput, NoneIsPrefix, all_linked, bases_of, member_prefix, chosen_exports, linked_members, objects_in};
-ghost use Rattle.implib.specs.WorkedLinks.{WorkedLinks};
-ghost use Rattle.implib.specs.declared.members.Flavor.TheVariants.{Gnu};
+ghost use Rattle.implib.specs.Link.Linked.{AllLink, Links};
+ghost use Rattle.implib.specs.Link.LinkedMembers.{IsAscending, IsLinkInput, NoneIsPrefix, all_linked, bases_of, member_prefix, chosen_exports, linked_members, objects_in};
+ghost use Rattle.implib.specs.Worked.Links.{WorkedLinks};
+ghost use Rattle.implib.specs.declared.flavor.Flavor.TheVariants.{Gnu};
 ghost use Rattle.std.specs.List.{AllByRecursion, Contains, IsDistinct, flat_map};
 ghost use Rattle.std.specs.Prelude.{◌≡◌, ◌<◌, ◌++◌, ◌∷◌, ℕ, List, [], Some, bytes_eq, length, map};
 
 use crate::def::definition::ModuleDef;
 use crate::machine::MachineType;
-use crate::members::Member;
+use crate::member::Member;
 
 /// The head, the tail and the members of any selected exports, where their archive symbols are distinct,
 /// link, at any admissible bases, to an import of exactly these exports from the DLL.
@@ -35,7 +36,7 @@ pub fn gnu_links(
 )
     requires made { AreMembersOf (definition_view def.now) machine Gnu (map member_view members.now) }
     requires numbers { AllByRecursion (λ n. n < length (public_exports (renamed (definition_view def.now)))) chosen.now }
-    requires in_order { AllRise (map (export_name (definition_view def.now).import_name) chosen.now) }
+    requires in_order { IsAscending (map (export_name (definition_view def.now).import_name) chosen.now) }
     requires distinct { IsDistinct bytes_eq
         (flat_map (λ m. m.symbols) (linked_members (definition_view def.now) machine chosen.now)) }
     requires admissible { IsAdmissible machine (bases_of bases)
@@ -46,7 +47,7 @@ pub fn gnu_links(
         ≡ head_name (definition_view def.now).import_name
         ∷ (map (export_name (definition_view def.now).import_name) chosen.now
         ++ tail_name (definition_view def.now).import_name ∷ []) }
-    ensures rising { AllRise (map (λ m. m.name) (linked_members (definition_view def.now) machine chosen.now)) }
+    ensures rising { IsAscending (map (λ m. m.name) (linked_members (definition_view def.now) machine chosen.now)) }
     ensures objects { map (λ m. object_in m.bytes) (linked_members (definition_view def.now) machine chosen.now)
         ≡ map Some (objects_in (linked_members (definition_view def.now) machine chosen.now)) }
     ensures links { Links machine (bases_of bases) (definition_view def.now).import_name
@@ -70,7 +71,7 @@ pub fn gnu_links_many(
     requires same_count { length members.now ≡ length defs.now }
     requires same_choices { length chosen.now ≡ length defs.now }
     requires parts { AllByRecursion (IsLinkInput machine) (inputs_held defs.now members.now chosen.now) }
-    requires rising { AllRise (map (λ p. member_prefix p.definition) (inputs_held defs.now members.now chosen.now)) }
+    requires rising { IsAscending (map (λ p. member_prefix p.definition) (inputs_held defs.now members.now chosen.now)) }
     requires apart { NoneIsPrefix (map (λ p. member_prefix p.definition) (inputs_held defs.now members.now chosen.now)) }
     requires distinct { IsDistinct bytes_eq (flat_map (λ m. m.symbols)
         (all_linked machine (inputs_held defs.now members.now chosen.now))) }
@@ -78,7 +79,7 @@ pub fn gnu_links_many(
         (objects_in (all_linked machine (inputs_held defs.now members.now chosen.now))) }
     ensures links { AllLink machine (bases_of bases) (inputs_held defs.now members.now chosen.now)
         (objects_in (all_linked machine (inputs_held defs.now members.now chosen.now))) }
-    ensures names_rise { AllRise (map (λ m. m.name) (all_linked machine (inputs_held defs.now members.now chosen.now))) }
+    ensures names_rise { IsAscending (map (λ m. m.name) (all_linked machine (inputs_held defs.now members.now chosen.now))) }
 {}
 
 /// A descriptor of an image leads to one DLL and one list of what is asked of it.

@@ -1,8 +1,8 @@
 //! Members that were worked by hand.
 
-ghost use Rattle.implib.specs.WorkedMembers.{WorkedBytes, WorkedFields, WorkedMeanings, WorkedOutlines, WorkedRefusals};
-ghost use Rattle.implib.specs.WorkedGnu.{WorkedGnuBytes, WorkedGnuOutlines, WorkedGnuRefusals};
-ghost use Rattle.implib.specs.WorkedMemberSpecs.{WorkedMemberSpecs};
+ghost use Rattle.implib.specs.Worked.Members.{WorkedBytes, WorkedFields, WorkedMeanings, WorkedOutlines, WorkedRefusals};
+ghost use Rattle.implib.specs.Worked.Gnu.{WorkedGnuBytes, WorkedGnuOutlines, WorkedGnuRefusals};
+ghost use Rattle.implib.specs.Worked.MemberSpecs.{WorkedMemberSpecs};
 
 use crate::machine::MachineType;
 

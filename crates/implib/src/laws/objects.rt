@@ -1,10 +1,10 @@
 //! Laws of objects: their layout and their reading.
 
-ghost use Rattle.implib.specs.Object.{Object, object_in};
-ghost use Rattle.implib.specs.Layout.{Fits, ObjectLayout, encoded, encoded_size, object_of};
-ghost use Rattle.implib.specs.WorkedLayouts.{WorkedLayouts};
-ghost use Rattle.implib.specs.WorkedObjects.{WorkedObjects};
-ghost use Rattle.implib.specs.WorkedTables.{WorkedAskedNames, WorkedGnuNames, WorkedGnuTables, WorkedMsvcTables, WorkedNameTypes, WorkedNames, WorkedRecords};
+ghost use Rattle.implib.specs.Formats.Object.{Object, object_in};
+ghost use Rattle.implib.specs.Formats.Layout.{Fits, ObjectLayout, encoded, encoded_size, object_of};
+ghost use Rattle.implib.specs.Worked.Layouts.{WorkedLayouts};
+ghost use Rattle.implib.specs.Worked.Objects.{WorkedObjects};
+ghost use Rattle.implib.specs.Worked.Tables.{WorkedAskedNames, WorkedGnuNames, WorkedGnuTables, WorkedMsvcTables, WorkedNameTypes, WorkedNames, WorkedRecords};
 ghost use Rattle.std.specs.Prelude.{◌<◌, ◌^◌, ◌≡◌, ℕ, List, Some, length};
 
 use crate::machine::MachineType;

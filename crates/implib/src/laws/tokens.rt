@@ -1,7 +1,7 @@
 //! Laws of the tokens of a text.
 
-ghost use Rattle.implib.specs.Token.{DividesOnce, EndsInEof, IsKnown, IsSliceOf, Lexed, LexedOnce, TokenView};
-ghost use Rattle.implib.specs.WorkedTokens.{WorkedTokens};
+ghost use Rattle.implib.specs.Text.Token.{DividesOnce, EndsInEof, IsKnown, IsSliceOf, Lexed, LexedOnce, TokenView};
+ghost use Rattle.implib.specs.Worked.Tokens.{WorkedTokens};
 ghost use Rattle.std.specs.List.{AllByRecursion};
 ghost use Rattle.std.specs.Prelude.{List};
 

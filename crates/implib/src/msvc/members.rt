@@ -4,23 +4,24 @@ ghost use Rattle.implib.specs.Definition.{definition_view, export_view};
 ghost use Rattle.implib.specs.Fault.{IfInvalid, MemberTooLong};
 ghost use Rattle.implib.specs.Import.{holds, is_alias, public_exports};
 ghost use Rattle.implib.specs.Library.{member_view};
-ghost use Rattle.implib.specs.Members.{AreMembersOf, has_u16_ordinal, is_too_long, member_specs, refusal};
-ghost use Rattle.implib.specs.NameRules.{RefusesAlways, definition_names_refusal, holds_nul};
-ghost use Rattle.implib.specs.MsvcMembers.{export_specs, header_specs, member_count, weak_specs};
-ghost use Rattle.implib.specs.MemberSpec.{member_of};
-ghost use Rattle.implib.specs.ReadBack.{ReadBack};
+ghost use Rattle.implib.specs.Members.Members.{AreMembersOf, has_u16_ordinal, is_too_long, member_specs, refusal};
+ghost use Rattle.implib.specs.Members.NameRules.{RefusesAlways, definition_names_refusal, holds_nul};
+ghost use Rattle.implib.specs.Members.MsvcMembers.{export_specs, header_specs, member_count, weak_specs};
+ghost use Rattle.implib.specs.Members.MemberSpec.{member_of};
+ghost use Rattle.implib.specs.Members.ReadBack.{ReadBack};
 ghost use Rattle.implib.specs.Renaming.{is_renamed};
-ghost use Rattle.implib.specs.Msvc.{short_import_symbol};
-ghost use Rattle.implib.specs.declared.members.Flavor.TheVariants.{Msvc};
+ghost use Rattle.implib.specs.Members.Msvc.{short_import_symbol};
+ghost use Rattle.implib.specs.declared.flavor.Flavor.TheVariants.{Msvc};
 ghost use Rattle.std.specs.List.{list_all, list_any, sum_by};
 ghost use Rattle.std.specs.Prelude.{None, Some, false, map, true, ◌+◌, ◌++◌, ◌≡◌, IfOk, OnOk, min};
 
 use crate::def::definition::{ModuleDef, ShortExport};
 use crate::error::Error;
+use crate::flavor::Flavor;
 use crate::import_name::short_import_symbol;
 use crate::import_tables::imp_symbol;
 use crate::machine::MachineType;
-use crate::members::{Flavor, Member};
+use crate::member::Member;
 use crate::msvc::objects::{descriptor_member, null_descriptor_member, null_thunk_member};
 use crate::msvc::short_import::short_import_member;
 use crate::refusal::names_fault;
@@ -89,7 +90,7 @@ fn has_aliases(export: &ShortExport) -> bool
 }
 
 // Pushes the header members: import descriptor, null descriptor and null thunk.
-#[tactic(auto, unfolding(crate::specs::MsvcMembers::header_specs))]
+#[tactic(auto, unfolding(crate::specs::Members::MsvcMembers::header_specs))]
 fn push_header_members(
     members: &mut Vec<Member>,
     machine: MachineType,
@@ -108,7 +109,7 @@ fn push_header_members(
 }
 
 // Pushes the weak externals of an export, if any, and then its short import.
-#[tactic(auto, unfolding(crate::specs::MsvcMembers::weak_specs))]
+#[tactic(auto, unfolding(crate::specs::Members::MsvcMembers::weak_specs))]
 fn push_export(
     members: &mut Vec<Member>,
     export: &ShortExport,
@@ -131,7 +132,7 @@ fn push_export(
 }
 
 // Pushes the weak externals of an export: of its symbol, and of its address.
-#[tactic(auto, unfolding(crate::specs::MsvcMembers::weak_specs))]
+#[tactic(auto, unfolding(crate::specs::Members::MsvcMembers::weak_specs))]
 fn push_weak_externals(
     members: &mut Vec<Member>,
     export: &ShortExport,

@@ -4,13 +4,13 @@
 ghost use Rattle.implib.specs.Fault.{IfInvalid, MemberTooLong};
 ghost use Rattle.implib.specs.Import.{holds};
 ghost use Rattle.implib.specs.Library.{member_view};
-ghost use Rattle.implib.specs.MsvcMembers.{descriptor_spec, null_descriptor_spec, null_thunk_spec};
-ghost use Rattle.implib.specs.Members.{is_too_long};
-ghost use Rattle.implib.specs.MemberSpec.{member_of};
-ghost use Rattle.implib.specs.MsvcObjects.{descriptor_symbols, null_descriptor_section, base_name, descriptor, descriptor_characteristics, descriptor_symbol, null_descriptor, null_descriptor_symbol, null_thunk, null_thunk_section, null_thunk_symbol};
-ghost use Rattle.implib.specs.Layout.{encoded, encoded_size};
-ghost use Rattle.implib.specs.LayoutView.{symbol_view};
-ghost use Rattle.implib.specs.Writer.{section_view};
+ghost use Rattle.implib.specs.Members.MsvcMembers.{descriptor_spec, null_descriptor_spec, null_thunk_spec};
+ghost use Rattle.implib.specs.Members.Members.{is_too_long};
+ghost use Rattle.implib.specs.Members.MemberSpec.{member_of};
+ghost use Rattle.implib.specs.Members.MsvcObjects.{descriptor_symbols, null_descriptor_section, base_name, descriptor, descriptor_characteristics, descriptor_symbol, null_descriptor, null_descriptor_symbol, null_thunk, null_thunk_section, null_thunk_symbol};
+ghost use Rattle.implib.specs.Formats.Layout.{encoded, encoded_size};
+ghost use Rattle.implib.specs.Views.Layout.{symbol_view};
+ghost use Rattle.implib.specs.Formats.Writer.{section_view};
 ghost use Rattle.std.specs.List.{ends_with};
 ghost use Rattle.std.specs.Prelude.{Some, [], false, map, nat_eq, string_bytes, true, ◌∷◌, ◌<◌, ◌^◌, ◌≡◌, ◌≤◌, IfOk, OnOk};
 
@@ -20,7 +20,7 @@ use crate::coff::object::Section;
 use crate::error::Error;
 use crate::import_tables::{DATA, descriptor, ended_by_nul, image_relocation, thunk_width, zeros};
 use crate::machine::MachineType;
-use crate::members::Member;
+use crate::member::Member;
 use std::alloc::{AllocError, Global};
 
 // The symbol of the descriptor that ends the import directory.
@@ -35,7 +35,7 @@ fn ends_with(text: &str, suffix: &str) -> bool
 }
 
 // The DLL's name without a last `.dll` or `.exe`.
-#[tactic(auto, unfolding(crate::specs::MsvcObjects::base_name))]
+#[tactic(auto, unfolding(crate::specs::Members::MsvcObjects::base_name))]
 fn base_name(dll: &str) -> &str
     ensures { result.now ≡ base_name dll.now }
 {
@@ -47,7 +47,7 @@ fn base_name(dll: &str) -> &str
 }
 
 // The symbol of the import descriptor.
-#[tactic(auto, unfolding(crate::specs::MsvcObjects::descriptor_symbol))]
+#[tactic(auto, unfolding(crate::specs::Members::MsvcObjects::descriptor_symbol))]
 fn descriptor_symbol(alloc: Global, dll: &str) -> Result<String, AllocError>
     ensures { IfOk result (λ symbol. string_bytes symbol ≡ descriptor_symbol dll.now) }
 {
@@ -57,7 +57,7 @@ fn descriptor_symbol(alloc: Global, dll: &str) -> Result<String, AllocError>
 }
 
 // The symbol of the thunks that end the tables of the DLL.
-#[tactic(auto, unfolding(crate::specs::MsvcObjects::null_thunk_symbol))]
+#[tactic(auto, unfolding(crate::specs::Members::MsvcObjects::null_thunk_symbol))]
 fn null_thunk_symbol(alloc: Global, dll: &str) -> Result<String, AllocError>
     ensures { IfOk result (λ symbol. string_bytes symbol ≡ null_thunk_symbol dll.now) }
 {
@@ -96,7 +96,7 @@ fn object_member(
 }
 
 // The sections of the import descriptor: the descriptor, and the DLL's name.
-#[tactic(auto, unfolding(crate::specs::MsvcObjects::descriptor))]
+#[tactic(auto, unfolding(crate::specs::Members::MsvcObjects::descriptor))]
 fn descriptor_sections(
     alloc: Global,
     machine: MachineType,
@@ -126,7 +126,7 @@ fn descriptor_sections(
 }
 
 // The symbols of the import descriptor; three names are in the string table.
-#[tactic(auto, unfolding(crate::specs::MsvcObjects::descriptor))]
+#[tactic(auto, unfolding(crate::specs::Members::MsvcObjects::descriptor))]
 fn descriptor_symbols() -> [LayoutSymbol<'static>; 7]
     ensures { map symbol_view result ≡ descriptor_symbols }
 {
@@ -174,7 +174,7 @@ fn descriptor_object<'a>(
 }
 
 /// The import descriptor.
-#[tactic(auto, unfolding(crate::specs::MsvcMembers::descriptor_spec, crate::specs::MsvcObjects::null_descriptor_symbol))]
+#[tactic(auto, unfolding(crate::specs::Members::MsvcMembers::descriptor_spec, crate::specs::Members::MsvcObjects::null_descriptor_symbol))]
 pub(crate) fn descriptor_member(
     alloc: Global,
     machine: MachineType,
@@ -230,7 +230,7 @@ fn null_descriptor_object(alloc: Global, machine: MachineType) -> Result<Vec<u8>
 }
 
 /// The descriptor of zeros that ends the import directory.
-#[tactic(auto, unfolding(crate::specs::MsvcMembers::null_descriptor_spec, crate::specs::MsvcObjects::null_descriptor_symbol))]
+#[tactic(auto, unfolding(crate::specs::Members::MsvcMembers::null_descriptor_spec, crate::specs::Members::MsvcObjects::null_descriptor_symbol))]
 pub(crate) fn null_descriptor_member(
     alloc: Global,
     machine: MachineType,
@@ -294,7 +294,7 @@ fn null_thunk_object(
 }
 
 /// The thunks of zeros that end the DLL's address table and lookup table.
-#[tactic(auto, unfolding(crate::specs::MsvcMembers::null_thunk_spec))]
+#[tactic(auto, unfolding(crate::specs::Members::MsvcMembers::null_thunk_spec))]
 pub(crate) fn null_thunk_member(
     alloc: Global,
     machine: MachineType,

@@ -1,35 +1,30 @@
 //! The short import of an export (PE/COFF specification, "Import Library Format"; docs/FORMATS.md, "Short
 //! imports").
 
-ghost use Rattle.implib.specs.declared.members.Flavor.TheVariants.{Msvc};
+ghost use Rattle.implib.specs.declared.flavor.Flavor.TheVariants.{Msvc};
 ghost use Rattle.implib.specs.Definition.{definition_view, export_view};
 ghost use Rattle.implib.specs.Fault.{IfInvalid, MemberTooLong};
-ghost use Rattle.implib.specs.Import.{imp_symbol, at_sign, begins_with, holds, public_exports};
+ghost use Rattle.implib.specs.Import.{imp_symbol, at_sign, holds, public_exports};
+ghost use Rattle.implib.specs.Ascii.{begins_with};
 ghost use Rattle.implib.specs.Library.{member_view};
-ghost use Rattle.implib.specs.Members.{has_u16_ordinal, is_too_long, member_specs};
-ghost use Rattle.implib.specs.MemberSpec.{member_of};
-ghost use Rattle.implib.specs.MsvcMembers.{short_import_spec};
-ghost use Rattle.implib.specs.Pass.{Puts};
-ghost use Rattle.implib.specs.Msvc.{asked_by_short_import, import_type_of, name_type_of, short_import_bytes, short_import_data_size, short_import_header, short_import_listed, short_import_of, short_import_size, short_import_symbol};
-ghost use Rattle.implib.specs.ShortImport.{asked_by_name_type, before_at_sign, without_prefix};
+ghost use Rattle.implib.specs.Members.Members.{has_u16_ordinal, is_too_long, member_specs};
+ghost use Rattle.implib.specs.Members.MemberSpec.{member_of};
+ghost use Rattle.implib.specs.Members.MsvcMembers.{short_import_spec};
+ghost use Rattle.implib.specs.Formats.Pass.{Puts};
+ghost use Rattle.implib.specs.Members.Msvc.{asked_by_short_import, import_type_of, name_type_of, short_import_bytes, short_import_data_size, short_import_header, short_import_symbols, short_import_of, short_import_size, short_import_symbol};
+ghost use Rattle.implib.specs.Formats.ShortImport.{asked_by_name_type, before_at_sign, without_prefix};
 ghost use Rattle.std.specs.List.{list_all, list_any, position};
 ghost use Rattle.std.specs.Prelude.{false, map, nat_lt, string_bytes, true, ◌+◌, ◌<◌, ◌==◌, ◌≡◌, ◌≤◌, IfNone, IfOk, IfSome, OnOk, length};
 
+use crate::coff::constants::import_type::{IMPORT_CODE, IMPORT_CONST, IMPORT_DATA};
 use crate::coff::pass::Pass;
 use crate::def::definition::{ModuleDef, ShortExport};
 use crate::error::{Error, Fault};
 use crate::import_name::{name_type, short_import_symbol};
 use crate::import_tables::imp_symbol;
 use crate::machine::MachineType;
-use crate::members::Member;
+use crate::member::Member;
 use std::alloc::{AllocError, Global};
-
-// The import types (PE/COFF specification, "Import Type").
-const IMPORT_CODE: u16 = 0;
-
-const IMPORT_DATA: u16 = 1;
-
-const IMPORT_CONST: u16 = 2;
 
 // The size in bytes of the header of a short import, and of the NULs of its two texts.
 const RECORD_HEADER_SIZE: usize = 20;
@@ -115,8 +110,8 @@ fn put_header(
 }
 
 // The archive symbols of the export's short import.
-fn short_import_listed(alloc: Global, export: &ShortExport) -> Result<Vec<String>, AllocError>
-    ensures { IfOk result (λ symbols. map string_bytes symbols.items ≡ short_import_listed (export_view export.now)) }
+fn short_import_symbols(alloc: Global, export: &ShortExport) -> Result<Vec<String>, AllocError>
+    ensures { IfOk result (λ symbols. map string_bytes symbols.items ≡ short_import_symbols (export_view export.now)) }
 {
     let symbol = short_import_symbol(export);
     let address = imp_symbol(alloc, symbol)?;
@@ -143,7 +138,7 @@ pub(crate) fn short_import_member(
     // This brings the range of the ordinal, 16 bits, into the proof.
     let _ordinal = export.ordinal;
     let bytes = short_import_bytes(alloc, export, machine, dll)?;
-    let symbols = short_import_listed(alloc, export)?;
+    let symbols = short_import_symbols(alloc, export)?;
     let name = String::from_str(alloc, dll)?;
     Ok(Member {
         name,

@@ -1,17 +1,17 @@
 //! Laws of programs of DLLs in both flavours: members for Microsoft's linker and for GNU's.
 
 ghost use Rattle.implib.specs.Definition.{ExportView};
-ghost use Rattle.implib.specs.Image.{Range, image_of};
+ghost use Rattle.implib.specs.Link.Image.{Range, image_of};
 ghost use Rattle.implib.specs.Import.{Ask};
-ghost use Rattle.implib.specs.ImportTables.{thunk_width};
-ghost use Rattle.implib.specs.Object.{Object};
-ghost use Rattle.implib.specs.Placement.{Bases, placed_from};
+ghost use Rattle.implib.specs.Members.ImportTables.{thunk_width};
+ghost use Rattle.implib.specs.Formats.Object.{Object};
+ghost use Rattle.implib.specs.Link.Placement.{Bases, placed_from};
 ghost use Rattle.implib.specs.declared.machine.MachineType.{MachineType};
-ghost use Rattle.implib_link.specs.FlavorLoaded.{AreLoaded};
-ghost use Rattle.implib_link.specs.FlavorProgram.{AreFlavorObjects, FlavorInput, FlavorsLink, IsCode, IsFlavorProgram, IsMadeFor, ask_in, dll_of, exports_chosen, imported_in, symbol_in, thunks_of};
-ghost use Rattle.implib_link.specs.FlavorTexts.{FlavorSource, FlavorTextsLink, IsFlavorSource, input_of};
-ghost use Rattle.implib_link.specs.Loaded.{Writes};
-ghost use Rattle.implib_link.specs.Packed.{packed, packed_end};
+ghost use Rattle.implib_link.specs.Flavors.Loaded.{AreLoaded};
+ghost use Rattle.implib_link.specs.Flavors.Program.{AreFlavorObjects, FlavorInput, FlavorsLink, IsCode, IsFlavorProgram, IsMadeFor, ask_in, dll_of, exports_chosen, imported_in, symbol_in, thunks_of};
+ghost use Rattle.implib_link.specs.Flavors.Texts.{FlavorSource, FlavorTextsLink, IsFlavorSource, input_of};
+ghost use Rattle.implib_link.specs.Gnu.Loaded.{Writes};
+ghost use Rattle.implib_link.specs.Gnu.Packed.{packed, packed_end};
 ghost use Rattle.implib_link.specs.Stub.{CallReaches, CanJump, JumpsThrough};
 ghost use Rattle.std.specs.List.{AllByRecursion};
 ghost use Rattle.std.specs.Prelude.{◌≡◌, ◌<◌, ◌+◌, ◌*◌, ◌^◌, ◌++◌, ℕ, List, Some, length, map, slice_get};

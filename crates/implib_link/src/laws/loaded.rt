@@ -1,15 +1,15 @@
 //! The law of loaded programs.
 
-ghost use Rattle.implib.specs.Image.{Range, image_of};
+ghost use Rattle.implib.specs.Link.Image.{Range, image_of};
 ghost use Rattle.implib.specs.Import.{Ask};
-ghost use Rattle.implib.specs.LinkedMembers.{IsMade, LinkInput};
-ghost use Rattle.implib.specs.ImportTables.{thunk_width};
-ghost use Rattle.implib.specs.Object.{Object};
-ghost use Rattle.implib.specs.Placement.{Bases, placed_from};
+ghost use Rattle.implib.specs.Link.LinkedMembers.{IsMade, LinkInput};
+ghost use Rattle.implib.specs.Members.ImportTables.{thunk_width};
+ghost use Rattle.implib.specs.Formats.Object.{Object};
+ghost use Rattle.implib.specs.Link.Placement.{Bases, placed_from};
 ghost use Rattle.implib.specs.declared.machine.MachineType.{MachineType};
 ghost use Rattle.implib_link.specs.Directory.{imported};
-ghost use Rattle.implib_link.specs.Loaded.{IsLoaded, Writes};
-ghost use Rattle.implib_link.specs.Program.{IsProgram};
+ghost use Rattle.implib_link.specs.Gnu.Loaded.{IsLoaded, Writes};
+ghost use Rattle.implib_link.specs.Gnu.Program.{IsProgram};
 ghost use Rattle.std.specs.List.{AllByRecursion};
 ghost use Rattle.std.specs.Prelude.{◌≡◌, ℕ, List, length, map};
 

@@ -1,14 +1,14 @@
 //! The law of archive search of members for Microsoft's linker.
 
 ghost use Rattle.implib.specs.Definition.{DefinitionView};
-ghost use Rattle.implib.specs.MemberSpec.{MemberView};
-ghost use Rattle.implib.specs.Members.{AreMembersOf};
-ghost use Rattle.implib.specs.MsvcObjects.{descriptor_symbol};
+ghost use Rattle.implib.specs.Members.MemberSpec.{MemberView};
+ghost use Rattle.implib.specs.Members.Members.{AreMembersOf};
+ghost use Rattle.implib.specs.Members.MsvcObjects.{descriptor_symbol};
 ghost use Rattle.implib.specs.declared.machine.MachineType.{MachineType};
-ghost use Rattle.implib.specs.declared.members.Flavor.TheVariants.{Msvc};
-ghost use Rattle.implib_link.specs.Expansion.{descriptor_wanted};
-ghost use Rattle.implib_link.specs.MsvcSearch.{NamesNoHeader, TakesFor, msvc_if_any, shorts_wanted};
-ghost use Rattle.implib_link.specs.Search.{HaveSame};
+ghost use Rattle.implib.specs.declared.flavor.Flavor.TheVariants.{Msvc};
+ghost use Rattle.implib_link.specs.Flavors.Expansion.{descriptor_symbol_by_name};
+ghost use Rattle.implib_link.specs.Search.Msvc.{NamesNoHeader, TakesFor, msvc_if_any, shorts_wanted};
+ghost use Rattle.implib_link.specs.Search.Search.{HaveSame};
 ghost use Rattle.std.specs.List.{IsDistinct, flat_map};
 ghost use Rattle.std.specs.Prelude.{◌≡◌, ℕ, List, bytes_eq};
 
@@ -22,7 +22,7 @@ pub fn search_takes_short_imports()
         (wanted : List (List ℕ)) →
         AreMembersOf d machine Msvc members →
         IsDistinct bytes_eq (flat_map (λ m. m.symbols) members) →
-        descriptor_wanted d.import_name ≡ descriptor_symbol d.import_name →
+        descriptor_symbol_by_name d.import_name ≡ descriptor_symbol d.import_name →
         NamesNoHeader d.import_name wanted →
         TakesFor machine members wanted taken →
         HaveSame taken (msvc_if_any d machine (shorts_wanted d wanted)) }

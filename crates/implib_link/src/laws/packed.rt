@@ -1,11 +1,11 @@
 //! The law of packed placement.
 
-ghost use Rattle.implib.specs.Image.{IsAdmissible};
-ghost use Rattle.implib.specs.LinkedMembers.{IsMade, LinkInput, all_linked, objects_in};
-ghost use Rattle.implib.specs.Object.{Object};
+ghost use Rattle.implib.specs.Link.Image.{IsAdmissible};
+ghost use Rattle.implib.specs.Link.LinkedMembers.{IsMade, LinkInput, all_linked, objects_in};
+ghost use Rattle.implib.specs.Formats.Object.{Object};
 ghost use Rattle.implib.specs.declared.machine.MachineType.{MachineType};
-ghost use Rattle.implib_link.specs.Packed.{packed, packed_end};
-ghost use Rattle.implib_link.specs.Program.{IsProgram, has_tables, linked_symbols, null_descriptor};
+ghost use Rattle.implib_link.specs.Gnu.Packed.{packed, packed_end};
+ghost use Rattle.implib_link.specs.Gnu.Program.{IsProgram, has_tables, linked_symbols, null_descriptor};
 ghost use Rattle.std.specs.List.{AllByRecursion, IsDistinct, filter};
 ghost use Rattle.std.specs.Prelude.{◌≡◌, ◌<◌, ◌%◌, ◌^◌, ◌++◌, ◌∷◌, ℕ, List, [], bytes_eq};
 

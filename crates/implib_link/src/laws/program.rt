@@ -1,14 +1,14 @@
 //! Laws of programs that the members for GNU's linker are linked into.
 
-ghost use Rattle.implib.specs.Image.{IsAdmissible, Range};
-ghost use Rattle.implib.specs.Linked.{AllLink};
-ghost use Rattle.implib.specs.LinkedMembers.{IsMade, LinkInput, all_linked, objects_in};
-ghost use Rattle.implib.specs.Object.{Object};
-ghost use Rattle.implib.specs.Placement.{Bases};
+ghost use Rattle.implib.specs.Link.Image.{IsAdmissible, Range};
+ghost use Rattle.implib.specs.Link.Linked.{AllLink};
+ghost use Rattle.implib.specs.Link.LinkedMembers.{IsMade, LinkInput, all_linked, objects_in};
+ghost use Rattle.implib.specs.Formats.Object.{Object};
+ghost use Rattle.implib.specs.Link.Placement.{Bases};
 ghost use Rattle.implib.specs.declared.machine.MachineType.{MachineType};
 ghost use Rattle.implib_link.specs.Directory.{DirectoryAt, Imported, WalkFinds};
 ghost use Rattle.implib_link.specs.FullNames.{WorkedFullNames, object_by_full_names};
-ghost use Rattle.implib_link.specs.Program.{IsProgram, LinksAmong, linked_symbols, null_descriptor};
+ghost use Rattle.implib_link.specs.Gnu.Program.{IsProgram, LinksAmong, linked_symbols, null_descriptor};
 ghost use Rattle.std.specs.List.{AllByRecursion, IsDistinct};
 ghost use Rattle.std.specs.Prelude.{◌≡◌, ◌++◌, ◌∷◌, ℕ, List, Some, [], bytes_eq, map};
 

@@ -1,18 +1,18 @@
 //! Laws of archive search.
 
 ghost use Rattle.implib.specs.Definition.{DefinitionView};
-ghost use Rattle.implib.specs.LinkedMembers.{AllRise};
-ghost use Rattle.implib.specs.Members.{AreMembersOf};
-ghost use Rattle.implib.specs.MemberSpec.{MemberView};
-ghost use Rattle.implib.specs.Object.{Object};
-ghost use Rattle.implib.specs.Placement.{Bases};
-ghost use Rattle.implib.specs.declared.members.Flavor.TheVariants.{Gnu};
+ghost use Rattle.implib.specs.Link.LinkedMembers.{IsAscending};
+ghost use Rattle.implib.specs.Members.Members.{AreMembersOf};
+ghost use Rattle.implib.specs.Members.MemberSpec.{MemberView};
+ghost use Rattle.implib.specs.Formats.Object.{Object};
+ghost use Rattle.implib.specs.Link.Placement.{Bases};
+ghost use Rattle.implib.specs.declared.flavor.Flavor.TheVariants.{Gnu};
 ghost use Rattle.implib.specs.declared.machine.MachineType.{MachineType};
-ghost use Rattle.implib_link.specs.WorkedArchives.{WorkedArchives};
-ghost use Rattle.implib_link.specs.WorkedSearch.{WorkedSearch};
-ghost use Rattle.implib_link.specs.Archives.{IsArchive, Library, NamesNoHeadOrTailOf, TakesOfLibraries, archive_of, inputs_wanted, wanted_with};
-ghost use Rattle.implib_link.specs.Program.{IsProgram, LinksAmong};
-ghost use Rattle.implib_link.specs.Search.{HaveSame, ImportsWanted, IsArranged, IsLinkedOfWanted, IsLinkedWith, IsTakenInTurn, NamesNoHeadOrTail, Takes, exports_wanted, linked_if_any};
+ghost use Rattle.implib_link.specs.Worked.Archives.{WorkedArchives};
+ghost use Rattle.implib_link.specs.Worked.Search.{WorkedSearch};
+ghost use Rattle.implib_link.specs.Search.Archives.{IsArchive, Library, NamesNoHeadOrTailOf, TakesOfLibraries, archive_of, inputs_wanted, wanted_with};
+ghost use Rattle.implib_link.specs.Gnu.Program.{IsProgram, LinksAmong};
+ghost use Rattle.implib_link.specs.Search.Search.{HaveSame, ImportsWanted, IsArranged, IsLinkedOfWanted, IsLinkedWith, IsTakenInTurn, NamesNoHeadOrTail, Takes, exports_wanted, linked_if_any};
 ghost use Rattle.std.specs.List.{Contains, IsDistinct, flat_map};
 ghost use Rattle.std.specs.Prelude.{◌≤◌, ℕ, List, bytes_eq, length, map};
 
@@ -49,7 +49,7 @@ pub fn searched_program_links()
         Takes members wanted taken →
         Contains (exports_wanted d wanted) number →
         HaveSame taken arranged →
-        AllRise (map (λ m. m.name) arranged) →
+        IsAscending (map (λ m. m.name) arranged) →
         IsArranged machine d.import_name taken arranged }
     ensures imports { (machine : MachineType) (d : DefinitionView) (members taken : List MemberView)
         (wanted : List (List ℕ)) (bases : Bases) (objects : List Object) →

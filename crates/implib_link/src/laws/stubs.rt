@@ -1,16 +1,16 @@
 //! Laws of stubs and of calls.
 
 ghost use Rattle.implib.specs.Definition.{ExportView};
-ghost use Rattle.implib.specs.Image.{Range, image_of};
+ghost use Rattle.implib.specs.Link.Image.{Range, image_of};
 ghost use Rattle.implib.specs.Import.{Ask, expected_ask};
-ghost use Rattle.implib.specs.LinkedMembers.{IsMade, LinkInput, chosen_exports};
-ghost use Rattle.implib.specs.ImportTables.{thunk_width};
-ghost use Rattle.implib.specs.Object.{Object};
-ghost use Rattle.implib.specs.Placement.{Bases, placed_from};
+ghost use Rattle.implib.specs.Link.LinkedMembers.{IsMade, LinkInput, chosen_exports};
+ghost use Rattle.implib.specs.Members.ImportTables.{thunk_width};
+ghost use Rattle.implib.specs.Formats.Object.{Object};
+ghost use Rattle.implib.specs.Link.Placement.{Bases, placed_from};
 ghost use Rattle.implib.specs.declared.machine.MachineType.{MachineType};
 ghost use Rattle.implib_link.specs.Directory.{imported};
-ghost use Rattle.implib_link.specs.Loaded.{Writes};
-ghost use Rattle.implib_link.specs.Program.{IsProgram, thunks_before};
+ghost use Rattle.implib_link.specs.Gnu.Loaded.{Writes};
+ghost use Rattle.implib_link.specs.Gnu.Program.{IsProgram, thunks_before};
 ghost use Rattle.implib_link.specs.Stub.{CallReaches, CanJump, JumpsThrough};
 ghost use Rattle.std.specs.List.{AllByRecursion};
 ghost use Rattle.std.specs.Prelude.{◌≡◌, ◌+◌, ◌*◌, ◌++◌, ℕ, List, Some, false, length, map, slice_get};

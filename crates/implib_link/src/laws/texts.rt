@@ -1,10 +1,10 @@
 //! The law of programs from texts.
 
-ghost use Rattle.implib.specs.Object.{Object};
-ghost use Rattle.implib.specs.Placement.{Bases};
+ghost use Rattle.implib.specs.Formats.Object.{Object};
+ghost use Rattle.implib.specs.Link.Placement.{Bases};
 ghost use Rattle.implib.specs.declared.machine.MachineType.{MachineType};
-ghost use Rattle.implib_link.specs.Program.{IsProgram};
-ghost use Rattle.implib_link.specs.Texts.{IsSource, Source, TextsLink, link_input_of};
+ghost use Rattle.implib_link.specs.Gnu.Program.{IsProgram};
+ghost use Rattle.implib_link.specs.Gnu.Texts.{IsSource, Source, TextsLink, link_input_of};
 ghost use Rattle.std.specs.List.{AllByRecursion};
 ghost use Rattle.std.specs.Prelude.{List, map};
 

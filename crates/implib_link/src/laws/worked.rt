@@ -1,9 +1,9 @@
 //! Programs that were linked by hand, and images that are wrong.
 
-ghost use Rattle.implib_link.specs.RefusedLinks.{RefusedLinks};
-ghost use Rattle.implib_link.specs.WorkedExpansion.{WorkedExpansion};
-ghost use Rattle.implib_link.specs.WorkedFlavors.{RefusedTables, WorkedFlavors};
-ghost use Rattle.implib_link.specs.WorkedPrograms.{WorkedPrograms, WorkedStubs};
+ghost use Rattle.implib_link.specs.Worked.RefusedLinks.{RefusedLinks};
+ghost use Rattle.implib_link.specs.Worked.Expansion.{WorkedExpansion};
+ghost use Rattle.implib_link.specs.Worked.Flavors.{RefusedTables, WorkedFlavors};
+ghost use Rattle.implib_link.specs.Worked.Programs.{WorkedPrograms, WorkedStubs};
 
 /// Programs that were linked by hand, on each machine, meet what the laws ask for and have these tables,
 /// and but for ARMNT these stubs.

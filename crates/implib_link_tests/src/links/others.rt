@@ -1,7 +1,7 @@
 //! Members among other objects, which the writer of objects makes: code with fields for the symbols of an
 //! export.
 
-ghost use Rattle.implib.specs.Layout.{HasNoNul};
+ghost use Rattle.implib.specs.Formats.Layout.{HasNoNul};
 ghost use Rattle.std.specs.Prelude.{◌<◌, length};
 
 use super::{

@@ -1,6 +1,6 @@
 use Rattle.std.proofs.Common.{map, ◌≡◌, drop}
 use Rattle.implib.specs.Definition.{definition_view, export_view}
-use Rattle.implib.specs.NameRules.{definition_names_refusal, names_refusal}
+use Rattle.implib.specs.Members.NameRules.{definition_names_refusal, names_refusal}
 use Rattle.implib.proofs.refusal.names_fault.Given as goal
 
 -- what the exports that are left break first is what the definition breaks first

@@ -1,10 +1,10 @@
 use Rattle.std.proofs.Common.{◌≡◌, ◌<◌, ◌≤◌, ◌^◌, refl, ap, sym, subst, [], ◌∷◌}
 use Rattle.std.specs.Prelude.{IfOk, OnOk}
 use Rattle.implib.specs.Fault.{IfInvalid, MemberTooLong}
-use Rattle.implib.specs.WeakExternal.{weak_object}
-use Rattle.implib.specs.Layout.{Fits, ObjectLayout, encoded, encoded_size}
-use Rattle.implib.proofs.MemberMeanings.{weak_bytes_mean}
-use Rattle.implib.proofs.MsvcObjects.{Fits-weak_object, same_layout}
+use Rattle.implib.specs.Members.WeakExternal.{weak_object}
+use Rattle.implib.specs.Formats.Layout.{Fits, ObjectLayout, encoded, encoded_size}
+use Rattle.implib.proofs.Members.MemberMeanings.{weak_bytes_mean}
+use Rattle.implib.proofs.Members.MsvcObjects.{Fits-weak_object, same_layout}
 use Rattle.implib.proofs.weak_external.weak_external.Goals as goal
 
 pub encode-requires : goal.encode-requires

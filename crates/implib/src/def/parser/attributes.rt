@@ -1,9 +1,9 @@
 //! The attributes of an export.
 
 ghost use Rattle.implib.specs.Definition.{export_view};
-ghost use Rattle.implib.specs.Grammar.{Joined};
-ghost use Rattle.implib.specs.ParserViews.{all_put, Gives, one_put};
-ghost use Rattle.implib.specs.TokenReader.{
+ghost use Rattle.implib.specs.Text.Grammar.{Joined};
+ghost use Rattle.implib.specs.Views.Parser.{all_put, Gives, one_put};
+ghost use Rattle.implib.specs.Views.TokenReader.{
   attribute_read,
   attributes_read,
   no_name_read,
@@ -32,7 +32,7 @@ impl<'a> Tokens<'a> {
     }
 
     // Reads an attribute into the export; false where there is none.
-    #[tactic(auto, unfolding(crate::specs::TokenReader::attribute_read))]
+    #[tactic(auto, unfolding(crate::specs::Views::TokenReader::attribute_read))]
     fn attribute(&mut self, alloc: Global, export: &mut ShortExport) -> Result<bool, ReadError>
         ensures read { Gives (λ more. (more, export_view export.new, self.new)) result
             (one_put with_attribute (export_view export.old) (attribute_read self.old)) }
@@ -78,7 +78,7 @@ impl<'a> Tokens<'a> {
     }
 
     // The ordinal in the token after a lone `@`.
-    #[tactic(auto, unfolding(crate::specs::TokenReader::ordinal_read))]
+    #[tactic(auto, unfolding(crate::specs::Views::TokenReader::ordinal_read))]
     fn ordinal(&mut self, alloc: Global) -> Result<u16, ReadError>
         ensures read { Gives (λ n. (n, self.new)) result (ordinal_read self.old) }
         ensures no_longer { OnOk result (length self.new ≤ length self.old) }
@@ -112,7 +112,7 @@ impl<'a> Tokens<'a> {
     }
 
     // Takes `NONAME`, and says whether it was there.
-    #[tactic(auto, unfolding(crate::specs::TokenReader::no_name_read))]
+    #[tactic(auto, unfolding(crate::specs::Views::TokenReader::no_name_read))]
     fn no_name(&mut self) -> bool
         ensures read { (result, self.new) ≡ no_name_read self.old }
         ensures no_longer { length self.new ≤ length self.old }

@@ -1,9 +1,9 @@
 //! The exports of a statement, and their names.
 
 ghost use Rattle.implib.specs.Definition.{export_view};
-ghost use Rattle.implib.specs.Meaning.{decorated, is_decorated};
-ghost use Rattle.implib.specs.ParserViews.{all_put, Gives, one_put, value_of, with_export};
-ghost use Rattle.implib.specs.TokenReader.{export_read, exports_read, named_export, target_read};
+ghost use Rattle.implib.specs.Underscore.{decorated, is_decorated};
+ghost use Rattle.implib.specs.Views.Parser.{all_put, Gives, one_put, value_of, with_export};
+ghost use Rattle.implib.specs.Views.TokenReader.{export_read, exports_read, named_export, target_read};
 ghost use Rattle.std.specs.Prelude.{◌≡◌, ◌<◌, ◌≤◌, length, map, IfOk, IsTrue, OnOk};
 ghost use Rattle.std.specs.String.{string_bytes};
 
@@ -14,6 +14,7 @@ use crate::def::parser::read_error::ReadError;
 use crate::def::parser::tokens::Tokens;
 use crate::error::Fault;
 use crate::machine::MachineType;
+use crate::underscore::decorated;
 use std::alloc::{AllocError, Global};
 
 impl<'a> Tokens<'a> {
@@ -34,7 +35,7 @@ impl<'a> Tokens<'a> {
     }
 
     // Reads an export onto the list; false where there is none.
-    #[tactic(auto, unfolding(crate::specs::TokenReader::export_read))]
+    #[tactic(auto, unfolding(crate::specs::Views::TokenReader::export_read))]
     fn export(
         &mut self,
         alloc: Global,
@@ -64,7 +65,7 @@ impl<'a> Tokens<'a> {
     }
 
     // The word after the `=` of an export, if they are there.
-    #[tactic(auto, unfolding(crate::specs::TokenReader::target_read))]
+    #[tactic(auto, unfolding(crate::specs::Views::TokenReader::target_read))]
     fn target(&mut self) -> Result<Option<&'a str>, ReadError>
         ensures read { Gives (λ target. (value_of target, self.new)) result
             (target_read self.old) }
@@ -106,24 +107,4 @@ fn named_export(
         }
     }
     Ok(export)
-}
-
-// The name to link by: on I386 with `_` in front, unless it begins with `?` or holds `@`.
-fn decorated(alloc: Global, machine: MachineType, name: &str) -> Result<String, AllocError>
-    ensures { IfOk result (λ made. string_bytes made ≡ decorated machine name.now) }
-{
-    let mut made = String::new(alloc);
-    if machine.has_leading_underscore() && !is_decorated(name) {
-        made.push('_')?;
-    }
-    made.push_str(name)?;
-    Ok(made)
-}
-
-// Whether the name begins with `?` or holds `@`.
-fn is_decorated(name: &str) -> bool
-    ensures { result ≡ is_decorated name.now }
-{
-    let bytes = name.as_bytes();
-    bytes.first() == Some(&b'?') || bytes.contains(&b'@')
 }

@@ -1,8 +1,8 @@
 //! Words that are numbers, versions and ordinals.
 
-ghost use Rattle.implib.specs.Number.{u16_limit, u32_limit, u64_limit};
-ghost use Rattle.implib.specs.ParserViews.{at_word_view};
-ghost use Rattle.implib.specs.TokenReader.{at_word, number_of, version_of};
+ghost use Rattle.implib.specs.Text.Number.{u16_limit, u32_limit, u64_limit};
+ghost use Rattle.implib.specs.Views.Parser.{at_word_view};
+ghost use Rattle.implib.specs.Views.TokenReader.{at_word, number_of, version_of};
 ghost use Rattle.std.specs.Prelude.{◌≡◌};
 
 /// What a word is among the attributes of an export.
@@ -17,7 +17,7 @@ pub enum AtWord {
 }
 
 /// The number of 16 bits that the text is.
-#[tactic(auto, using(crate::proofs::NumberParsed::number_parsed))]
+#[tactic(auto, using(crate::proofs::Text::NumberParsed::number_parsed))]
 pub fn u16_of(text: &str) -> Option<u16>
     ensures { result ≡ number_of text.now u16_limit }
 {
@@ -25,7 +25,7 @@ pub fn u16_of(text: &str) -> Option<u16>
 }
 
 // The number of 32 bits that the text is.
-#[tactic(auto, using(crate::proofs::NumberParsed::number_parsed))]
+#[tactic(auto, using(crate::proofs::Text::NumberParsed::number_parsed))]
 fn u32_of(text: &str) -> Option<u32>
     ensures { result ≡ number_of text.now u32_limit }
 {
@@ -33,7 +33,7 @@ fn u32_of(text: &str) -> Option<u32>
 }
 
 /// The number of 64 bits that the text is.
-#[tactic(auto, using(crate::proofs::NumberParsed::number_parsed))]
+#[tactic(auto, using(crate::proofs::Text::NumberParsed::number_parsed))]
 pub fn u64_of(text: &str) -> Option<u64>
     ensures { result ≡ number_of text.now u64_limit }
 {
@@ -51,7 +51,7 @@ pub fn version_of(text: &str) -> Option<(u32, u32)>
 }
 
 /// What the word is.
-#[tactic(auto, using(crate::proofs::WordsCut::plain_unstripped))]
+#[tactic(auto, using(crate::proofs::Text::WordsCut::plain_unstripped))]
 pub fn at_word(word: &str) -> AtWord
     ensures { at_word_view result ≡ at_word word.now }
 {

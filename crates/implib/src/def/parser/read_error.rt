@@ -1,6 +1,6 @@
 //! Why the readers of tokens stop.
 
-ghost use Rattle.implib.specs.ParserViews.{error_of};
+ghost use Rattle.implib.specs.Views.Parser.{error_of};
 ghost use Rattle.implib.specs.declared.def.parser.read_error.ReadError.TheVariants.{OutOfMemory};
 ghost use Rattle.std.specs.Prelude.{◌≡◌};
 

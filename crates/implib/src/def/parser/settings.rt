@@ -1,7 +1,7 @@
 //! The numbers and names that statements other than `EXPORTS` set.
 
-ghost use Rattle.implib.specs.ParserViews.{Gives, named};
-ghost use Rattle.implib.specs.TokenReader.{base_read, commit_read, name_read, sizes_read, version_read};
+ghost use Rattle.implib.specs.Views.Parser.{Gives, named};
+ghost use Rattle.implib.specs.Views.TokenReader.{base_read, commit_read, name_read, sizes_read, version_read};
 ghost use Rattle.std.specs.Prelude.{◌≡◌, ◌<◌, ◌≤◌, length, OnOk};
 
 use crate::def::lexer::TokenKind;
@@ -12,7 +12,7 @@ use crate::error::Fault;
 
 impl<'a> Tokens<'a> {
     /// One number, and the one after a comma, if there is one.
-    #[tactic(auto, unfolding(crate::specs::TokenReader::sizes_read))]
+    #[tactic(auto, unfolding(crate::specs::Views::TokenReader::sizes_read))]
     pub fn sizes(&mut self) -> Result<(u64, Option<u64>), ReadError>
         ensures read { Gives (λ sizes. (sizes, self.new)) result (sizes_read self.old) }
         ensures no_longer { OnOk result (length self.new ≤ length self.old) }
@@ -23,7 +23,7 @@ impl<'a> Tokens<'a> {
     }
 
     // The number after a comma, if there is one.
-    #[tactic(auto, unfolding(crate::specs::TokenReader::commit_read))]
+    #[tactic(auto, unfolding(crate::specs::Views::TokenReader::commit_read))]
     fn commit(&mut self) -> Result<Option<u64>, ReadError>
         ensures read { Gives (λ commit. (commit, self.new)) result (commit_read self.old) }
         ensures no_longer { OnOk result (length self.new ≤ length self.old) }
@@ -41,7 +41,7 @@ impl<'a> Tokens<'a> {
     }
 
     /// The name after `NAME` or `LIBRARY` and its base, if they are there.
-    #[tactic(auto, unfolding(crate::specs::TokenReader::name_read))]
+    #[tactic(auto, unfolding(crate::specs::Views::TokenReader::name_read))]
     pub fn name(&mut self) -> Result<Option<(&'a str, Option<u64>)>, ReadError>
         ensures read { Gives (λ name. (named name, self.new)) result (name_read self.old) }
         ensures no_longer { OnOk result (length self.new ≤ length self.old) }
@@ -60,7 +60,7 @@ impl<'a> Tokens<'a> {
     }
 
     // The number of `BASE =`, if it is there.
-    #[tactic(auto, unfolding(crate::specs::TokenReader::base_read))]
+    #[tactic(auto, unfolding(crate::specs::Views::TokenReader::base_read))]
     fn base(&mut self) -> Result<Option<u64>, ReadError>
         ensures read { Gives (λ base. (base, self.new)) result (base_read self.old) }
         ensures no_longer { OnOk result (length self.new ≤ length self.old) }
@@ -79,7 +79,7 @@ impl<'a> Tokens<'a> {
     }
 
     /// The two numbers of the expected version, which is one identifier.
-    #[tactic(auto, unfolding(crate::specs::TokenReader::version_read))]
+    #[tactic(auto, unfolding(crate::specs::Views::TokenReader::version_read))]
     pub fn version(&mut self) -> Result<(u32, u32), ReadError>
         ensures read { Gives (λ version. (version, self.new)) result (version_read self.old) }
         ensures no_longer { OnOk result (length self.new ≤ length self.old) }

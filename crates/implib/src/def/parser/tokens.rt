@@ -1,8 +1,8 @@
 //! The tokens that a parser has ahead of it.
 
-ghost use Rattle.implib.specs.ParserViews.{Gives, ShowsFirst, TakesFirst};
-ghost use Rattle.implib.specs.TokenReader.{number_read, sign_read, word_read};
-ghost use Rattle.implib.specs.Token.{token_view, Lexed};
+ghost use Rattle.implib.specs.Views.Parser.{Gives, ShowsFirst, TakesFirst};
+ghost use Rattle.implib.specs.Views.TokenReader.{number_read, sign_read, word_read};
+ghost use Rattle.implib.specs.Text.Token.{token_view, Lexed};
 ghost use Rattle.std.specs.Prelude.{◌≡◌, ◌<◌, length, OnOk};
 
 use crate::def::lexer::{Lexer, Token, TokenKind};
@@ -20,11 +20,11 @@ pub struct Tokens<'a> {
 
 impl<'a> Model for Tokens<'a> {
     ghost use Rattle.std.specs.Prelude.{List};
-    ghost use Rattle.implib.specs.Token.{TokenView};
+    ghost use Rattle.implib.specs.Text.Token.{TokenView};
 
     ghost Value = { List TokenView };
 
-    ghost use Rattle.implib.specs.ParserViews.{ahead};
+    ghost use Rattle.implib.specs.Views.Parser.{ahead};
 
     ghost view = { λ t. ahead t.pushed t.lexer };
 }
@@ -65,7 +65,7 @@ impl<'a> Tokens<'a> {
     }
 
     /// The expected identifier.
-    #[tactic(auto, unfolding(crate::specs::TokenReader::word_read))]
+    #[tactic(auto, unfolding(crate::specs::Views::TokenReader::word_read))]
     pub fn identifier(&mut self) -> Result<Token<'a>, ReadError>
         ensures read { Gives (λ token. (token_view token, self.new)) result (word_read self.old) }
         ensures shorter { OnOk result (length self.new < length self.old) }
@@ -80,7 +80,7 @@ impl<'a> Tokens<'a> {
     }
 
     /// The expected `=`.
-    #[tactic(auto, unfolding(crate::specs::TokenReader::sign_read))]
+    #[tactic(auto, unfolding(crate::specs::Views::TokenReader::sign_read))]
     pub fn equal(&mut self) -> Result<(), ReadError>
         ensures read { Gives (λ _. self.new) result (sign_read self.old) }
         ensures shorter { OnOk result (length self.new < length self.old) }
@@ -95,7 +95,7 @@ impl<'a> Tokens<'a> {
     }
 
     /// The number that the expected identifier is.
-    #[tactic(auto, unfolding(crate::specs::TokenReader::number_read))]
+    #[tactic(auto, unfolding(crate::specs::Views::TokenReader::number_read))]
     pub fn number(&mut self) -> Result<u64, ReadError>
         ensures read { Gives (λ n. (n, self.new)) result (number_read self.old) }
         ensures shorter { OnOk result (length self.new < length self.old) }

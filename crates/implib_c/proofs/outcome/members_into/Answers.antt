@@ -1,6 +1,6 @@
 use Rattle.std.proofs.Common.{◌∙◌, map, subst, sym}
 use Rattle.implib.specs.Library.{member_view}
-use Rattle.implib_c.specs.Answer.{MembersOf}
+use Rattle.implib.specs.Members.OfText.{MembersOf}
 use Rattle.implib_c.specs.Given.{OnTextFault, PutsInto}
 use Rattle.implib_c.proofs.Answer.{answers_fault, answers_flavor, answers_machine, answers_not_utf8, answers_put}
 use Rattle.implib_c.proofs.outcome.members_into.Goals as goal

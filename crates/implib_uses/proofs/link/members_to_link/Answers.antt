@@ -3,9 +3,9 @@ use Rattle.std.specs.Prelude.{IfOk, Result, Ok, Err}
 use Rattle.std.specs.declared.vec.Vec.{Vec}
 use Rattle.implib.specs.declared.error.Error.{Error}
 use Rattle.implib.specs.declared.machine.MachineType.{MachineType}
-use Rattle.implib.specs.declared.members.Member.{Member}
+use Rattle.implib.specs.declared.member.Member.{Member}
 use Rattle.implib.specs.Library.{member_view}
-use Rattle.implib_link.specs.Texts.{LinkAsStated}
+use Rattle.implib_link.specs.Gnu.Texts.{LinkAsStated}
 use Rattle.implib_uses.specs.Uses.{ImportsJustThese}
 use Rattle.implib_uses.proofs.Links.{imports_just_these}
 use Rattle.implib_uses.proofs.link.members_to_link.Goals as goal
@@ -17,4 +17,4 @@ if_made text machine (Ok members) given = imports_just_these text machine (map m
 if_made text machine (Err error) given = tt
 
 pub returns : goal.returns
-returns c = if_made c.args.text.now c.args.machine c.members_of_text.result c.members_of_text.ensures.links
+returns c = if_made c.args.text.now c.args.machine c.gnu_members_of_text.result c.gnu_members_of_text.ensures.links

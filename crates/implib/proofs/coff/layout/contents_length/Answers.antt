@@ -1,7 +1,7 @@
 use Rattle.std.proofs.Common.{arith}
-use Rattle.implib.specs.Layout.{contents_size}
-use Rattle.implib.specs.Writer.{section_view}
-use Rattle.implib.proofs.Sums.{sum_more}
+use Rattle.implib.specs.Formats.Layout.{contents_size}
+use Rattle.implib.specs.Formats.Writer.{section_view}
+use Rattle.implib.proofs.Formats.Sums.{sum_more}
 use Rattle.implib.proofs.coff.layout.contents_length.Goals as goal
 
 pub loop-section-preserved : goal.loop-section-preserved

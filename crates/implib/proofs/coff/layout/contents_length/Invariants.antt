@@ -1,6 +1,6 @@
 use Rattle.std.proofs.Common.{◌≡◌, ◌-◌, ◌^◌, map, min, sum_by, take}
-use Rattle.implib.specs.Layout.{contents_size}
-use Rattle.implib.specs.Writer.{section_view}
+use Rattle.implib.specs.Formats.Layout.{contents_size}
+use Rattle.implib.specs.Formats.Writer.{section_view}
 use Rattle.implib.proofs.coff.layout.contents_length.Given as goal
 
 abbrev pub invariant-loop-section : goal.invariant-loop-section

@@ -1,6 +1,6 @@
 use Rattle.std.proofs.Common.{◌≡◌, ap, arith}
-use Rattle.implib.specs.LayoutView.{layout_view}
-use Rattle.implib.proofs.ObjectReading.{length-encoded}
+use Rattle.implib.specs.Views.Layout.{layout_view}
+use Rattle.implib.proofs.Formats.ObjectReading.{length-encoded}
 use Rattle.implib.proofs.coff.layout.encode.Goals as goal
 
 pub finish-requires : goal.finish-requires

@@ -1,7 +1,7 @@
 use Rattle.std.proofs.Common.{arith, refl}
 use Rattle.std.proofs.lemmas.List.{length-map}
-use Rattle.implib.specs.Layout.{contents_offset, encoded_size, records, strings_size, symbol_table_offset}
-use Rattle.implib.specs.Writer.{section_view}
+use Rattle.implib.specs.Formats.Layout.{contents_offset, encoded_size, records, strings_size, symbol_table_offset}
+use Rattle.implib.specs.Formats.Writer.{section_view}
 use Rattle.implib.proofs.coff.layout.measure_of.Goals as goal
 
 pub returns-then-length-clause-refused : goal.returns-then-length-clause-refused

@@ -1,8 +1,8 @@
 use Rattle.std.proofs.Common.{arith, refl}
-use Rattle.implib.specs.Layout.{string_offsets, string_size, strings_size}
-use Rattle.implib.proofs.Defaults.{no_text}
-use Rattle.implib.proofs.Sums.{sum_fewer}
-use Rattle.implib.proofs.Offsets.{offsets_all, offsets_more}
+use Rattle.implib.specs.Formats.Layout.{string_offsets, string_size, strings_size}
+use Rattle.implib.proofs.Formats.Defaults.{no_text}
+use Rattle.implib.proofs.Formats.Sums.{sum_fewer}
+use Rattle.implib.proofs.Formats.Offsets.{offsets_all, offsets_more}
 use Rattle.implib.proofs.coff.layout.offsets_of.Goals as goal
 
 pub loop-text-init : goal.loop-text-init

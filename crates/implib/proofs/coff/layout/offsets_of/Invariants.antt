@@ -1,5 +1,5 @@
 use Rattle.std.proofs.Common.{◌≡◌, ◌+◌, ◌++◌, drop, map, sum_by}
-use Rattle.implib.specs.Layout.{offsets_from, string_offsets, string_size, strings_size}
+use Rattle.implib.specs.Formats.Layout.{offsets_from, string_offsets, string_size, strings_size}
 use Rattle.implib.proofs.coff.layout.offsets_of.Given as goal
 
 abbrev pub invariant-loop-text : goal.invariant-loop-text

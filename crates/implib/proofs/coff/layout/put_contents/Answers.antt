@@ -1,9 +1,9 @@
 use Rattle.std.proofs.Common.{arith, take}
-use Rattle.implib.specs.Layout.{contents, contents_size}
-use Rattle.implib.specs.Writer.{section_view}
-use Rattle.implib.proofs.Lengths.{length-viewed_contents}
-use Rattle.implib.proofs.Pass.{puts_more}
-use Rattle.implib.proofs.Sums.{sum_room}
+use Rattle.implib.specs.Formats.Layout.{contents, contents_size}
+use Rattle.implib.specs.Formats.Writer.{section_view}
+use Rattle.implib.proofs.Formats.Lengths.{length-viewed_contents}
+use Rattle.implib.proofs.Formats.Pass.{puts_more}
+use Rattle.implib.proofs.Formats.Sums.{sum_room}
 use Rattle.implib.proofs.coff.layout.put_contents.Goals as goal
 
 pub put_section_contents-requires : goal.put_section_contents-requires

@@ -1,7 +1,7 @@
 use Rattle.std.proofs.Common.{flat_map, take}
-use Rattle.implib.specs.Pass.{Puts}
-use Rattle.implib.specs.Layout.{contents}
-use Rattle.implib.specs.Writer.{section_view}
+use Rattle.implib.specs.Formats.Pass.{Puts}
+use Rattle.implib.specs.Formats.Layout.{contents}
+use Rattle.implib.specs.Formats.Writer.{section_view}
 use Rattle.implib.proofs.coff.layout.put_contents.Given as goal
 
 abbrev pub invariant-loop-section : goal.invariant-loop-section

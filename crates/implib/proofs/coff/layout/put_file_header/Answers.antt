@@ -1,7 +1,7 @@
 use Rattle.std.proofs.lemmas.List.{length-map}
-use Rattle.implib.specs.Layout.{header_bytes}
-use Rattle.implib.specs.Writer.{section_view}
-use Rattle.implib.proofs.Pass.{puts_both}
+use Rattle.implib.specs.Formats.Layout.{header_bytes}
+use Rattle.implib.specs.Formats.Writer.{section_view}
+use Rattle.implib.proofs.Formats.Pass.{puts_both}
 use Rattle.implib.proofs.coff.layout.put_file_header.Goals as goal
 
 pub returns : goal.returns

@@ -1,7 +1,7 @@
 use Rattle.std.proofs.Common.{◌-◌, length, replicate}
-use Rattle.implib.specs.Layout.{name_field}
-use Rattle.implib.proofs.Names.{padding}
-use Rattle.implib.proofs.Pass.{puts_both, puts_same}
+use Rattle.implib.specs.Formats.Layout.{name_field}
+use Rattle.implib.proofs.Formats.Names.{padding}
+use Rattle.implib.proofs.Formats.Pass.{puts_both, puts_same}
 use Rattle.implib.proofs.coff.layout.put_name.Goals as goal
 
 pub returns-in-InStringTable-clause-puts : goal.returns-in-InStringTable-clause-puts

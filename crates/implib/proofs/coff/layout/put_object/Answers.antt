@@ -1,10 +1,10 @@
 use Rattle.std.proofs.Common.{arith}
-use Rattle.implib.specs.Layout.{contents, encoded, string_offsets, symbol_bytes}
-use Rattle.implib.specs.LayoutView.{layout_view, symbol_view}
-use Rattle.implib.specs.Writer.{section_view}
-use Rattle.implib.proofs.Pass.{puts_both}
-use Rattle.implib.proofs.LayoutSizes.{few_relocations, headers_place, sizes, symbol_auxiliaries, symbol_names}
-use Rattle.implib.proofs.Sums.{flat_map-map}
+use Rattle.implib.specs.Formats.Layout.{contents, encoded, string_offsets, symbol_bytes}
+use Rattle.implib.specs.Views.Layout.{layout_view, symbol_view}
+use Rattle.implib.specs.Formats.Writer.{section_view}
+use Rattle.implib.proofs.Formats.Pass.{puts_both}
+use Rattle.implib.proofs.Formats.LayoutSizes.{few_relocations, headers_place, sizes, symbol_auxiliaries, symbol_names}
+use Rattle.implib.proofs.Formats.Sums.{flat_map-map}
 use Rattle.implib.proofs.coff.layout.put_object.Goals as goal
 
 pub put_file_header-requires-clause-room : goal.put_file_header-requires-clause-room

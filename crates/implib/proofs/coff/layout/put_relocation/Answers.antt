@@ -1,5 +1,5 @@
-use Rattle.implib.specs.Layout.{relocation_bytes}
-use Rattle.implib.proofs.Pass.{puts_both}
+use Rattle.implib.specs.Formats.Layout.{relocation_bytes}
+use Rattle.implib.proofs.Formats.Pass.{puts_both}
 use Rattle.implib.proofs.coff.layout.put_relocation.Goals as goal
 
 pub returns : goal.returns

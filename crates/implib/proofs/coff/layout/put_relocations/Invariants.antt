@@ -1,6 +1,6 @@
 use Rattle.std.proofs.Common.{flat_map, take}
-use Rattle.implib.specs.Pass.{Puts}
-use Rattle.implib.specs.Layout.{relocation_bytes}
+use Rattle.implib.specs.Formats.Pass.{Puts}
+use Rattle.implib.specs.Formats.Layout.{relocation_bytes}
 use Rattle.implib.proofs.coff.layout.put_relocations.Given as goal
 
 abbrev pub invariant-loop-relocation : goal.invariant-loop-relocation

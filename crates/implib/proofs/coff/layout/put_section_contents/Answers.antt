@@ -1,6 +1,6 @@
 use Rattle.std.proofs.Common.{◌≡◌, ap, arith, length}
-use Rattle.implib.specs.Layout.{contents, contents_size}
-use Rattle.implib.proofs.Pass.{puts_both}
+use Rattle.implib.specs.Formats.Layout.{contents, contents_size}
+use Rattle.implib.proofs.Formats.Pass.{puts_both}
 use Rattle.implib.proofs.coff.layout.put_section_contents.Goals as goal
 
 pub put_bytes-requires : goal.put_bytes-requires

@@ -1,6 +1,6 @@
 use Rattle.std.proofs.Common.{◌≡◌, arith, length}
-use Rattle.implib.specs.Layout.{contents_size, section_header}
-use Rattle.implib.proofs.Pass.{puts_both}
+use Rattle.implib.specs.Formats.Layout.{contents_size, section_header}
+use Rattle.implib.proofs.Formats.Pass.{puts_both}
 use Rattle.implib.proofs.coff.layout.put_section_header.Goals as goal
 
 pub overflow_cast-size : goal.overflow_cast-size

@@ -1,9 +1,9 @@
 use Rattle.std.proofs.Common.{add-zero, arith, sym}
-use Rattle.implib.specs.Layout.{contents_size, section_headers}
-use Rattle.implib.specs.Writer.{section_view}
-use Rattle.implib.proofs.Lengths.{headers_more}
-use Rattle.implib.proofs.Pass.{puts_nothing}
-use Rattle.implib.proofs.Sums.{sum_more, sum_room}
+use Rattle.implib.specs.Formats.Layout.{contents_size, section_headers}
+use Rattle.implib.specs.Formats.Writer.{section_view}
+use Rattle.implib.proofs.Formats.Lengths.{headers_more}
+use Rattle.implib.proofs.Formats.Pass.{puts_nothing}
+use Rattle.implib.proofs.Formats.Sums.{sum_more, sum_room}
 use Rattle.implib.proofs.coff.layout.put_section_headers.Goals as goal
 
 pub loop-section-init : goal.loop-section-init

@@ -1,7 +1,7 @@
 use Rattle.std.proofs.Common.{◌≡◌, ◌+◌, ◌*◌, length, map, sum_by, take}
-use Rattle.implib.specs.Pass.{Puts}
-use Rattle.implib.specs.Layout.{contents_size, section_headers}
-use Rattle.implib.specs.Writer.{section_view}
+use Rattle.implib.specs.Formats.Pass.{Puts}
+use Rattle.implib.specs.Formats.Layout.{contents_size, section_headers}
+use Rattle.implib.specs.Formats.Writer.{section_view}
 use Rattle.implib.proofs.coff.layout.put_section_headers.Given as goal
 
 abbrev pub invariant-loop-section : goal.invariant-loop-section

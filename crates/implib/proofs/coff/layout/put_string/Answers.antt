@@ -1,5 +1,5 @@
-use Rattle.implib.specs.Layout.{string_bytes_of}
-use Rattle.implib.proofs.Pass.{puts_both}
+use Rattle.implib.specs.Formats.Layout.{string_bytes_of}
+use Rattle.implib.proofs.Formats.Pass.{puts_both}
 use Rattle.implib.proofs.coff.layout.put_string.Goals as goal
 
 pub returns : goal.returns

@@ -1,9 +1,9 @@
 use Rattle.std.proofs.Common.{arith, take}
-use Rattle.implib.specs.Layout.{string_bytes_of, string_size, string_table, strings_size}
-use Rattle.implib.proofs.Defaults.{no_text}
-use Rattle.implib.proofs.Lengths.{length-viewed_strings}
-use Rattle.implib.proofs.Pass.{puts_all, puts_both}
-use Rattle.implib.proofs.Sums.{flat_map-map, sum_room}
+use Rattle.implib.specs.Formats.Layout.{string_bytes_of, string_size, string_table, strings_size}
+use Rattle.implib.proofs.Formats.Defaults.{no_text}
+use Rattle.implib.proofs.Formats.Lengths.{length-viewed_strings}
+use Rattle.implib.proofs.Formats.Pass.{puts_all, puts_both}
+use Rattle.implib.proofs.Formats.Sums.{flat_map-map, sum_room}
 use Rattle.implib.proofs.coff.layout.put_string_table.Goals as goal
 
 pub put_u32-requires : goal.put_u32-requires

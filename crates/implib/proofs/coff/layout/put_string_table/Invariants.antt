@@ -1,6 +1,6 @@
 use Rattle.std.proofs.Common.{flat_map, take}
-use Rattle.implib.specs.Pass.{Puts}
-use Rattle.implib.specs.Layout.{string_bytes_of}
+use Rattle.implib.specs.Formats.Pass.{Puts}
+use Rattle.implib.specs.Formats.Layout.{string_bytes_of}
 use Rattle.implib.proofs.coff.layout.put_string_table.Given as goal
 
 abbrev pub invariant-loop-text : goal.invariant-loop-text

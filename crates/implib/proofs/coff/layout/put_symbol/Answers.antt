@@ -1,6 +1,6 @@
 use Rattle.std.proofs.Common.{arith}
-use Rattle.implib.specs.Layout.{auxiliary_bytes, auxiliary_count, symbol_bytes}
-use Rattle.implib.proofs.Pass.{puts_both}
+use Rattle.implib.specs.Formats.Layout.{auxiliary_bytes, auxiliary_count, symbol_bytes}
+use Rattle.implib.proofs.Formats.Pass.{puts_both}
 use Rattle.implib.proofs.coff.layout.put_symbol.Goals as goal
 
 pub put_bytes-requires-in-Some : goal.put_bytes-requires-in-Some

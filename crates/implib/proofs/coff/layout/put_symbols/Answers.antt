@@ -1,9 +1,9 @@
 use Rattle.std.proofs.Common.{arith, get_or, length}
-use Rattle.implib.specs.Layout.{symbol_bytes}
-use Rattle.implib.specs.LayoutView.{symbol_view}
-use Rattle.implib.proofs.Defaults.{no_symbol}
-use Rattle.implib.proofs.Lengths.{length-one_symbol}
-use Rattle.implib.proofs.Pass.{puts_room}
+use Rattle.implib.specs.Formats.Layout.{symbol_bytes}
+use Rattle.implib.specs.Views.Layout.{symbol_view}
+use Rattle.implib.proofs.Formats.Defaults.{no_symbol}
+use Rattle.implib.proofs.Formats.Lengths.{length-one_symbol}
+use Rattle.implib.proofs.Formats.Pass.{puts_room}
 use Rattle.implib.proofs.coff.layout.put_symbols.Goals as goal
 
 pub put_symbol-requires-clause-room : goal.put_symbol-requires-clause-room

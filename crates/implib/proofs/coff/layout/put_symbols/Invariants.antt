@@ -1,7 +1,7 @@
 use Rattle.std.proofs.Common.{flat_map, take}
-use Rattle.implib.specs.Pass.{Puts}
-use Rattle.implib.specs.Layout.{symbol_bytes}
-use Rattle.implib.specs.LayoutView.{symbol_view}
+use Rattle.implib.specs.Formats.Pass.{Puts}
+use Rattle.implib.specs.Formats.Layout.{symbol_bytes}
+use Rattle.implib.specs.Views.Layout.{symbol_view}
 use Rattle.implib.proofs.coff.layout.put_symbols.Given as goal
 
 abbrev pub invariant-loop-symbol : goal.invariant-loop-symbol

@@ -1,8 +1,8 @@
 use Rattle.std.proofs.Common.{arith}
-use Rattle.implib.specs.Layout.{record_count}
-use Rattle.implib.specs.LayoutView.{symbol_view}
-use Rattle.implib.proofs.Defaults.{no_symbol}
-use Rattle.implib.proofs.Sums.{sum_more}
+use Rattle.implib.specs.Formats.Layout.{record_count}
+use Rattle.implib.specs.Views.Layout.{symbol_view}
+use Rattle.implib.proofs.Formats.Defaults.{no_symbol}
+use Rattle.implib.proofs.Formats.Sums.{sum_more}
 use Rattle.implib.proofs.coff.layout.records_of.Goals as goal
 
 pub loop-symbol-preserved : goal.loop-symbol-preserved

@@ -1,6 +1,6 @@
 use Rattle.std.proofs.Common.{◌≡◌, ◌-◌, ◌^◌, map, min, sum_by, take}
-use Rattle.implib.specs.Layout.{record_count}
-use Rattle.implib.specs.LayoutView.{symbol_view}
+use Rattle.implib.specs.Formats.Layout.{record_count}
+use Rattle.implib.specs.Views.Layout.{symbol_view}
 use Rattle.implib.proofs.coff.layout.records_of.Given as goal
 
 abbrev pub invariant-loop-symbol : goal.invariant-loop-symbol

@@ -1,7 +1,7 @@
 use Rattle.std.proofs.Common.{arith}
-use Rattle.implib.specs.Layout.{string_size}
-use Rattle.implib.proofs.Defaults.{no_text}
-use Rattle.implib.proofs.Sums.{sum_more}
+use Rattle.implib.specs.Formats.Layout.{string_size}
+use Rattle.implib.proofs.Formats.Defaults.{no_text}
+use Rattle.implib.proofs.Formats.Sums.{sum_more}
 use Rattle.implib.proofs.coff.layout.strings_length.Goals as goal
 
 pub loop-text-preserved : goal.loop-text-preserved

@@ -1,5 +1,5 @@
 use Rattle.std.proofs.Common.{◌≡◌, ◌-◌, ◌^◌, map, min, sum_by, take}
-use Rattle.implib.specs.Layout.{string_size}
+use Rattle.implib.specs.Formats.Layout.{string_size}
 use Rattle.implib.proofs.coff.layout.strings_length.Given as goal
 
 abbrev pub invariant-loop-text : goal.invariant-loop-text

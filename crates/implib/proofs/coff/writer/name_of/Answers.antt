@@ -1,7 +1,7 @@
 use Rattle.std.proofs.Common.{◌≡◌, ◌∙◌, ap, false, length, map, nat_lt, refl, sym, true}
 use Rattle.std.proofs.lemmas.Bool.{le-ltb, lt-ltb}
-use Rattle.implib.specs.Layout.{InStringTable}
-use Rattle.implib.proofs.LongNames.{insert_key_text, name_location-long, name_location-short, position_key, with_long_name-long, with_long_name-short}
+use Rattle.implib.specs.Formats.Layout.{InStringTable}
+use Rattle.implib.proofs.Formats.LongNames.{insert_key_text, name_location-long, name_location-short, position_key, with_long_name-long, with_long_name-short}
 use Rattle.implib.proofs.coff.writer.name_of.Goals as goal
 
 pub returns-in_ok-index-clause-strings : goal.returns-in_ok-index-clause-strings

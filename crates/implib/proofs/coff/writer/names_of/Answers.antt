@@ -1,9 +1,9 @@
 use Rattle.std.proofs.Common.{◌≡◌, ◌+◌, ◌++◌, ◌∷◌, [], ◌∙◌, ap, get_or, map, refl, sym, take}
 use Rattle.std.proofs.lemmas.List.{map-append, take_more}
-use Rattle.implib.specs.LayoutView.{symbol_view}
-use Rattle.implib.specs.Writer.{long_names}
-use Rattle.implib.specs.Writer.{added_view}
-use Rattle.implib.proofs.LongNames.{long_names-push, symbol_written-is, symbols_written-push}
+use Rattle.implib.specs.Views.Layout.{symbol_view}
+use Rattle.implib.specs.Formats.Writer.{long_names}
+use Rattle.implib.specs.Formats.Writer.{added_view}
+use Rattle.implib.proofs.Formats.LongNames.{long_names-push, symbol_written-is, symbols_written-push}
 use Rattle.implib.proofs.coff.writer.names_of.Goals as goal
 
 pub loop-symbol-init : goal.loop-symbol-init

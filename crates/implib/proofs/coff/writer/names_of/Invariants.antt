@@ -1,7 +1,7 @@
 use Rattle.std.proofs.Common.{◌≡◌, map, take}
-use Rattle.implib.specs.LayoutView.{symbol_view}
-use Rattle.implib.specs.Writer.{long_names, symbol_written}
-use Rattle.implib.specs.Writer.{added_view}
+use Rattle.implib.specs.Views.Layout.{symbol_view}
+use Rattle.implib.specs.Formats.Writer.{long_names, symbol_written}
+use Rattle.implib.specs.Formats.Writer.{added_view}
 use Rattle.implib.proofs.coff.writer.names_of.Given as goal
 
 abbrev pub invariant-loop-symbol : goal.invariant-loop-symbol

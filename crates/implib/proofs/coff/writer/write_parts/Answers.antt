@@ -1,8 +1,8 @@
 use Rattle.std.proofs.Common.{◌≡◌, ◌∙◌, ap, map, refl}
-use Rattle.implib.specs.LayoutView.{layout_view, symbol_view}
-use Rattle.implib.specs.Writer.{added_view, layout_of}
-use Rattle.implib.specs.WriterView.{writer_state}
-use Rattle.implib.proofs.Written.{layout_same}
+use Rattle.implib.specs.Views.Layout.{layout_view, symbol_view}
+use Rattle.implib.specs.Formats.Writer.{added_view, layout_of}
+use Rattle.implib.specs.Views.Writer.{writer_state}
+use Rattle.implib.proofs.Formats.Written.{layout_same}
 use Rattle.implib.proofs.coff.writer.write_parts.Goals as goal
 use Rattle.implib.proofs.coff.writer.write_parts.Goals.{After-drop-names-5}
 

@@ -1,7 +1,7 @@
 use Rattle.std.proofs.Common.{◌∙◌, arith}
 use Rattle.std.proofs.lemmas.List.{drop_all}
 use Rattle.std.proofs.lemmas.Str.Pattern.{split_parts}
-use Rattle.implib.proofs.Trivia.{PassesTrivia-comment, PassesTrivia-last_comment}
+use Rattle.implib.proofs.Text.Trivia.{PassesTrivia-comment, PassesTrivia-last_comment}
 use Rattle.implib.proofs.def.lexer.after_line.Goals as goal
 
 pub returns-in-Some-clause-passes : goal.returns-in-Some-clause-passes

@@ -1,6 +1,7 @@
 use Rattle.std.proofs.Common.{sym, ◌∙◌, ap, arith}
-use Rattle.implib.specs.Token.{begins, is_equal_sign}
-use Rattle.implib.proofs.Lexemes.{begins_with, boundary_after_first, boundary_after_second, TakesLexeme-equal, TakesLexeme-equals}
+use Rattle.implib.specs.Text.Token.{is_equal_sign}
+use Rattle.implib.specs.Ascii.{begins}
+use Rattle.implib.proofs.Text.Lexemes.{begins_with, boundary_after_first, boundary_after_second, TakesLexeme-equal, TakesLexeme-equals}
 use Rattle.implib.proofs.def.lexer.equal_sign.Goals as goal
 
 pub range_from-requires : goal.range_from-requires

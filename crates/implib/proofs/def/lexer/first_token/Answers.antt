@@ -1,5 +1,5 @@
 use Rattle.std.proofs.Common.{sym, ◌∙◌, ap, get_or, inl, arith}
-use Rattle.implib.proofs.Lexemes.{boundary_after_first, first_is, TakesLexeme-comma}
+use Rattle.implib.proofs.Text.Lexemes.{boundary_after_first, first_is, TakesLexeme-comma}
 use Rattle.implib.proofs.def.lexer.first_token.Goals as goal
 
 pub cut_token-requires-in-44 : goal.cut_token-requires-in-44

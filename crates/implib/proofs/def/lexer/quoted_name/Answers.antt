@@ -1,7 +1,7 @@
 use Rattle.std.proofs.Common.{sym, ◌∙◌, ap, ◌∷◌, arith}
 use Rattle.std.proofs.lemmas.List.{drop_all}
 use Rattle.std.proofs.lemmas.Str.Pattern.{split_parts}
-use Rattle.implib.proofs.Lexemes.{begins_with, boundary_after_first, TakesLexeme-quoted, TakesLexeme-unclosed}
+use Rattle.implib.proofs.Text.Lexemes.{begins_with, boundary_after_first, TakesLexeme-quoted, TakesLexeme-unclosed}
 use Rattle.implib.proofs.def.lexer.quoted_name.Goals as goal
 
 pub range_from-inside-requires : goal.range_from-inside-requires

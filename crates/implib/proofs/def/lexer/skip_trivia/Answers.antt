@@ -1,6 +1,6 @@
 use Rattle.std.proofs.Common.{◌∷◌, sym, ◌∙◌, ap, arith}
-use Rattle.implib.proofs.Trivia.{PassesSpace-trim_start, PassesSpace-comment, SkipsTrivia-from_space}
-use Rattle.implib.proofs.Lexemes.{begins_with, boundary_after_first}
+use Rattle.implib.proofs.Text.Trivia.{PassesSpace-trim_start, PassesSpace-comment, SkipsTrivia-from_space}
+use Rattle.implib.proofs.Text.Lexemes.{begins_with, boundary_after_first}
 use Rattle.implib.proofs.def.lexer.skip_trivia.Goals as goal
 
 pub loop-rest-init : goal.loop-rest-init

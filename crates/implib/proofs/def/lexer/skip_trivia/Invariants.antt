@@ -1,7 +1,7 @@
 use Rattle.std.proofs.Common.{length}
 use denote.Text.{Utf8}
 use denote.Shadow.{shadow}
-use Rattle.implib.proofs.Trivia.{PassesSpace}
+use Rattle.implib.proofs.Text.Trivia.{PassesSpace}
 use Rattle.implib.proofs.def.lexer.skip_trivia.Given as goal
 
 abbrev pub invariant-loop-rest : goal.invariant-loop-rest

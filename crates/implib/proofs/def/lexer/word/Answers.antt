@@ -1,6 +1,6 @@
 use Rattle.std.proofs.Common.{ap, subst}
-use Rattle.implib.specs.Token.{IsWordEnd}
-use Rattle.implib.proofs.Lexemes.{TakesLexeme-word}
+use Rattle.implib.specs.Text.Token.{IsWordEnd}
+use Rattle.implib.proofs.Text.Lexemes.{TakesLexeme-word}
 use Rattle.implib.proofs.def.lexer.word.Goals as goal
 
 pub returns : goal.returns

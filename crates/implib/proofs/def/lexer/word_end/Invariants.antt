@@ -1,5 +1,5 @@
 use Rattle.std.proofs.Common.{◌≡◌, ◌<◌, ◌≤◌, ◌-◌, ℕ, length, get_or, false}
-use Rattle.implib.specs.Token.{is_delimiter}
+use Rattle.implib.specs.Text.Token.{is_delimiter}
 use Rattle.implib.proofs.def.lexer.word_end.Given as goal
 
 abbrev pub invariant-loop-end : goal.invariant-loop-end

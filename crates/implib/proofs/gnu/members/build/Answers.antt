@@ -4,11 +4,11 @@ use Rattle.std.specs.String.{string_bytes}
 use Rattle.implib.specs.Definition.{ExportView, definition_view, export_view}
 use Rattle.implib.specs.Import.{public_exports}
 use Rattle.implib.specs.Library.{member_view}
-use Rattle.implib.specs.Members.{has_u16_ordinal, is_too_long}
-use Rattle.implib.specs.MemberSpec.{member_of}
-use Rattle.implib.specs.GnuMembers.{numbered_specs, numbered_specs_of}
-use Rattle.implib.proofs.GnuLoop.{Left, left_private, left_public}
-use Rattle.implib.proofs.MembersLoop.{exports_from}
+use Rattle.implib.specs.Members.Members.{has_u16_ordinal, is_too_long}
+use Rattle.implib.specs.Members.MemberSpec.{member_of}
+use Rattle.implib.specs.Members.GnuMembers.{numbered_specs, numbered_specs_of}
+use Rattle.implib.proofs.Members.GnuLoop.{Left, left_private, left_public}
+use Rattle.implib.proofs.Members.MembersLoop.{exports_from}
 use Rattle.implib.proofs.gnu.members.build.Goals as goal
 use Rattle.implib.proofs.gnu.members.build.Goals.{then-not-export+in_ok-push_export, else-not-export}
 

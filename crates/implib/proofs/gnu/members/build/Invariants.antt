@@ -4,11 +4,11 @@ use Rattle.std.specs.List.{filter, list_all, list_any}
 use Rattle.implib.specs.Definition.{definition_view, export_view}
 use Rattle.implib.specs.Import.{public_exports}
 use Rattle.implib.specs.Library.{member_view}
-use Rattle.implib.specs.Members.{has_u16_ordinal, is_too_long}
-use Rattle.implib.specs.MemberSpec.{member_of}
-use Rattle.implib.specs.NameRules.{names_refusal}
-use Rattle.implib.specs.GnuMembers.{numbered_specs}
-use Rattle.implib.specs.declared.members.Flavor.TheVariants.{Gnu}
+use Rattle.implib.specs.Members.Members.{has_u16_ordinal, is_too_long}
+use Rattle.implib.specs.Members.MemberSpec.{member_of}
+use Rattle.implib.specs.Members.NameRules.{names_refusal}
+use Rattle.implib.specs.Members.GnuMembers.{numbered_specs}
+use Rattle.implib.specs.declared.flavor.Flavor.TheVariants.{Gnu}
 use Rattle.implib.proofs.gnu.members.build.Given as goal
 
 -- the members so far and those of the exports that are left are all; none so far is too long

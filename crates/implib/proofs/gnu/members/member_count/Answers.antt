@@ -6,7 +6,7 @@ use Rattle.std.proofs.Math.ListN.{drop_of_length-le}
 use Rattle.implib.specs.declared.def.definition.ShortExport.{ShortExport}
 use Rattle.implib.specs.Definition.{definition_view, export_view}
 use Rattle.implib.specs.Import.{public_exports}
-use Rattle.implib.specs.GnuMembers.{gnu_member_count}
+use Rattle.implib.specs.Members.GnuMembers.{gnu_member_count}
 use Rattle.implib.proofs.gnu.members.member_count.Goals as goal
 
 pub returns : goal.returns

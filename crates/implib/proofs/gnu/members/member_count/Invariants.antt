@@ -3,7 +3,7 @@ use Rattle.std.specs.List.{filter, sum_by}
 use Rattle.std.specs.Prelude.{not, min}
 use Rattle.implib.specs.Definition.{definition_view, export_view}
 use Rattle.implib.specs.Import.{public_exports}
-use Rattle.implib.specs.GnuMembers.{gnu_member_count}
+use Rattle.implib.specs.Members.GnuMembers.{gnu_member_count}
 use Rattle.implib.proofs.gnu.members.member_count.Given as goal
 
 -- what is counted and what is left are together all, as far as 64 bits can count

@@ -3,10 +3,10 @@ use Rattle.std.specs.List.{list_any}
 use Rattle.implib.specs.Definition.{definition_view}
 use Rattle.implib.specs.Import.{public_exports}
 use Rattle.implib.specs.Library.{member_view}
-use Rattle.implib.specs.GnuMembers.{head_spec, numbered_specs, tail_spec}
-use Rattle.implib.specs.Members.{is_too_long}
-use Rattle.implib.specs.MemberSpec.{member_of}
-use Rattle.implib.proofs.GnuLoop.{long_turned, made_turned, map-reverse}
+use Rattle.implib.specs.Members.GnuMembers.{head_spec, numbered_specs, tail_spec}
+use Rattle.implib.specs.Members.Members.{is_too_long}
+use Rattle.implib.specs.Members.MemberSpec.{member_of}
+use Rattle.implib.proofs.Members.GnuLoop.{long_turned, made_turned, map-reverse}
 use Rattle.implib.proofs.gnu.members.named_members.Goals as goal
 
 pub returns-clause-ok : goal.returns-clause-ok

@@ -1,4 +1,4 @@
-use Rattle.implib.proofs.GnuNames.{five_digits_printed}
+use Rattle.implib.proofs.Members.GnuNames.{five_digits_printed}
 use Rattle.implib.proofs.gnu.names.push_five_digits.Goals as goal
 
 pub returns : goal.returns

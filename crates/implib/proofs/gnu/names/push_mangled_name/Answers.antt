@@ -1,6 +1,6 @@
 use Rattle.std.proofs.Common.{sym, ◌∙◌, string_bytes}
 use Rattle.std.proofs.lemmas.Str.{IsCharBoundary-before_ascii, IsCharBoundary-after_ascii}
-use Rattle.implib.proofs.GnuNames.{mangled_name_none, mangled_name_step, stop_located}
+use Rattle.implib.proofs.Members.GnuNames.{mangled_name_none, mangled_name_step, stop_located}
 use Rattle.implib.proofs.gnu.names.push_mangled_name.Goals as goal
 
 pub range-requires-clause-end_boundary : goal.range-requires-clause-end_boundary

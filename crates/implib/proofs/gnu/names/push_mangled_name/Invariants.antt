@@ -1,7 +1,7 @@
 use Rattle.std.proofs.Common.{◌≡◌, ◌++◌, length, string_bytes}
 use denote.Text.{Utf8}
 use denote.Shadow.{shadow}
-use Rattle.implib.specs.Gnu.{mangled_name}
+use Rattle.implib.specs.Members.Gnu.{mangled_name}
 use Rattle.implib.proofs.gnu.names.push_mangled_name.Given as goal
 
 -- what was appended and the mangled name of the rest are the whole mangled name

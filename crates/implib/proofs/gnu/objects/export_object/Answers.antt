@@ -1,8 +1,8 @@
 use Rattle.std.proofs.Common.{◌≡◌, ◌∷◌, [], map, refl}
 use Rattle.implib.specs.Definition.{export_view}
-use Rattle.implib.specs.Gnu.{export_object, export_symbols, head_symbol, relocations_of_thunk}
-use Rattle.implib.specs.Table.{symbol_row, table_view}
-use Rattle.implib.proofs.GnuObjects.{CanBeHeld-export_object}
+use Rattle.implib.specs.Members.Gnu.{export_object, export_symbols, head_symbol, relocations_of_thunk}
+use Rattle.implib.specs.Views.Table.{symbol_row, table_view}
+use Rattle.implib.proofs.Members.GnuObjects.{CanBeHeld-export_object}
 use Rattle.implib.proofs.gnu.objects.export_object.Goals as goal
 use Rattle.implib.proofs.gnu.objects.export_object.Goals.{After-drop-hint_name, else-export, then-export}
 

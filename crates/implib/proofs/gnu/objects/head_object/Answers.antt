@@ -1,7 +1,7 @@
 use Rattle.std.proofs.Common.{◌≡◌, ◌∷◌, [], refl}
-use Rattle.implib.specs.Gnu.{head_object}
-use Rattle.implib.specs.Table.{table_view}
-use Rattle.implib.proofs.GnuObjects.{CanBeHeld-head_object}
+use Rattle.implib.specs.Members.Gnu.{head_object}
+use Rattle.implib.specs.Views.Table.{table_view}
+use Rattle.implib.proofs.Members.GnuObjects.{CanBeHeld-head_object}
 use Rattle.implib.proofs.gnu.objects.head_object.Goals as goal
 use Rattle.implib.proofs.gnu.objects.head_object.Goals.{After-write_table}
 

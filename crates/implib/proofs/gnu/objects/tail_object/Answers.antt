@@ -1,7 +1,7 @@
 use Rattle.std.proofs.Common.{◌≡◌, ◌∷◌, [], refl}
-use Rattle.implib.specs.Gnu.{tail_object}
-use Rattle.implib.specs.Table.{table_view}
-use Rattle.implib.proofs.GnuObjects.{CanBeHeld-tail_object}
+use Rattle.implib.specs.Members.Gnu.{tail_object}
+use Rattle.implib.specs.Views.Table.{table_view}
+use Rattle.implib.proofs.Members.GnuObjects.{CanBeHeld-tail_object}
 use Rattle.implib.proofs.gnu.objects.tail_object.Goals as goal
 use Rattle.implib.proofs.gnu.objects.tail_object.Goals.{After-drop-thunk-2}
 

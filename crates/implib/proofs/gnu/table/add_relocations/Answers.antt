@@ -1,8 +1,8 @@
 use Rattle.std.proofs.Common.{◌+◌, ◌∙◌, ap, List}
-use Rattle.implib.specs.Object.{ObjectSection}
-use Rattle.implib.specs.Table.{HasRoomForAll}
-use Rattle.implib.proofs.Defaults.{no_section_row}
-use Rattle.implib.proofs.Table.{all_relocated, next_numbered, next_relocated, row_has_room}
+use Rattle.implib.specs.Formats.Object.{ObjectSection}
+use Rattle.implib.specs.Views.Table.{HasRoomForAll}
+use Rattle.implib.proofs.Formats.Defaults.{no_section_row}
+use Rattle.implib.proofs.Formats.Table.{all_relocated, next_numbered, next_relocated, row_has_room}
 use Rattle.implib.proofs.gnu.table.add_relocations.Goals as goal
 
 pub relocate-requires : goal.relocate-requires

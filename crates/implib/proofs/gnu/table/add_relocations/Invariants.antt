@@ -1,5 +1,5 @@
 use Rattle.std.proofs.Common.{◌≡◌, ◌+◌}
-use Rattle.implib.proofs.Table.{relocated_rows}
+use Rattle.implib.proofs.Formats.Table.{relocated_rows}
 use Rattle.implib.proofs.gnu.table.add_relocations.Given as goal
 
 abbrev pub invariant-loop-row : goal.invariant-loop-row

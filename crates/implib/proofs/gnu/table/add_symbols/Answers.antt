@@ -1,7 +1,7 @@
 use Rattle.std.proofs.Common.{ap, arith, length}
-use Rattle.implib.specs.Writer.{AddedSymbol}
-use Rattle.implib.proofs.Defaults.{no_symbol_row}
-use Rattle.implib.proofs.Table.{next_can_be_added, next_records}
+use Rattle.implib.specs.Formats.Writer.{AddedSymbol}
+use Rattle.implib.proofs.Formats.Defaults.{no_symbol_row}
+use Rattle.implib.proofs.Formats.Table.{next_can_be_added, next_records}
 use Rattle.implib.proofs.gnu.table.add_symbols.Goals as goal
 
 pub add_symbol-requires-clause-named : goal.add_symbol-requires-clause-named

@@ -1,5 +1,5 @@
 use Rattle.std.proofs.Common.{◌≡◌, ◌++◌, map, take}
-use Rattle.implib.specs.Table.{symbol_row}
+use Rattle.implib.specs.Views.Table.{symbol_row}
 use Rattle.implib.proofs.gnu.table.add_symbols.Given as goal
 
 abbrev pub invariant-loop-row : goal.invariant-loop-row

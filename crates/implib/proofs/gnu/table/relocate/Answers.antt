@@ -1,8 +1,8 @@
 use Rattle.std.proofs.Common.{ap, get_or, sym, take}
 use Rattle.std.proofs.lemmas.List.{take_more}
-use Rattle.implib.specs.Object.{ObjectSection}
-use Rattle.implib.proofs.Defaults.{no_relocation}
-use Rattle.implib.proofs.Table.{next_has_room, with_no_relocation, with_relocation_more}
+use Rattle.implib.specs.Formats.Object.{ObjectSection}
+use Rattle.implib.proofs.Formats.Defaults.{no_relocation}
+use Rattle.implib.proofs.Formats.Table.{next_has_room, with_no_relocation, with_relocation_more}
 use Rattle.implib.proofs.gnu.table.relocate.Goals as goal
 use Rattle.std.specs.Prelude.{List}
 

@@ -1,5 +1,5 @@
 use Rattle.std.proofs.Common.{◌≡◌, take}
-use Rattle.implib.specs.Table.{with_relocations}
+use Rattle.implib.specs.Views.Table.{with_relocations}
 use Rattle.implib.proofs.gnu.table.relocate.Given as goal
 
 abbrev pub invariant-loop-relocation : goal.invariant-loop-relocation

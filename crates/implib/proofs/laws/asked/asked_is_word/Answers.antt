@@ -1,4 +1,4 @@
-use Rattle.implib.proofs.Asked.{asks_for_words}
+use Rattle.implib.proofs.Members.Asked.{asks_for_words}
 use Rattle.implib.proofs.laws.asked.asked_is_word.Goals as goal
 
 pub returns : goal.returns

@@ -1,4 +1,4 @@
-use Rattle.implib.proofs.SymbolNames.{parsed_lacks}
+use Rattle.implib.proofs.Text.SymbolNames.{parsed_lacks}
 use Rattle.implib.proofs.laws.definition.parsed_lacks_symbol_names.Goals as goal
 
 pub returns : goal.returns

@@ -1,4 +1,4 @@
-use Rattle.implib.proofs.OneReading.{either, never_both, one_definition, one_cause}
+use Rattle.implib.proofs.Text.OneReading.{either, never_both, one_definition, one_cause}
 use Rattle.implib.proofs.laws.grammar.grammar_or_broken.Goals as goal
 
 pub returns : goal.returns

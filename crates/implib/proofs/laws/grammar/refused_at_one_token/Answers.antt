@@ -1,6 +1,6 @@
-use Rattle.implib.proofs.OneReading.{one_offset, refused_somewhere}
-use Rattle.implib.proofs.RefusedWithin.{refused_within}
-use Rattle.implib.proofs.TokenReader.{Refuses-from_At}
+use Rattle.implib.proofs.Text.OneReading.{one_offset, refused_somewhere}
+use Rattle.implib.proofs.Text.RefusedWithin.{refused_within}
+use Rattle.implib.proofs.Text.TokenReader.{Refuses-from_At}
 use Rattle.implib.proofs.laws.grammar.refused_at_one_token.Goals as goal
 
 pub returns : goal.returns

@@ -1,4 +1,4 @@
-use Rattle.implib.proofs.OneReading.{either_of, never_both_of, one_list, one_cause_of}
+use Rattle.implib.proofs.Text.OneReading.{either_of, never_both_of, one_list, one_cause_of}
 use Rattle.std.proofs.Common.{refl}
 use Rattle.implib.proofs.laws.grammar.sentence_or_broken.Goals as goal
 

@@ -1,4 +1,4 @@
-use Rattle.implib.proofs.WorkedPositions.{worked_lines, worked_positions}
+use Rattle.implib.proofs.Worked.Positions.{worked_lines, worked_positions}
 use Rattle.implib.proofs.laws.grammar.worked_positions.Goals as goal
 
 pub returns : goal.returns

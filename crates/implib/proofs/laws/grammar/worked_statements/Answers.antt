@@ -1,4 +1,4 @@
-use Rattle.implib.proofs.WorkedStatements.{worked_settings, worked_exports, worked_refusals, worked_fronts}
+use Rattle.implib.proofs.Worked.Statements.{worked_settings, worked_exports, worked_refusals, worked_fronts}
 use Rattle.implib.proofs.laws.grammar.worked_statements.Goals as goal
 
 pub returns : goal.returns

@@ -1,6 +1,6 @@
 use Rattle.implib.specs.Definition.{definition_view}
-use Rattle.implib.specs.LinkedMembers.{bases_of}
-use Rattle.implib.proofs.LinkedMembers.{members_among, members_link, members_named, members_read, members_rise}
+use Rattle.implib.specs.Link.LinkedMembers.{bases_of}
+use Rattle.implib.proofs.Link.LinkedMembers.{members_among, members_link, members_named, members_read, members_rise}
 use Rattle.implib.proofs.laws.link.gnu_links.Goals as goal
 
 pub returns : goal.returns

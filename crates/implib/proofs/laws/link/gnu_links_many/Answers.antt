@@ -1,5 +1,5 @@
-use Rattle.implib.specs.LinkedMembers.{bases_of}
-use Rattle.implib.proofs.LinkedInputs.{gnu_inputs_link, gnu_inputs_made, gnu_inputs_rise}
+use Rattle.implib.specs.Link.LinkedMembers.{bases_of}
+use Rattle.implib.proofs.Link.LinkedInputs.{gnu_inputs_link, gnu_inputs_made, gnu_inputs_rise}
 use Rattle.implib.proofs.laws.link.gnu_links_many.Goals as goal
 
 pub returns : goal.returns

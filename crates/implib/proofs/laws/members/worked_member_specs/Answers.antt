@@ -1,4 +1,4 @@
-use Rattle.implib.proofs.WorkedMemberSpecs.{worked_member_specs}
+use Rattle.implib.proofs.Worked.MemberSpecs.{worked_member_specs}
 use Rattle.implib.proofs.laws.members.worked_member_specs.Goals as goal
 
 pub returns : goal.returns

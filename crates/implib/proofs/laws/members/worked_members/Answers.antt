@@ -1,4 +1,4 @@
-use Rattle.implib.proofs.WorkedMembers.{worked_bytes, worked_fields, worked_meanings, worked_outlines, worked_refusals}
+use Rattle.implib.proofs.Worked.Members.{worked_bytes, worked_fields, worked_meanings, worked_outlines, worked_refusals}
 use Rattle.implib.proofs.laws.members.worked_members.Goals as goal
 
 pub returns : goal.returns

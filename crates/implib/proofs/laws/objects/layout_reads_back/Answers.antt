@@ -1,4 +1,4 @@
-use Rattle.implib.proofs.ObjectReading.{object_in-encoded}
+use Rattle.implib.proofs.Formats.ObjectReading.{object_in-encoded}
 use Rattle.implib.proofs.laws.objects.layout_reads_back.Goals as goal
 
 pub returns : goal.returns

@@ -1,5 +1,5 @@
-use Rattle.implib.proofs.WorkedLayouts.{worked_layouts}
-use Rattle.implib.proofs.WorkedObjects.{worked_objects}
+use Rattle.implib.proofs.Worked.Layouts.{worked_layouts}
+use Rattle.implib.proofs.Worked.Objects.{worked_objects}
 use Rattle.implib.proofs.laws.objects.worked_objects.Goals as goal
 
 pub returns : goal.returns

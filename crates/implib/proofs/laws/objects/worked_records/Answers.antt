@@ -1,4 +1,4 @@
-use Rattle.implib.proofs.WorkedTables.{worked_asked_names, worked_name_types, worked_records}
+use Rattle.implib.proofs.Worked.Tables.{worked_asked_names, worked_name_types, worked_records}
 use Rattle.implib.proofs.laws.objects.worked_records.Goals as goal
 
 pub returns : goal.returns

@@ -1,4 +1,4 @@
-use Rattle.implib.proofs.WorkedTables.{worked_gnu_names, worked_gnu_tables, worked_msvc_tables, worked_names}
+use Rattle.implib.proofs.Worked.Tables.{worked_gnu_names, worked_gnu_tables, worked_msvc_tables, worked_names}
 use Rattle.implib.proofs.laws.objects.worked_tables.Goals as goal
 
 pub returns : goal.returns

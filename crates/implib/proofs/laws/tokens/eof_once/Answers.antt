@@ -1,4 +1,4 @@
-use Rattle.implib.proofs.Token.{EndsInEof-from_Lexed}
+use Rattle.implib.proofs.Text.Token.{EndsInEof-from_Lexed}
 use Rattle.implib.proofs.laws.tokens.eof_once.Goals as goal
 
 pub returns : goal.returns

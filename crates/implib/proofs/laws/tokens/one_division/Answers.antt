@@ -1,4 +1,4 @@
-use Rattle.implib.proofs.Token.{DividesOnce-of_text}
+use Rattle.implib.proofs.Text.Token.{DividesOnce-of_text}
 use Rattle.implib.proofs.laws.tokens.one_division.Goals as goal
 
 pub returns : goal.returns

@@ -1,4 +1,4 @@
-use Rattle.implib.proofs.Token.{LexedOnce-of_text}
+use Rattle.implib.proofs.Text.Token.{LexedOnce-of_text}
 use Rattle.implib.proofs.laws.tokens.one_token_list.Goals as goal
 
 pub returns : goal.returns

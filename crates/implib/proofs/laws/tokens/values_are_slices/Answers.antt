@@ -1,4 +1,4 @@
-use Rattle.implib.proofs.Slices.{Lexed-slices}
+use Rattle.implib.proofs.Text.Slices.{Lexed-slices}
 use Rattle.implib.proofs.laws.tokens.values_are_slices.Goals as goal
 
 pub returns : goal.returns

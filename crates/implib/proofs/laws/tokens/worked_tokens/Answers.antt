@@ -1,4 +1,4 @@
-use Rattle.implib.proofs.WorkedTokens.{worked}
+use Rattle.implib.proofs.Worked.Tokens.{worked}
 use Rattle.implib.proofs.laws.tokens.worked_tokens.Goals as goal
 
 pub returns : goal.returns

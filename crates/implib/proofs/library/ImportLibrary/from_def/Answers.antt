@@ -1,5 +1,5 @@
 use Rattle.implib.specs.Definition.{definition_view}
-use Rattle.implib.proofs.Renaming.{is_renamed_after}
+use Rattle.implib.proofs.Members.Renaming.{is_renamed_after}
 use Rattle.implib.proofs.library.ImportLibrary.from_def.Goals as goal
 
 pub invariant_of-result : goal.invariant_of-result

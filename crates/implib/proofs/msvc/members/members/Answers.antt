@@ -1,11 +1,11 @@
 use Rattle.std.proofs.Common.{map}
 use Rattle.std.specs.Prelude.{IfOk}
-use Rattle.implib.specs.declared.members.Flavor.TheVariants.{Msvc}
+use Rattle.implib.specs.declared.flavor.Flavor.TheVariants.{Msvc}
 use Rattle.implib.specs.Definition.{definition_view}
 use Rattle.implib.specs.Library.{member_view}
-use Rattle.implib.specs.Members.{AreMembersOf}
-use Rattle.implib.proofs.MembersOfDefinition.{made_of, read_of, no_refusal_by_names, refused_by_length, refused_by_names, same_refusal_by_names}
-use Rattle.implib.proofs.Renaming.{renamed_same}
+use Rattle.implib.specs.Members.Members.{AreMembersOf}
+use Rattle.implib.proofs.Members.MembersOfDefinition.{made_of, read_of, no_refusal_by_names, refused_by_length, refused_by_names, same_refusal_by_names}
+use Rattle.implib.proofs.Members.Renaming.{renamed_same}
 use Rattle.implib.proofs.msvc.members.members.Goals as goal
 use Rattle.implib.proofs.msvc.members.members.Goals.{After-named_members}
 

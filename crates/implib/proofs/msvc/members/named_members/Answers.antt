@@ -1,14 +1,14 @@
 use Rattle.std.proofs.Common.{◌≡◌, ◌+◌, ◌++◌, List, map, drop, sym, subst, false}
 use Rattle.std.specs.List.{list_all, list_any}
 use Rattle.std.specs.String.{string_bytes}
-use Rattle.implib.specs.declared.members.Flavor.TheVariants.{Msvc}
+use Rattle.implib.specs.declared.flavor.Flavor.TheVariants.{Msvc}
 use Rattle.implib.specs.Definition.{ExportView, definition_view, export_view}
 use Rattle.implib.specs.Import.{public_exports}
 use Rattle.implib.specs.Library.{member_view}
-use Rattle.implib.specs.MsvcMembers.{export_specs}
-use Rattle.implib.specs.Members.{has_u16_ordinal, is_too_long, member_specs}
-use Rattle.implib.specs.MemberSpec.{member_of}
-use Rattle.implib.proofs.MembersLoop.{Left, exports_from, left_private, left_public}
+use Rattle.implib.specs.Members.MsvcMembers.{export_specs}
+use Rattle.implib.specs.Members.Members.{has_u16_ordinal, is_too_long, member_specs}
+use Rattle.implib.specs.Members.MemberSpec.{member_of}
+use Rattle.implib.proofs.Members.MembersLoop.{Left, exports_from, left_private, left_public}
 use Rattle.implib.proofs.msvc.members.named_members.Goals as goal
 use Rattle.implib.proofs.msvc.members.named_members.Goals.{then-not-export+in_ok-push_export, else-not-export}
 

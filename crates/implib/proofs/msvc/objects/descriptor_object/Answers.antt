@@ -1,9 +1,9 @@
 use Rattle.std.proofs.Common.{◌≡◌, ◌<◌, ◌≤◌, ◌^◌, sym, subst, List, ℕ, [], ◌∷◌}
 use Rattle.std.specs.Prelude.{IfOk, OnOk}
 use Rattle.implib.specs.Fault.{IfInvalid, MemberTooLong}
-use Rattle.implib.specs.MsvcObjects.{descriptor}
-use Rattle.implib.specs.Layout.{Fits, ObjectLayout, encoded, encoded_size}
-use Rattle.implib.proofs.MsvcObjects.{Fits-descriptor, same_layout}
+use Rattle.implib.specs.Members.MsvcObjects.{descriptor}
+use Rattle.implib.specs.Formats.Layout.{Fits, ObjectLayout, encoded, encoded_size}
+use Rattle.implib.proofs.Members.MsvcObjects.{Fits-descriptor, same_layout}
 use Rattle.implib.proofs.msvc.objects.descriptor_object.Goals as goal
 
 listed_strings : {x y z u v w : List ℕ} → x ≡ u → y ≡ v → z ≡ w → x ∷ y ∷ z ∷ [] ≡ u ∷ v ∷ w ∷ []

@@ -1,9 +1,9 @@
 use Rattle.std.proofs.Common.{◌≡◌, ◌<◌, ◌≤◌, ◌^◌, refl, ap, sym, subst, [], ◌∷◌}
 use Rattle.std.specs.Prelude.{IfOk, OnOk}
 use Rattle.implib.specs.Fault.{IfInvalid, MemberTooLong}
-use Rattle.implib.specs.MsvcObjects.{null_descriptor, null_descriptor_symbol}
-use Rattle.implib.specs.Layout.{Fits, ObjectLayout, encoded, encoded_size}
-use Rattle.implib.proofs.MsvcObjects.{Fits-null_descriptor, same_layout}
+use Rattle.implib.specs.Members.MsvcObjects.{null_descriptor, null_descriptor_symbol}
+use Rattle.implib.specs.Formats.Layout.{Fits, ObjectLayout, encoded, encoded_size}
+use Rattle.implib.proofs.Members.MsvcObjects.{Fits-null_descriptor, same_layout}
 use Rattle.implib.proofs.msvc.objects.null_descriptor_object.Goals as goal
 
 pub encode-requires : goal.encode-requires

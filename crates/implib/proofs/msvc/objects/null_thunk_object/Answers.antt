@@ -1,10 +1,10 @@
 use Rattle.std.proofs.Common.{◌≡◌, ◌<◌, ◌≤◌, ◌^◌, ap, sym, subst, [], ◌∷◌}
 use Rattle.std.specs.Prelude.{IfOk, OnOk}
 use Rattle.implib.specs.Fault.{IfInvalid, MemberTooLong}
-use Rattle.implib.specs.MsvcObjects.{null_thunk}
-use Rattle.implib.specs.Object.{ObjectSection}
-use Rattle.implib.specs.Layout.{Fits, ObjectLayout, encoded, encoded_size}
-use Rattle.implib.proofs.MsvcObjects.{Fits-null_thunk, same_layout}
+use Rattle.implib.specs.Members.MsvcObjects.{null_thunk}
+use Rattle.implib.specs.Formats.Object.{ObjectSection}
+use Rattle.implib.specs.Formats.Layout.{Fits, ObjectLayout, encoded, encoded_size}
+use Rattle.implib.proofs.Members.MsvcObjects.{Fits-null_thunk, same_layout}
 use Rattle.implib.proofs.msvc.objects.null_thunk_object.Goals as goal
 
 two_sections : {x y u v : ObjectSection} → x ≡ u → y ≡ v → x ∷ y ∷ [] ≡ u ∷ v ∷ []

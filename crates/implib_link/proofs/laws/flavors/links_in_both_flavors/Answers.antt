@@ -1,4 +1,4 @@
-use Rattle.implib_link.proofs.FlavorProgram.{flavors_link}
+use Rattle.implib_link.proofs.Flavors.Program.{flavors_link}
 use Rattle.implib_link.proofs.laws.flavors.links_in_both_flavors.Goals as goal
 
 pub returns : goal.returns

@@ -1,4 +1,4 @@
-use Rattle.implib_link.proofs.FlavorPacked.{packed_flavors}
+use Rattle.implib_link.proofs.Flavors.Packed.{packed_flavors}
 use Rattle.implib_link.proofs.laws.flavors.packed_flavors_are_program.Goals as goal
 
 pub returns : goal.returns

@@ -1,4 +1,4 @@
-use Rattle.implib_link.proofs.FlavorStubs.{calls_of_flavors_reach, stubs_of_flavors_jump}
+use Rattle.implib_link.proofs.Flavors.Stubs.{calls_of_flavors_reach, stubs_of_flavors_jump}
 use Rattle.implib_link.proofs.laws.flavors.stubs_of_flavors_jump.Goals as goal
 
 pub returns : goal.returns

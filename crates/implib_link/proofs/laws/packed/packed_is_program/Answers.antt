@@ -1,4 +1,4 @@
-use Rattle.implib_link.proofs.Packed.{packed_eights, packed_is_admissible, packed_is_program}
+use Rattle.implib_link.proofs.Gnu.Packed.{packed_eights, packed_is_admissible, packed_is_program}
 use Rattle.implib_link.proofs.laws.packed.packed_is_program.Goals as goal
 
 pub returns : goal.returns

@@ -1,4 +1,4 @@
-use Rattle.implib_link.proofs.Alone.{members_are_program}
+use Rattle.implib_link.proofs.Gnu.Alone.{members_are_program}
 use Rattle.implib_link.proofs.laws.program.members_are_program.Goals as goal
 
 pub returns : goal.returns

@@ -1,5 +1,5 @@
-use Rattle.implib_link.proofs.SearchSorted.{sorted_is_arranged}
-use Rattle.implib_link.proofs.Searched.{linked_in_order, searched_links}
+use Rattle.implib_link.proofs.Search.Sorted.{sorted_is_arranged}
+use Rattle.implib_link.proofs.Search.Searched.{linked_in_order, searched_links}
 use Rattle.implib_link.proofs.laws.search.searched_program_links.Goals as goal
 
 pub returns : goal.returns

@@ -1,5 +1,5 @@
-use Rattle.implib_link.proofs.WorkedArchives.{worked_archives}
-use Rattle.implib_link.proofs.WorkedSearch.{worked_search}
+use Rattle.implib_link.proofs.Worked.Archives.{worked_archives}
+use Rattle.implib_link.proofs.Worked.Search.{worked_search}
 use Rattle.implib_link.proofs.laws.search.worked_search.Goals as goal
 
 pub returns : goal.returns

@@ -1,4 +1,4 @@
-use Rattle.implib_link.proofs.Stubs.{stubs_jump}
+use Rattle.implib_link.proofs.Gnu.Stubs.{stubs_jump}
 use Rattle.implib_link.proofs.laws.stubs.stubs_jump.Goals as goal
 
 pub returns : goal.returns

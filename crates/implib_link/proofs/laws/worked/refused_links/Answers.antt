@@ -1,4 +1,4 @@
-use Rattle.implib_link.proofs.RefusedLinks.{refused_links}
+use Rattle.implib_link.proofs.Worked.RefusedLinks.{refused_links}
 use Rattle.implib_link.proofs.laws.worked.refused_links.Goals as goal
 
 pub returns : goal.returns

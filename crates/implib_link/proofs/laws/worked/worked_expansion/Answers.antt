@@ -1,4 +1,4 @@
-use Rattle.implib_link.proofs.WorkedExpansion.{worked_expansion}
+use Rattle.implib_link.proofs.Worked.Expansion.{worked_expansion}
 use Rattle.implib_link.proofs.laws.worked.worked_expansion.Goals as goal
 
 pub returns : goal.returns

@@ -1,4 +1,4 @@
-use Rattle.implib_link.proofs.WorkedFlavors.{refused_tables, worked_flavors}
+use Rattle.implib_link.proofs.Worked.Flavors.{refused_tables, worked_flavors}
 use Rattle.implib_link.proofs.laws.worked.worked_flavors.Goals as goal
 
 pub returns : goal.returns

@@ -1,4 +1,4 @@
-use Rattle.implib_link.proofs.WorkedPrograms.{worked_programs, worked_stubs}
+use Rattle.implib_link.proofs.Worked.Programs.{worked_programs, worked_stubs}
 use Rattle.implib_link.proofs.laws.worked.worked_programs.Goals as goal
 
 pub returns : goal.returns

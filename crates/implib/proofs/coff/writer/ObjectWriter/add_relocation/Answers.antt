@@ -1,8 +1,8 @@
 use Rattle.std.proofs.Common.{◌-◌, arith, refl}
 use Rattle.std.proofs.lemmas.Result.{err_from_is_err_and}
-use Rattle.implib.specs.Writer.{HasRoomFor}
-use Rattle.implib.specs.WriterView.{writer_state}
-use Rattle.implib.proofs.WriterSound.{sections_with_relocation-numbered, sections-same, shown_with, sound_relocation}
+use Rattle.implib.specs.Formats.Writer.{HasRoomFor}
+use Rattle.implib.specs.Views.Writer.{writer_state}
+use Rattle.implib.proofs.Formats.WriterSound.{sections_with_relocation-numbered, sections-same, shown_with, sound_relocation}
 use Rattle.implib.proofs.coff.writer.ObjectWriter.add_relocation.Goals as goal
 
 pub invariant_of-self : goal.invariant_of-self

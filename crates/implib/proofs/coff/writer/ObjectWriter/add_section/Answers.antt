@@ -1,8 +1,8 @@
 use Rattle.std.proofs.Common.{[], ◌∷◌, arith}
 use Rattle.std.proofs.lemmas.List.{map-append}
-use Rattle.implib.specs.Writer.{section_view}
-use Rattle.implib.specs.WriterView.{writer_state}
-use Rattle.implib.proofs.WriterSound.{sound_section}
+use Rattle.implib.specs.Formats.Writer.{section_view}
+use Rattle.implib.specs.Views.Writer.{writer_state}
+use Rattle.implib.proofs.Formats.WriterSound.{sound_section}
 use Rattle.implib.proofs.coff.writer.ObjectWriter.add_section.Goals as goal
 
 pub invariant_of-self-2 : goal.invariant_of-self-2

@@ -1,8 +1,8 @@
 use Rattle.std.proofs.Common.{[], ◌∷◌, arith}
 use Rattle.std.proofs.lemmas.List.{map-append}
-use Rattle.implib.specs.WriterView.{writer_state}
-use Rattle.implib.specs.Writer.{added_view}
-use Rattle.implib.proofs.WriterSound.{auxiliary_count-le, length-entries_added, sound_symbol}
+use Rattle.implib.specs.Views.Writer.{writer_state}
+use Rattle.implib.specs.Formats.Writer.{added_view}
+use Rattle.implib.proofs.Formats.WriterSound.{auxiliary_count-le, length-entries_added, sound_symbol}
 use Rattle.implib.proofs.coff.writer.ObjectWriter.add_symbol.Goals as goal
 
 pub overflow_add-count : goal.overflow_add-count

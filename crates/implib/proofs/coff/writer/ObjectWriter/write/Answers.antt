@@ -1,10 +1,10 @@
 use Rattle.std.proofs.Common.{◌≡◌, ◌∙◌, ap, length, map, subst, sym, ◌<◌, ◌≤◌, ◌^◌, IfOk, OnOk, Some}
 use Rattle.implib.specs.Fault.{IfInvalid, MemberTooLong}
-use Rattle.implib.specs.Object.{object_in}
-use Rattle.implib.specs.Layout.{Fits, encoded, encoded_size}
-use Rattle.implib.specs.Writer.{WriterState, added_view, written_object, layout_of, section_view}
-use Rattle.implib.proofs.WriterLayout.{layout_of-fits, object_of-layout_of}
-use Rattle.implib.proofs.Written.{length_if_ok, read_if_ok, same_holding}
+use Rattle.implib.specs.Formats.Object.{object_in}
+use Rattle.implib.specs.Formats.Layout.{Fits, encoded, encoded_size}
+use Rattle.implib.specs.Formats.Writer.{WriterState, added_view, written_object, layout_of, section_view}
+use Rattle.implib.proofs.Formats.WriterLayout.{layout_of-fits, object_of-layout_of}
+use Rattle.implib.proofs.Formats.Written.{length_if_ok, read_if_ok, same_holding}
 use Rattle.implib.proofs.coff.writer.ObjectWriter.write.Goals as goal
 use Rattle.implib.proofs.coff.writer.ObjectWriter.write.Goals.{After-write_parts}
 

@@ -1,4 +1,4 @@
-use Rattle.implib.proofs.Token.{Lexed-tokens_left}
+use Rattle.implib.proofs.Text.Token.{Lexed-tokens_left}
 use Rattle.implib.proofs.def.lexer.Lexer.new.Goals as goal
 
 pub returns : goal.returns

@@ -3,8 +3,8 @@ use Rattle.std.specs.Bool.{Decides}
 use denote.Enum.Bare.{sameb, same_true}
 use Rattle.implib.specs.contracts.def.lexer.TokenKind.{the_type}
 use Rattle.implib.specs.declared.def.lexer.TokenKind.TheVariants.{Eof}
-use Rattle.implib.specs.Scanner.{tokens_left}
-use Rattle.implib.proofs.TokensLeft.{tokens_left_next, tokens_left_done, PassesTrivia-shorter, TakesToken-shorter}
+use Rattle.implib.specs.Views.Scanner.{tokens_left}
+use Rattle.implib.proofs.Text.TokensLeft.{tokens_left_next, tokens_left_done, PassesTrivia-shorter, TakesToken-shorter}
 use Rattle.implib.proofs.def.lexer.LexerIterator.next.Goals as goal
 
 pub returns-then-self-clause-steps : goal.returns-then-self-clause-steps

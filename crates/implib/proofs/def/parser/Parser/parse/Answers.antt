@@ -1,5 +1,5 @@
 use Rattle.std.proofs.lemmas.Result.{err_from_is_err_and}
-use Rattle.implib.proofs.ParserAnswers.{answer_invalid}
+use Rattle.implib.proofs.Text.ParserAnswers.{answer_invalid}
 use Rattle.implib.proofs.def.parser.Parser.parse.Goals as goal
 
 pub returns-in_err-read-clause-refused : goal.returns-in_err-read-clause-refused

@@ -1,6 +1,6 @@
 use Rattle.std.proofs.lemmas.Result.{err_from_is_err_and}
 use Rattle.implib.specs.Definition.{definition_view}
-use Rattle.implib.proofs.ParserAnswers.{answer_parses, answer_refused}
+use Rattle.implib.proofs.Text.ParserAnswers.{answer_parses, answer_refused}
 use Rattle.implib.proofs.def.parser.Parser.read.Goals as goal
 
 pub returns-in_err-statements-clause-refused : goal.returns-in_err-statements-clause-refused

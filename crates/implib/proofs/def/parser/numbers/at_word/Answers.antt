@@ -1,5 +1,5 @@
 use Rattle.std.proofs.Common.{sym, ◌∙◌, refl}
-use Rattle.implib.proofs.WordsCut.{lone_stripped, more_stripped}
+use Rattle.implib.proofs.Text.WordsCut.{lone_stripped, more_stripped}
 use Rattle.implib.proofs.def.parser.numbers.at_word.Goals as goal
 
 pub returns-then-is_empty : goal.returns-then-is_empty

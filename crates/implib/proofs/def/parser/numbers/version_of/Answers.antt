@@ -1,5 +1,5 @@
 use Rattle.std.proofs.Common.{refl}
-use Rattle.implib.proofs.WordsCut.{version_cut, version_uncut}
+use Rattle.implib.proofs.Text.WordsCut.{version_cut, version_uncut}
 use Rattle.implib.proofs.def.parser.numbers.version_of.Goals as goal
 
 pub returns-in_err-u32_of-in-None : goal.returns-in_err-u32_of-in-None

@@ -1,5 +1,5 @@
 use Rattle.std.proofs.Common.{◌≡◌, take, ◌+◌, ◌≤◌}
-use Rattle.implib.specs.Position.{line_and_column}
+use Rattle.implib.specs.Text.Position.{line_and_column}
 use Rattle.implib.proofs.def.position.Position.at.Given as goal
 
 abbrev pub invariant-loop-byte : goal.invariant-loop-byte

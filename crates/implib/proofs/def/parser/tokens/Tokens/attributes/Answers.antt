@@ -1,8 +1,8 @@
 use Rattle.std.proofs.Common.{arith, refl}
 use Rattle.std.proofs.lemmas.Result.{err_from_is_err_and}
 use Rattle.implib.specs.Definition.{export_view}
-use Rattle.implib.specs.TokenReader.{attribute_read, attributes_read, with_attribute}
-use Rattle.implib.proofs.ParserLoops.{remains_all, remains_err, remains_more, remains_none}
+use Rattle.implib.specs.Views.TokenReader.{attribute_read, attributes_read, with_attribute}
+use Rattle.implib.proofs.Text.ParserLoops.{remains_all, remains_err, remains_more, remains_none}
 use Rattle.implib.proofs.def.parser.tokens.Tokens.attributes.Goals as goal
 
 pub loop-init : goal.loop-init

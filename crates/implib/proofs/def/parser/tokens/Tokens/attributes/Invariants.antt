@@ -1,8 +1,8 @@
 use Rattle.std.proofs.Common.{◌≤◌, length}
 use Rattle.implib.specs.Definition.{export_view}
-use Rattle.implib.specs.ParserViews.{all_put}
-use Rattle.implib.specs.TokenReader.{attribute_read, attributes_read, with_attribute}
-use Rattle.implib.proofs.ParserLoops.{Remains}
+use Rattle.implib.specs.Views.Parser.{all_put}
+use Rattle.implib.specs.Views.TokenReader.{attribute_read, attributes_read, with_attribute}
+use Rattle.implib.proofs.Text.ParserLoops.{Remains}
 use Rattle.implib.proofs.def.parser.tokens.Tokens.attributes.Given as goal
 
 abbrev pub invariant-loop : goal.invariant-loop

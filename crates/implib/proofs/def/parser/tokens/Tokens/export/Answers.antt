@@ -1,9 +1,9 @@
 use Rattle.std.proofs.Common.{◌≡◌, ◌++◌, ◌∷◌, [], map}
 use Rattle.std.proofs.lemmas.List.{map_push}
 use Rattle.implib.specs.Definition.{export_view}
-use Rattle.implib.specs.ParserViews.{value_of}
-use Rattle.implib.specs.Token.{token_view}
-use Rattle.implib.proofs.ParserSteps.{export_reads, taken}
+use Rattle.implib.specs.Views.Parser.{value_of}
+use Rattle.implib.specs.Text.Token.{token_view}
+use Rattle.implib.proofs.Text.ParserSteps.{export_reads, taken}
 use Rattle.implib.proofs.def.parser.tokens.Tokens.export.Goals as goal
 
 pub returns-in_ok-push-in-Identifier-clause-read : goal.returns-in_ok-push-in-Identifier-clause-read

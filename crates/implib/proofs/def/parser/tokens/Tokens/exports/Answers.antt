@@ -2,9 +2,9 @@ use Rattle.std.proofs.Common.{arith, refl}
 use Rattle.std.proofs.lemmas.Result.{err_from_is_err_and}
 use Rattle.std.proofs.Common.{map}
 use Rattle.implib.specs.Definition.{export_view}
-use Rattle.implib.specs.ParserViews.{with_export}
-use Rattle.implib.specs.TokenReader.{export_read, exports_read}
-use Rattle.implib.proofs.ParserLoops.{remains_all, remains_err, remains_more, remains_none}
+use Rattle.implib.specs.Views.Parser.{with_export}
+use Rattle.implib.specs.Views.TokenReader.{export_read, exports_read}
+use Rattle.implib.proofs.Text.ParserLoops.{remains_all, remains_err, remains_more, remains_none}
 use Rattle.implib.proofs.def.parser.tokens.Tokens.exports.Goals as goal
 
 pub loop-init : goal.loop-init

@@ -1,8 +1,8 @@
 use Rattle.std.proofs.Common.{◌≤◌, length, map}
 use Rattle.implib.specs.Definition.{export_view}
-use Rattle.implib.specs.ParserViews.{all_put, with_export}
-use Rattle.implib.specs.TokenReader.{export_read, exports_read}
-use Rattle.implib.proofs.ParserLoops.{Remains}
+use Rattle.implib.specs.Views.Parser.{all_put, with_export}
+use Rattle.implib.specs.Views.TokenReader.{export_read, exports_read}
+use Rattle.implib.proofs.Text.ParserLoops.{Remains}
 use Rattle.implib.proofs.def.parser.tokens.Tokens.exports.Given as goal
 
 abbrev pub invariant-loop : goal.invariant-loop

@@ -1,8 +1,8 @@
 use Rattle.std.proofs.Common.{map}
 use Rattle.implib.specs.Definition.{definition_view, export_view}
-use Rattle.implib.specs.Grammar.{Heap, Stack}
-use Rattle.implib.specs.Token.{token_view}
-use Rattle.implib.proofs.ParserSteps.{exports_reads, name_reads, sizes_reads, taken, version_reads}
+use Rattle.implib.specs.Text.Grammar.{Heap, Stack}
+use Rattle.implib.specs.Text.Token.{token_view}
+use Rattle.implib.proofs.Text.ParserSteps.{exports_reads, name_reads, sizes_reads, taken, version_reads}
 use Rattle.implib.proofs.def.parser.tokens.Tokens.statement.Goals as goal
 use Rattle.implib.proofs.def.parser.tokens.Tokens.statement.Goals.{in-KwExports+in_ok-exports-in-KwExports, in-KwHeapsize+in_ok-reserve-in-KwHeapsize, in-KwStacksize+in_ok-reserve-in-KwStacksize, in-KwName+in_ok-set_name-in-KwName, in-KwVersion+in_ok-major-in-KwVersion}
 

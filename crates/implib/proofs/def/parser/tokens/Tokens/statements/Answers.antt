@@ -1,8 +1,8 @@
 use Rattle.std.proofs.Common.{refl}
 use Rattle.std.proofs.lemmas.Result.{err_from_is_err_and}
 use Rattle.implib.specs.Definition.{definition_view}
-use Rattle.implib.specs.TokenReader.{statement_read, statements_read, with_statement}
-use Rattle.implib.proofs.ParserLoops.{remains_all, remains_err, remains_more, remains_none}
+use Rattle.implib.specs.Views.TokenReader.{statement_read, statements_read, with_statement}
+use Rattle.implib.proofs.Text.ParserLoops.{remains_all, remains_err, remains_more, remains_none}
 use Rattle.implib.proofs.def.parser.tokens.Tokens.statements.Goals as goal
 
 pub loop-init : goal.loop-init

@@ -1,8 +1,8 @@
 use Rattle.std.proofs.Common.{length}
 use Rattle.implib.specs.Definition.{definition_view}
-use Rattle.implib.specs.ParserViews.{all_put}
-use Rattle.implib.specs.TokenReader.{statement_read, statements_read, with_statement}
-use Rattle.implib.proofs.ParserLoops.{Remains}
+use Rattle.implib.specs.Views.Parser.{all_put}
+use Rattle.implib.specs.Views.TokenReader.{statement_read, statements_read, with_statement}
+use Rattle.implib.proofs.Text.ParserLoops.{Remains}
 use Rattle.implib.proofs.def.parser.tokens.Tokens.statements.Given as goal
 
 abbrev pub invariant-loop : goal.invariant-loop

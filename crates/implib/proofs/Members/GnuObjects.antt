@@ -1,0 +1,326 @@
+-- The objects for GNU's linker fit what a file has room for.
+use Rattle.std.proofs.Common.{◌≡◌, ℕ, ◌<◌, ◌≤◌, ◌^◌, Bool, true, false, if◌then◌else◌, List, [], ◌∷◌, ◌++◌, length, refl, ◌∙◌, arith, codes, length-append}
+use Rattle.std.specs.Prelude.{nat_eq, ◌==◌}
+use Rattle.std.specs.List.{AllByRecursion}
+use Rattle.std.proofs.lemmas.Bool.{or_parts, or_from}
+use Rattle.std.proofs.lemmas.List.Folds.{list_any-append}
+use Rattle.implib.specs.declared.coff.object.Place.{Place}
+use Rattle.implib.specs.declared.coff.object.Place.TheVariants.{Undefined, Section}
+use Rattle.implib.specs.declared.machine.MachineType.{MachineType}
+use Rattle.implib.specs.declared.machine.MachineType.TheVariants.{I386, ARMNT, AMD64, ARM64}
+use Rattle.implib.specs.Formats.Constants.{class_external, class_static}
+use Rattle.implib.specs.Definition.{ExportView}
+use Rattle.implib.specs.Members.Gnu.{added, empty_sections, export_object, export_symbols, file_symbol, full_stop, head_object, head_symbol, head_symbols, hint_name, prefixed_symbol, iname_symbol, relocations_of_stub, relocations_of_thunk, section, mangled_name, stub, stub_relocations, tail_object, tail_symbols, thunk, without_full_stop, stub_bytes}
+use Rattle.implib.specs.Import.{imp_symbol, holds, is_empty_text, underscore}
+use Rattle.implib.specs.Members.ImportTables.{relocation, thunk_width, zeros}
+use Rattle.implib.specs.Formats.Object.{ObjectSection}
+use Rattle.implib.specs.Formats.Layout.{Fits}
+use Rattle.implib.specs.Views.Table.{CanBeHeld}
+use Rattle.implib.specs.Formats.Writer.{AddedSymbol, IsPlaceAmong, all_entries, layout_of}
+use Rattle.implib.specs.Views.Writer.{IsSound, IsSoundSection, IsSoundSymbol}
+use Rattle.implib.proofs.Members.MsvcObjects.{plain_section_fits, relocation_fits}
+use Rattle.implib.proofs.Formats.Table.{CanBeHeld-from_sound, LieWithin}
+use Rattle.implib.proofs.Formats.WriterLayout.{layout_of-fits}
+
+-- Names.
+
+mangled_name_byte : (stops : Bool) (b : ℕ) → nat_eq b 0 ≡ false → nat_eq (if stops then underscore else b) 0 ≡ false
+mangled_name_byte true b free = refl
+mangled_name_byte false b free = free
+
+pub holds-mangled_name : (dll : List ℕ) → holds 0 dll ≡ false → holds 0 (mangled_name dll) ≡ false
+unfolding mangled_name
+holds-mangled_name [] free = refl
+holds-mangled_name (b ∷ dll) free =
+    let parts = or_parts (nat_eq b 0) (holds 0 dll) free in
+    or_from (nat_eq (without_full_stop b) 0) (holds 0 (mangled_name dll)) (mangled_name_byte (b == full_stop) b parts.0) (holds-mangled_name dll parts.1)
+
+holds-prefixed_symbol : (machine : MachineType) (name : List ℕ) → holds 0 name ≡ false → holds 0 (prefixed_symbol machine name) ≡ false
+holds-prefixed_symbol I386 name free = free
+holds-prefixed_symbol ARMNT name free = free
+holds-prefixed_symbol AMD64 name free = free
+holds-prefixed_symbol ARM64 name free = free
+
+filled-prefixed_symbol : (machine : MachineType) (name : List ℕ) → 0 < length name → 0 < length (prefixed_symbol machine name)
+filled-prefixed_symbol I386 name filled = omega arith
+filled-prefixed_symbol ARMNT name filled = filled
+filled-prefixed_symbol AMD64 name filled = filled
+filled-prefixed_symbol ARM64 name filled = filled
+
+pub holds-head_symbol : (machine : MachineType) (dll : List ℕ) → holds 0 dll ≡ false → holds 0 (head_symbol machine dll) ≡ false
+unfolding head_symbol
+holds-head_symbol machine dll free = holds-prefixed_symbol machine _ (holds-mangled_name dll free)
+
+pub filled-head_symbol : (machine : MachineType) (dll : List ℕ) → 0 < length (head_symbol machine dll)
+unfolding head_symbol
+filled-head_symbol machine dll = filled-prefixed_symbol machine _ (omega arith)
+
+pub holds-iname_symbol : (machine : MachineType) (dll : List ℕ) → holds 0 dll ≡ false → holds 0 (iname_symbol machine dll) ≡ false
+unfolding iname_symbol
+holds-iname_symbol machine dll free =
+    holds-prefixed_symbol machine (mangled_name dll ++ codes "_iname")
+    (list_any-append (λ b. nat_eq b 0) (mangled_name dll) (codes "_iname") ∙ or_from (holds 0 (mangled_name dll)) false (holds-mangled_name dll free) refl)
+
+pub filled-iname_symbol : (machine : MachineType) (dll : List ℕ) → 0 < length (iname_symbol machine dll)
+unfolding iname_symbol
+filled-iname_symbol machine dll = filled-prefixed_symbol machine (mangled_name dll ++ codes "_iname") (omega (arith, length-append (mangled_name dll) (codes "_iname")))
+
+pub filled_text : (text : List ℕ) → is_empty_text text ≡ false → 0 < length text
+filled_text [] filled = cc
+filled_text (b ∷ text) filled = omega arith
+
+-- Sections and symbols.
+
+plain_sound : (symbols : List AddedSymbol) (name contents : List ℕ) (flags : ℕ) → length name ≡ 8 → flags < 2 ^ 32 → IsSoundSection symbols (section name flags contents [])
+plain_sound symbols name contents flags eight flags_fit = record { fits = plain_section_fits name contents flags eight flags_fit; relocations = tt }
+
+symbol_sound : (count : ℕ) (name : List ℕ) (place : Place) (class : ℕ) → 0 < length name → holds 0 name ≡ false → IsPlaceAmong count place →
+    IsSoundSymbol count (added name place class)
+symbol_sound count name place class filled free among =
+    record { named = filled; no_nul = free; value = omega arith; place = among; aux = tt }
+
+file_symbol_sound : (count : ℕ) → IsSoundSymbol count file_symbol
+file_symbol_sound count = record { named = omega arith; no_nul = refl; value = omega arith; place = tt; aux = refl }
+
+-- the head and tail's sections, where the last three are sound
+head_and_tail_sound : (symbols : List AddedSymbol) (first second third : ObjectSection) → IsSoundSection symbols first → IsSoundSection symbols second → IsSoundSection symbols third →
+    AllByRecursion (IsSoundSection symbols) (empty_sections ++ first ∷ second ∷ third ∷ [])
+head_and_tail_sound symbols first second third one two three = (
+  plain_sound symbols _ [] _ refl (omega arith),
+  (plain_sound symbols _ [] _ refl (omega arith), (plain_sound symbols _ [] _ refl (omega arith), (one, (two, (three, tt))))),
+)
+
+-- The head.
+
+pub IsSound-head_object : (machine : MachineType) (dll : List ℕ) → holds 0 dll ≡ false → IsSound (head_object machine dll) 6
+unfolding head_object
+IsSound-head_object machine dll free =
+    let head = head_symbol machine dll in
+    let name = iname_symbol machine dll in
+    let symbols = head_symbols head name in
+    record {
+      few = omega arith;
+      records = refl;
+      sections = head_and_tail_sound symbols _ _ _
+          (record {
+            fits = record {
+              name = refl;
+              flags = omega arith;
+              count = omega arith;
+              relocations = (
+                relocation_fits machine 0 3 (omega arith) (omega arith),
+                (relocation_fits machine 16 2 (omega arith) (omega arith), (relocation_fits machine 12 5 (omega arith) (omega arith), tt)),
+              );
+            };
+            relocations = (tt, (tt, (tt, tt)));
+          })
+          (plain_sound symbols (codes ".idata$5") [] _ refl (omega arith))
+          (plain_sound symbols (codes ".idata$4") [] _ refl (omega arith));
+      symbols = (
+        file_symbol_sound 6,
+        (
+          symbol_sound 6 (codes ".idata$5") (Section 5) class_static (omega arith) refl (omega arith, omega arith),
+          (
+            symbol_sound 6 (codes ".idata$4") (Section 6) class_static (omega arith) refl (omega arith, omega arith),
+            (
+              symbol_sound 6 head (Section 4) class_external (filled-head_symbol machine dll) (holds-head_symbol machine dll free) (omega arith, omega arith),
+              (symbol_sound 6 name Undefined class_external (filled-iname_symbol machine dll) (holds-iname_symbol machine dll free) tt, tt),
+            ),
+          ),
+        ),
+      );
+    }
+
+pub Fits-head_object : (machine : MachineType) (dll : List ℕ) → holds 0 dll ≡ false → Fits (layout_of (head_object machine dll))
+Fits-head_object machine dll free = layout_of-fits (head_object machine dll) 6 (IsSound-head_object machine dll free)
+
+head_within : (machine : MachineType) (dll : List ℕ) → AllByRecursion LieWithin (head_object machine dll).sections
+unfolding head_object
+head_within machine dll = (tt, (tt, (tt, ((omega arith, (omega arith, (omega arith, tt))), (tt, (tt, tt))))))
+
+-- a writer can hold it
+pub CanBeHeld-head_object : (machine : MachineType) (dll : List ℕ) → holds 0 dll ≡ false → CanBeHeld (head_object machine dll)
+CanBeHeld-head_object machine dll free =
+    CanBeHeld-from_sound (head_object machine dll) 6 (IsSound-head_object machine dll free) (omega arith) (head_within machine dll)
+
+-- The tail.
+
+pub IsSound-tail_object : (machine : MachineType) (dll : List ℕ) → holds 0 dll ≡ false → IsSound (tail_object machine dll) 3
+unfolding tail_object
+IsSound-tail_object machine dll free =
+    let name = iname_symbol machine dll in
+    let symbols = tail_symbols name in
+    record {
+      few = omega arith;
+      records = refl;
+      sections = head_and_tail_sound symbols _ _ _
+          (plain_sound symbols (codes ".idata$4") _ _ refl (omega arith))
+          (plain_sound symbols (codes ".idata$5") _ _ refl (omega arith))
+          (plain_sound symbols (codes ".idata$7") _ _ refl (omega arith));
+      symbols = (
+        file_symbol_sound 6,
+        (symbol_sound 6 name (Section 6) class_external (filled-iname_symbol machine dll) (holds-iname_symbol machine dll free) (omega arith, omega arith), tt),
+      );
+    }
+
+pub Fits-tail_object : (machine : MachineType) (dll : List ℕ) → holds 0 dll ≡ false → Fits (layout_of (tail_object machine dll))
+Fits-tail_object machine dll free = layout_of-fits (tail_object machine dll) 3 (IsSound-tail_object machine dll free)
+
+tail_within : (machine : MachineType) (dll : List ℕ) → AllByRecursion LieWithin (tail_object machine dll).sections
+unfolding tail_object
+tail_within machine dll = (tt, (tt, (tt, (tt, (tt, (tt, tt))))))
+
+pub CanBeHeld-tail_object : (machine : MachineType) (dll : List ℕ) → holds 0 dll ≡ false → CanBeHeld (tail_object machine dll)
+CanBeHeld-tail_object machine dll free =
+    CanBeHeld-from_sound (tail_object machine dll) 3 (IsSound-tail_object machine dll free) (omega arith) (tail_within machine dll)
+
+-- An export.
+
+-- the symbols of an export, by whether it is data
+abbrev symbols_by : Bool → List ℕ → List ℕ → List AddedSymbol
+symbols_by is_data head name =
+    added head Undefined class_external
+    ∷ ((if is_data then [] else added name (Section 1) class_external ∷ [])
+    ++ added (imp_symbol name) (Section 5) class_external
+    ∷ added (codes ".idata$6") (Section 7) class_static
+    ∷ [])
+
+stub_sound : (machine : MachineType) (is_data : Bool) (head name : List ℕ) (contents : List ℕ) (flags : ℕ) → flags < 2 ^ 32 →
+    IsSoundSection (symbols_by is_data head name) (section (codes ".text" ++ 0 ∷ 0 ∷ 0 ∷ []) flags contents (if is_data then [] else stub_relocations machine 2))
+stub_sound machine true head name contents flags flags_fit = plain_sound (symbols_by true head name) _ contents flags refl flags_fit
+stub_sound I386 false head name contents flags flags_fit = record {
+  fits = record { name = refl; flags = flags_fit; count = omega arith; relocations = (record { offset = omega arith; symbol = omega arith; kind = omega arith }, tt) };
+  relocations = (tt, tt);
+}
+stub_sound ARMNT false head name contents flags flags_fit = record {
+  fits = record { name = refl; flags = flags_fit; count = omega arith; relocations = (record { offset = omega arith; symbol = omega arith; kind = omega arith }, tt) };
+  relocations = (tt, tt);
+}
+stub_sound AMD64 false head name contents flags flags_fit = record {
+  fits = record { name = refl; flags = flags_fit; count = omega arith; relocations = (record { offset = omega arith; symbol = omega arith; kind = omega arith }, tt) };
+  relocations = (tt, tt);
+}
+stub_sound ARM64 false head name contents flags flags_fit = record {
+  fits = record {
+    name = refl;
+    flags = flags_fit;
+    count = omega arith;
+    relocations = (
+      record { offset = omega arith; symbol = omega arith; kind = omega arith },
+      (record { offset = omega arith; symbol = omega arith; kind = omega arith }, tt),
+    );
+  };
+  relocations = (tt, (tt, tt));
+}
+
+entry_sound : (machine : MachineType) (is_data no_name : Bool) (head name section_name contents : List ℕ) (flags : ℕ) → length section_name ≡ 8 → flags < 2 ^ 32 →
+    IsSoundSection (symbols_by is_data head name)
+    (section section_name flags contents (if no_name then [] else relocation machine 0 (if is_data then 2 else 3) ∷ []))
+entry_sound machine is_data true head name section_name contents flags eight flags_fit = plain_sound (symbols_by is_data head name) section_name contents flags eight flags_fit
+entry_sound machine true false head name section_name contents flags eight flags_fit = record {
+  fits = record { name = eight; flags = flags_fit; count = omega arith; relocations = (relocation_fits machine 0 2 (omega arith) (omega arith), tt) };
+  relocations = (tt, tt);
+}
+entry_sound machine false false head name section_name contents flags eight flags_fit = record {
+  fits = record { name = eight; flags = flags_fit; count = omega arith; relocations = (relocation_fits machine 0 3 (omega arith) (omega arith), tt) };
+  relocations = (tt, tt);
+}
+
+-- the section that names the head
+head_entry_sound : (machine : MachineType) (is_data : Bool) (head name section_name contents : List ℕ) (flags : ℕ) → length section_name ≡ 8 → flags < 2 ^ 32 →
+    IsSoundSection (symbols_by is_data head name) (section section_name flags contents (relocation machine 0 0 ∷ []))
+head_entry_sound machine is_data head name section_name contents flags eight flags_fit = record {
+  fits = record { name = eight; flags = flags_fit; count = omega arith; relocations = (relocation_fits machine 0 0 (omega arith) (omega arith), tt) };
+  relocations = (tt, tt);
+}
+
+symbols_sound : (is_data : Bool) (head name : List ℕ) → 0 < length head → holds 0 head ≡ false → 0 < length name → holds 0 name ≡ false →
+    AllByRecursion (IsSoundSymbol 7) (symbols_by is_data head name)
+symbols_sound true head name head_filled head_free name_filled name_free = (
+  symbol_sound 7 head Undefined class_external head_filled head_free tt,
+  (
+    symbol_sound 7 (imp_symbol name) (Section 5) class_external (omega arith) name_free (omega arith, omega arith),
+    (symbol_sound 7 (codes ".idata$6") (Section 7) class_static (omega arith) refl (omega arith, omega arith), tt),
+  ),
+)
+symbols_sound false head name head_filled head_free name_filled name_free = (
+  symbol_sound 7 head Undefined class_external head_filled head_free tt,
+  (
+    symbol_sound 7 name (Section 1) class_external name_filled name_free (omega arith, omega arith),
+    (
+      symbol_sound 7 (imp_symbol name) (Section 5) class_external (omega arith) name_free (omega arith, omega arith),
+      (symbol_sound 7 (codes ".idata$6") (Section 7) class_static (omega arith) refl (omega arith, omega arith), tt),
+    ),
+  ),
+)
+
+pub IsSound-export_object : (machine : MachineType) (dll : List ℕ) (e : ExportView) → holds 0 dll ≡ false → holds 0 e.name ≡ false → is_empty_text e.name ≡ false →
+    IsSound (export_object machine dll e) (length (all_entries (export_symbols (head_symbol machine dll) e)))
+unfolding export_object stub relocations_of_stub thunk relocations_of_thunk hint_name
+IsSound-export_object machine dll e free name_free filled =
+    let head = head_symbol machine dll in
+    let symbols = symbols_by e.is_data head e.name in
+    record {
+      few = omega arith;
+      records = refl;
+      sections = (
+        stub_sound machine e.is_data head e.name _ _ (omega arith),
+        (
+          plain_sound symbols _ [] _ refl (omega arith),
+          (
+            plain_sound symbols _ [] _ refl (omega arith),
+            (
+              head_entry_sound machine e.is_data head e.name (codes ".idata$7") _ _ refl (omega arith),
+              (
+                entry_sound machine e.is_data e.no_name head e.name (codes ".idata$5") _ _ refl (omega arith),
+                (
+                  entry_sound machine e.is_data e.no_name head e.name (codes ".idata$4") _ _ refl (omega arith),
+                  (plain_sound symbols (codes ".idata$6") _ _ refl (omega arith), tt),
+                ),
+              ),
+            ),
+          ),
+        ),
+      );
+      symbols = symbols_sound e.is_data head e.name (filled-head_symbol machine dll) (holds-head_symbol machine dll free) (filled_text e.name filled) name_free;
+    }
+
+pub Fits-export_object : (machine : MachineType) (dll : List ℕ) (e : ExportView) → holds 0 dll ≡ false → holds 0 e.name ≡ false → is_empty_text e.name ≡ false →
+    Fits (layout_of (export_object machine dll e))
+Fits-export_object machine dll e free name_free filled =
+    layout_of-fits (export_object machine dll e) (length (all_entries (export_symbols (head_symbol machine dll) e))) (IsSound-export_object machine dll e free name_free filled)
+
+stub_within : (machine : MachineType) (is_data : Bool) → LieWithin (section [] 0 (if is_data then [] else stub_bytes machine) (if is_data then [] else stub_relocations machine 2))
+stub_within machine true = tt
+stub_within I386 false = (omega arith, tt)
+stub_within ARMNT false = (omega arith, tt)
+stub_within AMD64 false = (omega arith, tt)
+stub_within ARM64 false = (omega arith, (omega arith, tt))
+
+entry_within : (machine : MachineType) (no_name : Bool) (by_ordinal : List ℕ) (symbol : ℕ) →
+    LieWithin (section [] 0 (if no_name then by_ordinal else zeros (thunk_width machine)) (if no_name then [] else relocation machine 0 symbol ∷ []))
+entry_within machine true by_ordinal symbol = tt
+entry_within I386 false by_ordinal symbol = (omega arith, tt)
+entry_within ARMNT false by_ordinal symbol = (omega arith, tt)
+entry_within AMD64 false by_ordinal symbol = (omega arith, tt)
+entry_within ARM64 false by_ordinal symbol = (omega arith, tt)
+
+export_within : (machine : MachineType) (dll : List ℕ) (e : ExportView) → AllByRecursion LieWithin (export_object machine dll e).sections
+unfolding export_object stub relocations_of_stub thunk relocations_of_thunk
+export_within machine dll e = (
+  stub_within machine e.is_data,
+  (tt, (tt, ((omega arith, tt), (entry_within machine e.no_name _ _, (entry_within machine e.no_name _ _, (tt, tt)))))),
+)
+
+few_entries : (head : List ℕ) (e : ExportView) → length (all_entries (export_symbols head e)) ≤ 4
+few_entries head e = by e.is_data
+  where
+    by : (is_data : Bool) → length (all_entries (symbols_by is_data head e.name)) ≤ 4
+    by true = omega arith
+    by false = omega arith
+
+pub CanBeHeld-export_object : (machine : MachineType) (dll : List ℕ) (e : ExportView) → holds 0 dll ≡ false → holds 0 e.name ≡ false → is_empty_text e.name ≡ false →
+    CanBeHeld (export_object machine dll e)
+CanBeHeld-export_object machine dll e free name_free filled =
+    CanBeHeld-from_sound (export_object machine dll e) (length (all_entries (export_symbols (head_symbol machine dll) e))) (IsSound-export_object machine dll e free name_free filled)
+    (omega (arith, few_entries (head_symbol machine dll) e)) (export_within machine dll e)

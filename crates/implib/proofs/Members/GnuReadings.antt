@@ -1,0 +1,405 @@
+-- What the members for GNU's linker are read as.
+use Rattle.std.proofs.Common.{◌≡◌, ℕ, ◌+◌, ◌<◌, ◌≤◌, ◌^◌, Bool, true, false, if◌then◌else◌, ◌||◌, List, [], ◌∷◌, ◌++◌, length, drop, map, reverse, Option, Some, None, refl, ap, sym, ◌∙◌, codes, subst}
+use Rattle.std.specs.Prelude.{◌==◌, bytes_eq}
+use Rattle.std.specs.List.{AllByRecursion, filter_map, flat_map, list_any}
+use Rattle.std.specs.Option.{option_and_then, option_map}
+use Rattle.std.proofs.lemmas.Bool.{ltb-true, or_parts}
+use Rattle.std.proofs.lemmas.List.{append-nil, map-append, reverse-append, reverse-reverse}
+use Rattle.std.proofs.lemmas.List.Elements.{filter_map-append}
+use Rattle.std.proofs.lemmas.List.Folds.{list_any-append}
+use Rattle.std.proofs.lemmas.Nat.{from_le_bytes-to_le_bytes_2}
+use Rattle.std.proofs.lemmas.Slice.Eq.{bytes_eq-Decides}
+use Rattle.implib.specs.declared.flavor.Flavor.TheVariants.{Gnu}
+use Rattle.implib.specs.declared.machine.MachineType.{MachineType}
+use Rattle.implib.specs.declared.machine.MachineType.TheVariants.{I386, ARMNT, AMD64, ARM64}
+use Rattle.implib.specs.Formats.Bytes.{u16_bytes, u32_bytes}
+use Rattle.implib.specs.Definition.{DefinitionView, ExportView}
+use Rattle.implib.specs.Formats.File.{File, ObjectFile, Meaning, AnImport, AnAlias, alias_of_object, declared_by, file_in}
+use Rattle.implib.specs.Members.Gnu.{export_object, archive_symbols, head_object, head_symbol, hint_name, iname_symbol, relocations_of_stub, relocations_of_thunk, stub, tail_object, thunk}
+use Rattle.implib.specs.Members.GnuReader.{CodeRelocation, alias_or_import, ask_of_export, code_of_export, code_relocations, dll_by_names, externals_in, import_of, meaning_with, text_section}
+use Rattle.implib.specs.Import.{Ordinal, Name, imp_symbol, aliases_for, expected_ask, holds, expected_import, import_symbols, is_alias, public_exports}
+use Rattle.implib.specs.Underscore.{asked_name, has_underscore}
+use Rattle.implib.specs.Ascii.{without_first}
+use Rattle.implib.specs.Members.MemberSpec.{AnObject, MemberSpec, MemberView, file_bytes, file_size, member_of}
+use Rattle.implib.specs.Members.Members.{AreMembersOf, is_too_long, member_specs}
+use Rattle.implib.specs.Members.GnuMembers.{alias_specs, export_spec, head_spec, numbered_specs, numbered_specs_of, tail_spec}
+use Rattle.implib.specs.Members.WeakExternal.{weak_spec}
+use Rattle.implib.specs.Members.WeakExternal.{weak_object}
+use Rattle.implib.specs.Formats.Object.{u16_at, u32_at}
+use Rattle.implib.specs.Formats.Layout.{Fits, entries_of, encoded_size, name_text, object_of}
+use Rattle.implib.specs.Members.ReadBack.{GnuReadBack, alias_among, expected_code, file_at, file_of, import_among, expected_meanings}
+use Rattle.implib.specs.Renaming.{renamed}
+use Rattle.implib.specs.Formats.Writer.{WriterState, written_object, layout_of}
+use Rattle.implib.proofs.Members.GnuLoop.{list_any-reverse, map-reverse}
+use Rattle.implib.proofs.Members.GnuObjects.{Fits-export_object, Fits-head_object, Fits-tail_object}
+use Rattle.implib.proofs.Members.MemberMeanings.{DeclaresListed, all_aliases, no_imports, read_declares, weak_declares}
+use Rattle.implib.proofs.Members.MemberReadings.{ReadsBack, all_append, each_length, each_read, machine_number_nonzero, map_after, map_same, object_reads, weak_reads}
+use Rattle.implib.proofs.Members.NotRefused.{Sound, exports_sound, import_name_is_free, none_long, short_enough}
+use Rattle.implib.proofs.Formats.Symbols.{before_nul-ended}
+use Rattle.implib.proofs.Formats.WriterLayout.{object_of-layout_of}
+
+-- The specifications read back.
+
+held_reads : (h : WriterState) → Fits (layout_of h) → encoded_size (layout_of h) ≤ 0xFFFF_FFFF → ReadsBack (AnObject (layout_of h))
+unfolding layout_of
+held_reads h fits short = object_reads (layout_of h) fits (machine_number_nonzero h.machine) short
+
+module _ (machine : MachineType) (dll : List ℕ) (dll_free : holds 0 dll ≡ false) where
+  chosen_read : (number : ℕ) (e : ExportView) → Sound e → (test : Bool) (first second : List ℕ) →
+      list_any is_too_long (if test then weak_spec machine first e.name e.alias_target ∷ weak_spec machine second (imp_symbol e.name) (imp_symbol e.alias_target) ∷ [] else []) ≡ false →
+      AllByRecursion (λ p. ReadsBack p.contents) (if test then weak_spec machine first e.name e.alias_target ∷ weak_spec machine second (imp_symbol e.name) (imp_symbol e.alias_target) ∷ [] else [])
+  chosen_read number e sound false first second short = tt
+  chosen_read number e sound true first second short =
+      let of_name = weak_spec machine first e.name e.alias_target in
+      let of_address = weak_spec machine second (imp_symbol e.name) (imp_symbol e.alias_target) in
+      let one = or_parts (is_too_long of_name) _ short in
+      let two = or_parts (is_too_long of_address) false one.1 in (
+        weak_reads machine e.name e.alias_target sound.name sound.alias_target (short_enough of_name one.0),
+        (weak_reads machine (imp_symbol e.name) (imp_symbol e.alias_target) sound.name sound.alias_target (short_enough of_address two.0), tt),
+      )
+
+  of_export_read : (number : ℕ) (e : ExportView) → Sound e → list_any is_too_long (numbered_specs_of machine dll number e) ≡ false →
+      AllByRecursion (λ p. ReadsBack p.contents) (numbered_specs_of machine dll number e)
+  unfolding alias_specs export_spec
+  of_export_read number e sound short =
+      let parts = or_parts (list_any is_too_long (alias_specs machine dll number e)) (is_too_long (export_spec machine dll number e) || false)
+      (sym (list_any-append is_too_long (alias_specs machine dll number e) (export_spec machine dll number e ∷ [])) ∙ short) in
+      let last = or_parts (is_too_long (export_spec machine dll number e)) false parts.1 in
+      all_append (λ p. ReadsBack p.contents) (alias_specs machine dll number e) (export_spec machine dll number e ∷ [])
+      (chosen_read number e sound (is_alias e.alias_target e.name) _ _ parts.0)
+      (held_reads (export_object machine dll e) (Fits-export_object machine dll e dll_free sound.name sound.filled) (short_enough (export_spec machine dll number e) last.0), tt)
+
+  numbered_read : (number : ℕ) (exports : List ExportView) → AllByRecursion Sound exports → list_any is_too_long (numbered_specs machine dll number exports) ≡ false →
+      AllByRecursion (λ p. ReadsBack p.contents) (numbered_specs machine dll number exports)
+  numbered_read number [] sound short = tt
+  numbered_read number (e ∷ exports) sound short =
+      let parts = or_parts (list_any is_too_long (numbered_specs_of machine dll number e)) (list_any is_too_long (numbered_specs machine dll (number + 1) exports))
+      (sym (list_any-append is_too_long (numbered_specs_of machine dll number e) (numbered_specs machine dll (number + 1) exports)) ∙ short) in
+      all_append (λ p. ReadsBack p.contents) (numbered_specs_of machine dll number e) (numbered_specs machine dll (number + 1) exports)
+      (of_export_read number e sound.0 parts.0) (numbered_read (number + 1) exports sound.1 parts.1)
+
+-- What is declared.
+
+held_declares : (h : WriterState) (listed : List (List ℕ)) → declared_by (ObjectFile (written_object h)) ≡ listed → declared_by (ObjectFile (object_of (layout_of h))) ≡ listed
+held_declares h listed declares = ap (λ o. declared_by (ObjectFile o)) (object_of-layout_of h) ∙ declares
+
+tail_declares : (machine : MachineType) (dll : List ℕ) → DeclaresListed (tail_spec machine dll)
+unfolding tail_spec tail_object
+tail_declares machine dll = held_declares (tail_object machine dll) (iname_symbol machine dll ∷ []) refl
+
+head_declares : (machine : MachineType) (dll : List ℕ) → DeclaresListed (head_spec machine dll)
+unfolding head_spec head_object
+head_declares machine dll = held_declares (head_object machine dll) (head_symbol machine dll ∷ []) refl
+
+export_declares_by : (machine : MachineType) (dll : List ℕ) (e : ExportView) (is_data : Bool) →
+    declared_by (ObjectFile (written_object (export_object machine dll (record e { is_data = is_data })))) ≡ archive_symbols (record e { is_data = is_data })
+unfolding export_object
+export_declares_by machine dll e true = refl
+export_declares_by machine dll e false = refl
+
+export_declares : (machine : MachineType) (dll : List ℕ) (number : ℕ) (e : ExportView) → DeclaresListed (export_spec machine dll number e)
+unfolding export_spec
+export_declares machine dll number e = held_declares (export_object machine dll e) (archive_symbols e) (export_declares_by machine dll e e.is_data)
+
+chosen_declare : (machine : MachineType) (e : ExportView) (test : Bool) (first second : List ℕ) →
+    AllByRecursion DeclaresListed (if test then weak_spec machine first e.name e.alias_target ∷ weak_spec machine second (imp_symbol e.name) (imp_symbol e.alias_target) ∷ [] else [])
+chosen_declare machine e false first second = tt
+chosen_declare machine e true first second =
+    (weak_declares machine first e.name e.alias_target, (weak_declares machine second (imp_symbol e.name) (imp_symbol e.alias_target), tt))
+
+numbered_declare : (machine : MachineType) (dll : List ℕ) (number : ℕ) (exports : List ExportView) → AllByRecursion DeclaresListed (numbered_specs machine dll number exports)
+unfolding alias_specs
+numbered_declare machine dll number [] = tt
+numbered_declare machine dll number (e ∷ exports) =
+    all_append DeclaresListed (numbered_specs_of machine dll number e) (numbered_specs machine dll (number + 1) exports)
+    (all_append DeclaresListed (alias_specs machine dll number e) (export_spec machine dll number e ∷ [])
+    (chosen_declare machine e (is_alias e.alias_target e.name) _ _) (export_declares machine dll number e, tt))
+    (numbered_declare machine dll (number + 1) exports)
+
+-- What an export means.
+
+same_bytes : (text : List ℕ) → bytes_eq text text ≡ true
+same_bytes text = (bytes_eq-Decides text text).1 refl
+
+free_asked : (test : Bool) (name : List ℕ) → holds 0 name ≡ false → holds 0 (if test then without_first name else name) ≡ false
+free_asked false name free = free
+free_asked true [] free = refl
+free_asked true (b ∷ name) free = (or_parts (b == 0) (holds 0 name) free).1
+
+asks_by : (machine : MachineType) (dll : List ℕ) (e : ExportView) → e.ordinal < 2 ^ 16 → holds 0 (asked_name machine e.name) ≡ false → (is_data no_name : Bool) →
+    ask_of_export (written_object (export_object machine dll (record e { is_data = is_data; no_name = no_name }))) ≡ Some (expected_ask machine (record e { is_data = is_data; no_name = no_name }))
+unfolding export_object thunk relocations_of_thunk hint_name stub relocations_of_stub u16_at u16_bytes
+asks_by I386 dll e fits free true true = ap (λ n. Some (Ordinal n)) (from_le_bytes-to_le_bytes_2 e.ordinal fits)
+asks_by I386 dll e fits free false true = ap (λ n. Some (Ordinal n)) (from_le_bytes-to_le_bytes_2 e.ordinal fits)
+asks_by ARMNT dll e fits free true true = ap (λ n. Some (Ordinal n)) (from_le_bytes-to_le_bytes_2 e.ordinal fits)
+asks_by ARMNT dll e fits free false true = ap (λ n. Some (Ordinal n)) (from_le_bytes-to_le_bytes_2 e.ordinal fits)
+asks_by AMD64 dll e fits free true true = ap (λ n. Some (Ordinal n)) (from_le_bytes-to_le_bytes_2 e.ordinal fits)
+asks_by AMD64 dll e fits free false true = ap (λ n. Some (Ordinal n)) (from_le_bytes-to_le_bytes_2 e.ordinal fits)
+asks_by ARM64 dll e fits free true true = ap (λ n. Some (Ordinal n)) (from_le_bytes-to_le_bytes_2 e.ordinal fits)
+asks_by ARM64 dll e fits free false true = ap (λ n. Some (Ordinal n)) (from_le_bytes-to_le_bytes_2 e.ordinal fits)
+asks_by machine dll e fits free true false =
+    ap (λ x. option_map (λ name. Name name (u16_at (u16_bytes e.ordinal ++ (asked_name machine e.name ++ 0 ∷ [])) 0)) x)
+    (before_nul-ended (asked_name machine e.name) [] free)
+    ∙ ap (λ n. Some (Name (asked_name machine e.name) n)) (from_le_bytes-to_le_bytes_2 e.ordinal fits)
+asks_by machine dll e fits free false false =
+    ap (λ x. option_map (λ name. Name name (u16_at (u16_bytes e.ordinal ++ (asked_name machine e.name ++ 0 ∷ [])) 0)) x)
+    (before_nul-ended (asked_name machine e.name) [] free)
+    ∙ ap (λ n. Some (Name (asked_name machine e.name) n)) (from_le_bytes-to_le_bytes_2 e.ordinal fits)
+
+declared_by_import : (machine : MachineType) (dll : List ℕ) (e : ExportView) (is_data : Bool) →
+    (let o = written_object (export_object machine dll (record e { is_data = is_data })) in externals_in o (codes ".idata$5") ++ externals_in o text_section) ≡ import_symbols is_data e.name
+unfolding export_object
+declared_by_import machine dll e true = refl
+declared_by_import machine dll e false = refl
+
+no_alias : (machine : MachineType) (dll : List ℕ) (e : ExportView) (is_data : Bool) → alias_of_object (written_object (export_object machine dll (record e { is_data = is_data }))) ≡ None
+unfolding export_object
+no_alias machine dll e true = refl
+no_alias machine dll e false = refl
+
+dll_found : (machine : MachineType) (dll : List ℕ) (e : ExportView) → holds 0 dll ≡ false →
+    dll_by_names (written_object (export_object machine dll e)) (written_object (head_object machine dll)) (written_object (tail_object machine dll)) ≡ Some dll
+unfolding export_object head_object tail_object
+dll_found machine dll e free =
+    rw (same_bytes (head_symbol machine dll), same_bytes (iname_symbol machine dll)) (before_nul-ended dll [] free)
+
+code_by : (machine : MachineType) (dll : List ℕ) (e : ExportView) (is_data : Bool) →
+    code_relocations (written_object (export_object machine dll (record e { is_data = is_data }))) ≡ Some (expected_code machine (record e { is_data = is_data }))
+unfolding export_object stub relocations_of_stub
+code_by machine dll e true = refl
+code_by I386 dll e false = refl
+code_by ARMNT dll e false = refl
+code_by AMD64 dll e false = refl
+code_by ARM64 dll e false = refl
+
+-- What the specifications mean.
+
+module _ (machine : MachineType) (dll : List ℕ) (dll_free : holds 0 dll ≡ false) where
+  abbrev head_file : File
+  head_file = ObjectFile (object_of (layout_of (head_object machine dll)))
+
+  abbrev tail_file : File
+  tail_file = ObjectFile (object_of (layout_of (tail_object machine dll)))
+
+  -- what a specification's file means
+  abbrev specified : MemberSpec → Option Meaning
+  specified p = meaning_with head_file tail_file (file_of p.contents)
+
+  import_found : (e : ExportView) → Sound e →
+      import_of (written_object (export_object machine dll e)) (written_object (head_object machine dll)) (written_object (tail_object machine dll)) ≡ Some (expected_import machine dll e)
+  import_found e sound =
+      let o = written_object (export_object machine dll e) in
+      let fits : e.ordinal < 2 ^ 16 = ltb-true e.ordinal 0x1_0000 sound.ordinal in
+      let asks : ask_of_export o ≡ Some (expected_ask machine e) =
+      asks_by machine dll e fits (free_asked (has_underscore machine e.name) e.name sound.name) e.is_data e.no_name in
+      let declared : externals_in o (codes ".idata$5") ++ externals_in o text_section ≡ import_symbols e.is_data e.name = declared_by_import machine dll e e.is_data in
+      let named = dll_found machine dll e dll_free in
+      ap (λ found. option_and_then (λ name. option_map
+      (λ ask. record { dll = name; declared = externals_in o (codes ".idata$5") ++ externals_in o text_section; ask = ask })
+      (ask_of_export o)) found) named
+      ∙ (ap (λ found. option_map (λ ask. record { dll = dll; declared = externals_in o (codes ".idata$5") ++ externals_in o text_section; ask = ask }) found) asks
+      ∙ ap (λ symbols. Some (record { dll = dll; declared = symbols; ask = expected_ask machine e })) declared)
+
+  export_specified : (number : ℕ) (e : ExportView) → Sound e → specified (export_spec machine dll number e) ≡ Some (AnImport (expected_import machine dll e))
+  unfolding export_spec
+  export_specified number e sound =
+      let export = written_object (export_object machine dll e) in
+      let head = written_object (head_object machine dll) in
+      let tail = written_object (tail_object machine dll) in
+      ap (λ o. meaning_with head_file tail_file (ObjectFile o)) (object_of-layout_of (export_object machine dll e))
+      ∙ (ap (λ o. meaning_with (ObjectFile o) tail_file (ObjectFile export)) (object_of-layout_of (head_object machine dll))
+      ∙ (ap (λ o. meaning_with (ObjectFile head) (ObjectFile o) (ObjectFile export)) (object_of-layout_of (tail_object machine dll))
+      ∙ (ap (λ a. alias_or_import a (import_of export head tail)) (no_alias machine dll e e.is_data)
+      ∙ ap (option_map AnImport) (import_found e sound))))
+
+  weak_specified : (weak target : List ℕ) → meaning_with head_file tail_file (ObjectFile (object_of (weak_object machine weak target))) ≡ Some (AnAlias (record { weak = weak; target = target }))
+  unfolding weak_object object_of entries_of name_text u32_at u32_bytes
+  weak_specified weak target = refl
+
+  chosen_specified : (e : ExportView) (test : Bool) (first second : List ℕ) →
+      map specified (if test then weak_spec machine first e.name e.alias_target ∷ weak_spec machine second (imp_symbol e.name) (imp_symbol e.alias_target) ∷ [] else [])
+      ≡ map (λ a. Some (AnAlias a)) (if test then record { weak = e.name; target = e.alias_target } ∷ record { weak = imp_symbol e.name; target = imp_symbol e.alias_target } ∷ [] else [])
+  chosen_specified e false first second = refl
+  chosen_specified e true first second =
+      let one = weak_specified e.name e.alias_target in
+      let two = weak_specified (imp_symbol e.name) (imp_symbol e.alias_target) in
+      ap (λ x. x ∷ meaning_with head_file tail_file (ObjectFile (object_of (weak_object machine (imp_symbol e.name) (imp_symbol e.alias_target)))) ∷ []) one
+      ∙ ap (λ x. Some (AnAlias (record { weak = e.name; target = e.alias_target })) ∷ x ∷ []) two
+
+  of_export_specified : (number : ℕ) (e : ExportView) → Sound e → map specified (numbered_specs_of machine dll number e) ≡ map (λ m. Some m) (expected_meanings machine dll e)
+  unfolding alias_specs
+  of_export_specified number e sound =
+      map-append specified (alias_specs machine dll number e) (export_spec machine dll number e ∷ [])
+      ∙ (ap (λ x. x ++ specified (export_spec machine dll number e) ∷ []) (chosen_specified e (is_alias e.alias_target e.name) _ _)
+      ∙ (ap (λ x. map (λ a. Some (AnAlias a)) (aliases_for e.name e.alias_target) ++ x ∷ []) (export_specified number e sound)
+      ∙ sym (map-append (λ m. Some m) (map AnAlias (aliases_for e.name e.alias_target)) (AnImport (expected_import machine dll e) ∷ [])
+      ∙ ap (λ x. x ++ Some (AnImport (expected_import machine dll e)) ∷ []) (map_after (λ m. Some m) AnAlias (aliases_for e.name e.alias_target)))))
+
+  numbered_specified : (number : ℕ) (exports : List ExportView) → AllByRecursion Sound exports →
+      map specified (numbered_specs machine dll number exports) ≡ map (λ m. Some m) (flat_map (expected_meanings machine dll) exports)
+  numbered_specified number [] sound = refl
+  numbered_specified number (e ∷ exports) sound =
+      map-append specified (numbered_specs_of machine dll number e) (numbered_specs machine dll (number + 1) exports)
+      ∙ (ap (λ x. x ++ map specified (numbered_specs machine dll (number + 1) exports)) (of_export_specified number e sound.0)
+      ∙ (ap (λ x. map (λ m. Some m) (expected_meanings machine dll e) ++ x) (numbered_specified (number + 1) exports sound.1)
+      ∙ sym (map-append (λ m. Some m) (expected_meanings machine dll e) (flat_map (expected_meanings machine dll) exports))))
+
+  -- the code of a specification's file
+  abbrev specified_code : MemberSpec → Option (List CodeRelocation)
+  specified_code p = code_of_export (file_of p.contents)
+
+  weak_code : (weak target : List ℕ) → code_of_export (ObjectFile (object_of (weak_object machine weak target))) ≡ None
+  unfolding weak_object object_of entries_of name_text u32_at u32_bytes
+  weak_code weak target = refl
+
+  chosen_code : (e : ExportView) (test : Bool) (first second : List ℕ) →
+      filter_map specified_code (if test then weak_spec machine first e.name e.alias_target ∷ weak_spec machine second (imp_symbol e.name) (imp_symbol e.alias_target) ∷ [] else []) ≡ []
+  chosen_code e false first second = refl
+  chosen_code e true first second = rw (weak_code e.name e.alias_target, weak_code (imp_symbol e.name) (imp_symbol e.alias_target)) refl
+
+  export_code : (number : ℕ) (e : ExportView) → specified_code (export_spec machine dll number e) ≡ Some (expected_code machine e)
+  unfolding export_spec
+  export_code number e =
+      let export = written_object (export_object machine dll e) in
+      ap (λ o. code_of_export (ObjectFile o)) (object_of-layout_of (export_object machine dll e))
+      ∙ (ap (λ a. elim a [ None ↦ code_relocations export | Some found ↦ None ]) (no_alias machine dll e e.is_data) ∙ code_by machine dll e e.is_data)
+
+  one_kept : {X Y : Type 0} (f : X → Option Y) (x : X) (y : Y) → f x ≡ Some y → filter_map f (x ∷ []) ≡ y ∷ []
+  one_kept f x y same = rw same refl
+
+  of_export_code : (number : ℕ) (e : ExportView) → filter_map specified_code (numbered_specs_of machine dll number e) ≡ expected_code machine e ∷ []
+  unfolding alias_specs
+  of_export_code number e =
+      filter_map-append specified_code (alias_specs machine dll number e) (export_spec machine dll number e ∷ [])
+      ∙ (ap (λ x. x ++ filter_map specified_code (export_spec machine dll number e ∷ [])) (chosen_code e (is_alias e.alias_target e.name) _ _)
+      ∙ one_kept specified_code (export_spec machine dll number e) (expected_code machine e) (export_code number e))
+
+  numbered_code : (number : ℕ) (exports : List ExportView) → filter_map specified_code (numbered_specs machine dll number exports) ≡ map (expected_code machine) exports
+  numbered_code number [] = refl
+  numbered_code number (e ∷ exports) =
+      filter_map-append specified_code (numbered_specs_of machine dll number e) (numbered_specs machine dll (number + 1) exports)
+      ∙ (ap (λ x. x ++ filter_map specified_code (numbered_specs machine dll (number + 1) exports)) (of_export_code number e)
+      ∙ ap (λ x. expected_code machine e ∷ x) (numbered_code (number + 1) exports))
+
+  -- the imports and the aliases among what is expected
+  one_import : (e : ExportView) → filter_map import_among (expected_meanings machine dll e) ≡ expected_import machine dll e ∷ []
+  one_import e =
+      filter_map-append import_among (map AnAlias (aliases_for e.name e.alias_target)) (AnImport (expected_import machine dll e) ∷ [])
+      ∙ ap (λ x. x ++ expected_import machine dll e ∷ []) (no_imports (aliases_for e.name e.alias_target))
+
+  pub all_imports : (exports : List ExportView) → filter_map import_among (flat_map (expected_meanings machine dll) exports) ≡ map (expected_import machine dll) exports
+  all_imports [] = refl
+  all_imports (e ∷ exports) =
+      filter_map-append import_among (expected_meanings machine dll e) (flat_map (expected_meanings machine dll) exports)
+      ∙ (ap (λ x. x ++ filter_map import_among (flat_map (expected_meanings machine dll) exports)) (one_import e)
+      ∙ ap (λ x. expected_import machine dll e ∷ x) (all_imports exports))
+
+  its_aliases : (e : ExportView) → filter_map alias_among (expected_meanings machine dll e) ≡ aliases_for e.name e.alias_target
+  its_aliases e =
+      filter_map-append alias_among (map AnAlias (aliases_for e.name e.alias_target)) (AnImport (expected_import machine dll e) ∷ [])
+      ∙ (ap (λ x. x ++ []) (all_aliases (aliases_for e.name e.alias_target)) ∙ append-nil (aliases_for e.name e.alias_target))
+
+  pub aliases_among : (exports : List ExportView) → filter_map alias_among (flat_map (expected_meanings machine dll) exports) ≡ flat_map (λ e. aliases_for e.name e.alias_target) exports
+  aliases_among [] = refl
+  aliases_among (e ∷ exports) =
+      filter_map-append alias_among (expected_meanings machine dll e) (flat_map (expected_meanings machine dll) exports)
+      ∙ (ap (λ x. x ++ filter_map alias_among (flat_map (expected_meanings machine dll) exports)) (its_aliases e)
+      ∙ ap (λ x. aliases_for e.name e.alias_target ++ x) (aliases_among exports))
+
+-- The members.
+
+read_meaning : (head tail : File) (specs : List MemberSpec) → AllByRecursion (λ p. ReadsBack p.contents) specs →
+    map (λ (m : MemberView). option_and_then (meaning_with head tail) (file_in m.bytes)) (map member_of specs) ≡ map (λ (p : MemberSpec). meaning_with head tail (file_of p.contents)) specs
+read_meaning head tail [] reads = refl
+read_meaning head tail (p ∷ specs) reads =
+    ap (λ x. option_and_then (meaning_with head tail) x ∷ map (λ (m : MemberView). option_and_then (meaning_with head tail) (file_in m.bytes)) (map member_of specs)) reads.0.read
+    ∙ ap (λ x. meaning_with head tail (file_of p.contents) ∷ x) (read_meaning head tail specs reads.1)
+
+read_code : (specs : List MemberSpec) → AllByRecursion (λ p. ReadsBack p.contents) specs →
+    filter_map (λ (m : MemberView). option_and_then code_of_export (file_in m.bytes)) (map member_of specs) ≡ filter_map (λ (p : MemberSpec). code_of_export (file_of p.contents)) specs
+read_code [] reads = refl
+read_code (p ∷ specs) reads = rw (reads.0.read, read_code specs reads.1) refl
+
+reversed_all : {X : Type 0} (P : X → Type 0) (xs : List X) → AllByRecursion P xs → AllByRecursion P (reverse xs)
+reversed_all P [] all = tt
+reversed_all P (x ∷ xs) all = subst (AllByRecursion P) (sym (reverse-append (x ∷ []) xs)) (all_append P (reverse xs) (x ∷ []) (reversed_all P xs all.1) (all.0, tt))
+
+-- the members of a definition that is not refused are read as the definition means
+module _ (d : DefinitionView) (machine : MachineType) (members : List MemberView) (made : AreMembersOf d machine Gnu members) where
+  abbrev exports : List ExportView
+  exports = public_exports (renamed d)
+
+  abbrev built : List MemberSpec
+  built = numbered_specs machine d.import_name 0 exports
+
+  free : holds 0 d.import_name ≡ false
+  free = import_name_is_free d machine Gnu members made
+
+  tail_short : (is_too_long (tail_spec machine d.import_name) ≡ false) × (is_too_long (head_spec machine d.import_name) || list_any is_too_long (reverse built) ≡ false)
+  tail_short = or_parts (is_too_long (tail_spec machine d.import_name)) _ (none_long d machine Gnu members made)
+
+  head_short : (is_too_long (head_spec machine d.import_name) ≡ false) × (list_any is_too_long (reverse built) ≡ false)
+  head_short = or_parts (is_too_long (head_spec machine d.import_name)) (list_any is_too_long (reverse built)) tail_short.1
+
+  built_read : AllByRecursion (λ p. ReadsBack p.contents) built
+  built_read = numbered_read machine d.import_name free 0 exports (exports_sound d machine Gnu members made) (sym (list_any-reverse is_too_long built) ∙ head_short.1)
+
+  tail_back : ReadsBack (AnObject (layout_of (tail_object machine d.import_name)))
+  unfolding tail_spec
+  tail_back = held_reads (tail_object machine d.import_name) (Fits-tail_object machine d.import_name free) (short_enough (tail_spec machine d.import_name) tail_short.0)
+
+  head_back : ReadsBack (AnObject (layout_of (head_object machine d.import_name)))
+  unfolding head_spec
+  head_back = held_reads (head_object machine d.import_name) (Fits-head_object machine d.import_name free) (short_enough (head_spec machine d.import_name) head_short.0)
+
+  pub member_specs_read : AllByRecursion (λ p. ReadsBack p.contents) (member_specs (renamed d) machine Gnu)
+  unfolding tail_spec head_spec
+  member_specs_read = (tail_back, (head_back, reversed_all (λ (p : MemberSpec). ReadsBack p.contents) built built_read))
+
+  of_members : {Y : Type 0} (f : MemberView → Y) → map f members ≡ map (λ p. f (member_of p)) (member_specs (renamed d) machine Gnu)
+  of_members f = ap (map f) made.made ∙ map_after f member_of (member_specs (renamed d) machine Gnu)
+
+  -- the members behind the tail and the head, turned round, are those that were built
+  behind : reverse (drop 2 members) ≡ map member_of built
+  behind =
+      ap (λ (x : List MemberView). reverse (drop 2 x)) made.made
+      ∙ (sym (map-reverse member_of (reverse built)) ∙ ap (map member_of) (reverse-reverse built))
+
+  first_file : file_at (map member_of (member_specs (renamed d) machine Gnu)) 0 ≡ Some (tail_file machine d.import_name free)
+  unfolding tail_spec
+  first_file = tail_back.read
+
+  second_file : file_at (map member_of (member_specs (renamed d) machine Gnu)) 1 ≡ Some (head_file machine d.import_name free)
+  unfolding head_spec
+  second_file = head_back.read
+
+  pub reads_for_gnu : GnuReadBack d machine members
+  reads_for_gnu = record {
+    files = of_members (λ m. file_in m.bytes)
+        ∙ map_same (λ p. file_in (file_bytes p.contents)) (λ p. Some (file_of p.contents)) (member_specs (renamed d) machine Gnu)
+        (each_read (member_specs (renamed d) machine Gnu) member_specs_read);
+    lengths = of_members (λ m. length m.bytes)
+        ∙ map_same (λ p. length (file_bytes p.contents)) (λ p. file_size p.contents) (member_specs (renamed d) machine Gnu)
+        (each_length (member_specs (renamed d) machine Gnu) member_specs_read);
+    declared =
+        of_members (λ m. option_map declared_by (file_in m.bytes))
+        ∙ (map_same (λ (p : MemberSpec). option_map declared_by (file_in (file_bytes p.contents))) (λ (p : MemberSpec). Some p.symbols) (member_specs (renamed d) machine Gnu)
+        (read_declares (member_specs (renamed d) machine Gnu) member_specs_read
+        (tail_declares machine d.import_name, (head_declares machine d.import_name, reversed_all DeclaresListed built (numbered_declare machine d.import_name 0 exports))))
+        ∙ sym (of_members (λ m. Some m.symbols)));
+    tail = tail_file machine d.import_name free;
+    head = head_file machine d.import_name free;
+    tail_read = ap (λ (x : List MemberView). file_at x 0) made.made ∙ first_file;
+    head_read = ap (λ (x : List MemberView). file_at x 1) made.made ∙ second_file;
+    meanings = flat_map (expected_meanings machine d.import_name) exports;
+    meanings_read =
+        ap (map (λ (m : MemberView). option_and_then (meaning_with (head_file machine d.import_name free) (tail_file machine d.import_name free)) (file_in m.bytes))) behind
+        ∙ (read_meaning (head_file machine d.import_name free) (tail_file machine d.import_name free) built built_read
+        ∙ numbered_specified machine d.import_name free 0 exports (exports_sound d machine Gnu members made));
+    by_export = refl;
+    imports = all_imports machine d.import_name free exports;
+    aliases = aliases_among machine d.import_name free exports;
+    code =
+        ap (filter_map (λ (m : MemberView). option_and_then code_of_export (file_in m.bytes))) behind
+        ∙ (read_code built built_read ∙ numbered_code machine d.import_name free 0 exports);
+  }

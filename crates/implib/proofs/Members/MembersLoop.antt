@@ -1,0 +1,73 @@
+-- The loop over a definition's exports: what is left to make.
+use Rattle.std.proofs.Common.{◌≡◌, ℕ, suc, ◌+◌, ◌<◌, Bool, true, false, if◌then◌else◌, ◌||◌, ◌&&◌, List, ◌∷◌, ◌++◌, length, drop, map, get_or, None, ap, sym, ◌∙◌, append_assoc, add-one}
+use Rattle.std.specs.Prelude.{not}
+use Rattle.std.specs.List.{filter, flat_map, list_all, list_any}
+use Rattle.std.proofs.lemmas.List.{map-append}
+use Rattle.std.proofs.lemmas.List.Folds.{list_any-append}
+use Rattle.std.proofs.Math.Seq.{drop-cons}
+use Rattle.implib.specs.declared.def.definition.ShortExport.{ShortExport}
+use Rattle.implib.specs.declared.flavor.Flavor.TheVariants.{Msvc}
+use Rattle.implib.specs.declared.machine.MachineType.{MachineType}
+use Rattle.implib.specs.Definition.{ExportView, export_view}
+use Rattle.implib.specs.Members.MemberSpec.{MemberView, member_of}
+use Rattle.implib.specs.Members.MsvcMembers.{export_specs}
+use Rattle.implib.specs.Members.Members.{has_u16_ordinal, is_too_long}
+use Rattle.implib.specs.Members.NameRules.{name_refusal, names_refusal}
+use Rattle.implib.proofs.Members.NotRefused.{first_none}
+
+-- the members so far and those of the exports that are left are all; none so far is too long
+pub record Left (machine : MachineType) (dll : List ℕ) (all : List MemberView) (long sound : Bool)
+    (index : ℕ) (members : List MemberView) (exports : List ExportView) : Type 0 where
+  pub named : names_refusal Msvc machine index exports ≡ None
+  pub made : members ++ map member_of (flat_map (export_specs machine dll) (filter (λ e. not e.private) exports)) ≡ all
+  pub fit : list_any is_too_long (flat_map (export_specs machine dll) (filter (λ e. not e.private) exports)) ≡ long
+  pub ordinals : list_all has_u16_ordinal (filter (λ e. not e.private) exports) ≡ sound
+
+module _ (machine : MachineType) (dll : List ℕ) (all : List MemberView) (long sound : Bool) (index : ℕ) (members : List MemberView) (e : ExportView) (exports : List ExportView) where
+  rest_named : names_refusal Msvc machine index (e ∷ exports) ≡ None → names_refusal Msvc machine (index + 1) exports ≡ None
+  rest_named named = (first_none (if e.private then None else name_refusal Msvc machine index e) (names_refusal Msvc machine (index + 1) exports) named).1
+
+  kept : e.private ≡ false → filter (λ x. not x.private) (e ∷ exports) ≡ e ∷ filter (λ x. not x.private) exports
+  kept public = ap (λ test. if not test then e ∷ filter (λ x. not x.private) exports else filter (λ x. not x.private) exports) public
+
+  passed : e.private ≡ true → filter (λ x. not x.private) (e ∷ exports) ≡ filter (λ x. not x.private) exports
+  passed private = ap (λ test. if not test then e ∷ filter (λ x. not x.private) exports else filter (λ x. not x.private) exports) private
+
+  -- after a private export
+  pub left_private : e.private ≡ true → Left machine dll all long sound index members (e ∷ exports) → Left machine dll all long sound (index + 1) members exports
+  left_private private left = record {
+    named = rest_named left.named;
+    made = sym (ap (λ (x : List ExportView). members ++ map member_of (flat_map (export_specs machine dll) x)) (passed private)) ∙ left.made;
+    fit = sym (ap (λ (x : List ExportView). list_any is_too_long (flat_map (export_specs machine dll) x)) (passed private)) ∙ left.fit;
+    ordinals = sym (ap (list_all has_u16_ordinal) (passed private)) ∙ left.ordinals;
+  }
+
+  -- after an export whose members are made
+  pub left_public : (extended : List MemberView) → e.private ≡ false → Left machine dll all long sound index members (e ∷ exports) →
+      extended ≡ members ++ map member_of (export_specs machine dll e) → list_any is_too_long (export_specs machine dll e) ≡ false → has_u16_ordinal e ≡ true →
+      Left machine dll all long sound (index + 1) extended exports
+  left_public extended public left made short ordinal =
+      let others = flat_map (export_specs machine dll) (filter (λ x. not x.private) exports) in
+      record {
+        named = rest_named left.named;
+        made =
+            ap (λ x. x ++ map member_of others) made
+            ∙ (append_assoc members (map member_of (export_specs machine dll e)) (map member_of others)
+            ∙ (ap (λ x. members ++ x) (sym (map-append member_of (export_specs machine dll e) others))
+            ∙ (sym (ap (λ (x : List ExportView). members ++ map member_of (flat_map (export_specs machine dll) x)) (kept public)) ∙ left.made)));
+        fit =
+            sym (ap (λ test. test || list_any is_too_long others) short)
+            ∙ (sym (list_any-append is_too_long (export_specs machine dll e) others)
+            ∙ (sym (ap (λ (x : List ExportView). list_any is_too_long (flat_map (export_specs machine dll) x)) (kept public)) ∙ left.fit));
+        ordinals =
+            sym (ap (λ test. test && list_all has_u16_ordinal (filter (λ x. not x.private) exports)) ordinal)
+            ∙ (sym (ap (list_all has_u16_ordinal) (kept public)) ∙ left.ordinals);
+      }
+
+-- the exports from an index on are the one there and those after it
+pub exports_from : (items : List ShortExport) (index : ℕ) (item : ShortExport) → index < length items → item ≡ get_or items index item →
+    map export_view (drop index items) ≡ export_view item ∷ map export_view (drop (index + 1) items)
+exports_from items index item below is =
+    ap (map export_view) (drop-cons items index item below)
+    ∙ (ap (λ (x : ShortExport). export_view x ∷ map export_view (drop (suc index) items)) (sym is)
+    ∙ ap (λ n. export_view item ∷ map export_view (drop n items)) (sym (add-one index)))

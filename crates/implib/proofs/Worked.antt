@@ -1,0 +1,11 @@
+-- What is worked by hand, computed.
+pub mod Tokens
+pub mod Statements
+pub mod Positions
+pub mod Objects
+pub mod Tables
+pub mod MemberSpecs
+pub mod Layouts
+pub mod Members
+pub mod Gnu
+pub mod Links

@@ -1,0 +1,59 @@
+-- The worked positions, by computing.
+use Rattle.std.proofs.Common.{◌≡◌, ℕ, List, true, Err, refl}
+use Rattle.std.proofs.lemmas.Str.{IsUtf8-from_is_utf8}
+use Rattle.std.specs.Str.{is_utf8}
+use Rattle.implib.specs.declared.machine.MachineType.TheVariants.{AMD64}
+use Rattle.implib.specs.Fault.{Cause}
+use Rattle.implib.specs.Text.Parses.{RefusesAt}
+use Rattle.implib.specs.Views.Scanner.{lexemes_in}
+use Rattle.implib.specs.Text.Token.{tokens_of}
+use Rattle.implib.specs.Views.TokenReader.{Refusal, read}
+use Rattle.implib.specs.Worked.Positions.{WorkedLines, WorkedPositions}
+use Rattle.implib.proofs.Text.Token.{Lexed-exists}
+use Rattle.implib.proofs.Text.TokenReader.{RefusesAt-from_read}
+use Rattle.implib.proofs.Worked.Statements.{opened}
+
+pub worked_lines : WorkedLines
+worked_lines = record {
+  beginning = refl;
+  one_byte = refl;
+  whole_line = refl;
+  next_line = refl;
+  in_next_line = refl;
+  empty_lines = refl;
+  both_ends = refl;
+  before_line_feed = refl;
+  carriage_return = refl;
+  tab = refl;
+  two_bytes = refl;
+}
+
+abbrev refusal_in : Cause → ℕ → Refusal
+refusal_in cause at = record { cause = cause; at = at }
+
+refuses_at : (text : List ℕ) (cause : Cause) (offset : ℕ) → is_utf8 text ≡ true → read AMD64 (tokens_of 0 (lexemes_in text)) ≡ Err (refusal_in cause offset) → RefusesAt text cause offset
+refuses_at text cause offset utf8 e =
+    RefusesAt-from_read text (tokens_of 0 (lexemes_in text)) AMD64 (refusal_in cause offset) (Lexed-exists text (IsUtf8-from_is_utf8 text utf8)) e
+
+pub worked_positions : WorkedPositions
+unfolding opened
+worked_positions = record {
+  first_word = (refuses_at _ _ _ refl refl, refl);
+  after_blanks = (refuses_at _ _ _ refl refl, refl);
+  after_comment = (refuses_at _ _ _ refl refl, refl);
+  no_name_without_ordinal = (refuses_at _ _ _ refl refl, refl);
+  second_target = (refuses_at _ _ _ refl refl, refl);
+  missing_size = (refuses_at _ _ _ refl refl, refl);
+  missing_size_before_nul = (refuses_at _ _ _ refl refl, refl);
+  missing_size_at_last_line = (refuses_at _ _ _ refl refl, refl);
+  negative_size = (refuses_at _ _ _ refl refl, refl);
+  quoted_size = (refuses_at _ _ _ refl refl, refl);
+  unclosed_size = (refuses_at _ _ _ refl refl, refl);
+  three_numbers = (refuses_at _ _ _ refl refl, refl);
+  base_without_sign = (refuses_at _ _ _ refl refl, refl);
+  alias_without_word = (refuses_at _ _ _ refl refl, refl);
+  lone_at = (refuses_at _ _ _ refl refl, refl);
+  word_for_ordinal = (refuses_at _ _ _ refl refl, refl);
+  end_for_ordinal = (refuses_at _ _ _ refl refl, refl);
+  byte_order_mark = (refuses_at _ _ _ refl refl, refl);
+}

@@ -1,0 +1,7 @@
+-- Views of the code's state, and readers that follow the code. No promise cites them.
+pub mod Scanner
+pub mod TokenReader
+pub mod Parser
+pub mod Layout
+pub mod Writer
+pub mod Table

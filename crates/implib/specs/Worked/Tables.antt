@@ -1,0 +1,146 @@
+-- The tables of both flavours for foo.dll, held against objects and bytes that were worked by hand.
+use Rattle.std.specs.Prelude.{◌≡◌, ℕ, true, List, [], ◌∷◌, ◌++◌, codes, take, drop}
+use Rattle.implib.specs.declared.machine.MachineType.{MachineType}
+use Rattle.implib.specs.declared.machine.MachineType.TheVariants.{I386, ARMNT, AMD64, ARM64}
+use Rattle.implib.specs.Definition.{ExportView, empty_export}
+use Rattle.implib.specs.Members.Gnu.{export_object, five_digits, head_object, mangled_name, tail_object}
+use Rattle.implib.specs.Members.Msvc.{asked_by_short_import, short_import_bytes, short_import_of}
+use Rattle.implib.specs.Members.MsvcObjects.{base_name}
+use Rattle.implib.specs.Members.WeakExternal.{weak_object}
+use Rattle.implib.specs.Members.MsvcObjects as msvc
+use Rattle.implib.specs.Formats.Layout.{ObjectLayout}
+use Rattle.implib.specs.Formats.Writer.{layout_of}
+use Rattle.implib.specs.Worked.Digits.{hex}
+use Rattle.implib.specs.Worked.Machines.{numbers}
+use Rattle.implib.specs.Worked.Objects.{descriptor, function, function_asking, function_by_ordinal, head}
+use Rattle.implib.specs.Worked.Objects.{null_descriptor, null_thunk, tail, variable, variable_by_ordinal, weak}
+use Rattle.implib.specs.Worked.Statements.{plain_export}
+
+-- the import name
+abbrev pub foo_dll : List ℕ
+foo_dll = codes "foo.dll"
+
+-- The objects for Microsoft's linker, and both weak externals that make foo weak for baz.
+pub record WorkedMsvcTables (machine : MachineType) : Type 0 where
+  pub descriptor : msvc.descriptor machine foo_dll ≡ descriptor (numbers machine)
+  pub null_descriptor : msvc.null_descriptor machine ≡ null_descriptor (numbers machine)
+  pub null_thunk : msvc.null_thunk machine foo_dll ≡ null_thunk (numbers machine)
+  pub weak : weak_object machine (codes "foo") (codes "baz")
+      ≡ weak (numbers machine) (codes "baz") (codes "foo")
+
+-- the object of an export of foo.dll for GNU's linker
+abbrev pub gnu_export : MachineType → ExportView → ObjectLayout
+gnu_export machine e = layout_of (export_object machine foo_dll e)
+
+-- the function bar
+abbrev pub bar : ExportView
+bar = plain_export (codes "bar")
+
+-- The objects for GNU's linker.
+pub record WorkedGnuTables (machine : MachineType) : Type 0 where
+  pub head : layout_of (head_object machine foo_dll) ≡ head (numbers machine)
+  pub tail : layout_of (tail_object machine foo_dll) ≡ tail (numbers machine)
+  pub function : gnu_export machine bar ≡ function (numbers machine)
+  pub function_by_ordinal : gnu_export machine (record bar { no_name = true; ordinal = 258 })
+      ≡ function_by_ordinal (numbers machine)
+  pub variable : gnu_export machine (record bar { is_data = true; ordinal = 258 })
+      ≡ variable (numbers machine)
+  pub variable_by_ordinal : gnu_export machine (record bar { is_data = true; no_name = true; ordinal = 258 })
+      ≡ variable_by_ordinal (numbers machine)
+
+-- What is asked for in GNU's objects: I386 takes an underscore off, unless there is an `@`.
+pub record WorkedGnuNames : Type 0 where
+  pub underscore_on_i386 : gnu_export I386 (plain_export (codes "_bar"))
+      ≡ function_asking (numbers I386) (codes "_bar") (codes "__imp__bar") (hex "00 00 62 61 72 00")
+  pub underscore_on_armnt : gnu_export ARMNT (plain_export (codes "_bar"))
+      ≡ function_asking (numbers ARMNT) (codes "_bar") (codes "__imp__bar") (hex "00 00 5f 62 61 72 00")
+  pub with_underscore_and_at_sign : gnu_export I386 (plain_export (codes "_f@8"))
+      ≡ function_asking (numbers I386) (codes "_f@8") (codes "__imp__f@8") (hex "00 00 5f 66 40 38 00")
+  pub with_two_at_signs : gnu_export I386 (plain_export (codes "@h@4"))
+      ≡ function_asking (numbers I386) (codes "@h@4") (codes "__imp_@h@4") (hex "00 00 40 68 40 34 00")
+
+-- What members and symbols are named after: the import name less one extension, and with `_` for each `.`.
+pub record WorkedNames : Type 0 where
+  pub base_of_dll : base_name (codes "a-b.dll") ≡ codes "a-b"
+  pub base_of_exe : base_name (codes "a.exe") ≡ codes "a"
+  pub base_of_sys : base_name (codes "a.sys") ≡ codes "a.sys"
+  pub base_of_two : base_name (codes "a.b.dll.dll") ≡ codes "a.b.dll"
+  pub base_in_capitals : base_name (codes "a.DLL") ≡ codes "a.DLL"
+  pub base_without_full_stop : base_name (codes "dll") ≡ codes "dll"
+  pub base_of_extension : base_name (codes ".dll") ≡ []
+  pub mangled_name_of_sys : mangled_name (codes "a.sys") ≡ codes "a_sys"
+  pub mangled_name_of_dll : mangled_name (codes "a-b.dll") ≡ codes "a-b_dll"
+  pub mangled_name_of_two : mangled_name (codes "a.b.dll.dll") ≡ codes "a_b_dll_dll"
+  pub mangled_name_of_underscore : mangled_name (codes "A_b/@.Dll") ≡ codes "A_b/@_Dll"
+  pub first_number : five_digits 0 ≡ codes "00000"
+  pub greatest_number_of_five : five_digits 99999 ≡ codes "99999"
+  pub number_of_six : five_digits 100000 ≡ codes "100000"
+
+-- the short import of an export of foo.dll
+abbrev pub short_import_bytes_for : MachineType → ExportView → List ℕ
+short_import_bytes_for machine e = short_import_bytes (short_import_of machine foo_dll e)
+
+-- a function that is linked by another name than the DLL's
+abbrev pub under_symbol : List ℕ → List ℕ → ExportView
+under_symbol name symbol = record empty_export { name = name; symbol_name = symbol }
+
+-- two texts, each with its NUL
+abbrev pub texts : List ℕ → List ℕ → List ℕ
+texts symbol dll = symbol ++ 0 ∷ (dll ++ 0 ∷ [])
+
+-- Whole short imports. The last four bytes of a header are the ordinal or hint, and the import type with 4
+-- times the name type.
+pub record WorkedRecords : Type 0 where
+  pub on_i386 : short_import_bytes_for I386 bar
+      ≡ hex "00 00 ff ff 00 00 4c 01 00 00 00 00 0c 00 00 00 00 00 04 00" ++ texts (codes "bar") foo_dll
+  pub on_armnt : short_import_bytes_for ARMNT bar
+      ≡ hex "00 00 ff ff 00 00 c4 01 00 00 00 00 0c 00 00 00 00 00 04 00" ++ texts (codes "bar") foo_dll
+  pub on_amd64 : short_import_bytes_for AMD64 bar
+      ≡ hex "00 00 ff ff 00 00 64 86 00 00 00 00 0c 00 00 00 00 00 04 00" ++ texts (codes "bar") foo_dll
+  pub on_arm64 : short_import_bytes_for ARM64 bar
+      ≡ hex "00 00 ff ff 00 00 64 aa 00 00 00 00 0c 00 00 00 00 00 04 00" ++ texts (codes "bar") foo_dll
+  pub hint : short_import_bytes_for AMD64 (record bar { ordinal = 0x1234 })
+      ≡ hex "00 00 ff ff 00 00 64 86 00 00 00 00 0c 00 00 00 34 12 04 00" ++ texts (codes "bar") foo_dll
+  pub constant_by_ordinal :
+      short_import_bytes_for AMD64 (record bar { constant = true; no_name = true; ordinal = 2 })
+      ≡ hex "00 00 ff ff 00 00 64 86 00 00 00 00 0c 00 00 00 02 00 02 00" ++ texts (codes "bar") foo_dll
+  pub data_without_prefix :
+      short_import_bytes_for I386 (record empty_export { name = codes "_v"; is_data = true })
+      ≡ hex "00 00 ff ff 00 00 4c 01 00 00 00 00 0b 00 00 00 00 00 09 00" ++ texts (codes "_v") foo_dll
+  pub undecorated : short_import_bytes_for AMD64 (under_symbol (codes "f") (codes "_f@8"))
+      ≡ hex "00 00 ff ff 00 00 64 86 00 00 00 00 0d 00 00 00 00 00 0c 00" ++ texts (codes "_f@8") foo_dll
+  -- a short import byte by byte
+  pub bytes : short_import_bytes_for AMD64 bar
+      ≡ hex "00 00 ff ff 00 00 64 86 00 00 00 00 0c 00 00 00 00 00 04 00 62 61 72 00 66 6f 6f 2e 64 6c 6c 00"
+
+-- the last two bytes of a short import's header
+abbrev pub types_of : MachineType → ExportView → List ℕ
+types_of machine e = take 2 (drop 18 (short_import_bytes_for machine e))
+
+-- Which name type is taken where several rules hold.
+pub record WorkedNameTypes : Type 0 where
+  pub no_rule : types_of AMD64 (plain_export (codes "_f")) ≡ hex "04 00"
+  pub prefix : types_of I386 (plain_export (codes "_f")) ≡ hex "08 00"
+  pub prefix_on_armnt : types_of ARMNT (plain_export (codes "_f")) ≡ hex "04 00"
+  pub other_symbol : types_of ARM64 (under_symbol (codes "f") (codes "g")) ≡ hex "0c 00"
+  pub decorated_before_prefix : types_of I386 (plain_export (codes "_f@8")) ≡ hex "04 00"
+  pub decorated_before_other_symbol : types_of I386 (under_symbol (codes "_f@8") (codes "_g")) ≡ hex "04 00"
+  pub decorated_on_amd64 : types_of AMD64 (under_symbol (codes "_f@8") (codes "g")) ≡ hex "04 00"
+  pub at_sign_alone : types_of I386 (under_symbol (codes "f@8") (codes "g")) ≡ hex "0c 00"
+  pub underscore_alone : types_of I386 (under_symbol (codes "_f") (codes "g")) ≡ hex "0c 00"
+  pub other_symbol_before_prefix : types_of I386 (under_symbol (codes "f") (codes "_g")) ≡ hex "0c 00"
+  pub ordinal_before_all : types_of I386
+      (record (under_symbol (codes "_f@8") (codes "_g")) { no_name = true })
+      ≡ hex "00 00"
+
+-- What short imports ask for, by their name type.
+pub record WorkedAskedNames : Type 0 where
+  pub whole : asked_by_short_import AMD64 (plain_export (codes "_f")) ≡ codes "_f"
+  pub whole_decorated : asked_by_short_import I386 (under_symbol (codes "_f@8") (codes "_g@4")) ≡ codes "_g@4"
+  pub without_prefix : asked_by_short_import I386 (plain_export (codes "__f")) ≡ codes "_f"
+  pub without_question_mark : asked_by_short_import AMD64 (under_symbol (codes "f") (codes "?f@@YAXXZ"))
+      ≡ codes "f"
+  pub without_at_sign : asked_by_short_import AMD64 (under_symbol (codes "f") (codes "@g@4")) ≡ codes "g"
+  pub without_underscore : asked_by_short_import AMD64 (under_symbol (codes "f") (codes "_g@4")) ≡ codes "g"
+  pub one_prefix_alone : asked_by_short_import AMD64 (under_symbol (codes "f") (codes "??g")) ≡ codes "?g"
+  pub without_prefix_or_end : asked_by_short_import AMD64 (under_symbol (codes "f") (codes "g")) ≡ codes "g"

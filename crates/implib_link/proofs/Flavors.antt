@@ -1,0 +1,12 @@
+-- Lemmas about programs of members of both flavours.
+pub mod Expanded
+pub mod Block
+pub mod Blocks
+pub mod NullDescriptor
+pub mod Claims
+pub mod Inputs
+pub mod Program
+pub mod Texts
+pub mod Loaded
+pub mod Stubs
+pub mod Packed

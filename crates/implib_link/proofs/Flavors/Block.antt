@@ -1,0 +1,378 @@
+-- The objects of one DLL, in either flavour, link among others.
+use Rattle.std.proofs.Common.{◌≡◌, ℕ, ◌+◌, ◌%◌, ◌<◌, ◌^◌, Bool, true, false, List, [], ◌∷◌, ◌++◌, length, map, Some, None, refl, ap, sym, ◌∙◌, arith, subst, if◌then◌else◌}
+use Rattle.std.specs.List.{AllByRecursion, flat_map}
+use Rattle.std.proofs.lemmas.List.{append_assoc, length-replicate}
+use Rattle.implib.specs.declared.machine.MachineType.{MachineType}
+use Rattle.implib.specs.declared.flavor.Flavor.{Flavor}
+use Rattle.implib.specs.declared.flavor.Flavor.TheVariants.{Gnu, Msvc}
+use Rattle.implib.specs.Definition.{ExportView}
+use Rattle.implib.specs.Members.Gnu.{archive_symbols, head_symbol, iname_symbol}
+use Rattle.implib.specs.Link.Image.{Range, range_end}
+use Rattle.implib.specs.Import.{Ask, Name, Ordinal, imp_symbol}
+use Rattle.implib.specs.Members.ImportTables.{thunk_width, zeros}
+use Rattle.implib.specs.Formats.Layout.{HasNoNul, entries_of, name_text, object_of}
+use Rattle.implib.specs.Link.Linked.{AllFind, EntriesAt, FindsTarget, IsDefinedAt, undefined_names}
+use Rattle.implib.specs.Link.Load.{LoadsStrictly, NumberAt, TableAt, TextAt, WholeTableAt}
+use Rattle.implib.specs.Members.Msvc.{short_import_symbols, short_import_symbol}
+use Rattle.implib.specs.Members.MsvcObjects.{descriptor, descriptor_symbol, null_descriptor_symbol, null_thunk, null_thunk_symbol}
+use Rattle.implib.specs.Formats.Object.{Object}
+use Rattle.implib.specs.Link.Placement.{Bases, Placed, next_multiple, placed_from}
+use Rattle.implib.specs.Link.Resolution.{SymbolDefinition, defined_by, definitions, definitions_of}
+use Rattle.implib.proofs.Link.Descriptors.{descriptor_loads}
+use Rattle.implib.proofs.Link.Linked.{LocatedFrom, all_of_stub, block_defined, block_definitions, block_links, block_targets, definitions-block, ends_of_block, head_definition, rest_located}
+use Rattle.implib.proofs.Link.Placement.{after_head, ends_of_all, ends_of_export, ends_of_exports, ends_of_head, head, names-after}
+use Rattle.implib.proofs.Link.Ranges.{Among, among_back, among_first, among_later}
+use Rattle.implib.proofs.Link.Tables.{CanBeAsked}
+use Rattle.implib.proofs.Link.Thunks.{StrictTableAt, zeros_number}
+use Rattle.implib_link.specs.Flavors.Expansion.{Code, Constant, Data, Use, import_object, descriptor_symbol_by_name, stub_relocations_for}
+use Rattle.implib_link.specs.Flavors.Program.{IsFoundByName, SymbolsAt, ask_in, descriptor_in, symbol_in}
+use Rattle.implib_link.specs.Flavors.SectionSymbols.{with_section_symbols}
+use Rattle.implib_link.proofs.Flavors.Expanded.{AreWide, AskFits, asking_located, descriptor_located, ends_of_asking, ends_of_descriptor, ends_of_null_thunk, null_thunk_located, placed-asking, placed-descriptor, placed-null_thunk, placed_asking, placed_descriptor, taken_descriptor, taken_null_thunk, wide_aligned, wide_asking, wide_descriptor, wide_next, wide_null_thunk}
+
+-- what an export is used for
+abbrev pub use_for : ExportView → Use
+use_for e = if e.is_data then Data else if e.constant then Constant else Code
+
+-- the object that an export's short import stands for
+abbrev pub asking : MachineType → List ℕ → ExportView → Object
+asking machine dll e = import_object machine dll (short_import_symbol e) (ask_in Msvc machine e) (use_for e)
+
+-- the short imports' objects, the null thunk's after them, and other objects
+abbrev pub behind_descriptor : MachineType → List ℕ → List ExportView → List Object → List Object
+behind_descriptor machine dll es rest = map (asking machine dll) es ++ taken_null_thunk machine dll ∷ rest
+
+-- the ends after them
+unfoldable pub ends_of_askings : MachineType → Bases → List ExportView → Bases
+ends_of_askings machine b [] = ends_of_null_thunk machine b
+ends_of_askings machine b (e ∷ es) = ends_of_askings machine (ends_of_asking machine b (ask_in Msvc machine e)) es
+
+pub wide_askings : (machine : MachineType) (b : Bases) (es : List ExportView) → AreWide machine b → AreWide machine (ends_of_askings machine b es)
+unfolding ends_of_askings
+wide_askings machine b [] even = wide_null_thunk machine b even
+wide_askings machine b (e ∷ es) even =
+    wide_askings machine (ends_of_asking machine b (ask_in Msvc machine e)) es (wide_asking machine b (ask_in Msvc machine e) even)
+
+-- What they define.
+
+abbrev pub use_definitions : ℕ → List ℕ → Use → List SymbolDefinition
+use_definitions address symbol Code = record { name = symbol; address = None } ∷ []
+use_definitions address symbol Data = []
+use_definitions address symbol Constant = record { name = symbol; address = Some (address + 0) } ∷ []
+
+abbrev pub imp_definition : Bases → List ℕ → SymbolDefinition
+imp_definition b symbol = record { name = imp_symbol symbol; address = Some (b.addresses + 0) }
+
+unfoldable pub defined_behind : MachineType → List ℕ → Bases → List ExportView → List SymbolDefinition
+defined_behind machine dll b [] = record { name = null_thunk_symbol dll; address = Some (b.addresses + 0) } ∷ []
+defined_behind machine dll b (e ∷ es) =
+    imp_definition b (short_import_symbol e)
+    ∷ (use_definitions b.addresses (short_import_symbol e) (use_for e) ++ defined_behind machine dll (ends_of_asking machine b (ask_in Msvc machine e)) es)
+
+defined_by_asking : (machine : MachineType) (dll : List ℕ) (b : Bases) (symbol : List ℕ) (ask : Ask) (use_kind : Use) →
+    defined_by (placed_asking machine dll b symbol ask use_kind) ≡ imp_definition b symbol ∷ use_definitions b.addresses symbol use_kind
+unfolding import_object
+defined_by_asking machine dll b symbol (Ordinal n) Code = refl
+defined_by_asking machine dll b symbol (Ordinal n) Data = refl
+defined_by_asking machine dll b symbol (Ordinal n) Constant = refl
+defined_by_asking machine dll b symbol (Name text hint) Code = refl
+defined_by_asking machine dll b symbol (Name text hint) Data = refl
+defined_by_asking machine dll b symbol (Name text hint) Constant = refl
+
+definitions-behind : (machine : MachineType) (dll : List ℕ) (b : Bases) (es : List ExportView) (rest : List Object) → AreWide machine b →
+    definitions (placed_from b (behind_descriptor machine dll es rest)) ≡ defined_behind machine dll b es ++ definitions (placed_from (ends_of_askings machine b es) rest)
+unfolding defined_behind ends_of_askings with_section_symbols object_of null_thunk entries_of name_text
+definitions-behind machine dll b [] rest even = ap definitions (placed-null_thunk machine dll b rest even)
+definitions-behind machine dll b (e ∷ es) rest even =
+    let symbol : List ℕ = short_import_symbol e in
+    let later : Bases = ends_of_asking machine b (ask_in Msvc machine e) in
+    let own : List SymbolDefinition = imp_definition b symbol ∷ use_definitions b.addresses symbol (use_for e) in
+    ap definitions (placed-asking machine dll b symbol (ask_in Msvc machine e) (use_for e) (behind_descriptor machine dll es rest) even)
+    ∙ ap (λ ds. ds ++ definitions (placed_from later (behind_descriptor machine dll es rest))) (defined_by_asking machine dll b symbol (ask_in Msvc machine e) (use_for e))
+    ∙ ap (λ ds. own ++ ds) (definitions-behind machine dll later es rest (wide_asking machine b (ask_in Msvc machine e) even))
+    ∙ sym (append_assoc own (defined_behind machine dll later es) (definitions (placed_from (ends_of_askings machine later es) rest)))
+
+names_of_use : (address : ℕ) (symbol : List ℕ) (is_data constant : Bool) (rest : List SymbolDefinition) →
+    map (λ (d : SymbolDefinition). d.name) (use_definitions address symbol (if is_data then Data else if constant then Constant else Code) ++ rest)
+    ≡ (if is_data then [] else symbol ∷ []) ++ map (λ (d : SymbolDefinition). d.name) rest
+names_of_use address symbol true constant rest = refl
+names_of_use address symbol false true rest = refl
+names_of_use address symbol false false rest = refl
+
+names-behind : (machine : MachineType) (dll : List ℕ) (b : Bases) (es : List ExportView) →
+    map (λ (d : SymbolDefinition). d.name) (defined_behind machine dll b es) ≡ flat_map short_import_symbols es ++ null_thunk_symbol dll ∷ []
+unfolding defined_behind
+names-behind machine dll b [] = refl
+names-behind machine dll b (e ∷ es) =
+    let symbol : List ℕ = short_import_symbol e in
+    let later : Bases = ends_of_asking machine b (ask_in Msvc machine e) in
+    let own : List (List ℕ) = if e.is_data then [] else symbol ∷ [] in
+    ap (λ names. imp_symbol symbol ∷ names) (
+    names_of_use b.addresses symbol e.is_data e.constant (defined_behind machine dll later es)
+    ∙ ap (λ names. own ++ names) (names-behind machine dll later es)
+    ∙ sym (append_assoc own (flat_map short_import_symbols es) (null_thunk_symbol dll ∷ [])))
+
+unfoldable pub descriptor_definition : List ℕ → Bases → SymbolDefinition
+descriptor_definition dll b = record { name = descriptor_symbol dll; address = Some (b.descriptors + 0) }
+
+-- One DLL's objects, in its flavour.
+
+abbrev pub objects_of : MachineType → Flavor → List ℕ → List ExportView → List Object → List Object
+objects_of machine Msvc dll es rest = taken_descriptor machine dll ∷ behind_descriptor machine dll es rest
+objects_of machine Gnu dll es rest = head machine dll ∷ after_head machine dll es rest
+
+abbrev pub ends_in : MachineType → Flavor → List ℕ → Bases → List ExportView → Bases
+ends_in machine Msvc dll b es = ends_of_askings machine (ends_of_descriptor dll b) es
+ends_in machine Gnu dll b es = ends_of_block machine dll b es
+
+abbrev pub definitions_in : MachineType → Flavor → List ℕ → Bases → List ExportView → List SymbolDefinition
+definitions_in machine Msvc dll b es = descriptor_definition dll b ∷ defined_behind machine dll (ends_of_descriptor dll b) es
+definitions_in machine Gnu dll b es = block_definitions machine dll b es
+
+-- the symbols that its members are listed for
+abbrev pub symbols_of : MachineType → Flavor → List ℕ → List ExportView → List (List ℕ)
+symbols_of machine Msvc dll es = descriptor_symbol dll ∷ (flat_map short_import_symbols es ++ null_thunk_symbol dll ∷ [])
+symbols_of machine Gnu dll es = head_symbol machine dll ∷ (flat_map archive_symbols es ++ iname_symbol machine dll ∷ [])
+
+pub definitions-in : (machine : MachineType) (flavor : Flavor) (dll : List ℕ) (b : Bases) (es : List ExportView) (rest : List Object) → AreWide machine b →
+    definitions (placed_from b (objects_of machine flavor dll es rest)) ≡ definitions_in machine flavor dll b es ++ definitions (placed_from (ends_in machine flavor dll b es) rest)
+unfolding descriptor_definition with_section_symbols object_of descriptor entries_of name_text
+definitions-in machine Msvc dll b es rest even =
+    ap definitions (placed-descriptor machine dll b (behind_descriptor machine dll es rest) even)
+    ∙ ap (λ ds. descriptor_definition dll b ∷ ds) (definitions-behind machine dll (ends_of_descriptor dll b) es rest (wide_descriptor machine dll b even))
+definitions-in machine Gnu dll b es rest even = definitions-block machine dll b es rest (wide_aligned machine b even)
+
+pub names-in : (machine : MachineType) (flavor : Flavor) (dll : List ℕ) (b : Bases) (es : List ExportView) →
+    map (λ (d : SymbolDefinition). d.name) (definitions_in machine flavor dll b es) ≡ symbols_of machine flavor dll es
+unfolding descriptor_definition block_definitions head_definition
+names-in machine Msvc dll b es = ap (λ names. descriptor_symbol dll ∷ names) (names-behind machine dll (ends_of_descriptor dll b) es)
+names-in machine Gnu dll b es = ap (λ names. head_symbol machine dll ∷ names) (names-after machine dll _ es)
+
+gnu_exports_wide : (machine : MachineType) (dll : List ℕ) (b : Bases) (es : List ExportView) → AreWide machine b → AreWide machine (ends_of_all machine dll b es)
+unfolding ends_of_exports
+gnu_exports_wide machine dll b [] even = record {
+  descriptors = even.descriptors;
+  lookups = wide_next machine b.lookups even.lookups;
+  addresses = wide_next machine b.addresses even.addresses;
+}
+gnu_exports_wide machine dll b (e ∷ es) even =
+    gnu_exports_wide machine dll (ends_of_export machine dll b e) es (record {
+      descriptors = even.descriptors;
+      lookups = wide_next machine b.lookups even.lookups;
+      addresses = wide_next machine b.addresses even.addresses;
+    })
+
+pub wide_in : (machine : MachineType) (flavor : Flavor) (dll : List ℕ) (b : Bases) (es : List ExportView) → AreWide machine b → AreWide machine (ends_in machine flavor dll b es)
+wide_in machine Msvc dll b es even = wide_askings machine (ends_of_descriptor dll b) es (wide_descriptor machine dll b even)
+wide_in machine Gnu dll b es even =
+    let whole : b.descriptors % 4 ≡ 0 = even.descriptors in
+    gnu_exports_wide machine dll (ends_of_head machine dll b) es (record { descriptors = omega arith; lookups = even.lookups; addresses = even.addresses })
+
+-- what an export asks can be asked
+unfoldable pub FitsIn : Flavor → MachineType → ExportView → Type 0
+FitsIn Msvc machine e = AskFits (ask_in Msvc machine e)
+FitsIn Gnu machine e = CanBeAsked machine e
+
+length_zeros : (machine : MachineType) → length (zeros (thunk_width machine)) ≡ thunk_width machine
+length_zeros machine = length-replicate {A = ℕ} (thunk_width machine) 0
+
+-- the symbols of GNU's entries
+symbols_from : (linked : List Placed) (width address : ℕ) (es : List ExportView) → EntriesAt linked width address es →
+    SymbolsAt linked width address (map (λ e. imp_symbol (symbol_in Gnu e)) es)
+unfolding EntriesAt SymbolsAt
+symbols_from linked width address [] entries = tt
+symbols_from linked width address (e ∷ es) entries = (entries.0, symbols_from linked width (address + width) es entries.1)
+
+-- What is known of one DLL's objects among all that is linked, with other objects behind them.
+pub record OneLinks (machine : MachineType) (linked : List Placed) (image : List Range) (flavor : Flavor) (dll : List ℕ) (es : List ExportView) (b : Bases) (rest : List Object) : Type 0 where
+  pub top : definitions_of (descriptor_in flavor machine dll) linked ≡ record { name = descriptor_in flavor machine dll; address = Some b.descriptors } ∷ []
+  pub loads : LoadsStrictly image (thunk_width machine) b.descriptors dll (map (ask_in flavor machine) es)
+  pub table_located : loads.plain.addresses ≡ b.addresses
+  pub entries : SymbolsAt linked (thunk_width machine) b.addresses (map (λ e. imp_symbol (symbol_in flavor e)) es)
+  pub rest_located : LocatedFrom machine linked image (ends_in machine flavor dll b es) rest
+  pub defined : AllByRecursion (IsDefinedAt linked) (undefined_names (placed_from (ends_in machine flavor dll b es) rest)) →
+      AllByRecursion (IsDefinedAt linked) (undefined_names (placed_from b (objects_of machine flavor dll es rest)))
+  pub targets : AllByRecursion (AllFind linked) (placed_from (ends_in machine flavor dll b es) rest) →
+      AllByRecursion (AllFind linked) (placed_from b (objects_of machine flavor dll es rest))
+
+module _ (machine : MachineType) (dll : List ℕ) (linked : List Placed) (image : List Range)
+    (starts : AllByRecursion (λ r. 0 < r.start) image) (ends : AllByRecursion (λ r. range_end r < 2 ^ 31) image) (dll_text : HasNoNul dll) where
+  -- the tables of the short imports and the null thunk
+  record AskingsStand (b : Bases) (es : List ExportView) (rest : List Object) : Type 0 where
+    lookups : StrictTableAt image (thunk_width machine) b.lookups (map (ask_in Msvc machine) es)
+    addresses : StrictTableAt image (thunk_width machine) b.addresses (map (ask_in Msvc machine) es)
+    behind : LocatedFrom machine linked image (ends_of_askings machine b es) rest
+
+  zero_thunk : (a : ℕ) → NumberAt image (thunk_width machine) a 0 → StrictTableAt image (thunk_width machine) a []
+  unfolding TableAt WholeTableAt
+  zero_thunk a none = record { plain = none; whole = tt }
+
+  askings_located : (es : List ExportView) (b : Bases) (rest : List Object) → AllByRecursion (FitsIn Msvc machine) es → AreWide machine b →
+      LocatedFrom machine linked image b (behind_descriptor machine dll es rest) → AskingsStand b es rest
+  unfolding TableAt WholeTableAt ends_of_askings FitsIn
+  askings_located [] b rest fit even located =
+      let null = null_thunk_located machine dll linked image starts ends b rest even located in
+      record {
+        lookups = zero_thunk b.lookups (record { bytes = zeros (thunk_width machine); located = null.lookup; count = length_zeros machine; value = zeros_number machine });
+        addresses = zero_thunk b.addresses (record { bytes = zeros (thunk_width machine); located = null.address; count = length_zeros machine; value = zeros_number machine });
+        behind = null.rest_located;
+      }
+  askings_located (e ∷ es) b rest fit even located =
+      let ask : Ask = ask_in Msvc machine e in
+      let one = asking_located machine dll linked image starts ends b (short_import_symbol e) ask (use_for e) (behind_descriptor machine dll es rest) fit.0 even located in
+      let others = askings_located es (ends_of_asking machine b ask) rest fit.1 (wide_asking machine b ask even) one.rest_located in
+      record {
+        lookups = record { plain = (one.lookup.plain, others.lookups.plain); whole = (one.lookup.whole, others.lookups.whole) };
+        addresses = record { plain = (one.address.plain, others.addresses.plain); whole = (one.address.whole, others.addresses.whole) };
+        behind = others.behind;
+      }
+
+  -- each export's address is its own entry
+  imps_at : (es : List ExportView) (b : Bases) → ((d : SymbolDefinition) → Among d (defined_behind machine dll b es) → definitions_of d.name linked ≡ d ∷ []) →
+      SymbolsAt linked (thunk_width machine) b.addresses (map (λ e. imp_symbol (symbol_in Msvc e)) es)
+  unfolding SymbolsAt defined_behind
+  imps_at [] b only = tt
+  imps_at (e ∷ es) b only =
+      let own : SymbolDefinition = imp_definition b (short_import_symbol e) in
+      let plain : b.addresses + 0 ≡ b.addresses = omega arith in (
+        subst (λ n. definitions_of (imp_symbol (short_import_symbol e)) linked ≡ record { name = imp_symbol (short_import_symbol e); address = Some n } ∷ []) plain
+            (only own (among_first own _)),
+        imps_at es (ends_of_asking machine b (ask_in Msvc machine e))
+            (λ d m. only d (among_later d own _ (among_back d (use_definitions b.addresses (short_import_symbol e) (use_for e)) _ m))),
+      )
+
+  -- the null thunk's definition is the last one
+  thunk_defined : (es : List ExportView) (b : Bases) →
+      (address : ℕ) × Among (record { name = null_thunk_symbol dll; address = Some address }) (defined_behind machine dll b es)
+  unfolding defined_behind
+  thunk_defined [] b = (b.addresses + 0, among_first _ _)
+  thunk_defined (e ∷ es) b =
+      let later = thunk_defined es (ends_of_asking machine b (ask_in Msvc machine e)) in
+      (later.0, among_later _ _ _ (among_back _ (use_definitions b.addresses (short_import_symbol e) (use_for e)) _ later.1))
+
+  -- each short import's object needs the descriptor's symbol alone, and the null thunk's none
+  undefined_by_asking : (b : Bases) (symbol : List ℕ) (ask : Ask) (use_kind : Use) (others : List Placed) →
+      undefined_names (placed_asking machine dll b symbol ask use_kind ∷ others) ≡ descriptor_symbol_by_name dll ∷ undefined_names others
+  unfolding import_object
+  undefined_by_asking b symbol (Ordinal n) Code others = refl
+  undefined_by_asking b symbol (Ordinal n) Data others = refl
+  undefined_by_asking b symbol (Ordinal n) Constant others = refl
+  undefined_by_asking b symbol (Name text hint) Code others = refl
+  undefined_by_asking b symbol (Name text hint) Data others = refl
+  undefined_by_asking b symbol (Name text hint) Constant others = refl
+
+  undefined_behind : (es : List ExportView) (b : Bases) (rest : List Object) → AreWide machine b → IsDefinedAt linked (descriptor_symbol_by_name dll) →
+      AllByRecursion (IsDefinedAt linked) (undefined_names (placed_from (ends_of_askings machine b es) rest)) →
+      AllByRecursion (IsDefinedAt linked) (undefined_names (placed_from b (behind_descriptor machine dll es rest)))
+  unfolding ends_of_askings with_section_symbols object_of null_thunk entries_of name_text
+  undefined_behind [] b rest even once others = subst (AllByRecursion (IsDefinedAt linked)) (sym (ap undefined_names (placed-null_thunk machine dll b rest even))) others
+  undefined_behind (e ∷ es) b rest even once others =
+      let ask : Ask = ask_in Msvc machine e in
+      let later : Bases = ends_of_asking machine b ask in
+      let same : undefined_names (placed_from b (behind_descriptor machine dll (e ∷ es) rest)) ≡ descriptor_symbol_by_name dll ∷ undefined_names (placed_from later (behind_descriptor machine dll es rest)) =
+      ap undefined_names (placed-asking machine dll b (short_import_symbol e) ask (use_for e) (behind_descriptor machine dll es rest) even)
+      ∙ undefined_by_asking b (short_import_symbol e) ask (use_for e) (placed_from later (behind_descriptor machine dll es rest)) in
+      subst (AllByRecursion (IsDefinedAt linked)) (sym same) (once, undefined_behind es later rest (wide_asking machine b ask even) once others)
+
+  -- The relocations find their targets in the sections of their own objects.
+
+  stub_finds : (b : Bases) (symbol : List ℕ) (ask : Ask) (use_kind : Use) (relocated_for : Use) →
+      AllByRecursion (FindsTarget linked (placed_asking machine dll b symbol ask use_kind)) (stub_relocations_for machine relocated_for)
+  unfolding import_object
+  stub_finds b symbol ask use_kind Code =
+      all_of_stub machine dll linked machine (FindsTarget linked (placed_asking machine dll b symbol ask use_kind)) (λ offset number. (b.addresses + 0, refl))
+  stub_finds b symbol ask use_kind Data = tt
+  stub_finds b symbol ask use_kind Constant = tt
+
+  asking_finds : (b : Bases) (symbol : List ℕ) (ask : Ask) (use_kind : Use) → AllFind linked (placed_asking machine dll b symbol ask use_kind)
+  unfolding import_object
+  asking_finds b symbol (Ordinal n) use_kind = (stub_finds b symbol (Ordinal n) use_kind use_kind, (tt, (tt, tt)))
+  asking_finds b symbol (Name text hint) use_kind = (
+    stub_finds b symbol (Name text hint) use_kind use_kind,
+    (((next_multiple 2 b.hint_names + 0, refl), tt), (((next_multiple 2 b.hint_names + 0, refl), tt), (tt, tt))),
+  )
+
+  targets_behind : (es : List ExportView) (b : Bases) (rest : List Object) → AreWide machine b →
+      AllByRecursion (AllFind linked) (placed_from (ends_of_askings machine b es) rest) →
+      AllByRecursion (AllFind linked) (placed_from b (behind_descriptor machine dll es rest))
+  unfolding ends_of_askings with_section_symbols object_of null_thunk entries_of name_text
+  targets_behind [] b rest even others =
+      subst (AllByRecursion (AllFind linked)) (sym (placed-null_thunk machine dll b rest even)) ((tt, (tt, tt)), others)
+  targets_behind (e ∷ es) b rest even others =
+      let ask : Ask = ask_in Msvc machine e in
+      subst (AllByRecursion (AllFind linked)) (sym (placed-asking machine dll b (short_import_symbol e) ask (use_for e) (behind_descriptor machine dll es rest) even))
+      (asking_finds b (short_import_symbol e) ask (use_for e), targets_behind es (ends_of_asking machine b ask) rest (wide_asking machine b ask even) others)
+
+  descriptor_finds : (b : Bases) → AllFind linked (placed_descriptor machine dll b)
+  unfolding with_section_symbols object_of descriptor entries_of name_text
+  descriptor_finds b = (((next_multiple 2 b.hint_names + 0, refl), ((b.lookups + 0, refl), ((b.addresses + 0, refl), tt))), (tt, (tt, (tt, tt))))
+
+  undefined_by_descriptor : (b : Bases) (others : List Placed) →
+      undefined_names (placed_descriptor machine dll b ∷ others) ≡ null_descriptor_symbol ∷ null_thunk_symbol dll ∷ undefined_names others
+  unfolding with_section_symbols object_of descriptor entries_of name_text
+  undefined_by_descriptor b others = refl
+
+  -- one DLL's members for Microsoft's linker
+  msvc_links : (es : List ExportView) (b : Bases) (rest : List Object) → AllByRecursion (FitsIn Msvc machine) es → AreWide machine b →
+      descriptor_symbol_by_name dll ≡ descriptor_symbol dll → IsDefinedAt linked null_descriptor_symbol →
+      ((d : SymbolDefinition) → Among d (definitions_in machine Msvc dll b es) → definitions_of d.name linked ≡ d ∷ []) →
+      LocatedFrom machine linked image b (objects_of machine Msvc dll es rest) → OneLinks machine linked image Msvc dll es b rest
+  unfolding descriptor_definition
+  msvc_links es b rest fit even found null only located =
+      let later : Bases = ends_of_descriptor dll b in
+      let wide : AreWide machine (ends_of_descriptor dll b) = wide_descriptor machine dll b even in
+      let one = descriptor_located machine dll linked image starts ends b (behind_descriptor machine dll es rest) even located in
+      let tables = askings_located es later rest fit wide one.rest_located in
+      let plain : b.descriptors + 0 ≡ b.descriptors = omega arith in
+      let own : SymbolDefinition = descriptor_definition dll b in
+      let behind_only = λ (d : SymbolDefinition) (m : Among d (defined_behind machine dll (ends_of_descriptor dll b) es)). only d (among_later d own (defined_behind machine dll (ends_of_descriptor dll b) es) m) in
+      let top : definitions_of (descriptor_symbol dll) linked ≡ record { name = descriptor_symbol dll; address = Some b.descriptors } ∷ [] =
+      only own (among_first own _) ∙ ap (λ n. record { name = descriptor_symbol dll; address = Some n } ∷ []) plain in
+      let thunk = thunk_defined es later in
+      let name_text : TextAt image (next_multiple 2 b.hint_names) dll = record { no_nul = dll_text; located = one.name } in
+      let loaded = descriptor_loads machine image starts ends b.descriptors b.lookups b.addresses (next_multiple 2 b.hint_names) dll (map (ask_in Msvc machine) es)
+      one.bytes tables.lookups tables.addresses name_text in
+      record {
+        top = top;
+        loads = loaded.loads;
+        table_located = loaded.table_located;
+        entries = imps_at es later behind_only;
+        rest_located = tables.behind;
+        defined = λ others.
+            subst (AllByRecursion (IsDefinedAt linked))
+            (sym (ap undefined_names (placed-descriptor machine dll b (behind_descriptor machine dll es rest) even)
+            ∙ undefined_by_descriptor b (placed_from later (behind_descriptor machine dll es rest)))) (
+              null,
+              (
+                (thunk.0, behind_only _ thunk.1),
+                undefined_behind es later rest wide (subst (IsDefinedAt linked) (sym found) (b.descriptors, top)) others,
+              ),
+            );
+        targets = λ others.
+            subst (AllByRecursion (AllFind linked)) (sym (placed-descriptor machine dll b (behind_descriptor machine dll es rest) even))
+            (descriptor_finds b, targets_behind es later rest wide others);
+      }
+
+  -- one DLL's members for GNU's linker
+  gnu_links : (es : List ExportView) (b : Bases) (rest : List Object) → AllByRecursion (FitsIn Gnu machine) es → AreWide machine b →
+      ((d : SymbolDefinition) → Among d (definitions_in machine Gnu dll b es) → definitions_of d.name linked ≡ d ∷ []) →
+      LocatedFrom machine linked image b (objects_of machine Gnu dll es rest) → OneLinks machine linked image Gnu dll es b rest
+  unfolding FitsIn
+  gnu_links es b rest fit even only located =
+      let block = block_links machine dll es b rest linked image starts ends dll_text fit (wide_aligned machine b even) only located in
+      record {
+        top = block.strictly.head;
+        loads = block.strictly.loads;
+        table_located = block.addresses;
+        entries = symbols_from linked (thunk_width machine) b.addresses es (subst (λ n. EntriesAt linked (thunk_width machine) n es) block.addresses block.strictly.entries);
+        rest_located = rest_located machine dll es b rest linked image starts ends dll_text fit (wide_aligned machine b even) only located;
+        defined = block_defined machine dll es b rest linked image starts ends dll_text fit (wide_aligned machine b even) only located;
+        targets = block_targets machine dll es b rest linked image starts ends dll_text fit (wide_aligned machine b even) only located;
+      }
+
+  -- one DLL's members in a flavour
+  pub one_links : (flavor : Flavor) (es : List ExportView) (b : Bases) (rest : List Object) → AllByRecursion (FitsIn flavor machine) es → AreWide machine b →
+      IsFoundByName flavor dll → IsDefinedAt linked null_descriptor_symbol →
+      ((d : SymbolDefinition) → Among d (definitions_in machine flavor dll b es) → definitions_of d.name linked ≡ d ∷ []) →
+      LocatedFrom machine linked image b (objects_of machine flavor dll es rest) → OneLinks machine linked image flavor dll es b rest
+  one_links Msvc es b rest fit even found null only located = msvc_links es b rest fit even found null only located
+  one_links Gnu es b rest fit even found null only located = gnu_links es b rest fit even only located

@@ -1,0 +1,467 @@
+-- What a linker takes the members of definitions for, in either flavour.
+use Rattle.std.proofs.Common.{◌≡◌, ℕ, ◌<◌, ◌^◌, Bool, true, false, List, [], ◌∷◌, ◌++◌, map, Option, Some, None, refl, ap, sym, ◌∙◌, subst, inl, inr, if◌then◌else◌}
+use Rattle.std.specs.Prelude.{◌==◌, nat_le, slice_get, suc, take, zero}
+use Rattle.std.specs.List.{AllByRecursion, Contains, cons_option, filter_map, flat_map, position_or_len}
+use Rattle.std.specs.Option.{option_and_then, option_map}
+use Rattle.std.proofs.lemmas.Bool.{cases_Bool, le-leb, ltb-true, or_parts}
+use Rattle.std.proofs.lemmas.Grind.{flat_map-append}
+use Rattle.std.proofs.lemmas.List.{append_assoc}
+use Rattle.std.proofs.lemmas.List.Elements.{filter_map-append}
+use Rattle.implib.specs.declared.machine.MachineType.{MachineType}
+use Rattle.implib.specs.declared.machine.MachineType.TheVariants.{I386, ARMNT, AMD64, ARM64}
+use Rattle.implib.specs.declared.flavor.Flavor.{Flavor}
+use Rattle.implib.specs.declared.flavor.Flavor.TheVariants.{Gnu, Msvc}
+use Rattle.implib.specs.Ascii.{at_sign, holds, question_mark, underscore}
+use Rattle.implib.specs.Definition.{DefinitionView, ExportView}
+use Rattle.implib.specs.Formats.File.{File, ObjectFile, file_in, short_import_or_object}
+use Rattle.implib.specs.Members.Gnu.{export_object, head_object, tail_object}
+use Rattle.implib.specs.Members.GnuMembers.{export_spec, gnu_specs, head_spec, tail_spec}
+use Rattle.implib.specs.Import.{Name, Ordinal, public_exports}
+use Rattle.implib.specs.Ascii.{begins_with, without_first}
+use Rattle.implib.specs.Formats.Layout.{HasNoNul, encoded, object_of}
+use Rattle.implib.specs.Link.LinkedMembers.{chosen_exports, linked_specs, numbered_spec}
+use Rattle.implib.specs.Machine.{machine_number}
+use Rattle.implib.specs.Members.MemberSpec.{AShortImport, AnObject, Contents, MemberSpec, MemberView, file_bytes, member_of}
+use Rattle.implib.specs.Members.Members.{AreMembersOf, member_specs}
+use Rattle.implib.specs.Members.Msvc.{import_type_of, name_type_of, short_import_symbols, short_import_of, short_import_symbol}
+use Rattle.implib.specs.Members.MsvcMembers.{descriptor_spec, export_specs, header_specs, null_descriptor_spec, null_thunk_spec, short_import_spec, weak_specs}
+use Rattle.implib.specs.Members.MsvcObjects.{descriptor_symbol}
+use Rattle.implib.specs.Formats.Object.{Object, object_in}
+use Rattle.implib.specs.Members.ReadBack.{file_of}
+use Rattle.implib.specs.Renaming.{renamed}
+use Rattle.implib.specs.Formats.ShortImport.{ShortImport, ask_of_short_import, asked_by_name_type, before_at_sign, import_code, import_const, import_data, import_name, import_name_noprefix, import_name_undecorate, short_import_in, without_prefix}
+use Rattle.implib.proofs.Members.GnuReadings.{member_specs_read}
+use Rattle.implib.proofs.Members.Import.{name_type_is_ordinal, name_type_of_fits, symbol_without_nul}
+use Rattle.implib.proofs.Link.LinkedBlocks.{linked_objects}
+use Rattle.implib.proofs.Link.LinkedMembers.{among_contains, among_map, chosen_among, exports_fit, head_among, members_among, read_as, symbols_are}
+use Rattle.implib.proofs.Members.MemberReadings.{ReadsBack, map_after, member_specs_read_back}
+use Rattle.implib.proofs.Members.NotRefused.{Sound, exports_sound, import_name_is_free, none_long}
+use Rattle.implib.proofs.Link.Placement.{export, head, tail}
+use Rattle.implib.proofs.Link.Ranges.{Among, all_among, among_back, among_first, among_flat, among_front, among_later}
+use Rattle.implib_link.specs.Flavors.Expansion.{Code, Constant, Data, import_object, expansion, is_import_for, expanded_as, expanded_in, use_of}
+use Rattle.implib_link.specs.Flavors.Program.{FlavorInput, IsFoundByName, IsMadeFor, IsTaken, all_members, ask_in, dll_of, exports_chosen, members_linked, null_member, objects_taken, specs_in, symbols_listed}
+use Rattle.implib_link.specs.Flavors.SectionSymbols.{with_section_symbols}
+use Rattle.implib_link.proofs.Flavors.Block.{FitsIn, asking, objects_of, symbols_of}
+use Rattle.implib_link.proofs.Flavors.Blocks.{CanLink, FlavorBlock, all_objects}
+use Rattle.implib_link.proofs.Flavors.Expanded.{AskFits, taken_descriptor, taken_null, taken_null_thunk}
+use Rattle.implib_link.proofs.Gnu.Texts.{all_chosen}
+
+-- Short imports.
+
+same_machine : (machine : MachineType) → (machine_number machine == machine_number machine) ≡ true
+same_machine I386 = refl
+same_machine ARMNT = refl
+same_machine AMD64 = refl
+same_machine ARM64 = refl
+
+use_is : (is_data constant : Bool) →
+    use_of (if is_data then import_data else if constant then import_const else import_code) ≡ Some (if is_data then Data else if constant then Constant else Code)
+use_is true constant = refl
+use_is false true = refl
+use_is false false = refl
+
+ask_is : (machine : MachineType) (dll : List ℕ) (e : ExportView) → ask_of_short_import (short_import_of machine dll e) ≡ ask_in Msvc machine e
+ask_is machine dll e = rw (name_type_is_ordinal machine e) refl
+
+-- the short import of an export is taken for the object that asks so
+pub short_import_taken : (machine : MachineType) (dll : List ℕ) (e : ExportView) → expansion machine (short_import_of machine dll e) ≡ Some (asking machine dll e)
+short_import_taken machine dll e =
+    let known : nat_le (name_type_of machine e) import_name_undecorate ≡ true = le-leb (name_type_of machine e) import_name_undecorate (name_type_of_fits machine e) in
+    let passes : is_import_for machine (short_import_of machine dll e) ≡ true = rw (same_machine machine, known) refl in
+    ap (λ test. if test then option_map (import_object machine dll (short_import_symbol e) (ask_of_short_import (short_import_of machine dll e))) (use_of (import_type_of e)) else None) passes
+    ∙ ap (λ ask. option_map (import_object machine dll (short_import_symbol e) ask) (use_of (import_type_of e))) (ask_is machine dll e)
+    ∙ ap (option_map (import_object machine dll (short_import_symbol e) (ask_in Msvc machine e))) (use_is e.is_data e.constant)
+
+-- What a short import asks for has no NUL.
+
+free_first : (b : ℕ) (rest : List ℕ) → holds 0 (b ∷ rest) ≡ false → holds 0 rest ≡ false
+free_first b rest free = (or_parts (b == 0) (holds 0 rest) free).1
+
+without_first_free : (text : List ℕ) → holds 0 text ≡ false → holds 0 (without_first text) ≡ false
+without_first_free [] free = free
+without_first_free (b ∷ rest) free = free_first b rest free
+
+if_free : (test : Bool) (one other : List ℕ) → holds 0 one ≡ false → holds 0 other ≡ false → holds 0 (if test then one else other) ≡ false
+if_free true one other first second = first
+if_free false one other first second = second
+
+prefix_free : (text : List ℕ) → holds 0 text ≡ false → holds 0 (without_prefix text) ≡ false
+prefix_free text free =
+    let short : holds 0 (without_first text) ≡ false = without_first_free text free in
+    elim (cases_Bool (begins_with question_mark text)) [
+      | inl is ↦ rw is short
+      | inr is ↦ rw is (elim (cases_Bool (begins_with at_sign text)) [
+        | inl at ↦ rw at short
+        | inr at ↦ rw at (elim (cases_Bool (begins_with underscore text)) [ inl has ↦ rw has short | inr has ↦ rw has free ])
+      ])
+    ]
+
+cut_free : (n : ℕ) (text : List ℕ) → holds 0 text ≡ false → holds 0 (take n text) ≡ false
+cut_free zero text free = refl
+cut_free (suc n) [] free = refl
+cut_free (suc n) (b ∷ rest) free =
+    let parts = or_parts (b == 0) (holds 0 rest) free in
+    rw parts.0 (cut_free n rest parts.1)
+
+asked_free : (name_type : ℕ) (symbol : List ℕ) → holds 0 symbol ≡ false → holds 0 (asked_by_name_type name_type symbol) ≡ false
+asked_free name_type symbol free =
+    let short : holds 0 (without_prefix symbol) ≡ false = prefix_free symbol free in
+    let cut : List ℕ = before_at_sign (without_prefix symbol) in
+    if_free (name_type == import_name) symbol (if name_type == import_name_noprefix then without_prefix symbol else cut) free
+    (if_free (name_type == import_name_noprefix) (without_prefix symbol) cut short
+    (cut_free (position_or_len (λ byte. byte == at_sign) (without_prefix symbol)) (without_prefix symbol) short))
+
+ask_fits : (no_name : Bool) (ordinal : ℕ) (text : List ℕ) → ordinal < 2 ^ 16 → HasNoNul text → AskFits (if no_name then Ordinal ordinal else Name text ordinal)
+unfolding AskFits
+ask_fits true ordinal text small free = small
+ask_fits false ordinal text small free = (small, free)
+
+export_fits : (machine : MachineType) (e : ExportView) → Sound e → FitsIn Msvc machine e
+unfolding FitsIn
+export_fits machine e good =
+    ask_fits e.no_name e.ordinal _ (ltb-true e.ordinal 0x1_0000 good.ordinal)
+    (asked_free (name_type_of machine e) (short_import_symbol e) (symbol_without_nul e.symbol_name e.name good.symbol_name good.name))
+
+all_map : {X : Type 0} (P Q : X → Type 0) → ((x : X) → P x → Q x) → (xs : List X) → AllByRecursion P xs → AllByRecursion Q xs
+all_map P Q each [] all = tt
+all_map P Q each (x ∷ xs) all = (each x all.0, all_map P Q each xs all.1)
+
+all_self : {X : Type 0} (xs : List X) → AllByRecursion (λ x. Among x xs) xs
+all_self [] = tt
+all_self {X} (x ∷ xs) = (among_first x xs, all_map (λ y. Among y xs) (λ y. Among y (x ∷ xs)) (λ y m. among_later y x xs m) xs (all_self xs))
+
+-- a file that reads as another is taken as that
+taken_by : (machine : MachineType) (bytes : List ℕ) (file : File) → file_in bytes ≡ Some file → expanded_in machine bytes ≡ expanded_as machine file
+unfolding expanded_in
+taken_by machine bytes file is = ap (option_and_then (expanded_as machine)) is
+
+all_read : {X Y : Type 0} (f : X → Option Y) (g : X → Y) (xs : List X) → AllByRecursion (λ x. f x ≡ Some (g x)) xs → map f xs ≡ map Some (map g xs)
+all_read f g [] all = refl
+all_read f g (x ∷ xs) all = let first : f x ≡ Some (g x) = all.0 in let rest : map f xs ≡ map Some (map g xs) = all_read f g xs all.1 in cc
+
+map-append-last : {X Y : Type 0} (f : X → Y) (xs : List X) (last : X) → map f (xs ++ last ∷ []) ≡ map f xs ++ f last ∷ []
+map-append-last f [] last = refl
+map-append-last f (x ∷ xs) last = ap (λ ys. f x ∷ ys) (map-append-last f xs last)
+
+all_contained : {X Y : Type 0} (f : X → Y) (all : List X) (xs : List X) → AllByRecursion (λ x. Among x all) xs → AllByRecursion (Contains (map f all)) (map f xs)
+all_contained f all [] among = tt
+all_contained f all (x ∷ xs) among = (among_contains (f x) (map f all) (among_map f x all among.0), all_contained f all xs among.1)
+
+-- The members for Microsoft's linker.
+module _ (d : DefinitionView) (machine : MachineType) (members : List MemberView) (chosen : List ℕ) (made : AreMembersOf d machine Msvc members) where
+  reads : AllByRecursion (λ p. ReadsBack p.contents) (member_specs (renamed d) machine Msvc)
+  reads = member_specs_read_back d machine members made
+
+  header_at : (p : MemberSpec) → Among p (header_specs machine d.import_name) → Among p (member_specs (renamed d) machine Msvc)
+  header_at p m = among_front p (header_specs machine d.import_name) (flat_map (export_specs machine d.import_name) (public_exports (renamed d))) m
+
+  pub descriptor_at : Among (descriptor_spec machine d.import_name) (member_specs (renamed d) machine Msvc)
+  unfolding header_specs
+  descriptor_at = header_at (descriptor_spec machine d.import_name) (among_first _ _)
+
+  pub null_at : Among (null_descriptor_spec machine d.import_name) (member_specs (renamed d) machine Msvc)
+  unfolding header_specs
+  null_at = header_at (null_descriptor_spec machine d.import_name) (among_later _ _ _ (among_first _ _))
+
+  pub thunk_at : Among (null_thunk_spec machine d.import_name) (member_specs (renamed d) machine Msvc)
+  unfolding header_specs
+  thunk_at = header_at (null_thunk_spec machine d.import_name) (among_later _ _ _ (among_later _ _ _ (among_first _ _)))
+
+  pub short_at : (e : ExportView) → Among e (public_exports (renamed d)) → Among (short_import_spec machine d.import_name e) (member_specs (renamed d) machine Msvc)
+  short_at e m =
+      among_back _ (header_specs machine d.import_name) (flat_map (export_specs machine d.import_name) (public_exports (renamed d)))
+      (among_flat (export_specs machine d.import_name) e (public_exports (renamed d)) (short_import_spec machine d.import_name e) m
+      (among_back _ (weak_specs machine d.import_name e) (short_import_spec machine d.import_name e ∷ []) (among_first _ _)))
+
+  pub read_of : (p : MemberSpec) → Among p (member_specs (renamed d) machine Msvc) → file_in (file_bytes p.contents) ≡ Some (file_of p.contents)
+  read_of p m = (all_among (λ (q : MemberSpec). ReadsBack q.contents) p (member_specs (renamed d) machine Msvc) m reads).read
+
+  taken_of : (p : MemberSpec) → Among p (member_specs (renamed d) machine Msvc) → expanded_in machine (member_of p).bytes ≡ expanded_as machine (file_of p.contents)
+  taken_of p m = taken_by machine (file_bytes p.contents) (file_of p.contents) (read_of p m)
+
+  pub descriptor_taken : expanded_in machine (member_of (descriptor_spec machine d.import_name)).bytes ≡ Some (taken_descriptor machine d.import_name)
+  unfolding descriptor_spec
+  descriptor_taken = taken_of (descriptor_spec machine d.import_name) descriptor_at
+
+  pub null_taken : expanded_in machine (null_member machine d.import_name).bytes ≡ Some (taken_null machine)
+  unfolding null_descriptor_spec
+  null_taken = taken_of (null_descriptor_spec machine d.import_name) null_at
+
+  pub thunk_taken : expanded_in machine (member_of (null_thunk_spec machine d.import_name)).bytes ≡ Some (taken_null_thunk machine d.import_name)
+  unfolding null_thunk_spec
+  thunk_taken = taken_of (null_thunk_spec machine d.import_name) thunk_at
+
+  pub short_taken : (e : ExportView) → Among e (public_exports (renamed d)) →
+      expanded_in machine (member_of (short_import_spec machine d.import_name e)).bytes ≡ Some (asking machine d.import_name e)
+  short_taken e m = taken_of (short_import_spec machine d.import_name e) (short_at e m) ∙ short_import_taken machine d.import_name e
+
+  -- what holds of each export that is not private holds of the chosen ones
+  chosen_all : (P : ExportView → Type 0) → ((e : ExportView) → Among e (public_exports (renamed d)) → P e) → AllByRecursion P (chosen_exports d chosen)
+  chosen_all P each = all_chosen P (public_exports (renamed d)) chosen (all_map (λ e. Among e (public_exports (renamed d))) P each (public_exports (renamed d)) (all_self (public_exports (renamed d))))
+
+  shorts_taken : AllByRecursion (λ e. expanded_in machine (member_of (short_import_spec machine d.import_name e)).bytes ≡ Some (asking machine d.import_name e)) (chosen_exports d chosen)
+  shorts_taken = chosen_all (λ e. expanded_in machine (member_of (short_import_spec machine d.import_name e)).bytes ≡ Some (asking machine d.import_name e)) short_taken
+
+  pub msvc_fit : AllByRecursion (FitsIn Msvc machine) (chosen_exports d chosen)
+  msvc_fit = chosen_all (FitsIn Msvc machine) (λ e m. export_fits machine e (all_among Sound e (public_exports (renamed d)) m (exports_sound d machine Msvc members made)))
+
+  abbrev shorts : List MemberSpec
+  shorts = map (short_import_spec machine d.import_name) (chosen_exports d chosen)
+
+  pub msvc_read : map (λ (m : MemberView). expanded_in machine m.bytes) (map member_of (specs_in Msvc d machine chosen)) ≡ map Some (objects_of machine Msvc d.import_name (chosen_exports d chosen) [])
+  msvc_read =
+      let reading : MemberSpec → Option Object = λ (p : MemberSpec). expanded_in machine (member_of p).bytes in
+      let last : MemberSpec = null_thunk_spec machine d.import_name in
+      map_after (λ (m : MemberView). expanded_in machine m.bytes) member_of (specs_in Msvc d machine chosen)
+      ∙ ap (λ o. o ∷ map reading (shorts ++ last ∷ [])) descriptor_taken
+      ∙ ap (λ os. Some (taken_descriptor machine d.import_name) ∷ os) (
+      map-append-last reading shorts last
+      ∙ ap (λ o. map reading shorts ++ o ∷ []) thunk_taken
+      ∙ ap (λ os. os ++ Some (taken_null_thunk machine d.import_name) ∷ [])
+      (map_after reading (short_import_spec machine d.import_name) (chosen_exports d chosen)
+      ∙ all_read (λ e. reading (short_import_spec machine d.import_name e)) (asking machine d.import_name) (chosen_exports d chosen) shorts_taken)
+      ∙ sym (map-append-last Some (map (asking machine d.import_name) (chosen_exports d chosen)) (taken_null_thunk machine d.import_name)))
+
+  all_mapped : {X Y : Type 0} (f : X → Y) (P : Y → Type 0) (xs : List X) → AllByRecursion (λ x. P (f x)) xs → AllByRecursion P (map f xs)
+  all_mapped f P [] all = tt
+  all_mapped f P (x ∷ xs) all = (all.0, all_mapped f P xs all.1)
+
+  all_last : {X : Type 0} (P : X → Type 0) (xs : List X) (last : X) → AllByRecursion P xs → P last → AllByRecursion P (xs ++ last ∷ [])
+  all_last P [] last all here = (here, tt)
+  all_last P (x ∷ xs) last all here = (all.0, all_last P xs last all.1 here)
+
+  pub msvc_from : AllByRecursion (Contains members) (map member_of (specs_in Msvc d machine chosen))
+  msvc_from =
+      subst (λ ms. AllByRecursion (Contains ms) (map member_of (specs_in Msvc d machine chosen))) (sym made.made)
+      (all_contained member_of (member_specs (renamed d) machine Msvc) (specs_in Msvc d machine chosen) (
+        descriptor_at,
+        all_last (λ p. Among p (member_specs (renamed d) machine Msvc)) shorts (null_thunk_spec machine d.import_name)
+            (all_mapped (short_import_spec machine d.import_name) (λ p. Among p (member_specs (renamed d) machine Msvc)) (chosen_exports d chosen) (chosen_all (λ e. Among (short_import_spec machine d.import_name e) (member_specs (renamed d) machine Msvc)) short_at)) thunk_at,
+      ))
+
+  pub null_from : Contains members (null_member machine d.import_name)
+  null_from =
+      subst (λ ms. Contains ms (null_member machine d.import_name)) (sym made.made)
+      (among_contains (null_member machine d.import_name) (map member_of (member_specs (renamed d) machine Msvc)) (among_map member_of (null_descriptor_spec machine d.import_name) (member_specs (renamed d) machine Msvc) null_at))
+
+flat_listed : (machine : MachineType) (dll : List ℕ) (es : List ExportView) (last : MemberSpec) →
+    flat_map (λ (m : MemberView). m.symbols) (map member_of (map (short_import_spec machine dll) es ++ last ∷ [])) ≡ flat_map short_import_symbols es ++ (last.symbols ++ [])
+flat_listed machine dll [] last = refl
+flat_listed machine dll (e ∷ es) last =
+    ap (λ names. short_import_symbols e ++ names) (flat_listed machine dll es last) ∙ sym (append_assoc (short_import_symbols e) (flat_map short_import_symbols es) (last.symbols ++ []))
+
+pub msvc_symbols : (d : DefinitionView) (machine : MachineType) (chosen : List ℕ) →
+    symbols_listed (map member_of (specs_in Msvc d machine chosen)) ≡ symbols_of machine Msvc d.import_name (chosen_exports d chosen)
+unfolding descriptor_spec null_thunk_spec
+msvc_symbols d machine chosen =
+    ap (λ names. descriptor_symbol d.import_name ∷ names) (flat_listed machine d.import_name (chosen_exports d chosen) (null_thunk_spec machine d.import_name))
+
+-- The members for GNU's linker: a linker takes each for the object that it is.
+
+-- the file of an object is no short import
+no_short : (bytes : List ℕ) (short : Option ShortImport) (object : Option Object) (o : Object) → short_import_or_object short object ≡ Some (ObjectFile o) → object ≡ Some o
+no_short bytes (Some r) object o is = cc
+no_short bytes None None o is = cc
+no_short bytes None (Some p) o is = cc
+
+-- the object of a file is taken with its section symbols
+object_taken : (machine : MachineType) (bytes : List ℕ) (o p : Object) → file_in bytes ≡ Some (ObjectFile o) → object_in bytes ≡ Some p → expanded_in machine bytes ≡ Some (with_section_symbols p)
+object_taken machine bytes o p is read =
+    let same : Some o ≡ Some p = sym (no_short bytes (short_import_in bytes) (object_in bytes) o is) ∙ read in
+    let here : o ≡ p = cc in
+    taken_by machine bytes (ObjectFile o) is ∙ ap (λ x. Some (with_section_symbols x)) here
+
+head_plain : (machine : MachineType) (dll : List ℕ) → with_section_symbols (head machine dll) ≡ head machine dll
+unfolding with_section_symbols head_object
+head_plain machine dll = refl
+
+tail_plain : (machine : MachineType) (dll : List ℕ) → with_section_symbols (tail machine dll) ≡ tail machine dll
+unfolding with_section_symbols tail_object
+tail_plain machine dll = refl
+
+export_plain : (machine : MachineType) (dll : List ℕ) (e : ExportView) → with_section_symbols (export machine dll e) ≡ export machine dll e
+unfolding with_section_symbols export_object
+export_plain machine dll e = elim (cases_Bool e.is_data) [ inl is ↦ rw is refl | inr is ↦ rw is refl ]
+
+exports_plain : (machine : MachineType) (dll : List ℕ) (es : List ExportView) →
+    map with_section_symbols (map (export machine dll) es ++ tail machine dll ∷ []) ≡ map (export machine dll) es ++ tail machine dll ∷ []
+exports_plain machine dll [] = ap (λ o. o ∷ []) (tail_plain machine dll)
+exports_plain machine dll (x ∷ xs) =
+    ap (λ o. o ∷ map with_section_symbols (map (export machine dll) xs ++ tail machine dll ∷ [])) (export_plain machine dll x)
+    ∙ ap (λ os. export machine dll x ∷ os) (exports_plain machine dll xs)
+
+objects_plain : (machine : MachineType) (dll : List ℕ) (es : List ExportView) → map with_section_symbols (linked_objects machine dll es) ≡ linked_objects machine dll es
+objects_plain machine dll es =
+    ap (λ o. o ∷ map with_section_symbols (map (export machine dll) es ++ tail machine dll ∷ [])) (head_plain machine dll)
+    ∙ ap (λ os. head machine dll ∷ os) (exports_plain machine dll es)
+
+IsObject : Contents → Type 0
+IsObject (AShortImport r) = ⊥
+IsObject (AnObject p) = Unit {0}
+
+one_taken : (machine : MachineType) (contents : Contents) (o : Object) → IsObject contents → file_in (file_bytes contents) ≡ Some (file_of contents) →
+    object_in (file_bytes contents) ≡ Some o → expanded_in machine (file_bytes contents) ≡ Some (with_section_symbols o)
+unfolding IsObject
+one_taken machine (AShortImport r) o is read object = absurd is
+one_taken machine (AnObject p) o is read object = object_taken machine (encoded p) (object_of p) o read object
+
+each_taken : (machine : MachineType) (ps : List MemberSpec) (os : List Object) → AllByRecursion (λ p. IsObject p.contents) ps → AllByRecursion (λ p. ReadsBack p.contents) ps →
+    map (λ (p : MemberSpec). object_in (member_of p).bytes) ps ≡ map Some os → map (λ (p : MemberSpec). expanded_in machine (member_of p).bytes) ps ≡ map Some (map with_section_symbols os)
+each_taken machine [] [] are reads is = refl
+each_taken machine [] (o ∷ os) are reads is = cc
+each_taken machine (p ∷ ps) [] are reads is = cc
+each_taken machine (p ∷ ps) (o ∷ os) are reads is =
+    let first : object_in (member_of p).bytes ≡ Some o = cc in
+    let rest : map (λ (p : MemberSpec). object_in (member_of p).bytes) ps ≡ map Some os = cc in
+    ap (λ x. x ∷ map (λ (p : MemberSpec). expanded_in machine (member_of p).bytes) ps) (one_taken machine p.contents o are.0 reads.0.read first)
+    ∙ ap (λ xs. Some (with_section_symbols o) ∷ xs) (each_taken machine ps os are.1 reads.1 rest)
+
+module _ (machine : MachineType) (dll : List ℕ) (exports : List ExportView) where
+  one_more : (n : ℕ) (o : Option ExportView) (others : List MemberSpec) (last : MemberSpec) → AllByRecursion (λ p. IsObject p.contents) (others ++ last ∷ []) →
+      AllByRecursion (λ p. IsObject p.contents) (cons_option (option_map (export_spec machine dll n) o) others ++ last ∷ [])
+  unfolding IsObject export_spec
+  one_more n None others last rest = rest
+  one_more n (Some e) others last rest = (tt, rest)
+
+  are_objects : (ns : List ℕ) → AllByRecursion (λ p. IsObject p.contents) (filter_map (numbered_spec machine dll exports) ns ++ tail_spec machine dll ∷ [])
+  unfolding IsObject tail_spec
+  are_objects [] = (tt, tt)
+  are_objects (n ∷ ns) = one_more n (slice_get exports n) (filter_map (numbered_spec machine dll exports) ns) (tail_spec machine dll) (are_objects ns)
+
+module _ (d : DefinitionView) (machine : MachineType) (members : List MemberView) (chosen : List ℕ) (made : AreMembersOf d machine Gnu members) where
+  abbrev linked : List MemberSpec
+  linked = linked_specs d machine chosen
+
+  all_objects_are : AllByRecursion (λ p. IsObject p.contents) (linked_specs d machine chosen)
+  unfolding IsObject head_spec
+  all_objects_are = (tt, are_objects machine d.import_name (public_exports (renamed d)) chosen)
+
+  all_read_back : AllByRecursion (λ p. ReadsBack p.contents) (linked_specs d machine chosen)
+  all_read_back =
+      let exports : List ExportView = public_exports (renamed d) in
+      let free = import_name_is_free d machine Gnu members made in
+      let good = exports_sound d machine Gnu members made in
+      let short = none_long d machine Gnu members made in
+      let reads = member_specs_read d machine members made in
+      all_map (λ p. Among p (gnu_specs machine d.import_name exports)) (λ p. ReadsBack p.contents)
+      (λ p m. all_among (λ (q : MemberSpec). ReadsBack q.contents) p (gnu_specs machine d.import_name exports) m reads) linked
+      (head_among machine d.import_name exports free good short, chosen_among machine d.import_name exports free good short chosen)
+
+  pub gnu_read : map (λ (m : MemberView). expanded_in machine m.bytes) (map member_of (specs_in Gnu d machine chosen)) ≡ map Some (objects_of machine Gnu d.import_name (chosen_exports d chosen) [])
+  gnu_read =
+      map_after (λ (m : MemberView). expanded_in machine m.bytes) member_of linked
+      ∙ each_taken machine linked (linked_objects machine d.import_name (chosen_exports d chosen)) all_objects_are all_read_back
+      (sym (map_after (λ (m : MemberView). object_in m.bytes) member_of linked) ∙ read_as d machine members chosen made)
+      ∙ ap (map Some) (objects_plain machine d.import_name (chosen_exports d chosen))
+
+-- In either flavour.
+
+objects_read : (d : DefinitionView) (machine : MachineType) (flavor : Flavor) (members : List MemberView) (chosen : List ℕ) → AreMembersOf d machine flavor members →
+    map (λ (m : MemberView). expanded_in machine m.bytes) (map member_of (specs_in flavor d machine chosen)) ≡ map Some (objects_of machine flavor d.import_name (chosen_exports d chosen) [])
+objects_read d machine Msvc members chosen made = msvc_read d machine members chosen made
+objects_read d machine Gnu members chosen made = gnu_read d machine members chosen made
+
+from_members : (d : DefinitionView) (machine : MachineType) (flavor : Flavor) (members : List MemberView) (chosen : List ℕ) → AreMembersOf d machine flavor members →
+    AllByRecursion (Contains members) (map member_of (specs_in flavor d machine chosen))
+from_members d machine Msvc members chosen made = msvc_from d machine members chosen made
+from_members d machine Gnu members chosen made = members_among d machine members chosen made
+
+null_among : (d : DefinitionView) (machine : MachineType) (flavor : Flavor) (members : List MemberView) (chosen : List ℕ) → AreMembersOf d machine flavor members →
+    flavor ≡ Msvc → Contains members (null_member machine d.import_name)
+null_among d machine Msvc members chosen made is = null_from d machine members chosen made
+null_among d machine Gnu members chosen made is = cc
+
+fit_in : (d : DefinitionView) (machine : MachineType) (flavor : Flavor) (members : List MemberView) (chosen : List ℕ) → AreMembersOf d machine flavor members →
+    AllByRecursion (FitsIn flavor machine) (chosen_exports d chosen)
+unfolding FitsIn
+fit_in d machine Msvc members chosen made = msvc_fit d machine members chosen made
+fit_in d machine Gnu members chosen made = exports_fit d machine members chosen made
+
+symbols_are_in : (d : DefinitionView) (machine : MachineType) (flavor : Flavor) (members : List MemberView) (chosen : List ℕ) → AreMembersOf d machine flavor members →
+    symbols_listed (map member_of (specs_in flavor d machine chosen)) ≡ symbols_of machine flavor d.import_name (chosen_exports d chosen)
+symbols_are_in d machine Msvc members chosen made = msvc_symbols d machine chosen
+symbols_are_in d machine Gnu members chosen made = symbols_are d machine members chosen made
+
+-- those that are there
+present : {X : Type 0} → List (Option X) → List X
+present xs = filter_map (λ x. x) xs
+
+filter_map-present : {X Y : Type 0} (f : X → Option Y) (xs : List X) → filter_map f xs ≡ present (map f xs)
+unfolding present
+filter_map-present f [] = refl
+filter_map-present f (x ∷ xs) = ap (λ rest. cons_option (f x) rest) (filter_map-present f xs)
+
+present-some : {X : Type 0} (xs : List X) → present (map Some xs) ≡ xs
+unfolding present
+present-some [] = refl
+present-some (x ∷ xs) = ap (λ rest. x ∷ rest) (present-some xs)
+
+-- what an input's objects are made of
+abbrev pub block_in : FlavorInput → FlavorBlock
+block_in p = record { flavor = p.flavor; dll = dll_of p; exports = exports_chosen p }
+
+objects_are : (machine : MachineType) (p : FlavorInput) → IsMadeFor machine p → objects_taken machine (members_linked machine p) ≡ objects_of machine p.flavor (dll_of p) (exports_chosen p) []
+objects_are machine p made =
+    filter_map-present (λ (m : MemberView). expanded_in machine m.bytes) (members_linked machine p)
+    ∙ ap present (objects_read p.input.definition machine p.flavor p.input.members p.input.chosen made)
+    ∙ present-some (objects_of machine p.flavor (dll_of p) (exports_chosen p) [])
+
+objects_behind : (machine : MachineType) (flavor : Flavor) (dll : List ℕ) (es : List ExportView) (rest : List Object) →
+    objects_of machine flavor dll es [] ++ rest ≡ objects_of machine flavor dll es rest
+objects_behind machine Msvc dll es rest = ap (λ os. taken_descriptor machine dll ∷ os) (append_assoc (map (asking machine dll) es) (taken_null_thunk machine dll ∷ []) rest)
+objects_behind machine Gnu dll es rest = ap (λ os. head machine dll ∷ os) (append_assoc (map (export machine dll) es) (tail machine dll ∷ []) rest)
+
+pub inputs_objects : (machine : MachineType) (ps : List FlavorInput) → AllByRecursion (IsMadeFor machine) ps → objects_taken machine (all_members machine ps) ≡ all_objects machine (map block_in ps) []
+inputs_objects machine [] are = refl
+inputs_objects machine (p ∷ ps) are =
+    filter_map-append (λ (m : MemberView). expanded_in machine m.bytes) (members_linked machine p) (all_members machine ps)
+    ∙ ap (λ objects. objects ++ objects_taken machine (all_members machine ps)) (objects_are machine p are.0)
+    ∙ ap (λ rest. objects_of machine p.flavor (dll_of p) (exports_chosen p) [] ++ rest) (inputs_objects machine ps are.1)
+    ∙ objects_behind machine p.flavor (dll_of p) (exports_chosen p) (all_objects machine (map block_in ps) [])
+
+pub inputs_symbols : (machine : MachineType) (ps : List FlavorInput) → AllByRecursion (IsMadeFor machine) ps →
+    symbols_listed (all_members machine ps) ≡ flat_map (λ (k : FlavorBlock). symbols_of machine k.flavor k.dll k.exports) (map block_in ps)
+inputs_symbols machine [] are = refl
+inputs_symbols machine (p ∷ ps) are =
+    flat_map-append (λ (m : MemberView). m.symbols) (members_linked machine p) (all_members machine ps)
+    ∙ ap (λ symbols. symbols ++ symbols_listed (all_members machine ps)) (symbols_are_in p.input.definition machine p.flavor p.input.members p.input.chosen are.0)
+    ∙ ap (λ rest. symbols_of machine p.flavor (dll_of p) (exports_chosen p) ++ rest) (inputs_symbols machine ps are.1)
+
+pub inputs_link : (machine : MachineType) (ps : List FlavorInput) → AllByRecursion (IsMadeFor machine) ps → AllByRecursion (λ p. IsFoundByName p.flavor (dll_of p)) ps →
+    AllByRecursion (CanLink machine) (map block_in ps)
+inputs_link machine [] are found = tt
+inputs_link machine (p ∷ ps) are found = (
+  record {
+    dll = import_name_is_free p.input.definition machine p.flavor p.input.members are.0;
+    exports = fit_in p.input.definition machine p.flavor p.input.members p.input.chosen are.0;
+    found = found.0;
+  },
+  inputs_link machine ps are.1 found.1,
+)
+
+pub inputs_taken : (machine : MachineType) (ps : List FlavorInput) → AllByRecursion (IsMadeFor machine) ps → AllByRecursion (IsTaken machine) ps
+inputs_taken machine [] are = tt
+inputs_taken machine (p ∷ ps) are = (
+  record {
+    from_members = from_members p.input.definition machine p.flavor p.input.members p.input.chosen are.0;
+    read = objects_read p.input.definition machine p.flavor p.input.members p.input.chosen are.0 ∙ ap (map Some) (sym (objects_are machine p are.0));
+    null = null_among p.input.definition machine p.flavor p.input.members p.input.chosen are.0;
+  },
+  inputs_taken machine ps are.1,
+)
+
+-- the null descriptor of an input for Microsoft's linker, taken
+null_read : (d : DefinitionView) (machine : MachineType) (flavor : Flavor) (members : List MemberView) (chosen : List ℕ) → AreMembersOf d machine flavor members → flavor ≡ Msvc →
+    expanded_in machine (null_member machine d.import_name).bytes ≡ Some (taken_null machine)
+null_read d machine Msvc members chosen made is = null_taken d machine members chosen made
+null_read d machine Gnu members chosen made is = cc
+
+pub null_object : (machine : MachineType) (p : FlavorInput) → IsMadeFor machine p → p.flavor ≡ Msvc → expanded_in machine (null_member machine (dll_of p)).bytes ≡ Some (taken_null machine)
+null_object machine p made is = null_read p.input.definition machine p.flavor p.input.members p.input.chosen made is
+
+-- members with the null descriptor put in are taken for their objects with its object put in
+pub objects_with_null : (machine : MachineType) (before behind : List MemberView) (null : MemberView) → expanded_in machine null.bytes ≡ Some (taken_null machine) →
+    objects_taken machine (before ++ null ∷ behind) ≡ objects_taken machine before ++ taken_null machine ∷ objects_taken machine behind
+objects_with_null machine before behind null is =
+    filter_map-append (λ (m : MemberView). expanded_in machine m.bytes) before (null ∷ behind)
+    ∙ ap (λ o. objects_taken machine before ++ cons_option o (objects_taken machine behind)) is

@@ -1,0 +1,301 @@
+-- The null descriptor, put in anywhere among objects without `.idata$3`, changes nothing of these.
+use Rattle.std.proofs.Common.{◌≡◌, ℕ, ◌+◌, ◌-◌, ◌%◌, Bool, true, false, List, [], ◌∷◌, ◌++◌, length, map, Option, Some, None, refl, ap, sym, ◌∙◌, arith, subst, inl, inr}
+use Rattle.std.specs.Prelude.{bytes_eq}
+use Rattle.std.specs.List.{AllByRecursion, filter, flat_map}
+use Rattle.std.proofs.lemmas.Bool.{cases_Bool}
+use Rattle.std.proofs.lemmas.Grind.{flat_map-append}
+use Rattle.implib.specs.declared.machine.MachineType.{MachineType}
+use Rattle.implib.specs.Link.Image.{contribution_at, contributions, contributions_in, contributions_of, filled, relocated}
+use Rattle.implib.specs.Members.ImportTables.{zeros}
+use Rattle.implib.specs.Formats.Layout.{entries_of, name_text, object_of}
+use Rattle.implib.specs.Link.Linked.{AllFind, undefined_names}
+use Rattle.implib.specs.Members.MsvcObjects.{null_descriptor, null_descriptor_symbol}
+use Rattle.implib.specs.Formats.Object.{Object, ObjectSection}
+use Rattle.implib.specs.Link.Placement.{Addresses, At, Bases, Descriptors, DirectoryEnds, DllNames, Group, HintNames, Lookups, Placed, end_after, ends_after, group_named, next_multiple, address_after, placed_from, section_addresses_of, same_group, section_address_of}
+use Rattle.implib.specs.Link.Resolution.{SymbolDefinition, defined_by, definitions, definitions_of}
+use Rattle.implib.proofs.Link.Definitions.{none_of, same_text}
+use Rattle.implib.proofs.Link.Placement.{aligned}
+use Rattle.implib.proofs.Link.Ranges.{Among}
+use Rattle.implib_link.specs.Gnu.Packed.{group_end, sections_end}
+use Rattle.implib_link.specs.Flavors.SectionSymbols.{with_section_symbols}
+use Rattle.implib_link.proofs.Flavors.Expanded.{taken_null}
+
+-- whether a group is that of `.idata$3`
+abbrev is_end : Option Group → Bool
+is_end None = false
+is_end (Some group) = same_group group DirectoryEnds
+
+-- an object without `.idata$3`
+abbrev pub EndsNothing : Object → Type 0
+EndsNothing o = AllByRecursion (λ s. is_end (group_named s.name) ≡ false) o.sections
+
+-- ends, with another one of `.idata$3`
+abbrev with_end : ℕ → Bases → Bases
+with_end n b = record b { directory_ends = n }
+
+-- Places do not depend on where `.idata$3` has come to.
+
+place_same : (n : ℕ) (b : Bases) (flags : ℕ) (g : Option Group) → is_end g ≡ false → address_after (with_end n b) flags g ≡ address_after b flags g
+place_same n b flags None none = refl
+place_same n b flags (Some Descriptors) none = refl
+place_same n b flags (Some DirectoryEnds) none = cc
+place_same n b flags (Some Lookups) none = refl
+place_same n b flags (Some Addresses) none = refl
+place_same n b flags (Some HintNames) none = refl
+place_same n b flags (Some DllNames) none = refl
+
+end_same : (n : ℕ) (b : Bases) (flags size : ℕ) (g : Option Group) → is_end g ≡ false →
+    end_after (with_end n b) (address_after (with_end n b) flags g) size ≡ with_end n (end_after b (address_after b flags g) size)
+end_same n b flags size None none = refl
+end_same n b flags size (Some Descriptors) none = refl
+end_same n b flags size (Some DirectoryEnds) none = cc
+end_same n b flags size (Some Lookups) none = refl
+end_same n b flags size (Some Addresses) none = refl
+end_same n b flags size (Some HintNames) none = refl
+end_same n b flags size (Some DllNames) none = refl
+
+places_same : (n : ℕ) (b : Bases) (sections : List ObjectSection) → AllByRecursion (λ s. is_end (group_named s.name) ≡ false) sections →
+    section_addresses_of (with_end n b) sections ≡ section_addresses_of b sections
+places_same n b [] none = refl
+places_same n b (s ∷ sections) none =
+    ap (λ a. a ∷ section_addresses_of (end_after (with_end n b) (section_address_of (with_end n b) s) (length s.bytes)) sections) (place_same n b s.flags (group_named s.name) none.0)
+    ∙ ap (λ c. section_address_of b s ∷ section_addresses_of c sections) (end_same n b s.flags (length s.bytes) (group_named s.name) none.0)
+    ∙ ap (λ ps. section_address_of b s ∷ ps) (places_same n (end_after b (section_address_of b s) (length s.bytes)) sections none.1)
+
+ends_same : (n : ℕ) (b : Bases) (sections : List ObjectSection) → AllByRecursion (λ s. is_end (group_named s.name) ≡ false) sections →
+    ends_after (with_end n b) sections ≡ with_end n (ends_after b sections)
+ends_same n b [] none = refl
+ends_same n b (s ∷ sections) none =
+    ap (λ c. ends_after c sections) (end_same n b s.flags (length s.bytes) (group_named s.name) none.0)
+    ∙ ends_same n (end_after b (section_address_of b s) (length s.bytes)) sections none.1
+
+placed_same : (n : ℕ) (b : Bases) (objects : List Object) → AllByRecursion EndsNothing objects → placed_from (with_end n b) objects ≡ placed_from b objects
+placed_same n b [] none = refl
+placed_same n b (o ∷ objects) none =
+    ap (λ ps. record { object = o; section_addresses = ps } ∷ placed_from (ends_after (with_end n b) o.sections) objects) (places_same n b o.sections none.0)
+    ∙ ap (λ c. record { object = o; section_addresses = section_addresses_of b o.sections } ∷ placed_from c objects) (ends_same n b o.sections none.0)
+    ∙ ap (λ ps. record { object = o; section_addresses = section_addresses_of b o.sections } ∷ ps) (placed_same n (ends_after b o.sections) objects none.1)
+
+-- Where `.idata$3` has come to does not change.
+
+end_kept : (b : Bases) (flags size : ℕ) (g : Option Group) → is_end g ≡ false → (end_after b (address_after b flags g) size).directory_ends ≡ b.directory_ends
+end_kept b flags size None none = refl
+end_kept b flags size (Some Descriptors) none = refl
+end_kept b flags size (Some DirectoryEnds) none = cc
+end_kept b flags size (Some Lookups) none = refl
+end_kept b flags size (Some Addresses) none = refl
+end_kept b flags size (Some HintNames) none = refl
+end_kept b flags size (Some DllNames) none = refl
+
+ends_kept : (b : Bases) (sections : List ObjectSection) → AllByRecursion (λ s. is_end (group_named s.name) ≡ false) sections → (ends_after b sections).directory_ends ≡ b.directory_ends
+ends_kept b [] none = refl
+ends_kept b (s ∷ sections) none =
+    ends_kept (end_after b (section_address_of b s) (length s.bytes)) sections none.1 ∙ end_kept b s.flags (length s.bytes) (group_named s.name) none.0
+
+-- the ends after objects
+ends_behind : Bases → List Object → Bases
+ends_behind b [] = b
+ends_behind b (o ∷ objects) = ends_behind (ends_after b o.sections) objects
+
+ends_behind_kept : (b : Bases) (objects : List Object) → AllByRecursion EndsNothing objects → (ends_behind b objects).directory_ends ≡ b.directory_ends
+unfolding ends_behind
+ends_behind_kept b [] none = refl
+ends_behind_kept b (o ∷ objects) none = ends_behind_kept (ends_after b o.sections) objects none.1 ∙ ends_kept b o.sections none.0
+
+placed-append : (b : Bases) (xs ys : List Object) → placed_from b (xs ++ ys) ≡ placed_from b xs ++ placed_from (ends_behind b xs) ys
+unfolding ends_behind
+placed-append b [] ys = refl
+placed-append b (o ∷ xs) ys = ap (λ ps. record { object = o; section_addresses = section_addresses_of b o.sections } ∷ ps) (placed-append (ends_after b o.sections) xs ys)
+
+-- nothing of `.idata$3` is in such objects
+contribution_none : (b : Bases) (flags : ℕ) (bytes : List ℕ) (g : Option Group) → is_end g ≡ false → contribution_at DirectoryEnds (address_after b flags g) bytes ≡ []
+contribution_none b flags bytes None none = refl
+contribution_none b flags bytes (Some Descriptors) none = refl
+contribution_none b flags bytes (Some DirectoryEnds) none = cc
+contribution_none b flags bytes (Some Lookups) none = refl
+contribution_none b flags bytes (Some Addresses) none = refl
+contribution_none b flags bytes (Some HintNames) none = refl
+contribution_none b flags bytes (Some DllNames) none = refl
+
+sections_none : (machine : MachineType) (linked : List Placed) (p : Placed) (b : Bases) (sections : List ObjectSection) →
+    AllByRecursion (λ s. is_end (group_named s.name) ≡ false) sections → contributions_in machine linked p DirectoryEnds (section_addresses_of b sections) sections ≡ []
+sections_none machine linked p b [] none = refl
+sections_none machine linked p b (s ∷ sections) none =
+    ap (λ cs. cs ++ contributions_in machine linked p DirectoryEnds (section_addresses_of (end_after b (section_address_of b s) (length s.bytes)) sections) sections)
+    (contribution_none b s.flags (relocated machine linked p s.relocations s.bytes) (group_named s.name) none.0)
+    ∙ sections_none machine linked p (end_after b (section_address_of b s) (length s.bytes)) sections none.1
+
+objects_none : (machine : MachineType) (linked : List Placed) (b : Bases) (objects : List Object) → AllByRecursion EndsNothing objects →
+    contributions machine linked DirectoryEnds (placed_from b objects) ≡ []
+objects_none machine linked b [] none = refl
+objects_none machine linked b (o ∷ objects) none =
+    ap (λ cs. cs ++ contributions machine linked DirectoryEnds (placed_from (ends_after b o.sections) objects))
+    (sections_none machine linked (record { object = o; section_addresses = section_addresses_of b o.sections }) b o.sections none.0)
+    ∙ objects_none machine linked (ends_after b o.sections) objects none.1
+
+-- Lists with an element put in.
+
+filter_insert : {X : Type 0} (test : X → Bool) (xs ys : List X) (n : X) → test n ≡ true → filter test (xs ++ ys) ≡ [] → filter test (xs ++ n ∷ ys) ≡ n ∷ []
+filter_insert test [] ys n is none = rw is (ap (λ others. n ∷ others) none)
+filter_insert test (x ∷ xs) ys n is none =
+    elim (cases_Bool (test x)) [
+      | inl holds ↦ let some : x ∷ filter test (xs ++ ys) ≡ [] = rw holds at none in cc
+      | inr fails ↦ let rest : filter test (xs ++ ys) ≡ [] = rw fails at none in rw fails (filter_insert test xs ys n is rest)
+    ]
+
+filter_other : {X : Type 0} (test : X → Bool) (xs ys : List X) (n : X) → test n ≡ false → filter test (xs ++ n ∷ ys) ≡ filter test (xs ++ ys)
+filter_other test [] ys n is = rw is refl
+filter_other test (x ∷ xs) ys n is =
+    elim (cases_Bool (test x)) [
+      | inl holds ↦ rw holds (ap (λ others. x ∷ others) (filter_other test xs ys n is))
+      | inr fails ↦ rw fails (filter_other test xs ys n is)
+    ]
+
+flat_insert : {X Y : Type 0} (f : X → List Y) (xs ys : List X) (n : X) → flat_map f (xs ++ n ∷ ys) ≡ flat_map f xs ++ (f n ++ flat_map f ys)
+flat_insert f xs ys n = flat_map-append f xs (n ∷ ys)
+
+flat_none : {X Y : Type 0} (f : X → List Y) (xs ys : List X) (n : X) → f n ≡ [] → flat_map f (xs ++ n ∷ ys) ≡ flat_map f (xs ++ ys)
+flat_none f xs ys n none =
+    flat_insert f xs ys n ∙ ap (λ own. flat_map f xs ++ (own ++ flat_map f ys)) none ∙ sym (flat_map-append f xs ys)
+
+pub all_insert : {X : Type 0} (P : X → Type 0) (xs ys : List X) (n : X) → P n → AllByRecursion P (xs ++ ys) → AllByRecursion P (xs ++ n ∷ ys)
+all_insert P [] ys n here all = (here, all)
+all_insert P (x ∷ xs) ys n here all = (all.0, all_insert P xs ys n here all.1)
+
+among_insert : {X : Type 0} (x : X) (xs ys : List X) (n : X) → Among x (xs ++ ys) → Among x (xs ++ n ∷ ys)
+unfolding Among
+among_insert x [] ys n m = inr m
+among_insert x (y ∷ xs) ys n (inl e) = inl e
+among_insert x (y ∷ xs) ys n (inr m) = inr (among_insert x xs ys n m)
+
+pub all_front : {X : Type 0} (P : X → Type 0) (xs ys : List X) → AllByRecursion P (xs ++ ys) → AllByRecursion P xs
+all_front P [] ys all = tt
+all_front P (x ∷ xs) ys all = (all.0, all_front P xs ys all.1)
+
+pub all_back : {X : Type 0} (P : X → Type 0) (xs ys : List X) → AllByRecursion P (xs ++ ys) → AllByRecursion P ys
+all_back P [] ys all = all
+all_back P (x ∷ xs) ys all = all_back P xs ys all.1
+
+abbrev pub null_definition : Bases → SymbolDefinition
+null_definition b = record { name = null_descriptor_symbol; address = Some b.directory_ends }
+
+module _ (machine : MachineType) (b : Bases) (xs ys : List Object) (none : AllByRecursion EndsNothing (xs ++ ys)) (even : b.directory_ends % 4 ≡ 0) where
+  abbrev last : Bases
+  last = ends_behind b xs
+
+  abbrev own : Placed
+  own = record { object = taken_null machine; section_addresses = At DirectoryEnds b.directory_ends ∷ [] }
+
+  abbrev front : List Placed
+  front = placed_from b xs
+
+  abbrev back : List Placed
+  back = placed_from (ends_behind b xs) ys
+
+  without : placed_from b (xs ++ ys) ≡ front ++ back
+  without = placed-append b xs ys
+
+  with_null : placed_from b (xs ++ taken_null machine ∷ ys) ≡ front ++ own ∷ back
+  unfolding with_section_symbols object_of null_descriptor entries_of name_text ends_behind
+  with_null =
+      let place : ℕ = next_multiple 4 last.directory_ends in
+      let same : next_multiple 4 last.directory_ends ≡ b.directory_ends =
+      ap (next_multiple 4) (ends_behind_kept b xs (all_front EndsNothing xs ys none)) ∙ aligned b.directory_ends even in
+      placed-append b xs (taken_null machine ∷ ys)
+      ∙ ap (λ ps. front ++ record { object = taken_null machine; section_addresses = At DirectoryEnds place ∷ [] } ∷ ps) (placed_same (place + 20) last ys (all_back EndsNothing xs ys none))
+      ∙ ap (λ n. front ++ record { object = taken_null machine; section_addresses = At DirectoryEnds n ∷ [] } ∷ back) same
+
+  contributions_same : (linked : List Placed) (group : Group) → contributions_of machine linked group own ≡ [] →
+      contributions machine linked group (placed_from b (xs ++ taken_null machine ∷ ys)) ≡ contributions machine linked group (placed_from b (xs ++ ys))
+  contributions_same linked group empty =
+      ap (contributions machine linked group) with_null ∙ flat_none (contributions_of machine linked group) front back own empty ∙ sym (ap (contributions machine linked group) without)
+
+  pub descriptors_same : (linked : List Placed) → contributions machine linked Descriptors (placed_from b (xs ++ taken_null machine ∷ ys)) ≡ contributions machine linked Descriptors (placed_from b (xs ++ ys))
+  unfolding with_section_symbols object_of null_descriptor entries_of name_text
+  descriptors_same linked = contributions_same linked Descriptors refl
+
+  pub lookups_same : (linked : List Placed) → contributions machine linked Lookups (placed_from b (xs ++ taken_null machine ∷ ys)) ≡ contributions machine linked Lookups (placed_from b (xs ++ ys))
+  unfolding with_section_symbols object_of null_descriptor entries_of name_text
+  lookups_same linked = contributions_same linked Lookups refl
+
+  pub addresses_same : (linked : List Placed) → contributions machine linked Addresses (placed_from b (xs ++ taken_null machine ∷ ys)) ≡ contributions machine linked Addresses (placed_from b (xs ++ ys))
+  unfolding with_section_symbols object_of null_descriptor entries_of name_text
+  addresses_same linked = contributions_same linked Addresses refl
+
+  pub hint_names_same : (linked : List Placed) → contributions machine linked HintNames (placed_from b (xs ++ taken_null machine ∷ ys)) ≡ contributions machine linked HintNames (placed_from b (xs ++ ys))
+  unfolding with_section_symbols object_of null_descriptor entries_of name_text
+  hint_names_same linked = contributions_same linked HintNames refl
+
+  pub dll_names_same : (linked : List Placed) → contributions machine linked DllNames (placed_from b (xs ++ taken_null machine ∷ ys)) ≡ contributions machine linked DllNames (placed_from b (xs ++ ys))
+  unfolding with_section_symbols object_of null_descriptor entries_of name_text
+  dll_names_same linked = contributions_same linked DllNames refl
+
+  -- the null descriptor alone is in `.idata$3`
+  ends_are : (linked : List Placed) → contributions machine linked DirectoryEnds (placed_from b (xs ++ taken_null machine ∷ ys)) ≡ record { address = b.directory_ends; bytes = zeros 20 } ∷ []
+  unfolding with_section_symbols object_of null_descriptor entries_of name_text
+  ends_are linked =
+      ap (contributions machine linked DirectoryEnds) with_null
+      ∙ flat_insert (contributions_of machine linked DirectoryEnds) front back own
+      ∙ ap (λ cs. cs ++ (record { address = b.directory_ends; bytes = zeros 20 } ∷ contributions machine linked DirectoryEnds back))
+      (objects_none machine linked b xs (all_front EndsNothing xs ys none))
+      ∙ ap (λ cs. record { address = b.directory_ends; bytes = zeros 20 } ∷ cs) (objects_none machine linked last ys (all_back EndsNothing xs ys none))
+
+  pub null_filled : (linked : List Placed) →
+      filled b.directory_ends (contributions machine linked DirectoryEnds (placed_from b (xs ++ taken_null machine ∷ ys))) ≡ zeros 20
+  null_filled linked =
+      let same : b.directory_ends - b.directory_ends ≡ 0 = omega arith in
+      ap (filled b.directory_ends) (ends_are linked) ∙ ap (λ n. zeros n ++ (zeros 20 ++ [])) same
+
+  definitions_with : definitions (placed_from b (xs ++ taken_null machine ∷ ys)) ≡ definitions front ++ null_definition b ∷ definitions back
+  unfolding with_section_symbols object_of null_descriptor entries_of name_text
+  definitions_with =
+      let plain : b.directory_ends + 0 ≡ b.directory_ends = omega arith in
+      ap definitions with_null ∙ flat_insert defined_by front back own
+      ∙ ap (λ n. definitions front ++ record { name = null_descriptor_symbol; address = Some n } ∷ definitions back) plain
+
+  definitions_without : definitions (placed_from b (xs ++ ys)) ≡ definitions front ++ definitions back
+  definitions_without = ap definitions without ∙ flat_map-append defined_by front back
+
+  -- another name's definitions are the same
+  pub others_same : (name : List ℕ) → bytes_eq name null_descriptor_symbol ≡ false →
+      definitions_of name (placed_from b (xs ++ taken_null machine ∷ ys)) ≡ definitions_of name (placed_from b (xs ++ ys))
+  others_same name other =
+      ap (λ ds. filter (λ (d : SymbolDefinition). bytes_eq name d.name) ds) definitions_with
+      ∙ filter_other (λ (d : SymbolDefinition). bytes_eq name d.name) (definitions front) (definitions back) (null_definition b) other
+      ∙ sym (ap (λ ds. filter (λ (d : SymbolDefinition). bytes_eq name d.name) ds) definitions_without)
+
+  -- and its own name is defined by it alone
+  pub null_once : AllByRecursion (λ other. bytes_eq null_descriptor_symbol other ≡ false) (map (λ (d : SymbolDefinition). d.name) (definitions (placed_from b (xs ++ ys)))) →
+      definitions_of null_descriptor_symbol (placed_from b (xs ++ taken_null machine ∷ ys)) ≡ null_definition b ∷ []
+  null_once apart =
+      ap (λ ds. filter (λ (d : SymbolDefinition). bytes_eq null_descriptor_symbol d.name) ds) definitions_with
+      ∙ filter_insert (λ (d : SymbolDefinition). bytes_eq null_descriptor_symbol d.name) (definitions front) (definitions back) (null_definition b) (same_text null_descriptor_symbol)
+      (sym (ap (λ ds. filter (λ (d : SymbolDefinition). bytes_eq null_descriptor_symbol d.name) ds) definitions_without)
+      ∙ none_of null_descriptor_symbol (definitions (placed_from b (xs ++ ys))) apart)
+
+  -- it leaves nothing to others
+  pub undefined_same : undefined_names (placed_from b (xs ++ taken_null machine ∷ ys)) ≡ undefined_names (placed_from b (xs ++ ys))
+  unfolding with_section_symbols object_of null_descriptor entries_of name_text
+  undefined_same =
+      ap undefined_names with_null ∙ flat_none _ front back own refl ∙ sym (ap undefined_names without)
+
+  -- and has no relocations
+  pub finds_same : (linked : List Placed) → AllByRecursion (AllFind linked) (placed_from b (xs ++ ys)) → AllByRecursion (AllFind linked) (placed_from b (xs ++ taken_null machine ∷ ys))
+  unfolding with_section_symbols object_of null_descriptor entries_of name_text
+  finds_same linked all =
+      subst (AllByRecursion (AllFind linked)) (sym with_null)
+      (all_insert (AllFind linked) front back own (tt, tt) (subst (AllByRecursion (AllFind linked)) without all))
+
+  -- what is placed without it is placed with it, too
+  pub among_same : (q : Placed) → Among q (placed_from b (xs ++ ys)) → Among q (placed_from b (xs ++ taken_null machine ∷ ys))
+  among_same q m = subst (Among q) (sym with_null) (among_insert q front back own (subst (Among q) without m))
+
+-- it ends `.idata$2` nowhere else
+pub group_end-append : (group : Group) (n : ℕ) (xs ys : List Object) → group_end group n (xs ++ ys) ≡ group_end group (group_end group n xs) ys
+unfolding group_end
+group_end-append group n [] ys = refl
+group_end-append group n (o ∷ xs) ys = group_end-append group (sections_end group n o.sections) xs ys
+
+pub descriptors_end_same : (machine : MachineType) (n : ℕ) (xs ys : List Object) → group_end Descriptors n (xs ++ taken_null machine ∷ ys) ≡ group_end Descriptors n (xs ++ ys)
+unfolding group_end sections_end with_section_symbols object_of null_descriptor entries_of name_text
+descriptors_end_same machine n xs ys = group_end-append Descriptors n xs (taken_null machine ∷ ys) ∙ sym (group_end-append Descriptors n xs ys)

@@ -1,0 +1,251 @@
+-- Stubs of both flavours jump through their own entries.
+use Rattle.std.proofs.Common.{◌≡◌, ℕ, zero, suc, ◌+◌, ◌*◌, ◌^◌, ◌<◌, Bool, true, false, List, [], ◌∷◌, ◌++◌, length, map, Some, refl, ap, sym, ◌∙◌, subst, inl, inr, if◌then◌else◌, arith}
+use Rattle.std.specs.Prelude.{option_map, slice_get}
+use Rattle.std.specs.List.{AllByRecursion, flat_map}
+use Rattle.std.proofs.lemmas.Option.{slice_get-map}
+use Rattle.implib.specs.declared.machine.MachineType.{MachineType}
+use Rattle.implib.specs.declared.flavor.Flavor.{Flavor}
+use Rattle.implib.specs.declared.flavor.Flavor.TheVariants.{Gnu, Msvc}
+use Rattle.implib.specs.Formats.Constants.{align_4bytes, class_external, cnt_code, mem_execute_read}
+use Rattle.implib.specs.Definition.{ExportView}
+use Rattle.implib.specs.Members.Gnu.{archive_symbols, relocations_of_stub, section, stub_bytes, stub_relocations, text_name}
+use Rattle.implib.specs.Link.Image.{Range, image_of}
+use Rattle.implib.specs.Import.{Ask, Name, Ordinal, imp_symbol}
+use Rattle.implib.specs.Members.ImportTables.{thunk_width}
+use Rattle.implib.specs.Link.Linked.{IsDefinedOnce}
+use Rattle.implib.specs.Link.Load.{BytesAt, TableAt}
+use Rattle.implib.specs.Members.Msvc.{short_import_symbols, short_import_symbol}
+use Rattle.implib.specs.Formats.Object.{ASymbol, Object}
+use Rattle.implib.specs.Link.Placement.{Bases, Placed, placed_from}
+use Rattle.implib.specs.Link.Resolution.{definitions_of, target_address}
+use Rattle.implib.proofs.Link.LinkedBlocks.{ends, starts}
+use Rattle.implib.proofs.Link.LinkedMembers.{among_contains, among_map}
+use Rattle.implib.proofs.Link.Placement.{after_head, aligned_head, ends_of_head, placed-head, placed_export}
+use Rattle.implib.proofs.Link.Ranges.{Among, all_among, among_first, among_front, among_later}
+use Rattle.implib_link.specs.Flavors.Expansion.{Code, Constant, Data, Use, import_object}
+use Rattle.implib_link.specs.Flavors.Program.{FlavorInput, IsCode, IsFlavorProgram, IsMadeFor, all_members, ask_in, dll_of, exports_chosen, imported_in, symbol_in, symbols_listed, thunks_of}
+use Rattle.implib_link.specs.Gnu.Loaded.{Writes}
+use Rattle.implib_link.specs.Gnu.Program.{has_tables}
+use Rattle.implib_link.specs.Stub.{CallReaches, CanJump, JumpsThrough}
+use Rattle.implib_link.proofs.Gnu.Blocks.{table_sum}
+use Rattle.implib_link.proofs.Flavors.Block.{behind_descriptor, ends_in, ends_of_askings, objects_of, symbols_of, use_for, wide_in}
+use Rattle.implib_link.proofs.Flavors.Blocks.{FlavorBlock, addresses_one, all_objects, ends_one, thunks_in}
+use Rattle.implib_link.proofs.Flavors.Loaded.{entry_of, flavors_load}
+use Rattle.implib_link.proofs.Flavors.Inputs.{block_in, inputs_symbols}
+use Rattle.implib_link.proofs.Flavors.Program.{flavors_link, placed_among, thunks_are, wide}
+use Rattle.implib_link.proofs.Gnu.Loaded.{times_next, times_none}
+use Rattle.implib_link.proofs.Search.Lists.{among_at, flat_map_among}
+use Rattle.implib_link.proofs.Gnu.Stubs.{among_filter, behind_exports, code_bytes, code_defined, code_here, code_relocations, export_placed, first_sum, jump_by, later_sum, same_address, target_is, thunk_below, wide_thunk}
+use Rattle.implib_link.proofs.Flavors.Expanded.{AreWide, ends_of_asking, ends_of_descriptor, placed-asking, placed-descriptor, placed-null_thunk, placed_asking, wide_aligned, wide_asking, wide_descriptor}
+
+-- Each export's object is placed, with its entry where the addresses have come to.
+
+abbrev placed_in : MachineType → Flavor → List ℕ → Bases → ExportView → Placed
+placed_in machine Msvc dll b e = placed_asking machine dll b (short_import_symbol e) (ask_in Msvc machine e) (use_for e)
+placed_in machine Gnu dll b e = placed_export machine dll b e
+
+asking_placed : (machine : MachineType) (dll : List ℕ) (es : List ExportView) (b : Bases) (rest : List Object) → AreWide machine b → (j : ℕ) (e : ExportView) → slice_get es j ≡ Some e →
+    (c : Bases) × (Among (placed_in machine Msvc dll c e) (placed_from b (behind_descriptor machine dll es rest)) × (c.addresses ≡ b.addresses + thunk_width machine * j))
+asking_placed machine dll [] b rest even j e is = cc
+asking_placed machine dll (x ∷ es) b rest even zero e is =
+    let same : x ≡ e = cc in
+    let later : List Object = behind_descriptor machine dll es rest in (
+      b,
+      (
+        subst (Among (placed_in machine Msvc dll b e)) (sym (placed-asking machine dll b (short_import_symbol x) (ask_in Msvc machine x) (use_for x) later even))
+            (subst (λ (y : ExportView). Among (placed_in machine Msvc dll b e) (placed_in machine Msvc dll b y ∷ placed_from (ends_of_asking machine b (ask_in Msvc machine x)) later)) (sym same)
+            (among_first (placed_in machine Msvc dll b e) (placed_from (ends_of_asking machine b (ask_in Msvc machine x)) later))),
+        times_none b.addresses (thunk_width machine),
+      ),
+    )
+asking_placed machine dll (x ∷ es) b rest even (suc j) e is =
+    let ask : Ask = ask_in Msvc machine x in
+    let later : Bases = ends_of_asking machine b ask in
+    let found = asking_placed machine dll es later rest (wide_asking machine b ask even) j e is in (
+      found.0,
+      (
+        subst (Among (placed_in machine Msvc dll found.0 e)) (sym (placed-asking machine dll b (short_import_symbol x) ask (use_for x) (behind_descriptor machine dll es rest) even))
+            (among_later (placed_in machine Msvc dll found.0 e) _ _ found.1.0),
+        found.1.1 ∙ times_next b.addresses (thunk_width machine) j,
+      ),
+    )
+
+one_placed : (machine : MachineType) (flavor : Flavor) (dll : List ℕ) (es : List ExportView) (b : Bases) (rest : List Object) → AreWide machine b → (j : ℕ) (e : ExportView) →
+    slice_get es j ≡ Some e →
+    (c : Bases) × (Among (placed_in machine flavor dll c e) (placed_from b (objects_of machine flavor dll es rest)) × (c.addresses ≡ b.addresses + thunk_width machine * j))
+one_placed machine Msvc dll es b rest even j e is =
+    let found = asking_placed machine dll es (ends_of_descriptor dll b) rest (wide_descriptor machine dll b even) j e is in
+    (found.0, (subst (Among (placed_in machine Msvc dll found.0 e)) (sym (placed-descriptor machine dll b (behind_descriptor machine dll es rest) even)) (among_later _ _ _ found.1.0), found.1.1))
+one_placed machine Gnu dll es b rest even j e is =
+    let found = export_placed machine dll es (ends_of_head machine dll b) rest (aligned_head machine dll b (wide_aligned machine b even)) j e is in
+    (found.0, (subst (Among (placed_in machine Gnu dll found.0 e)) (sym (placed-head machine dll b (after_head machine dll es rest) (wide_aligned machine b even))) (among_later _ _ _ found.1.0), found.1.1))
+
+behind_askings : (machine : MachineType) (dll : List ℕ) (es : List ExportView) (b : Bases) (rest : List Object) (q : Placed) → AreWide machine b → Among q (placed_from (ends_of_askings machine b es) rest) →
+    Among q (placed_from b (behind_descriptor machine dll es rest))
+unfolding ends_of_askings
+behind_askings machine dll [] b rest q even m = subst (Among q) (sym (placed-null_thunk machine dll b rest even)) (among_later q _ _ m)
+behind_askings machine dll (e ∷ es) b rest q even m =
+    let ask : Ask = ask_in Msvc machine e in
+    subst (Among q) (sym (placed-asking machine dll b (short_import_symbol e) ask (use_for e) (behind_descriptor machine dll es rest) even))
+    (among_later q _ _ (behind_askings machine dll es (ends_of_asking machine b ask) rest q (wide_asking machine b ask even) m))
+
+behind_one : (machine : MachineType) (flavor : Flavor) (dll : List ℕ) (es : List ExportView) (b : Bases) (rest : List Object) (q : Placed) → AreWide machine b →
+    Among q (placed_from (ends_in machine flavor dll b es) rest) → Among q (placed_from b (objects_of machine flavor dll es rest))
+behind_one machine Msvc dll es b rest q even m =
+    subst (Among q) (sym (placed-descriptor machine dll b (behind_descriptor machine dll es rest) even))
+    (among_later q _ _ (behind_askings machine dll es (ends_of_descriptor dll b) rest q (wide_descriptor machine dll b even) m))
+behind_one machine Gnu dll es b rest q even m =
+    subst (Among q) (sym (placed-head machine dll b (after_head machine dll es rest) (wide_aligned machine b even)))
+    (among_later q _ _ (behind_exports machine dll es (ends_of_head machine dll b) rest q (aligned_head machine dll b (wide_aligned machine b even)) m))
+
+all_placed : (machine : MachineType) (blocks : List FlavorBlock) (b : Bases) → AreWide machine b → (i j : ℕ) (k : FlavorBlock) (e : ExportView) → slice_get blocks i ≡ Some k → slice_get k.exports j ≡ Some e →
+    (c : Bases) × (Among (placed_in machine k.flavor k.dll c e) (placed_from b (all_objects machine blocks []))
+    × (c.addresses ≡ b.addresses + thunk_width machine * thunks_in i blocks + thunk_width machine * j))
+all_placed machine [] b even i j k e is chosen = cc
+all_placed machine (q ∷ blocks) b even zero j k e is chosen =
+    let same : q ≡ k = cc in
+    let found = one_placed machine q.flavor q.dll q.exports b (all_objects machine blocks []) even j e (subst (λ (x : FlavorBlock). slice_get x.exports j ≡ Some e) (sym same) chosen) in (
+      found.0,
+      (
+        subst (λ (x : FlavorBlock). Among (placed_in machine x.flavor x.dll found.0 e) (placed_from b (all_objects machine (q ∷ blocks) []))) same found.1.0,
+        first_sum found.0.addresses b.addresses (thunk_width machine) j found.1.1,
+      ),
+    )
+all_placed machine (q ∷ blocks) b even (suc i) j k e is chosen =
+    let later : Bases = ends_one machine b q in
+    let found = all_placed machine blocks later (wide_in machine q.flavor q.dll b q.exports even) i j k e is chosen in
+    let table : later.addresses + thunk_width machine * thunks_in i blocks ≡ b.addresses + thunk_width machine * (length q.exports + 1 + thunks_in i blocks) =
+    ap (λ n. n + thunk_width machine * thunks_in i blocks) (addresses_one machine q.flavor q.dll b q.exports)
+    ∙ table_sum b.addresses (thunk_width machine) (length q.exports + 1) (thunks_in i blocks) in (
+      found.0,
+      (
+        behind_one machine q.flavor q.dll q.exports b (all_objects machine blocks []) (placed_in machine k.flavor k.dll found.0 e) even found.1.0,
+        later_sum found.0.addresses (later.addresses + thunk_width machine * thunks_in i blocks) (b.addresses + thunk_width machine * (length q.exports + 1 + thunks_in i blocks)) (thunk_width machine) j found.1.1 table,
+      ),
+    )
+
+-- The code of an export for Microsoft's linker.
+
+use_is : (is_data constant : Bool) → is_data ≡ false → constant ≡ false → (if is_data then Data else if constant then Constant else Code) ≡ Code
+use_is false false data_is constant_is = refl
+use_is true constant data_is constant_is = cc
+use_is false true data_is constant_is = cc
+
+asking_defined : (machine : MachineType) (dll : List ℕ) (b : Bases) (symbol : List ℕ) (ask : Ask) →
+    Among (ASymbol (record { name = symbol; value = 0; section = 1; kind = 0; class = class_external })) (placed_asking machine dll b symbol ask Code).object.entries
+unfolding import_object Among
+asking_defined machine dll b symbol (Ordinal n) = inr (inr (inr (inl refl)))
+asking_defined machine dll b symbol (Name text hint) = inr (inr (inr (inr (inl refl))))
+
+asking_code : (machine : MachineType) (dll : List ℕ) (b : Bases) (symbol : List ℕ) (ask : Ask) →
+    slice_get (placed_asking machine dll b symbol ask Code).object.sections 0 ≡ Some (section text_name (cnt_code + align_4bytes + mem_execute_read) (stub_bytes machine) (stub_relocations machine 2))
+unfolding import_object
+asking_code machine dll b symbol ask = refl
+
+asking_target : (machine : MachineType) (dll : List ℕ) (linked : List Placed) (b : Bases) (symbol : List ℕ) (ask : Ask) (use_kind : Use) (entry : ℕ) → b.addresses ≡ entry →
+    target_address linked (placed_asking machine dll b symbol ask use_kind) 2 ≡ entry
+unfolding import_object
+asking_target machine dll linked b symbol ask use_kind entry same =
+    let plain : b.addresses + 0 ≡ b.addresses = omega arith in
+    plain ∙ same
+
+-- what a jump needs, in either flavour
+record CodeOf (machine : MachineType) (linked : List Placed) (symbol : List ℕ) (own : Placed) (entry : ℕ) : Type 0 where
+  defined : Among (ASymbol (record { name = symbol; value = 0; section = 1; kind = 0; class = class_external })) own.object.entries
+  here : slice_get own.object.sections 0 ≡ Some (section text_name (cnt_code + align_4bytes + mem_execute_read) (stub_bytes machine) (stub_relocations machine 2))
+  target : target_address linked own 2 ≡ entry
+
+msvc_code : (machine : MachineType) (dll : List ℕ) (linked : List Placed) (b : Bases) (symbol : List ℕ) (ask : Ask) (use_kind : Use) (entry : ℕ) → use_kind ≡ Code → b.addresses ≡ entry →
+    CodeOf machine linked symbol (placed_asking machine dll b symbol ask use_kind) entry
+msvc_code machine dll linked b symbol ask use_kind entry is same =
+    subst (λ (u : Use). CodeOf machine linked symbol (placed_asking machine dll b symbol ask u) entry) (sym is) (record {
+      defined = asking_defined machine dll b symbol ask;
+      here = asking_code machine dll b symbol ask;
+      target = asking_target machine dll linked b symbol ask Code entry same;
+    })
+
+code_in : (machine : MachineType) (flavor : Flavor) (dll : List ℕ) (linked : List Placed) (b : Bases) (e : ExportView) (entry : ℕ) → IsCode flavor e → b.addresses ≡ entry →
+    CodeOf machine linked (symbol_in flavor e) (placed_in machine flavor dll b e) entry
+code_in machine Msvc dll linked b e entry is same = msvc_code machine dll linked b (short_import_symbol e) (ask_in Msvc machine e) (use_for e) entry (use_is e.is_data e.constant is.0 is.1) same
+code_in machine Gnu dll linked b e entry is same = record {
+  defined = code_defined machine dll b e is;
+  here = code_here machine dll b e
+      ∙ ap (λ bytes. Some (section text_name (cnt_code + align_4bytes + mem_execute_read) bytes (relocations_of_stub machine e))) (code_bytes machine e is)
+      ∙ ap (λ rs. Some (section text_name (cnt_code + align_4bytes + mem_execute_read) (stub_bytes machine) rs)) (code_relocations machine e is);
+  target = target_is machine dll linked b e entry is same;
+}
+
+-- the name of code is one that its member is listed for
+listed_in : (machine : MachineType) (flavor : Flavor) (dll : List ℕ) (es : List ExportView) (j : ℕ) (e : ExportView) → slice_get es j ≡ Some e → IsCode flavor e →
+    Among (symbol_in flavor e) (symbols_of machine flavor dll es)
+unfolding Among
+listed_in machine Msvc dll es j e at is =
+    let code : e.is_data ≡ false = is.0 in
+    let own : Among (short_import_symbol e) (short_import_symbols e) = rw code (inr (inl refl)) in
+    among_later _ _ _ (among_front (short_import_symbol e) (flat_map short_import_symbols es) _ (flat_map_among short_import_symbols (short_import_symbol e) es e (among_at e es j at) own))
+listed_in machine Gnu dll es j e at is =
+    let own : Among e.name (archive_symbols e) = rw is (inl refl) in
+    among_later _ _ _ (among_front e.name (flat_map archive_symbols es) _ (flat_map_among archive_symbols e.name es e (among_at e es j at) own))
+
+name_listed : (machine : MachineType) (inputs : List FlavorInput) (i j : ℕ) (p : FlavorInput) (e : ExportView) → AllByRecursion (IsMadeFor machine) inputs →
+    slice_get inputs i ≡ Some p → slice_get (exports_chosen p) j ≡ Some e → IsCode p.flavor e → Among (symbol_in p.flavor e) (symbols_listed (all_members machine inputs))
+name_listed machine inputs i j p e made input chosen is =
+    subst (Among (symbol_in p.flavor e)) (sym (inputs_symbols machine inputs made))
+    (flat_map_among (λ (k : FlavorBlock). symbols_of machine k.flavor k.dll k.exports) (symbol_in p.flavor e) (map block_in inputs) (block_in p)
+    (among_map block_in p inputs (among_at p inputs i input)) (listed_in machine p.flavor (dll_of p) (exports_chosen p) j e chosen is))
+
+pub stubs_of_flavors_jump : (machine : MachineType) (image_base : ℕ) (bases : Bases) (inputs : List FlavorInput) (objects : List Object) (i j : ℕ) (p : FlavorInput) (e : ExportView) →
+    AllByRecursion (IsMadeFor machine) inputs → IsFlavorProgram machine bases inputs objects → CanJump machine image_base bases → slice_get inputs i ≡ Some p →
+    slice_get (exports_chosen p) j ≡ Some e → IsCode p.flavor e →
+    JumpsThrough machine image_base (placed_from bases objects) (symbol_in p.flavor e) (bases.addresses + thunk_width machine * thunks_of i inputs + thunk_width machine * j)
+stubs_of_flavors_jump machine image_base bases inputs objects i j p e made program can input chosen is =
+    let linked : List Placed = placed_from bases objects in
+    let image : List Range = image_of machine bases linked in
+    let all = flavors_link machine bases inputs objects made program in
+    let one = all.imports i p input in
+    let table : ℕ = bases.addresses + thunk_width machine * thunks_of i inputs in
+    let found = all_placed machine (map block_in inputs) bases (wide machine bases inputs objects made program) i j (block_in p) e (slice_get-map block_in inputs i ∙ ap (option_map block_in) input) chosen in
+    let own : Placed = placed_in machine p.flavor (dll_of p) found.0 e in
+    let kept = placed_among machine bases inputs objects made program own found.1.0 in
+    let entry_is : found.0.addresses ≡ table + thunk_width machine * j =
+    found.1.1 ∙ ap (λ n. bases.addresses + thunk_width machine * n + thunk_width machine * j) (thunks_are i inputs) in
+    let code = code_in machine p.flavor (dll_of p) linked found.0 e (table + thunk_width machine * j) is entry_is in
+    let small : table + thunk_width machine * j < 2 ^ 31 =
+    thunk_below image (starts machine bases objects program.admissible) (ends machine bases objects program.admissible) (thunk_width machine) (wide_thunk machine)
+    (map (ask_in p.flavor machine) (exports_chosen p)) table j (ask_in p.flavor machine e)
+    (subst (λ n. TableAt image (thunk_width machine) n (map (ask_in p.flavor machine) (exports_chosen p))) one.table_located one.loads.plain.address_table)
+    (slice_get-map (ask_in p.flavor machine) (exports_chosen p) j ∙ ap (option_map (ask_in p.flavor machine)) chosen) in
+    record {
+      once = all_among (IsDefinedOnce linked) (symbol_in p.flavor e) (symbols_listed (all_members machine inputs)) (name_listed machine inputs i j p e made input chosen is) all.listed;
+      from = own;
+      held = among_contains own linked (among_filter (λ (q : Placed). has_tables q.object) own linked kept);
+      symbol = record { name = symbol_in p.flavor e; value = 0; section = 1; kind = 0; class = class_external };
+      defined = among_contains _ _ code.defined;
+      named = refl;
+      shared = refl;
+      first = refl;
+      begins = refl;
+      code = section text_name (cnt_code + align_4bytes + mem_execute_read) (stub_bytes machine) (stub_relocations machine 2);
+      here = code.here;
+      jumps = λ place near. jump_by machine image_base bases (thunks_of i inputs) j place linked own can near small code.target;
+    }
+
+pub calls_of_flavors_reach : (machine : MachineType) (image_base : ℕ) (bases : Bases) (inputs : List FlavorInput) (objects : List Object) (gives : List ℕ → Ask → List ℕ) (written : List Range) (i j : ℕ) (p : FlavorInput)
+    (e : ExportView) → AllByRecursion (IsMadeFor machine) inputs → IsFlavorProgram machine bases inputs objects → CanJump machine image_base bases →
+    ((dll : List ℕ) (ask : Ask) → length (gives dll ask) ≡ thunk_width machine) →
+    Writes (image_of machine bases (placed_from bases objects)) (thunk_width machine) gives bases.descriptors (map (imported_in machine) inputs) written →
+    slice_get inputs i ≡ Some p → slice_get (exports_chosen p) j ≡ Some e → IsCode p.flavor e →
+    CallReaches machine image_base (written ++ image_of machine bases (placed_from bases objects)) (placed_from bases objects) (symbol_in p.flavor e) (gives (dll_of p) (ask_in p.flavor machine e))
+calls_of_flavors_reach machine image_base bases inputs objects gives written i j p e made program can wide_gives writes input chosen is =
+    let linked : List Placed = placed_from bases objects in
+    let symbol : List ℕ = imp_symbol (symbol_in p.flavor e) in
+    let place : ℕ = bases.addresses + thunk_width machine * thunks_of i inputs + thunk_width machine * j in
+    let once = entry_of machine bases inputs objects i j p e (flavors_link machine bases inputs objects made program) input chosen in
+    let holds = (flavors_load machine bases inputs objects gives written made program wide_gives writes).entries i j p e input chosen in
+    let same : holds.address ≡ place = same_address symbol holds.address place (definitions_of symbol linked) holds.once once in
+    record {
+      entry = place;
+      once = once;
+      jumps = stubs_of_flavors_jump machine image_base bases inputs objects i j p e made program can input chosen is;
+      located = subst (λ n. BytesAt (written ++ image_of machine bases linked) n (gives (dll_of p) (ask_in p.flavor machine e))) same holds.located;
+    }

@@ -1,0 +1,128 @@
+-- Objects without import tables change nothing of those that have them.
+use Rattle.std.proofs.Common.{◌≡◌, ℕ, ◌≤◌, arith, true, false, List, [], ◌∷◌, ◌++◌, None, refl, ap, sym, ◌∙◌, subst, inl, inr, codes, bytes_eq}
+use Rattle.std.specs.Prelude.{◌==◌, ◌&&◌, nat_le, not, take}
+use Rattle.std.specs.List.{AllByRecursion, filter, filter_map, list_any}
+use Rattle.std.proofs.lemmas.Bool.{and_parts, cases_Bool, false_from_ne_true, leb-true, ne_eqb, or_parts, true≢false}
+use Rattle.std.proofs.lemmas.List.Elements.{filter-append}
+use Rattle.std.proofs.lemmas.Slice.Eq.{bytes_eq-Decides}
+use Rattle.implib.specs.declared.machine.MachineType.{MachineType}
+use Rattle.implib.specs.Formats.Constants.{class_external, section_undefined}
+use Rattle.implib.specs.Formats.File.{is_defined_external}
+use Rattle.implib.specs.Link.Image.{contributions, contributions_in}
+use Rattle.implib.specs.Formats.Object.{ASymbol, Auxiliary, Entry, Object, ObjectSection, ObjectSymbol}
+use Rattle.implib.specs.Link.Placement.{Bases, Group, Unplaced, SectionAddress, Placed, ends_after, group_named, section_address_of, placed_from, section_addresses_of}
+use Rattle.implib.specs.Link.Resolution.{SymbolDefinition, defined_by_entry, definitions, definitions_of}
+use Rattle.implib_link.specs.Gnu.Program.{claimed_name, claimed_names, has_tables, is_reference, is_shared, is_table}
+
+-- a name that begins otherwise is that of no group
+other_name : (name text : List ℕ) → bytes_eq (take 7 text) (codes ".idata$") ≡ true → bytes_eq (take 7 name) (codes ".idata$") ≡ false → bytes_eq name text ≡ false
+other_name name text of_table other =
+    false_from_ne_true (bytes_eq name text) (λ same.
+    true≢false (sym (subst (λ n. bytes_eq (take 7 n) (codes ".idata$") ≡ true) (sym ((bytes_eq-Decides name text).0 same)) of_table) ∙ other))
+
+pub no_group : (name : List ℕ) → bytes_eq (take 7 name) (codes ".idata$") ≡ false → group_named name ≡ None
+no_group name other =
+    rw (
+      other_name name (codes ".idata$2") refl other,
+      other_name name (codes ".idata$3") refl other,
+      other_name name (codes ".idata$4") refl other,
+      other_name name (codes ".idata$5") refl other,
+      other_name name (codes ".idata$6") refl other,
+      other_name name (codes ".idata$7") refl other,
+    ) refl
+
+nowhere : (b : Bases) (s : ObjectSection) → is_table s ≡ false → section_address_of b s ≡ Unplaced
+nowhere b s other = rw (no_group s.name other) refl
+
+no_ends : (b : Bases) (sections : List ObjectSection) → list_any is_table sections ≡ false → ends_after b sections ≡ b
+no_ends b [] none = refl
+no_ends b (s ∷ sections) none =
+    let parts = or_parts (is_table s) (list_any is_table sections) none in
+    rw (nowhere b s parts.0) (no_ends b sections parts.1)
+
+no_contributions : (machine : MachineType) (linked : List Placed) (p : Placed) (group : Group) (b : Bases) (sections : List ObjectSection) →
+    list_any is_table sections ≡ false → contributions_in machine linked p group (section_addresses_of b sections) sections ≡ []
+no_contributions machine linked p group b [] none = refl
+no_contributions machine linked p group b (s ∷ sections) none =
+    let parts = or_parts (is_table s) (list_any is_table sections) none in
+    rw (nowhere b s parts.0) (no_contributions machine linked p group b sections parts.1)
+
+abbrev kept : List Object → List Object
+kept objects = filter has_tables objects
+
+abbrev left : List Object → List Object
+left objects = filter (λ o. not (has_tables o)) objects
+
+pub contributions_kept : (machine : MachineType) (linked : List Placed) (group : Group) (b : Bases) (objects : List Object) →
+    contributions machine linked group (placed_from b objects) ≡ contributions machine linked group (placed_from b (filter has_tables objects))
+unfolding has_tables
+contributions_kept machine linked group b [] = refl
+contributions_kept machine linked group b (o ∷ objects) =
+    elim (cases_Bool (list_any is_table o.sections)) [
+      | inl is ↦ rw is (ap (λ others. contributions_in machine linked (record { object = o; section_addresses = section_addresses_of b o.sections }) group (section_addresses_of b o.sections) o.sections ++ others)
+          (contributions_kept machine linked group (ends_after b o.sections) objects))
+      | inr none ↦ rw (none, no_contributions machine linked (record { object = o; section_addresses = section_addresses_of b o.sections }) group b o.sections none, no_ends b o.sections none)
+          (contributions_kept machine linked group b objects)
+    ]
+
+pub placed_kept : (b : Bases) (objects : List Object) →
+    filter (λ (p : Placed). has_tables p.object) (placed_from b objects) ≡ placed_from b (filter has_tables objects)
+unfolding has_tables
+placed_kept b [] = refl
+placed_kept b (o ∷ objects) =
+    elim (cases_Bool (list_any is_table o.sections)) [
+      | inl is ↦ rw is (ap (λ others. record { object = o; section_addresses = section_addresses_of b o.sections } ∷ others) (placed_kept (ends_after b o.sections) objects))
+      | inr none ↦ rw (none, no_ends b o.sections none) (placed_kept b objects)
+    ]
+
+-- a symbol that an object defines is one that it claims
+defined_is_claimed : (s : ObjectSymbol) → is_defined_external s ≡ true → (is_shared s && not (is_reference s)) ≡ true
+defined_is_claimed s is =
+    let first = and_parts ((s.class == class_external) && nat_le 1 s.section) (nat_le s.section 0x7FFF) is in
+    let second = and_parts (s.class == class_external) (nat_le 1 s.section) first.0 in
+    let above : 1 ≤ s.section = leb-true 1 s.section second.1 in
+    let placed : (s.section == section_undefined) ≡ false = ne_eqb s.section 0 (λ none. omega arith) in
+    rw (second.0, placed) refl
+
+claims_fewer : (name : List ℕ) (s : ObjectSymbol) (entries : List Entry) → list_any (bytes_eq name) (filter_map claimed_name (ASymbol s ∷ entries)) ≡ false →
+    list_any (bytes_eq name) (filter_map claimed_name entries) ≡ false
+claims_fewer name s entries none =
+    elim (cases_Bool (is_shared s && not (is_reference s))) [
+      | inl is ↦ (or_parts (bytes_eq name s.name) (list_any (bytes_eq name) (filter_map claimed_name entries)) (rw is at none)).1
+      | inr is ↦ rw is at none
+    ]
+
+defines_none : (name : List ℕ) (section_addresses : List SectionAddress) (entries : List Entry) → list_any (bytes_eq name) (filter_map claimed_name entries) ≡ false →
+    filter (λ (d : SymbolDefinition). bytes_eq name d.name) (filter_map (defined_by_entry section_addresses) entries) ≡ []
+defines_none name section_addresses [] none = refl
+defines_none name section_addresses (Auxiliary bytes ∷ entries) none = defines_none name section_addresses entries none
+defines_none name section_addresses (ASymbol s ∷ entries) none =
+    elim (cases_Bool (is_defined_external s)) [
+      | inl is ↦
+          let claimed : list_any (bytes_eq name) (s.name ∷ filter_map claimed_name entries) ≡ false = rw (defined_is_claimed s is) at none in
+          let parts = or_parts (bytes_eq name s.name) (list_any (bytes_eq name) (filter_map claimed_name entries)) claimed in
+          rw (is, parts.0) (defines_none name section_addresses entries parts.1)
+      | inr other ↦
+          rw other (defines_none name section_addresses entries (claims_fewer name s entries none))
+    ]
+
+-- the definitions of a name that the others do not claim
+pub definitions_kept : (name : List ℕ) (b : Bases) (objects : List Object) →
+    AllByRecursion (λ o. list_any (bytes_eq name) (claimed_names o) ≡ false) (filter (λ o. not (has_tables o)) objects) →
+    definitions_of name (placed_from b objects) ≡ definitions_of name (placed_from b (filter has_tables objects))
+unfolding has_tables
+definitions_kept name b [] none = refl
+definitions_kept name b (o ∷ objects) none =
+    let own : List SymbolDefinition = filter_map (defined_by_entry (section_addresses_of b o.sections)) o.entries in
+    let later : List SymbolDefinition = definitions (placed_from (ends_after b o.sections) objects) in
+    filter-append (λ (d : SymbolDefinition). bytes_eq name d.name) own later
+    ∙ elim (cases_Bool (list_any is_table o.sections)) as (λ _. filter (λ (d : SymbolDefinition). bytes_eq name d.name) own ++ definitions_of name (placed_from (ends_after b o.sections) objects)
+    ≡ definitions_of name (placed_from b (filter has_tables (o ∷ objects)))) [
+      | inl is ↦
+          let none_left : AllByRecursion (λ o. list_any (bytes_eq name) (claimed_names o) ≡ false) (filter (λ o. not (has_tables o)) objects) = rw is at none in
+          rw is (ap (λ others. filter (λ (d : SymbolDefinition). bytes_eq name d.name) own ++ others) (definitions_kept name (ends_after b o.sections) objects none_left)
+          ∙ sym (filter-append (λ (d : SymbolDefinition). bytes_eq name d.name) own (definitions (placed_from (ends_after b o.sections) (filter has_tables objects)))))
+      | inr is ↦
+          let parts : (list_any (bytes_eq name) (claimed_names o) ≡ false) × AllByRecursion (λ o. list_any (bytes_eq name) (claimed_names o) ≡ false) (filter (λ o. not (has_tables o)) objects) = rw is at none in
+          rw (is, defines_none name (section_addresses_of b o.sections) o.entries parts.0, no_ends b o.sections is) (definitions_kept name b objects parts.1)
+    ]

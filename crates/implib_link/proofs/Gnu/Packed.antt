@@ -1,0 +1,306 @@
+-- Packed placement is admissible.
+use Rattle.std.proofs.Common.{◌≡◌, ℕ, ◌+◌, ◌-◌, ◌%◌, ◌^◌, ◌<◌, ◌≤◌, true, false, List, [], ◌∷◌, ◌++◌, length, map, Option, Some, None, refl, ap, sym, ◌∙◌, subst, inl, inr, arith}
+use Rattle.std.specs.Prelude.{bytes_eq, if◌then◌else◌, nat_le, nat_lt}
+use Rattle.std.specs.List.{AllByRecursion, IsDistinct, filter, list_any}
+use Rattle.std.proofs.lemmas.Bool.{and_parts, cases_Bool, leb-true, ltb-true, or_parts}
+use Rattle.std.proofs.lemmas.List.{append_assoc, length-append, length-replicate}
+use Rattle.implib.specs.declared.machine.MachineType.{MachineType}
+use Rattle.implib.specs.Link.Image.{AllApart, AreApart, Contribution, IsAdmissible, IsBase, Range, contribution_at, contributions, contributions_in, filled, image_of, range_end, range_of, relocated}
+use Rattle.implib.specs.Link.LinkedMembers.{IsMade, LinkInput, all_linked, objects_in}
+use Rattle.implib.specs.Members.ImportTables.{zeros}
+use Rattle.implib.specs.Formats.Object.{Object, ObjectSection}
+use Rattle.implib.specs.Link.Placement.{Addresses, Bases, Descriptors, DirectoryEnds, DllNames, Group, HintNames, Lookups, Placed, alignment, base_of, end_after, ends_after, group_named, next_multiple, address_after, section_address_of, placed_from, section_addresses_of, same_group, with_base}
+use Rattle.implib.proofs.Link.LinkedInputs.{block_of, gnu_inputs_objects}
+use Rattle.implib.proofs.Link.Placement.{at_least}
+use Rattle.implib_link.specs.Gnu.Packed.{end_with, group_end, packed, packed_addresses, packed_descriptors, packed_directory_ends, packed_dll_names, packed_end, packed_hint_names, packed_lookups, sections_end}
+use Rattle.implib_link.specs.Gnu.Program.{IsProgram, has_tables, is_table, linked_symbols, null_descriptor}
+use Rattle.implib_link.proofs.Gnu.Alone.{all_kept, members_are_program, members_have}
+use Rattle.implib_link.proofs.Gnu.Blocks.{objects_behind}
+use Rattle.implib_link.proofs.Gnu.Others.{contributions_kept, no_group}
+use Rattle.implib_link.proofs.Gnu.Sized.{AreWithin, IsSized, blocks_sized, length-relocated}
+
+-- Groups do not touch one another.
+
+base_with : (group other : Group) (n : ℕ) (b : Bases) → base_of group (with_base other n b) ≡ (if same_group group other then n else base_of group b)
+base_with Descriptors Descriptors n b = refl
+base_with DirectoryEnds Descriptors n b = refl
+base_with Lookups Descriptors n b = refl
+base_with Addresses Descriptors n b = refl
+base_with HintNames Descriptors n b = refl
+base_with DllNames Descriptors n b = refl
+base_with group other n b = refl
+
+same_base : (group other : Group) (b : Bases) → same_group group other ≡ true → base_of other b ≡ base_of group b
+same_base Descriptors Descriptors b is = refl
+same_base DirectoryEnds DirectoryEnds b is = refl
+same_base Lookups Lookups b is = refl
+same_base Addresses Addresses b is = refl
+same_base HintNames HintNames b is = refl
+same_base DllNames DllNames b is = refl
+same_base group other b is = cc
+
+-- the end of a group behind a section
+end_of_section : (group : Group) (b : Bases) (s : ObjectSection) (named : Option Group) →
+    base_of group (end_after b (address_after b s.flags named) (length s.bytes)) ≡ end_with group (base_of group b) s named
+end_of_section group b s None = refl
+end_of_section group b s (Some other) =
+    base_with group other (next_multiple (alignment s.flags) (base_of other b) + length s.bytes) b
+    ∙ elim (cases_Bool (same_group group other)) [
+      | inl is ↦ rw (is, same_base group other b is) refl
+      | inr is ↦ rw is refl
+    ]
+
+end_of_sections : (group : Group) (b : Bases) (sections : List ObjectSection) → base_of group (ends_after b sections) ≡ sections_end group (base_of group b) sections
+unfolding sections_end
+end_of_sections group b [] = refl
+end_of_sections group b (s ∷ sections) =
+    end_of_sections group (end_after b (section_address_of b s) (length s.bytes)) sections
+    ∙ ap (λ n. sections_end group n sections) (end_of_section group b s (group_named s.name))
+
+-- Where contributions end.
+
+-- the end of what is filled in from a base on
+span : ℕ → List Contribution → ℕ
+span base cs = base + length (filled base cs)
+
+span_nil : (base : ℕ) → span base [] ≡ base
+unfolding span
+span_nil base = omega arith
+
+span_next : (base : ℕ) (c : Contribution) (cs : List Contribution) → base ≤ c.address → span base (c ∷ cs) ≡ span (c.address + length c.bytes) cs
+unfolding span
+span_next base c cs low =
+    let padding : List ℕ = zeros (c.address - base) in
+    let padded : length padding ≡ c.address - base = length-replicate {A = ℕ} (c.address - base) 0 in
+    let all : length (padding ++ (c.bytes ++ filled (c.address + length c.bytes) cs)) ≡ length padding + length (c.bytes ++ filled (c.address + length c.bytes) cs) =
+    length-append padding (c.bytes ++ filled (c.address + length c.bytes) cs) in
+    let rest : length (c.bytes ++ filled (c.address + length c.bytes) cs) ≡ length c.bytes + length (filled (c.address + length c.bytes) cs) =
+    length-append c.bytes (filled (c.address + length c.bytes) cs) in
+    omega arith
+
+module _ (machine : MachineType) (linked : List Placed) (group : Group) where
+  span_section : (p : Placed) (b : Bases) (s : ObjectSection) (named : Option Group) (cs : List Contribution) → AreWithin (length s.bytes) s.relocations →
+      span (base_of group b) (contribution_at group (address_after b s.flags named) (relocated machine linked p s.relocations s.bytes) ++ cs) ≡ span (end_with group (base_of group b) s named) cs
+  span_section p b s None cs within = refl
+  span_section p b s (Some other) cs within =
+      elim (cases_Bool (same_group group other)) [
+        | inl is ↦
+            let bytes : List ℕ = relocated machine linked p s.relocations s.bytes in
+            let position : ℕ = next_multiple (alignment s.flags) (base_of group b) in
+            let long : length bytes ≡ length s.bytes = length-relocated machine linked p s.relocations s.bytes (length s.bytes) within refl in
+            rw (is, same_base group other b is) (
+            span_next (base_of group b) (record { address = position; bytes = bytes }) cs (at_least (alignment s.flags) (base_of group b))
+            ∙ ap (λ n. span (position + n) cs) long)
+        | inr is ↦ rw is refl
+      ]
+
+  span_sections : (p : Placed) (b : Bases) (sections : List ObjectSection) (cs : List Contribution) → AllByRecursion (λ s. AreWithin (length s.bytes) s.relocations) sections →
+      span (base_of group b) (contributions_in machine linked p group (section_addresses_of b sections) sections ++ cs) ≡ span (sections_end group (base_of group b) sections) cs
+  unfolding sections_end
+  span_sections p b [] cs sized = refl
+  span_sections p b (s ∷ sections) cs sized =
+      let later : Bases = end_after b (section_address_of b s) (length s.bytes) in
+      let own : List Contribution = contribution_at group (section_address_of b s) (relocated machine linked p s.relocations s.bytes) in
+      let others : List Contribution = contributions_in machine linked p group (section_addresses_of later sections) sections in
+      ap (span (base_of group b)) (append_assoc own others cs)
+      ∙ span_section p b s (group_named s.name) (others ++ cs) sized.0
+      ∙ ap (λ n. span n (others ++ cs)) (sym (end_of_section group b s (group_named s.name)))
+      ∙ span_sections p later sections cs sized.1
+      ∙ ap (λ n. span (sections_end group n sections) cs) (end_of_section group b s (group_named s.name))
+
+  span_objects : (b : Bases) (objects : List Object) → AllByRecursion IsSized objects →
+      span (base_of group b) (contributions machine linked group (placed_from b objects)) ≡ group_end group (base_of group b) objects
+  unfolding group_end
+  span_objects b [] sized = span_nil (base_of group b)
+  span_objects b (o ∷ objects) sized =
+      let p : Placed = record { object = o; section_addresses = section_addresses_of b o.sections } in
+      let others : List Contribution = contributions machine linked group (placed_from (ends_after b o.sections) objects) in
+      span_sections p b o.sections others sized.0
+      ∙ ap (λ n. span n others) (sym (end_of_sections group b o.sections))
+      ∙ span_objects (ends_after b o.sections) objects sized.1
+      ∙ ap (λ n. group_end group n objects) (end_of_sections group b o.sections)
+
+-- objects without tables end nothing later
+end_without : (group : Group) (n : ℕ) (sections : List ObjectSection) → list_any is_table sections ≡ false → sections_end group n sections ≡ n
+unfolding sections_end
+end_without group n [] none = refl
+end_without group n (s ∷ sections) none =
+    let inputs = or_parts (is_table s) (list_any is_table sections) none in
+    rw (no_group s.name inputs.0) (end_without group n sections inputs.1)
+
+pub end_kept : (group : Group) (n : ℕ) (objects : List Object) → group_end group n objects ≡ group_end group n (filter has_tables objects)
+unfolding group_end has_tables
+end_kept group n [] = refl
+end_kept group n (o ∷ objects) =
+    elim (cases_Bool (list_any is_table o.sections)) [
+      | inl is ↦ rw is (end_kept group (sections_end group n o.sections) objects)
+      | inr none ↦ rw (none, end_without group n o.sections none) (end_kept group n objects)
+    ]
+
+-- ends do not fall
+end_of_one : (group : Group) (n : ℕ) (s : ObjectSection) (named : Option Group) → n ≤ end_with group n s named
+end_of_one group n s None = omega arith
+end_of_one group n s (Some other) =
+    let above = at_least (alignment s.flags) n in
+    elim (cases_Bool (same_group group other)) [ inl is ↦ rw is (omega arith) | inr is ↦ rw is (omega arith) ]
+
+sections_rise : (group : Group) (n : ℕ) (sections : List ObjectSection) → n ≤ sections_end group n sections
+unfolding sections_end
+sections_rise group n [] = omega arith
+sections_rise group n (s ∷ sections) =
+    let first = end_of_one group n s (group_named s.name) in
+    let rest = sections_rise group (end_with group n s (group_named s.name)) sections in
+    omega arith
+
+ends_rise : (group : Group) (n : ℕ) (objects : List Object) → n ≤ group_end group n objects
+unfolding group_end
+ends_rise group n [] = omega arith
+ends_rise group n (o ∷ objects) =
+    let first = sections_rise group n o.sections in
+    let rest = ends_rise group (sections_end group n o.sections) objects in
+    omega arith
+
+-- Ranges one behind another, from an address to another.
+Rising : ℕ → ℕ → List Range → Type 0
+Rising low high [] = low ≤ high
+Rising low high (r ∷ rs) = (low ≤ r.start) × Rising (range_end r) high rs
+
+rising_from_below : (low above high : ℕ) (rs : List Range) → low ≤ above → Rising above high rs → Rising low high rs
+unfolding Rising
+rising_from_below low above high [] le rise = let end : above ≤ high = rise in omega arith
+rising_from_below low above high (r ∷ rs) le rise = let first : above ≤ r.start = rise.0 in (omega arith, rise.1)
+
+rising_reaches : (low high : ℕ) (rs : List Range) → Rising low high rs → low ≤ high
+unfolding Rising
+rising_reaches low high [] rise = rise
+rising_reaches low high (r ∷ rs) rise =
+    let first : low ≤ r.start = rise.0 in
+    let rest : range_end r ≤ high = rising_reaches (range_end r) high rs rise.1 in
+    omega arith
+
+rising_ends : (low high : ℕ) (rs : List Range) → Rising low high rs → high < 2 ^ 31 → AllByRecursion (λ r. range_end r < 2 ^ 31) rs
+unfolding Rising
+rising_ends low high [] rise below = tt
+rising_ends low high (r ∷ rs) rise below =
+    let end : range_end r ≤ high = rising_reaches (range_end r) high rs rise.1 in
+    (omega arith, rising_ends (range_end r) high rs rise.1 below)
+
+apart_from : (first : Range) (low high : ℕ) (rs : List Range) → range_end first ≤ low → Rising low high rs → AllByRecursion (AreApart first) rs
+unfolding Rising
+apart_from first low high [] past rise = tt
+apart_from first low high (r ∷ rs) past rise =
+    let starts : low ≤ r.start = rise.0 in (
+      λ a in_first in_other.
+          let below = ltb-true a (range_end first) (and_parts (nat_le first.start a) (nat_lt a (range_end first)) in_first).1 in
+          let above = leb-true r.start a (and_parts (nat_le r.start a) (nat_lt a (range_end r)) in_other).0 in
+          omega arith,
+      apart_from first (range_end r) high rs (omega arith) rise.1,
+    )
+
+rising_apart : (low high : ℕ) (rs : List Range) → Rising low high rs → AllApart rs
+unfolding Rising
+rising_apart low high [] rise = tt
+rising_apart low high (r ∷ rs) rise = (apart_from r (range_end r) high rs (omega arith) rise.1, rising_apart (range_end r) high rs rise.1)
+
+-- a group's range, if it has one, and others behind its end
+rising_group : (base end high : ℕ) (cs : List Contribution) (rs : List Range) → span base cs ≡ end → Rising end high rs → Rising base high (range_of base cs ++ rs)
+unfolding Rising span
+rising_group base end high [] rs is rise = rising_from_below base end high rs (omega arith) rise
+rising_group base end high (c ∷ cs) rs is rise = (omega arith, subst (λ n. Rising n high rs) (sym is) rise)
+
+end_of : (high : ℕ) → Rising high high []
+unfolding Rising
+end_of high = omega arith
+
+aligned_base : (n : ℕ) → 0 < n → IsBase (next_multiple 8 n)
+unfolding next_multiple
+aligned_base n above = (omega arith, omega arith)
+
+aligned_end : (n : ℕ) → 0 < n → IsBase (next_multiple 4 n)
+unfolding next_multiple
+aligned_end n above = (omega arith, omega arith)
+
+above_zero : (group : Group) (n : ℕ) (objects : List Object) → IsBase n → IsBase (next_multiple 8 (group_end group n objects))
+above_zero group n objects base =
+    let first : 0 < n = base.0 in
+    let end = ends_rise group n objects in
+    aligned_base (group_end group n objects) (omega arith)
+
+module _ (machine : MachineType) (first : ℕ) (objects : List Object) (sized : AllByRecursion IsSized (filter has_tables objects))
+    (above : 0 < first) (below : packed_end first objects < 2 ^ 31) where
+  abbrev bases : Bases
+  bases = packed first objects
+
+  abbrev linked : List Placed
+  linked = placed_from (packed first objects) objects
+
+  group_span : (group : Group) → span (base_of group bases) (contributions machine linked group linked) ≡ group_end group (base_of group bases) objects
+  group_span group =
+      ap (span (base_of group bases)) (contributions_kept machine linked group bases objects)
+      ∙ span_objects machine linked group bases (filter has_tables objects) sized
+      ∙ sym (end_kept group (base_of group bases) objects)
+
+  -- a group's range, and the others behind the next base
+  rising_next : (distance : ℕ) (group : Group) (rs : List Range) → Rising (next_multiple distance (group_end group (base_of group bases) objects)) (packed_end first objects) rs →
+      Rising (base_of group bases) (packed_end first objects) (range_of (base_of group bases) (contributions machine linked group linked) ++ rs)
+  rising_next distance group rs rise =
+      rising_group (base_of group bases) (group_end group (base_of group bases) objects) (packed_end first objects) (contributions machine linked group linked) rs (group_span group)
+      (rising_from_below (group_end group (base_of group bases) objects) (next_multiple distance (group_end group (base_of group bases) objects)) (packed_end first objects) rs
+      (at_least distance (group_end group (base_of group bases) objects)) rise)
+
+  last_rises : Rising (packed_dll_names first objects) (packed_end first objects) (range_of (packed_dll_names first objects) (contributions machine linked DllNames linked) ++ [])
+  last_rises = rising_group (packed_dll_names first objects) (packed_end first objects) (packed_end first objects) (contributions machine linked DllNames linked) [] (group_span DllNames) (end_of (packed_end first objects))
+
+  all_rise : Rising (packed_descriptors first) (packed_end first objects) (image_of machine (packed first objects) (placed_from (packed first objects) objects))
+  all_rise = rising_next 4 Descriptors _ (rising_next 8 DirectoryEnds _ (rising_next 8 Lookups _ (rising_next 8 Addresses _ (rising_next 8 HintNames _ last_rises))))
+
+  descriptors_base : IsBase (packed_descriptors first)
+  descriptors_base = aligned_base first above
+
+  directory_ends_base : IsBase (packed_directory_ends first objects)
+  directory_ends_base =
+      let low : 0 < packed_descriptors first = descriptors_base.0 in
+      let end = ends_rise Descriptors (packed_descriptors first) objects in
+      aligned_end (group_end Descriptors (packed_descriptors first) objects) (omega arith)
+
+  lookups_base : IsBase (packed_lookups first objects)
+  lookups_base = above_zero DirectoryEnds (packed_directory_ends first objects) objects directory_ends_base
+
+  addresses_base : IsBase (packed_addresses first objects)
+  addresses_base = above_zero Lookups (packed_lookups first objects) objects lookups_base
+
+  hint_names_base : IsBase (packed_hint_names first objects)
+  hint_names_base = above_zero Addresses (packed_addresses first objects) objects addresses_base
+
+  pub admissible : IsAdmissible machine (packed first objects) objects
+  admissible = record {
+    descriptors = descriptors_base;
+    directory_ends = directory_ends_base;
+    lookups = lookups_base;
+    addresses = addresses_base;
+    hint_names = hint_names_base;
+    dll_names = above_zero HintNames (packed_hint_names first objects) objects hint_names_base;
+    ends = rising_ends (packed_descriptors first) (packed_end first objects) (image_of machine (packed first objects) (placed_from (packed first objects) objects)) all_rise below;
+    apart = rising_apart (packed_descriptors first) (packed_end first objects) (image_of machine (packed first objects) (placed_from (packed first objects) objects)) all_rise;
+  }
+
+pub packed_is_admissible : (machine : MachineType) (first : ℕ) (inputs : List LinkInput) (objects : List Object) → AllByRecursion (IsMade machine) inputs →
+    filter has_tables objects ≡ objects_in (all_linked machine inputs) ++ null_descriptor ∷ [] → 0 < first → packed_end first objects < 2 ^ 31 →
+    IsAdmissible machine (packed first objects) objects
+packed_is_admissible machine first inputs objects made tables above below =
+    admissible machine first objects
+    (subst (AllByRecursion IsSized)
+    (sym (tables ∙ ap (λ members. members ++ null_descriptor ∷ []) (gnu_inputs_objects machine inputs made) ∙ objects_behind machine (map block_of inputs) (null_descriptor ∷ [])))
+    (blocks_sized machine (map block_of inputs))) above below
+
+pub packed_is_program : (machine : MachineType) (first : ℕ) (inputs : List LinkInput) → AllByRecursion (IsMade machine) inputs →
+    IsDistinct bytes_eq (linked_symbols machine inputs) → 0 < first → packed_end first (objects_in (all_linked machine inputs) ++ null_descriptor ∷ []) < 2 ^ 31 →
+    IsProgram machine (packed first (objects_in (all_linked machine inputs) ++ null_descriptor ∷ [])) inputs (objects_in (all_linked machine inputs) ++ null_descriptor ∷ [])
+packed_is_program machine first inputs made distinct above below =
+    let objects : List Object = objects_in (all_linked machine inputs) ++ null_descriptor ∷ [] in
+    members_are_program machine (packed first objects) inputs made distinct
+    (packed_is_admissible machine first inputs objects made (all_kept objects (members_have machine inputs made)) above below)
+
+pub packed_eights : (first : ℕ) (objects : List Object) → (packed first objects).addresses % 8 ≡ 0
+unfolding next_multiple
+packed_eights first objects = omega arith

@@ -1,0 +1,354 @@
+-- What a linker takes of an archive of libraries.
+use Rattle.std.proofs.Common.{◌≡◌, ℕ, Bool, true, false, List, [], ◌∷◌, ◌++◌, Some, refl, ap, sym, ◌∙◌, subst, inl, inr}
+use Rattle.std.specs.Prelude.{bytes_eq, not, slice_get}
+use Rattle.std.specs.List.{AllByRecursion, cons_option, filter, flat_map, list_any}
+use Rattle.std.proofs.lemmas.Bool.{cases_Bool, false_from_ne_true, true≢false}
+use Rattle.implib.specs.declared.machine.MachineType.{MachineType}
+use Rattle.implib.specs.Definition.{ExportView}
+use Rattle.implib.specs.Members.Gnu.{archive_symbols, head_symbol, iname_symbol}
+use Rattle.implib.specs.Import.{is_alias}
+use Rattle.implib.specs.Formats.Layout.{object_of}
+use Rattle.implib.specs.Link.LinkedMembers.{IsMade, LinkInput, all_linked, objects_in}
+use Rattle.implib.specs.Members.MemberSpec.{MemberView}
+use Rattle.implib.specs.Formats.Object.{Object, object_in}
+use Rattle.implib.specs.Link.Placement.{Bases}
+use Rattle.implib.specs.Members.WeakExternal.{weak_object}
+use Rattle.implib.proofs.Link.LinkedMembers.{among_contains}
+use Rattle.implib.proofs.Link.Placement.{export, head, tail}
+use Rattle.implib.proofs.Link.Ranges.{Among, all_among, among_back, among_first, among_front, among_later}
+use Rattle.implib_link.specs.Search.Archives.{IsArchive, IsLibrary, IsWeakData, Library, NamesNoHeadOrTailOf, TakesOfLibraries, archive_of, exports_of, input_if_any, inputs_wanted, is_weak, others_among, wanted_with, weak_among}
+use Rattle.implib_link.specs.Gnu.Program.{IsProgram, LinksAmong, claimed_names}
+use Rattle.implib_link.specs.Search.Search.{IsTakenInTurn, NamesNoHeadOrTail, Takes, exports_wanted, first_listed, is_listed_for, is_wanted, undefined_in, linked_if_any, names_claimed, names_undefined}
+use Rattle.implib_link.proofs.Search.ArchiveGroups.{export_of, first_is, head_of, tail_of, weak_of}
+use Rattle.implib_link.proofs.Search.ArchiveMembers.{Found, FoundExport, FoundHead, FoundTail, FoundWeak, claimed_weak, export_found, export_not_weak, export_object_is, found, head_found, head_not_weak, head_object_is, tail_found, tail_not_weak, tail_object_is, weak_found, weak_is_weak, weak_object_is}
+use Rattle.implib_link.proofs.Gnu.Claims.{claimed_export, claimed_head, claimed_tail}
+use Rattle.implib_link.proofs.Gnu.Program.{program_links}
+use Rattle.implib_link.proofs.Search.Search.{AnExport, AnyWanted, Needed, TheHead, TheTail, any_wanted, in_nothing, left_export, left_head, left_tail, linked_if_needed, listed_export, listed_head, listed_tail, needed_if_linked, numbers_are_wanted, only_one, wanted_name, wants}
+use Rattle.implib_link.proofs.Search.Lists.{among_any, among_at, among_either, any_among, any_member, contains_among, name_read, none_listed, read_name}
+
+-- Lists that a test divides.
+
+kept_among : {X : Type 0} (test : X → Bool) (x : X) (xs : List X) → Among x (filter test xs) → Among x xs × (test x ≡ true)
+unfolding Among
+kept_among test x [] held = absurd held
+kept_among test x (y ∷ xs) held =
+    elim (cases_Bool (test y)) [
+      | inl is ↦
+          let either : Among x (y ∷ filter test xs) = rw is at held in
+          elim either [
+            | inl e ↦ (inl e, subst (λ z. test z ≡ true) (sym e) is)
+            | inr behind ↦ let later = kept_among test x xs behind in (inr later.0, later.1)
+          ]
+      | inr none ↦ let later = kept_among test x xs (rw none at held) in (inr later.0, later.1)
+    ]
+
+among_kept : {X : Type 0} (test : X → Bool) (x : X) (xs : List X) → Among x xs → test x ≡ true → Among x (filter test xs)
+unfolding Among
+among_kept test x [] held is = absurd held
+among_kept test x (y ∷ xs) (inl e) is = rw (subst (λ z. test z ≡ true) e is) (inl e)
+among_kept test x (y ∷ xs) (inr held) is =
+    elim (cases_Bool (test y)) [
+      | inl own ↦ rw own (inr (among_kept test x xs held is))
+      | inr none ↦ rw none (among_kept test x xs held is)
+    ]
+
+all_from : {X : Type 0} (P : X → Type 0) (xs : List X) → ((x : X) → Among x xs → P x) → AllByRecursion P xs
+all_from P [] each = tt
+all_from P (x ∷ xs) each = (each x (among_first x xs), all_from P xs (λ y held. each y (among_later y x xs held)))
+
+not_true : (b : Bool) → b ≡ false → not b ≡ true
+not_true b is = rw is refl
+
+-- What is linked of libraries.
+
+pub input_linked : (machine : MachineType) (l : Library) (chosen : List ℕ) (others : List LinkInput) →
+    all_linked machine (cons_option (input_if_any l chosen) others) ≡ linked_if_any l.definition machine chosen ++ all_linked machine others
+input_linked machine l [] others = refl
+input_linked machine l (n ∷ chosen) others = refl
+
+-- a member that is linked is linked of some library
+linked_of : (machine : MachineType) (libraries : List Library) (names : List (List ℕ)) (m : MemberView) → Among m (all_linked machine (inputs_wanted libraries names)) →
+    (l : Library) × Among l libraries × Among m (linked_if_any l.definition machine (exports_wanted l.definition names))
+unfolding Among
+linked_of machine [] names m held = absurd held
+linked_of machine (l ∷ libraries) names m held =
+    let chosen : List ℕ = exports_wanted l.definition names in
+    elim (among_either m (linked_if_any l.definition machine chosen) (all_linked machine (inputs_wanted libraries names))
+    (subst (Among m) (input_linked machine l chosen (inputs_wanted libraries names)) held)) [
+      | inl here ↦ (l, inl refl, here)
+      | inr behind ↦ let later = linked_of machine libraries names m behind in (later.0, inr later.1, later.2)
+    ]
+
+of_linked : (machine : MachineType) (libraries : List Library) (names : List (List ℕ)) (m : MemberView) (l : Library) → Among l libraries →
+    Among m (linked_if_any l.definition machine (exports_wanted l.definition names)) → Among m (all_linked machine (inputs_wanted libraries names))
+unfolding Among
+of_linked machine [] names m l held linked = absurd held
+of_linked machine (x ∷ libraries) names m l (inl e) linked =
+    subst (Among m) (sym (input_linked machine x (exports_wanted x.definition names) (inputs_wanted libraries names)))
+    (among_front m (linked_if_any x.definition machine (exports_wanted x.definition names)) (all_linked machine (inputs_wanted libraries names))
+    (subst (λ (y : Library). Among m (linked_if_any y.definition machine (exports_wanted y.definition names))) e linked))
+of_linked machine (x ∷ libraries) names m l (inr held) linked =
+    subst (Among m) (sym (input_linked machine x (exports_wanted x.definition names) (inputs_wanted libraries names)))
+    (among_back m (linked_if_any x.definition machine (exports_wanted x.definition names)) (all_linked machine (inputs_wanted libraries names))
+    (of_linked machine libraries names m l held linked))
+
+input_made : (machine : MachineType) (l : Library) (chosen : List ℕ) (others : List LinkInput) → IsLibrary machine l → AllByRecursion (IsMade machine) others →
+    AllByRecursion (IsMade machine) (cons_option (input_if_any l chosen) others)
+input_made machine l [] others made rest = rest
+input_made machine l (n ∷ chosen) others made rest = (made, rest)
+
+pub inputs_made : (machine : MachineType) (libraries : List Library) (names : List (List ℕ)) → AllByRecursion (IsLibrary machine) libraries →
+    AllByRecursion (IsMade machine) (inputs_wanted libraries names)
+inputs_made machine [] names made = tt
+inputs_made machine (l ∷ libraries) names made =
+    input_made machine l (exports_wanted l.definition names) (inputs_wanted libraries names) made.0 (inputs_made machine libraries names made.1)
+
+pub libraries_link : (machine : MachineType) (libraries : List Library) (wanted : List (List ℕ)) (bases : Bases) (objects : List Object) → IsArchive machine libraries →
+    IsProgram machine bases (inputs_wanted libraries wanted) objects → LinksAmong machine bases (inputs_wanted libraries wanted) objects
+libraries_link machine libraries wanted bases objects archive program =
+    program_links machine bases (inputs_wanted libraries wanted) objects (inputs_made machine libraries wanted archive.made) program
+
+module _ (machine : MachineType) (libraries : List Library) (archive : IsArchive machine libraries) where
+  made_of : (l : Library) → Among l libraries → IsLibrary machine l
+  made_of l held = all_among (IsLibrary machine) l libraries held archive.made
+
+  -- a member that is needed for names: of a library that they want an export of, or a weak external
+  data IsNeeded (names : List (List ℕ)) (m : MemberView) : Type 0 where
+    ForExport : (l : Library) → Among l libraries → Needed machine l.definition.import_name (exports_of l) names m → IsNeeded names m
+    ForAlias : (l : Library) → Among l libraries → (n : ℕ) (e : ExportView) → slice_get (exports_of l) n ≡ Some e → is_alias e.alias_target e.name ≡ true → e.is_data ≡ true →
+        m ≡ weak_of machine l n e → Among e.name names → IsNeeded names m
+
+  same_object : (o other : Object) → Some o ≡ Some other → o ≡ other
+  same_object o other e = cc
+
+  object_of_member : (m x : MemberView) (o own : Object) → m ≡ x → object_in x.bytes ≡ Some own → object_in m.bytes ≡ Some o → o ≡ own
+  object_of_member m x o own same is read = same_object o own (sym read ∙ ap (λ (y : MemberView). object_in y.bytes) same ∙ is)
+
+  -- names of what is read in a member
+  names_of : (f : Object → List (List ℕ)) (names : List (List ℕ)) (name : List ℕ) (m x : MemberView) (o own : Object) → m ≡ x → object_in x.bytes ≡ Some own →
+      object_in m.bytes ≡ Some o → f own ≡ names → Among name (f o) → Among name names
+  names_of f names name m x o own same is read are held = subst (Among name) are (subst (λ t. Among name (f t)) (object_of_member m x o own same is read) held)
+
+  -- A needed member claims only what it is listed for.
+  claims_listed : (names : List (List ℕ)) (m : MemberView) (o : Object) (name : List ℕ) → IsNeeded names m → object_in m.bytes ≡ Some o → Among name (claimed_names o) → Among name m.symbols
+  claims_listed names m o name (ForExport l held (TheTail same any)) read claimed =
+      subst (λ (y : MemberView). Among name y.symbols) (sym same)
+      (names_of claimed_names (tail_of machine l).symbols name m (tail_of machine l) o (tail machine l.definition.import_name) same (tail_object_is machine l (made_of l held)) read
+      (claimed_tail machine l.definition.import_name ∙ sym (listed_tail machine l.definition.import_name)) claimed)
+  claims_listed names m o name (ForExport l held (TheHead same any)) read claimed =
+      subst (λ (y : MemberView). Among name y.symbols) (sym same)
+      (names_of claimed_names (head_of machine l).symbols name m (head_of machine l) o (head machine l.definition.import_name) same (head_object_is machine l (made_of l held)) read
+      (claimed_head machine l.definition.import_name ∙ sym (listed_head machine l.definition.import_name)) claimed)
+  claims_listed names m o name (ForExport l held (AnExport x want)) read claimed =
+      subst (λ (y : MemberView). Among name y.symbols) (sym x.same)
+      (names_of claimed_names (export_of machine l x.number x.export).symbols name m (export_of machine l x.number x.export) o (export machine l.definition.import_name x.export) x.same
+      (export_object_is machine l (made_of l held) x.number x.export x.is) read
+      (claimed_export machine l.definition.import_name x.export ∙ sym (listed_export machine l.definition.import_name x.number x.export)) claimed)
+  claims_listed names m o name (ForAlias l held n e is alias is_data same named) read claimed =
+      subst (λ (y : MemberView). Among name y.symbols) (sym same)
+      (names_of claimed_names (e.name ∷ []) name m (weak_of machine l n e) o (object_of (weak_object machine e.name e.alias_target)) same
+      (weak_object_is machine l (made_of l held) n e is alias) read (claimed_weak machine e.name e.alias_target) claimed)
+
+  -- A name that a needed member is listed for finds it.
+  finds_itself : (names : List (List ℕ)) (m : MemberView) (name : List ℕ) → IsNeeded names m → Among name m.symbols → first_listed (archive_of libraries) name ≡ Some m
+  finds_itself names m name (ForExport l held (TheTail same any)) listed =
+      let is : name ≡ iname_symbol machine l.definition.import_name =
+      only_one name _ (subst (Among name) (listed_tail machine l.definition.import_name) (subst (λ (y : MemberView). Among name y.symbols) same listed)) in
+      ap (first_listed (archive_of libraries)) is ∙ tail_found machine libraries archive l held ∙ ap Some (sym same)
+  finds_itself names m name (ForExport l held (TheHead same any)) listed =
+      let is : name ≡ head_symbol machine l.definition.import_name =
+      only_one name _ (subst (Among name) (listed_head machine l.definition.import_name) (subst (λ (y : MemberView). Among name y.symbols) same listed)) in
+      ap (first_listed (archive_of libraries)) is ∙ head_found machine libraries archive l held ∙ ap Some (sym same)
+  finds_itself names m name (ForExport l held (AnExport x want)) listed =
+      export_found machine libraries archive l x.number x.export name held x.is
+      (subst (Among name) (listed_export machine l.definition.import_name x.number x.export) (subst (λ (y : MemberView). Among name y.symbols) x.same listed))
+      ∙ ap Some (sym x.same)
+  finds_itself names m name (ForAlias l held n e is alias is_data same named) listed =
+      let own : name ≡ e.name = only_one name e.name (subst (λ (y : MemberView). Among name y.symbols) same listed) in
+      ap (first_listed (archive_of libraries)) own ∙ weak_found machine libraries archive l n e held is alias is_data ∙ ap Some (sym same)
+
+  -- Whether a needed member is a weak external.
+  needed_not_weak : (names : List (List ℕ)) (m : MemberView) (l : Library) → Among l libraries → Needed machine l.definition.import_name (exports_of l) names m → is_weak m ≡ false
+  needed_not_weak names m l held (TheTail same any) =
+      tail_not_weak machine m l.definition.import_name (ap (λ (y : MemberView). object_in y.bytes) same ∙ tail_object_is machine l (made_of l held))
+  needed_not_weak names m l held (TheHead same any) =
+      head_not_weak machine m l.definition.import_name (ap (λ (y : MemberView). object_in y.bytes) same ∙ head_object_is machine l (made_of l held))
+  needed_not_weak names m l held (AnExport x want) =
+      export_not_weak machine m l.definition.import_name x.export (ap (λ (y : MemberView). object_in y.bytes) x.same ∙ export_object_is machine l (made_of l held) x.number x.export x.is)
+
+  alias_is_weak : (m : MemberView) (l : Library) → Among l libraries → (n : ℕ) (e : ExportView) → slice_get (exports_of l) n ≡ Some e → is_alias e.alias_target e.name ≡ true →
+      m ≡ weak_of machine l n e → is_weak m ≡ true
+  alias_is_weak m l held n e is alias same =
+      weak_is_weak machine m e.name e.alias_target (ap (λ (y : MemberView). object_in y.bytes) same ∙ weak_object_is machine l (made_of l held) n e is alias)
+
+  module _ (wanted : List (List ℕ)) (taken : List MemberView) (plain : NamesNoHeadOrTailOf machine libraries (wanted_with wanted taken)) where
+    abbrev all_wanted : List (List ℕ)
+    all_wanted = wanted_with wanted taken
+
+    plain_of : (l : Library) → Among l libraries → NamesNoHeadOrTail machine l.definition.import_name all_wanted
+    plain_of l held = all_among (λ (x : Library). NamesNoHeadOrTail machine x.definition.import_name (wanted_with wanted taken)) l libraries held plain
+
+    -- a member that a wanted name finds
+    needed_by_wanted : (name : List ℕ) (m : MemberView) → Found machine libraries archive name m → Among name all_wanted → IsNeeded all_wanted m
+    needed_by_wanted name m (FoundTail l held same is) want =
+        absurd (true≢false (sym (among_any (iname_symbol machine l.definition.import_name) all_wanted (subst (λ n. Among n all_wanted) is want)) ∙ (plain_of l held).name))
+    needed_by_wanted name m (FoundHead l held same is) want =
+        absurd (true≢false (sym (among_any (head_symbol machine l.definition.import_name) all_wanted (subst (λ n. Among n all_wanted) is want)) ∙ (plain_of l held).head))
+    needed_by_wanted name m (FoundExport l held n e is same listed) want =
+        ForExport l held (AnExport (record { number = n; export = e; is = is; same = same }) (wants all_wanted (archive_symbols e) name listed want))
+    needed_by_wanted name m (FoundWeak l held n e is alias is_data same named) want =
+        ForAlias l held n e is alias is_data same (subst (λ n. Among n all_wanted) named want)
+
+    same_first : (name : List ℕ) (m own : MemberView) → first_listed (archive_of libraries) name ≡ Some m → first_listed (archive_of libraries) name ≡ Some own → m ≡ own
+    same_first name m own is found = (let e : Some m ≡ Some own = sym is ∙ found in cc)
+
+    -- a member that a name finds which a needed member leaves
+    needed_by_left : (x : MemberView) → IsNeeded all_wanted x → Among x taken → (o : Object) → object_in x.bytes ≡ Some o → (name : List ℕ) → Among name (undefined_in o) →
+        (m : MemberView) → first_listed (archive_of libraries) name ≡ Some m → IsNeeded all_wanted m
+    unfolding names_undefined
+    needed_by_left x (ForExport l held (TheTail same any)) there o read name left m is =
+        absurd (in_nothing name (names_of undefined_in [] name x (tail_of machine l) o (tail machine l.definition.import_name) same (tail_object_is machine l (made_of l held)) read
+        (left_tail machine l.definition.import_name) left))
+    needed_by_left x (ForExport l held (TheHead same any)) there o read name left m is =
+        let named : name ≡ iname_symbol machine l.definition.import_name =
+        only_one name _ (names_of undefined_in (iname_symbol machine l.definition.import_name ∷ []) name x (head_of machine l) o (head machine l.definition.import_name) same
+        (head_object_is machine l (made_of l held)) read (left_head machine l.definition.import_name) left) in
+        ForExport l held (TheTail (same_first name m (tail_of machine l) is (ap (first_listed (archive_of libraries)) named ∙ tail_found machine libraries archive l held)) any)
+    needed_by_left x (ForExport l held (AnExport own want)) there o read name left m is =
+        let named : name ≡ head_symbol machine l.definition.import_name =
+        only_one name _ (names_of undefined_in (head_symbol machine l.definition.import_name ∷ []) name x (export_of machine l own.number own.export) o
+        (export machine l.definition.import_name own.export) own.same (export_object_is machine l (made_of l held) own.number own.export own.is) read
+        (left_export machine l.definition.import_name own.export) left) in
+        ForExport l held (TheHead (same_first name m (head_of machine l) is (ap (first_listed (archive_of libraries)) named ∙ head_found machine libraries archive l held))
+        (any_wanted machine l.definition.import_name (exports_of l) all_wanted x (AnExport own want)))
+    needed_by_left x (ForAlias l held n e at alias is_data same named) there o read name left m is =
+        let kept : Among x (weak_among taken) = among_kept is_weak x taken there (alias_is_weak x l held n e at alias same) in
+        needed_by_wanted name m (found machine libraries archive name m is)
+        (among_back name wanted (flat_map undefined_in (objects_in (weak_among taken))) (read_name undefined_in name (weak_among taken) x o kept read left))
+
+    -- whatever is taken is needed
+    needed : (earlier : List MemberView) → ((m : MemberView) → Among m earlier → Among m taken) → IsTakenInTurn (archive_of libraries) wanted earlier → (m : MemberView) → Among m earlier →
+        IsNeeded all_wanted m
+    unfolding Among IsTakenInTurn names_undefined
+    needed [] there turn m held = absurd held
+    needed (t ∷ earlier) there turn m (inr held) = needed earlier (λ x behind. there x (inr behind)) turn.1 m held
+    needed (t ∷ earlier) there turn m (inl e) =
+        let pulls = turn.0.1 in
+        let before = needed earlier (λ x behind. there x (inr behind)) turn.1 in
+        subst (IsNeeded all_wanted) (sym e)
+        (elim (among_either turn.0.0 wanted (flat_map undefined_in (objects_in earlier)) (contains_among turn.0.0 _ pulls.named)) [
+          | inl want ↦ needed_by_wanted turn.0.0 t (found machine libraries archive turn.0.0 t pulls.listed) (among_front turn.0.0 wanted (names_undefined (weak_among taken)) want)
+          | inr left ↦
+              let from = name_read undefined_in turn.0.0 earlier left in
+              needed_by_left from.0 (before from.0 from.2) (there from.0 (inr from.2)) from.1 from.3 turn.0.0 from.4 t pulls.listed
+        ])
+
+    module _ (takes : Takes (archive_of libraries) wanted taken) where
+      needed_all : (m : MemberView) → Among m taken → IsNeeded all_wanted m
+      needed_all = needed taken (λ m held. held) takes.in_turn
+
+      -- a member that an undefined name finds is taken
+      reached : (name : List ℕ) (m : MemberView) → first_listed (archive_of libraries) name ≡ Some m → Among name (wanted ++ names_undefined taken) → Among m taken
+      unfolding names_claimed
+      reached name m is named =
+          elim (cases_Bool (list_any (is_listed_for name) taken)) [
+            | inl some ↦
+                let t = any_member name taken some in
+                subst (λ x. Among x taken) (sym (same_first name m t.0 is (finds_itself all_wanted t.0 name (needed_all t.0 t.1) t.2))) t.1
+            | inr none ↦ absurd (takes.ended name m (record {
+              named = among_contains name (wanted ++ names_undefined taken) named;
+              undefined = false_from_ne_true (list_any (bytes_eq name) (flat_map claimed_names (objects_in taken))) (λ claimed.
+                  let by = name_read claimed_names name taken (any_among name _ claimed) in
+                  none_listed name by.0 taken none by.2 (claims_listed all_wanted by.0 by.1 name (needed_all by.0 by.2) by.3 by.4));
+              listed = is;
+              new = λ has. none_listed name m taken none (contains_among m taken has) (first_is name (archive_of libraries) m is).1;
+            }))
+          ]
+
+      -- a wanted name is one of the names that are undefined
+      still_named : (name : List ℕ) → Among name all_wanted → Among name (wanted ++ names_undefined taken)
+      unfolding names_undefined
+      still_named name want =
+          elim (among_either name wanted (flat_map undefined_in (objects_in (weak_among taken))) want) [
+            | inl own ↦ among_front name wanted (flat_map undefined_in (objects_in taken)) own
+            | inr left ↦
+                let from = name_read undefined_in name (weak_among taken) left in
+                among_back name wanted (flat_map undefined_in (objects_in taken)) (read_name undefined_in name taken from.0 from.1 (kept_among is_weak from.0 taken from.2).0 from.3 from.4)
+          ]
+
+      export_taken : (l : Library) → Among l libraries → (n : ℕ) (e : ExportView) → slice_get (exports_of l) n ≡ Some e → is_wanted all_wanted e ≡ true → Among (export_of machine l n e) taken
+      export_taken l held n e is want =
+          let name = wanted_name all_wanted (archive_symbols e) want in
+          reached name.0 (export_of machine l n e) (export_found machine libraries archive l n e name.0 held is name.1) (still_named name.0 name.2)
+
+      head_taken : (l : Library) → Among l libraries → AnyWanted (exports_of l) all_wanted → Among (head_of machine l) taken
+      unfolding names_undefined
+      head_taken l held any =
+          reached (head_symbol machine l.definition.import_name) (head_of machine l) (head_found machine libraries archive l held)
+          (among_back _ wanted (flat_map undefined_in (objects_in taken)) (read_name undefined_in _ taken (export_of machine l any.number any.export) (export machine l.definition.import_name any.export)
+          (export_taken l held any.number any.export any.is any.want) (export_object_is machine l (made_of l held) any.number any.export any.is)
+          (subst (Among (head_symbol machine l.definition.import_name)) (sym (left_export machine l.definition.import_name any.export)) (among_first _ _))))
+
+      tail_taken : (l : Library) → Among l libraries → AnyWanted (exports_of l) all_wanted → Among (tail_of machine l) taken
+      unfolding names_undefined
+      tail_taken l held any =
+          reached (iname_symbol machine l.definition.import_name) (tail_of machine l) (tail_found machine libraries archive l held)
+          (among_back _ wanted (flat_map undefined_in (objects_in taken)) (read_name undefined_in _ taken (head_of machine l) (head machine l.definition.import_name)
+          (head_taken l held any) (head_object_is machine l (made_of l held))
+          (subst (Among (iname_symbol machine l.definition.import_name)) (sym (left_head machine l.definition.import_name)) (among_first _ _))))
+
+      taken_if_needed : (l : Library) → Among l libraries → (m : MemberView) → Needed machine l.definition.import_name (exports_of l) all_wanted m → Among m taken
+      taken_if_needed l held m (TheTail same any) = subst (λ x. Among x taken) (sym same) (tail_taken l held any)
+      taken_if_needed l held m (TheHead same any) = subst (λ x. Among x taken) (sym same) (head_taken l held any)
+      taken_if_needed l held m (AnExport x want) = subst (λ y. Among y taken) (sym x.same) (export_taken l held x.number x.export x.is want)
+
+      linked_if_other : (m : MemberView) → Among m taken → is_weak m ≡ false → Among m (all_linked machine (inputs_wanted libraries all_wanted))
+      linked_if_other m there other = by (needed_all m there)
+        where
+          by : IsNeeded all_wanted m → Among m (all_linked machine (inputs_wanted libraries all_wanted))
+          by (ForExport l held need) =
+              of_linked machine libraries all_wanted m l held
+              (linked_if_needed l.definition machine all_wanted (exports_wanted l.definition all_wanted) (numbers_are_wanted (exports_of l) all_wanted) m need)
+          by (ForAlias l held n e is alias is_data same named) = absurd (true≢false (sym (alias_is_weak m l held n e is alias same) ∙ other))
+
+      other_if_linked : (m : MemberView) → Among m (all_linked machine (inputs_wanted libraries all_wanted)) → Among m (others_among taken)
+      other_if_linked m linked =
+          let from = linked_of machine libraries all_wanted m linked in
+          let need = needed_if_linked from.0.definition machine all_wanted (exports_wanted from.0.definition all_wanted) (numbers_are_wanted (exports_of from.0) all_wanted) m from.2 in
+          among_kept (λ x. not (is_weak x)) m taken (taken_if_needed from.0 from.1 m need) (not_true (is_weak m) (needed_not_weak all_wanted m from.0 from.1 need))
+
+      from_not : (b : Bool) → not b ≡ true → b ≡ false
+      from_not true is = absurd (true≢false (sym is))
+      from_not false is = refl
+
+      weak_data : (m : MemberView) → Among m taken → is_weak m ≡ true → IsWeakData libraries all_wanted m
+      weak_data m there weak = by (needed_all m there)
+        where
+          by : IsNeeded all_wanted m → IsWeakData libraries all_wanted m
+          by (ForExport l held need) = absurd (true≢false (sym weak ∙ needed_not_weak all_wanted m l held need))
+          by (ForAlias l held n e is alias is_data same named) = record {
+            library = l;
+            held = among_contains l libraries held;
+            export = e;
+            among = among_contains e (exports_of l) (among_at e (exports_of l) n is);
+            data_alone = is_data;
+            named = among_contains e.name all_wanted named;
+            listed = ap (λ (y : MemberView). y.symbols) same;
+          }
+
+      pub takes_of : TakesOfLibraries machine libraries wanted taken
+      takes_of = record {
+        inputs = λ m. (
+          λ held. (
+              let kept = kept_among (λ x. not (is_weak x)) m taken (contains_among m (others_among taken) held) in
+              among_contains m (all_linked machine (inputs_wanted libraries (wanted_with wanted taken))) (linked_if_other m kept.0 (from_not (is_weak m) kept.1))
+              ),
+          λ linked. among_contains m (others_among taken) (other_if_linked m (contains_among m (all_linked machine (inputs_wanted libraries (wanted_with wanted taken))) linked)),
+        );
+        weak = all_from (IsWeakData libraries (wanted_with wanted taken)) (weak_among taken)
+            (λ m held. let kept = kept_among is_weak m taken held in weak_data m kept.0 kept.1);
+      }
+
+pub libraries_taken : (machine : MachineType) (libraries : List Library) (taken : List MemberView) (wanted : List (List ℕ)) → IsArchive machine libraries →
+    NamesNoHeadOrTailOf machine libraries (wanted_with wanted taken) → Takes (archive_of libraries) wanted taken → TakesOfLibraries machine libraries wanted taken
+libraries_taken machine libraries taken wanted archive plain takes = takes_of machine libraries archive wanted taken plain takes

@@ -1,0 +1,231 @@
+-- A search of any archive ends: each member that is taken was not taken before, and an archive has so many.
+use Rattle.std.proofs.Common.{◌≡◌, ℕ, zero, suc, ◌+◌, ◌<◌, ◌≤◌, Bool, true, false, List, [], ◌∷◌, ◌++◌, length, Some, None, refl, ap, sym, ◌∙◌, subst, inl, inr, ◌⊎◌, arith, if◌then◌else◌}
+use Rattle.std.specs.Prelude.{◌&&◌, ◌||◌, bytes_eq}
+use Rattle.std.specs.List.{Contains, list_any}
+use Rattle.std.proofs.lemmas.Bool.{and_parts, cases_Bool, false_from_ne_true, true≢false}
+use Rattle.std.proofs.lemmas.Slice.Eq.{bytes_eq-Decides}
+use Rattle.implib.specs.Members.MemberSpec.{MemberView}
+use Rattle.implib.proofs.Link.LinkedMembers.{among_contains}
+use Rattle.implib.proofs.Link.Ranges.{Among}
+use Rattle.implib_link.specs.Search.Search.{PullsIn, IsTakenInTurn, Takes, names_claimed, names_undefined}
+use Rattle.implib_link.proofs.Search.ArchiveGroups.{first_is, found_or_not}
+use Rattle.implib_link.proofs.Search.Lists.{contains_among}
+
+-- Whether two members are the same.
+
+same_names : List (List ℕ) → List (List ℕ) → Bool
+same_names [] [] = true
+same_names [] (y ∷ ys) = false
+same_names (x ∷ xs) [] = false
+same_names (x ∷ xs) (y ∷ ys) = bytes_eq x y && same_names xs ys
+
+same_text : (text : List ℕ) → bytes_eq text text ≡ true
+same_text text = (bytes_eq-Decides text text).1 refl
+
+names_same : (xs ys : List (List ℕ)) → same_names xs ys ≡ true → xs ≡ ys
+unfolding same_names
+names_same [] [] is = refl
+names_same [] (y ∷ ys) is = absurd (true≢false (sym is))
+names_same (x ∷ xs) [] is = absurd (true≢false (sym is))
+names_same (x ∷ xs) (y ∷ ys) is =
+    let parts = and_parts (bytes_eq x y) (same_names xs ys) is in
+    let first : x ≡ y = (bytes_eq-Decides x y).0 parts.0 in
+    let others : xs ≡ ys = names_same xs ys parts.1 in
+    ap (λ z. z ∷ xs) first ∙ ap (λ zs. y ∷ zs) others
+
+own_names : (xs : List (List ℕ)) → same_names xs xs ≡ true
+unfolding same_names
+own_names [] = refl
+own_names (x ∷ xs) = rw (same_text x, own_names xs) refl
+
+abbrev is_same : MemberView → MemberView → Bool
+is_same m n = bytes_eq m.name n.name && (bytes_eq m.bytes n.bytes && same_names m.symbols n.symbols)
+
+member_same : (m n : MemberView) → is_same m n ≡ true → m ≡ n
+member_same m n is =
+    let first = and_parts (bytes_eq m.name n.name) (bytes_eq m.bytes n.bytes && same_names m.symbols n.symbols) is in
+    let second = and_parts (bytes_eq m.bytes n.bytes) (same_names m.symbols n.symbols) first.1 in
+    let name : m.name ≡ n.name = (bytes_eq-Decides m.name n.name).0 first.0 in
+    let bytes : m.bytes ≡ n.bytes = (bytes_eq-Decides m.bytes n.bytes).0 second.0 in
+    let symbols : m.symbols ≡ n.symbols = names_same m.symbols n.symbols second.1 in
+    ap (λ t. record { name = t; bytes = m.bytes; symbols = m.symbols }) name
+    ∙ ap (λ t. record { name = n.name; bytes = t; symbols = m.symbols }) bytes
+    ∙ ap (λ t. record { name = n.name; bytes = n.bytes; symbols = t }) symbols
+
+own_member : (m : MemberView) → is_same m m ≡ true
+own_member m = rw (same_text m.name, same_text m.bytes, own_names m.symbols) refl
+
+-- Whether a member is taken.
+
+is_taken : List MemberView → MemberView → Bool
+is_taken [] m = false
+is_taken (t ∷ taken) m = is_same m t || is_taken taken m
+
+taken_among : (taken : List MemberView) (m : MemberView) → is_taken taken m ≡ true → Among m taken
+unfolding is_taken Among
+taken_among [] m is = absurd (true≢false (sym is))
+taken_among (t ∷ taken) m is =
+    elim (cases_Bool (is_same m t)) [
+      | inl same ↦ inl (member_same m t same)
+      | inr other ↦ inr (taken_among taken m (rw other at is))
+    ]
+
+among_taken : (taken : List MemberView) (m : MemberView) → Among m taken → is_taken taken m ≡ true
+unfolding is_taken Among
+among_taken [] m held = absurd held
+among_taken (t ∷ taken) m (inl e) = rw (subst (λ y. is_same m y ≡ true) e (own_member m)) refl
+among_taken (t ∷ taken) m (inr held) =
+    elim (cases_Bool (is_same m t)) [
+      | inl same ↦ rw same refl
+      | inr other ↦ rw (other, among_taken taken m held) refl
+    ]
+
+-- How many of an archive's members are not taken.
+
+not_taken : List MemberView → List MemberView → ℕ
+not_taken [] taken = 0
+not_taken (m ∷ archive) taken = (if is_taken taken m then 0 else 1) + not_taken archive taken
+
+not_more : (archive taken : List MemberView) (t : MemberView) → not_taken archive (t ∷ taken) ≤ not_taken archive taken
+unfolding not_taken is_taken
+not_more [] taken t = omega arith
+not_more (m ∷ archive) taken t =
+    let behind : not_taken archive (t ∷ taken) ≤ not_taken archive taken = not_more archive taken t in
+    elim (cases_Bool (is_same m t)) [
+      | inl same ↦ elim (cases_Bool (is_taken taken m)) [
+        | inl is ↦ rw (same, is) (omega arith)
+        | inr none ↦ rw (same, none) (omega arith)
+      ]
+      | inr other ↦ elim (cases_Bool (is_taken taken m)) [
+        | inl is ↦ rw (other, is) (omega arith)
+        | inr none ↦ rw (other, none) (omega arith)
+      ]
+    ]
+
+fewer : (archive taken : List MemberView) (t : MemberView) → Among t archive → is_taken taken t ≡ false → not_taken archive (t ∷ taken) < not_taken archive taken
+unfolding not_taken is_taken Among
+fewer [] taken t held new = absurd held
+fewer (m ∷ archive) taken t (inl e) new =
+    let behind : not_taken archive (t ∷ taken) ≤ not_taken archive taken = not_more archive taken t in
+    let same : is_same m t ≡ true = subst (λ y. is_same y t ≡ true) e (own_member t) in
+    let first : is_taken taken m ≡ false = subst (λ y. is_taken taken y ≡ false) e new in
+    rw (same, first) (omega arith)
+fewer (m ∷ archive) taken t (inr held) new =
+    let behind : not_taken archive (t ∷ taken) < not_taken archive taken = fewer archive taken t held new in
+    elim (cases_Bool (is_same m t)) [
+      | inl same ↦ elim (cases_Bool (is_taken taken m)) [
+        | inl is ↦ rw (same, is) (omega arith)
+        | inr none ↦ rw (same, none) (omega arith)
+      ]
+      | inr other ↦ elim (cases_Bool (is_taken taken m)) [
+        | inl is ↦ rw (other, is) (omega arith)
+        | inr none ↦ rw (other, none) (omega arith)
+      ]
+    ]
+
+module _ (archive : List MemberView) (wanted : List (List ℕ)) where
+  -- an undefined name that pulls in a member, of these
+  PulledIn : List MemberView → List (List ℕ) → Type 0
+  PulledIn taken names = (name : List ℕ) × (m : MemberView) × Among name names × PullsIn archive wanted taken name m
+
+  NonePullsIn : List MemberView → List (List ℕ) → Type 0
+  NonePullsIn taken names = (name : List ℕ) (m : MemberView) → Among name names → PullsIn archive wanted taken name m → ⊥
+
+  same_first : (m other : MemberView) → Some m ≡ Some other → m ≡ other
+  same_first m other e = cc
+
+  one_asks : (taken : List MemberView) (name : List ℕ) → Contains (wanted ++ names_undefined taken) name →
+      ((m : MemberView) × PullsIn archive wanted taken name m) ⊎ ((m : MemberView) → PullsIn archive wanted taken name m → ⊥)
+  one_asks taken name named =
+      elim (cases_Bool (list_any (bytes_eq name) (names_claimed taken))) [
+        | inl claimed ↦ inr (λ m pulls. true≢false (sym claimed ∙ pulls.undefined))
+        | inr undefined ↦ elim (found_or_not name archive) [
+          | inl none ↦ inr (λ m pulls. (let found : None ≡ Some m = sym none ∙ pulls.listed in cc))
+          | inr found ↦ elim (cases_Bool (is_taken taken found.0)) [
+            | inl is ↦ inr (λ m pulls.
+                let same : m ≡ found.0 = same_first m found.0 (sym pulls.listed ∙ found.1) in
+                pulls.new (among_contains m taken (subst (λ x. Among x taken) (sym same) (taken_among taken found.0 is))))
+            | inr none ↦ inl (
+              found.0,
+              record {
+                named = named;
+                undefined = undefined;
+                listed = found.1;
+                new = λ has. true≢false (sym (among_taken taken found.0 (contains_among found.0 taken has)) ∙ none);
+              },
+            )
+          ]
+        ]
+      ]
+
+  pulls_or_not : (taken : List MemberView) (names : List (List ℕ)) → ((name : List ℕ) → Among name names → Contains (wanted ++ names_undefined taken) name) →
+      PulledIn taken names ⊎ NonePullsIn taken names
+  unfolding PulledIn NonePullsIn Among
+  pulls_or_not taken [] within = inr (λ name m held pulls. held)
+  pulls_or_not taken (x ∷ names) within =
+      elim (one_asks taken x (within x (inl refl))) [
+        | inl found ↦ inl (x, found.0, inl refl, found.1)
+        | inr none ↦ elim (pulls_or_not taken names (λ name held. within name (inr held))) [
+          | inl later ↦ inl (later.0, later.1, inr later.2, later.3)
+          | inr others ↦ inr (λ name m held pulls. elim held [
+            | inl e ↦ none m (subst (λ n. PullsIn archive wanted taken n m) e pulls)
+            | inr behind ↦ others name m behind pulls
+          ])
+        ]
+      ]
+
+  none_left : (n m : ℕ) → n < m → m ≤ 0 → ⊥
+  none_left n m less most = omega arith
+
+  less_left : (n m k : ℕ) → n < m → m ≤ suc k → n ≤ k
+  less_left n m k less most = omega arith
+
+  is_new : (taken : List MemberView) (name : List ℕ) (m : MemberView) → PullsIn archive wanted taken name m → is_taken taken m ≡ false
+  is_new taken name m pulls = false_from_ne_true (is_taken taken m) (λ is. pulls.new (among_contains m taken (taken_among taken m is)))
+
+  -- from members that are taken, with at most so many left
+  ends_from : (most : ℕ) (taken : List MemberView) → not_taken archive taken ≤ most → IsTakenInTurn archive wanted taken → (t : List MemberView) × Takes archive wanted t
+  unfolding PulledIn NonePullsIn IsTakenInTurn
+  ends_from zero taken few turn =
+      elim (pulls_or_not taken (wanted ++ names_undefined taken) (λ name held. among_contains name (wanted ++ names_undefined taken) held)) [
+        | inr none ↦ (taken, record { in_turn = turn; ended = λ name m pulls. none name m (contains_among name (wanted ++ names_undefined taken) pulls.named) pulls })
+        | inl found ↦
+            let less = fewer archive taken found.1 (first_is found.0 archive found.1 found.3.listed).0 (is_new taken found.0 found.1 found.3) in
+            absurd (none_left (not_taken archive (found.1 ∷ taken)) (not_taken archive taken) less few)
+      ]
+  ends_from (suc most) taken few turn =
+      elim (pulls_or_not taken (wanted ++ names_undefined taken) (λ name held. among_contains name (wanted ++ names_undefined taken) held)) [
+        | inr none ↦ (taken, record { in_turn = turn; ended = λ name m pulls. none name m (contains_among name (wanted ++ names_undefined taken) pulls.named) pulls })
+        | inl found ↦
+            let less = fewer archive taken found.1 (first_is found.0 archive found.1 found.3.listed).0 (is_new taken found.0 found.1 found.3) in
+            ends_from most (found.1 ∷ taken) (less_left (not_taken archive (found.1 ∷ taken)) (not_taken archive taken) most less few) ((found.0, found.3), turn)
+      ]
+
+  -- each member that is taken leaves fewer
+  taken_and_left : (taken : List MemberView) → IsTakenInTurn archive wanted taken → length taken + not_taken archive taken ≤ not_taken archive []
+  unfolding IsTakenInTurn
+  taken_and_left [] turn = omega arith
+  taken_and_left (m ∷ earlier) turn =
+      let less : not_taken archive (m ∷ earlier) < not_taken archive earlier =
+      fewer archive earlier m (first_is turn.0.0 archive m turn.0.1.listed).0 (is_new earlier turn.0.0 m turn.0.1) in
+      let before : length earlier + not_taken archive earlier ≤ not_taken archive [] = taken_and_left earlier turn.1 in
+      let counted : length (m ∷ earlier) ≡ suc (length earlier) = refl in
+      omega arith
+
+none_taken : (archive : List MemberView) → not_taken archive [] ≤ length archive
+unfolding not_taken is_taken
+none_taken [] = omega arith
+none_taken (m ∷ archive) =
+    let behind : not_taken archive [] ≤ length archive = none_taken archive in
+    let counted : length (m ∷ archive) ≡ suc (length archive) = refl in
+    omega arith
+
+pub search_bounded : (archive taken : List MemberView) (wanted : List (List ℕ)) → IsTakenInTurn archive wanted taken → length taken ≤ length archive
+search_bounded archive taken wanted turn =
+    let most : length taken + not_taken archive taken ≤ not_taken archive [] = taken_and_left archive wanted taken turn in
+    let first : not_taken archive [] ≤ length archive = none_taken archive in
+    omega arith
+
+pub search_ends : (archive : List MemberView) (wanted : List (List ℕ)) → (taken : List MemberView) × Takes archive wanted taken
+unfolding IsTakenInTurn
+search_ends archive wanted = ends_from archive wanted (not_taken archive []) [] (omega arith) tt

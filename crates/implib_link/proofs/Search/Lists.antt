@@ -1,0 +1,266 @@
+-- An archive whose listed symbols differ: each name has one member, and what members leave and claim.
+use Rattle.std.proofs.Common.{◌≡◌, ℕ, zero, suc, true, false, List, [], ◌∷◌, ◌++◌, map, Option, Some, None, refl, ap, sym, ◌∙◌, subst, inl, inr, ◌⊎◌, arith}
+use Rattle.std.specs.Prelude.{bytes_eq, reverse, slice_get}
+use Rattle.std.specs.List.{AllByRecursion, Contains, IsDistinct, cons_option, flat_map, list_any}
+use Rattle.std.proofs.lemmas.Bool.{cases_Bool, false_from_ne_true, or_parts, true≢false}
+use Rattle.std.proofs.lemmas.List.{reverse-append}
+use Rattle.std.proofs.lemmas.Grind.{flat_map-append}
+use Rattle.std.proofs.lemmas.Slice.Eq.{bytes_eq-Decides}
+use Rattle.implib.specs.Link.LinkedMembers.{objects_in}
+use Rattle.implib.specs.Members.MemberSpec.{MemberSpec, MemberView, member_of}
+use Rattle.implib.specs.Formats.Object.{Object, object_in}
+use Rattle.implib.proofs.Link.LinkedMembers.{among_map, among_reverse}
+use Rattle.implib.proofs.Link.Ranges.{Among, all_among, among_back, among_front}
+use Rattle.implib_link.specs.Search.Search.{first_listed, is_listed_for}
+
+pub contains_among : {X : Type 0} (x : X) (xs : List X) → Contains xs x → Among x xs
+unfolding Among
+contains_among x [] (i, below, is) = absurd (omega arith)
+contains_among x (y ∷ xs) (zero, below, is) = inl (sym is)
+contains_among x (y ∷ xs) (suc i, below, is) = inr (contains_among x xs (i, omega arith, is))
+
+pub among_at : {X : Type 0} (x : X) (xs : List X) (n : ℕ) → slice_get xs n ≡ Some x → Among x xs
+unfolding Among
+among_at x [] n is = cc
+among_at x (y ∷ xs) zero is = inl (let same : y ≡ x = cc in sym same)
+among_at x (y ∷ xs) (suc n) is = inr (among_at x xs n is)
+
+pub among_either : {X : Type 0} (x : X) (xs ys : List X) → Among x (xs ++ ys) → Among x xs ⊎ Among x ys
+unfolding Among
+among_either x [] ys m = inr m
+among_either x (y ∷ xs) ys (inl e) = inl (inl e)
+among_either x (y ∷ xs) ys (inr m) = elim (among_either x xs ys m) [ inl first ↦ inl (inr first) | inr later ↦ inr later ]
+
+pub among_reversed : {X : Type 0} (x : X) (xs : List X) → Among x (reverse xs) → Among x xs
+unfolding Among
+among_reversed x [] m = m
+among_reversed x (y ∷ xs) m =
+    elim (among_either x (reverse xs) (y ∷ []) (subst (Among x) (reverse-append (y ∷ []) xs) m)) [
+      | inl first ↦ inr (among_reversed x xs first)
+      | inr last ↦ elim last [ inl e ↦ inl e | inr none ↦ absurd none ]
+    ]
+
+pub among_mapped : {X Y : Type 0} (f : X → Y) (y : Y) (xs : List X) → Among y (map f xs) → (x : X) × Among x xs × (y ≡ f x)
+unfolding Among
+among_mapped f y [] m = absurd m
+among_mapped f y (x ∷ xs) (inl e) = (x, inl refl, e)
+among_mapped f y (x ∷ xs) (inr m) = let later = among_mapped f y xs m in (later.0, inr later.1, later.2)
+
+-- a name is among names exactly if the test finds it
+
+pub any_among : (name : List ℕ) (names : List (List ℕ)) → list_any (bytes_eq name) names ≡ true → Among name names
+unfolding Among
+any_among name [] is = absurd (true≢false (sym is))
+any_among name (n ∷ names) is =
+    elim (cases_Bool (bytes_eq name n)) [
+      | inl same ↦ inl ((bytes_eq-Decides name n).0 same)
+      | inr other ↦ inr (any_among name names (rw other at is))
+    ]
+
+pub among_any : (name : List ℕ) (names : List (List ℕ)) → Among name names → list_any (bytes_eq name) names ≡ true
+unfolding Among
+among_any name [] m = absurd m
+among_any name (n ∷ names) (inl e) = rw ((bytes_eq-Decides name n).1 e) refl
+among_any name (n ∷ names) (inr m) =
+    elim (cases_Bool (bytes_eq name n)) [
+      | inl same ↦ rw same refl
+      | inr other ↦ rw other (among_any name names m)
+    ]
+
+pub apart_none : (name : List ℕ) (names : List (List ℕ)) → Among name names → AllByRecursion (λ other. bytes_eq name other ≡ false) names → ⊥
+apart_none name names m apart =
+    true≢false (sym ((bytes_eq-Decides name name).1 refl) ∙ all_among (λ other. bytes_eq name other ≡ false) name names m apart)
+
+pub distinct_later : (first later : List (List ℕ)) → IsDistinct bytes_eq (first ++ later) → IsDistinct bytes_eq later
+unfolding IsDistinct
+distinct_later [] later distinct = distinct
+distinct_later (x ∷ first) later distinct = distinct_later first later distinct.1
+
+pub distinct_apart : (first later : List (List ℕ)) (name : List ℕ) → IsDistinct bytes_eq (first ++ later) → Among name first → Among name later → ⊥
+unfolding IsDistinct Among
+distinct_apart [] later name distinct m behind = absurd m
+distinct_apart (x ∷ first) later name distinct (inl e) behind =
+    apart_none x (first ++ later) (among_back x first later (subst (λ n. Among n later) e behind)) distinct.0
+distinct_apart (x ∷ first) later name distinct (inr m) behind = distinct_apart first later name distinct.1 m behind
+
+abbrev pub all_listed : List MemberView → List (List ℕ)
+all_listed members = flat_map (λ m. m.symbols) members
+
+pub among_listed : (name : List ℕ) (m : MemberView) (archive : List MemberView) → Among m archive → Among name m.symbols → Among name (all_listed archive)
+unfolding Among
+among_listed name m [] held is = absurd held
+among_listed name m (x ∷ archive) (inl e) is = among_front name x.symbols (all_listed archive) (subst (λ (y : MemberView). Among name y.symbols) e is)
+among_listed name m (x ∷ archive) (inr held) is = among_back name x.symbols (all_listed archive) (among_listed name m archive held is)
+
+-- the member that a name is listed for is the first
+pub listed_once : (archive : List MemberView) (name : List ℕ) (m : MemberView) → IsDistinct bytes_eq (all_listed archive) →
+    Among m archive → Among name m.symbols → first_listed archive name ≡ Some m
+unfolding Among
+listed_once [] name m distinct held is = absurd held
+listed_once (x ∷ archive) name m distinct (inl e) is =
+    rw (among_any name x.symbols (subst (λ (y : MemberView). Among name y.symbols) e is)) (ap Some (sym e))
+listed_once (x ∷ archive) name m distinct (inr held) is =
+    elim (cases_Bool (is_listed_for name x)) [
+      | inl found ↦ absurd (distinct_apart x.symbols (all_listed archive) name distinct (any_among name x.symbols found) (among_listed name m archive held is))
+      | inr other ↦ rw other (listed_once archive name m (distinct_later x.symbols (all_listed archive) distinct) held is)
+    ]
+
+same_member : (x m : MemberView) → Some x ≡ Some m → x ≡ m
+same_member x m e = cc
+
+-- the first member that a name is listed for is a member that it is listed for
+pub listed_is : (archive : List MemberView) (name : List ℕ) (m : MemberView) → first_listed archive name ≡ Some m → Among m archive × Among name m.symbols
+unfolding Among
+listed_is [] name m is = cc
+listed_is (x ∷ archive) name m is =
+    elim (cases_Bool (is_listed_for name x)) [
+      | inl found ↦
+          let same : x ≡ m = same_member x m (rw found at is) in
+          (inl (sym same), subst (λ (y : MemberView). Among name y.symbols) same (any_among name x.symbols found))
+      | inr other ↦ let later = listed_is archive name m (rw other at is) in (inr later.0, later.1)
+    ]
+
+-- one name is not listed for two members
+pub one_member : (archive : List MemberView) (name : List ℕ) (m other : MemberView) → IsDistinct bytes_eq (all_listed archive) →
+    Among m archive → Among other archive → Among name m.symbols → Among name other.symbols → m ≡ other
+one_member archive name m other distinct held held_too is is_too =
+    same_member m other (sym (listed_once archive name m distinct held is) ∙ listed_once archive name other distinct held_too is_too)
+
+-- a name of what is read in a member
+abbrev pub NameRead : (Object → List (List ℕ)) → List ℕ → List MemberView → Type 0
+NameRead f name members = (m : MemberView) × (o : Object) × Among m members × (object_in m.bytes ≡ Some o) × Among name (f o)
+
+read_first : (f : Object → List (List ℕ)) (name : List ℕ) (x : MemberView) (members : List MemberView) (read : Option Object) → object_in x.bytes ≡ read →
+    (Among name (flat_map f (objects_in members)) → NameRead f name members) → Among name (flat_map f (cons_option read (objects_in members))) → NameRead f name (x ∷ members)
+unfolding Among
+read_first f name x members None is next held = let later = next held in (later.0, later.1, inr later.2, later.3, later.4)
+read_first f name x members (Some o) is next held =
+    elim (among_either name (f o) (flat_map f (objects_in members)) held) [
+      | inl here ↦ (x, o, inl refl, is, here)
+      | inr behind ↦ let later = next behind in (later.0, later.1, inr later.2, later.3, later.4)
+    ]
+
+-- a name of the objects that are read in members is one of the object of some member
+pub name_read : (f : Object → List (List ℕ)) (name : List ℕ) (members : List MemberView) → Among name (flat_map f (objects_in members)) → NameRead f name members
+unfolding Among
+name_read f name [] held = absurd held
+name_read f name (x ∷ members) held = read_first f name x members (object_in x.bytes) refl (name_read f name members) held
+
+read_behind : (f : Object → List (List ℕ)) (name : List ℕ) (objects : List Object) (read : Option Object) → Among name (flat_map f objects) →
+    Among name (flat_map f (cons_option read objects))
+read_behind f name objects None held = held
+read_behind f name objects (Some o) held = among_back name (f o) (flat_map f objects) held
+
+-- and a name of the object of a member is one of theirs
+pub read_name : (f : Object → List (List ℕ)) (name : List ℕ) (members : List MemberView) (m : MemberView) (o : Object) → Among m members →
+    object_in m.bytes ≡ Some o → Among name (f o) → Among name (flat_map f (objects_in members))
+unfolding Among
+read_name f name [] m o held is there = absurd held
+read_name f name (x ∷ members) m o (inl e) is there =
+    let read : object_in x.bytes ≡ Some o = subst (λ (y : MemberView). object_in y.bytes ≡ Some o) e is in
+    rw read (among_front name (f o) (flat_map f (objects_in members)) there)
+read_name f name (x ∷ members) m o (inr held) is there =
+    read_behind f name (objects_in members) (object_in x.bytes) (read_name f name members m o held is there)
+
+-- a name that some of these is listed for
+pub any_member : (name : List ℕ) (members : List MemberView) → list_any (is_listed_for name) members ≡ true →
+    (m : MemberView) × Among m members × Among name m.symbols
+unfolding Among
+any_member name [] is = absurd (true≢false (sym is))
+any_member name (x ∷ members) is =
+    elim (cases_Bool (is_listed_for name x)) [
+      | inl here ↦ (x, inl refl, any_among name x.symbols here)
+      | inr none ↦ let later = any_member name members (rw none at is) in (later.0, inr later.1, later.2)
+    ]
+
+pub none_listed : (name : List ℕ) (m : MemberView) (members : List MemberView) → list_any (is_listed_for name) members ≡ false → Among m members →
+    Among name m.symbols → ⊥
+unfolding Among
+none_listed name m [] none held is = absurd held
+none_listed name m (x ∷ members) none (inl e) is =
+    let here : is_listed_for name x ≡ false = (or_parts (is_listed_for name x) (list_any (is_listed_for name) members) none).0 in
+    true≢false (sym (among_any name x.symbols (subst (λ (y : MemberView). Among name y.symbols) e is)) ∙ here)
+none_listed name m (x ∷ members) none (inr held) is =
+    none_listed name m members (or_parts (is_listed_for name x) (list_any (is_listed_for name) members) none).1 held is
+
+-- Names that differ, put together and apart.
+
+all_first : (first later : List (List ℕ)) (P : List ℕ → Type 0) → AllByRecursion P (first ++ later) → AllByRecursion P first
+all_first [] later P all = tt
+all_first (x ∷ first) later P all = (all.0, all_first first later P all.1)
+
+distinct_first : (first later : List (List ℕ)) → IsDistinct bytes_eq (first ++ later) → IsDistinct bytes_eq first
+unfolding IsDistinct
+distinct_first [] later distinct = tt
+distinct_first (x ∷ first) later distinct = (all_first first later (λ other. bytes_eq x other ≡ false) distinct.0, distinct_first first later distinct.1)
+
+none_same : (x : List ℕ) (names : List (List ℕ)) → (Among x names → ⊥) → AllByRecursion (λ other. bytes_eq x other ≡ false) names
+unfolding Among
+none_same x [] none = tt
+none_same x (n ∷ names) none =
+    (false_from_ne_true (bytes_eq x n) (λ same. none (inl ((bytes_eq-Decides x n).0 same))), none_same x names (λ held. none (inr held)))
+
+pub distinct_join : (first later : List (List ℕ)) → IsDistinct bytes_eq first → IsDistinct bytes_eq later →
+    ((name : List ℕ) → Among name first → Among name later → ⊥) → IsDistinct bytes_eq (first ++ later)
+unfolding IsDistinct Among
+distinct_join [] later own behind apart = behind
+distinct_join (x ∷ first) later own behind apart =
+    let none : Among x (first ++ later) → ⊥ = λ held. elim (among_either x first later held) [
+      | inl here ↦ apart_none x first here own.0
+      | inr there ↦ apart x (inl refl) there
+    ] in
+    (none_same x (first ++ later) none, distinct_join first later own.1 behind (λ name held. apart name (inr held)))
+
+pub among_flat_map : {X : Type 0} (f : X → List (List ℕ)) (name : List ℕ) (xs : List X) → Among name (flat_map f xs) → (x : X) × Among x xs × Among name (f x)
+unfolding Among
+among_flat_map f name [] held = absurd held
+among_flat_map f name (x ∷ xs) held =
+    elim (among_either name (f x) (flat_map f xs) held) [
+      | inl here ↦ (x, inl refl, here)
+      | inr behind ↦ let later = among_flat_map f name xs behind in (later.0, inr later.1, later.2)
+    ]
+
+pub flat_map_among : {X : Type 0} (f : X → List (List ℕ)) (name : List ℕ) (xs : List X) (x : X) → Among x xs → Among name (f x) → Among name (flat_map f xs)
+unfolding Among
+flat_map_among f name [] x held is = absurd held
+flat_map_among f name (y ∷ xs) x (inl e) is = among_front name (f y) (flat_map f xs) (subst (λ z. Among name (f z)) e is)
+flat_map_among f name (y ∷ xs) x (inr held) is = among_back name (f y) (flat_map f xs) (flat_map_among f name xs x held is)
+
+-- names of a list in the other order
+pub distinct_reversed : {X : Type 0} (f : X → List (List ℕ)) (xs : List X) → IsDistinct bytes_eq (flat_map f (reverse xs)) → IsDistinct bytes_eq (flat_map f xs)
+distinct_reversed f [] distinct = distinct
+distinct_reversed f (x ∷ xs) distinct =
+    let parts : IsDistinct bytes_eq (flat_map f (reverse xs) ++ (f x ++ [])) =
+    subst (IsDistinct bytes_eq) (ap (flat_map f) (reverse-append (x ∷ []) xs) ∙ flat_map-append f (reverse xs) (x ∷ [])) distinct in
+    distinct_join (f x) (flat_map f xs) (distinct_first (f x) [] (distinct_later (flat_map f (reverse xs)) (f x ++ []) parts))
+    (distinct_reversed f xs (distinct_first (flat_map f (reverse xs)) (f x ++ []) parts))
+    (λ name here there.
+    let from = among_flat_map f name xs there in
+    distinct_apart (flat_map f (reverse xs)) (f x ++ []) name parts
+    (flat_map_among f name (reverse xs) from.0 (among_reverse from.0 xs from.1) from.2) (among_front name (f x) [] here))
+
+-- the symbols of one member differ
+pub own_distinct : (archive : List MemberView) (m : MemberView) → IsDistinct bytes_eq (all_listed archive) → Among m archive → IsDistinct bytes_eq m.symbols
+unfolding Among
+own_distinct [] m distinct held = absurd held
+own_distinct (x ∷ archive) m distinct (inl e) = subst (λ (y : MemberView). IsDistinct bytes_eq y.symbols) (sym e) (distinct_first x.symbols (all_listed archive) distinct)
+own_distinct (x ∷ archive) m distinct (inr held) = own_distinct archive m (distinct_later x.symbols (all_listed archive) distinct) held
+
+-- so do those of members of an archive that have names of their own
+pub some_distinct : (archive some : List MemberView) → IsDistinct bytes_eq (all_listed archive) → ((m : MemberView) → Among m some → Among m archive) →
+    IsDistinct bytes_eq (map (λ (m : MemberView). m.name) some) → IsDistinct bytes_eq (all_listed some)
+unfolding IsDistinct Among
+some_distinct archive [] distinct held once = tt
+some_distinct archive (x ∷ some) distinct held once =
+    distinct_join x.symbols (all_listed some) (own_distinct archive x distinct (held x (inl refl)))
+    (some_distinct archive some distinct (λ m there. held m (inr there)) once.1)
+    (λ name here there.
+    let from = among_flat_map (λ (m : MemberView). m.symbols) name some there in
+    let same : x ≡ from.0 = one_member archive name x from.0 distinct (held x (inl refl)) (held from.0 (inr from.1)) here from.2 in
+    apart_none x.name (map (λ (m : MemberView). m.name) some)
+    (subst (λ (y : MemberView). Among y.name (map (λ (m : MemberView). m.name) some)) (sym same) (among_map (λ (m : MemberView). m.name) from.0 some from.1)) once.0)
+
+-- what specifications list is what their members are listed for
+pub listed_mapped : (ps : List MemberSpec) → all_listed (map member_of ps) ≡ flat_map (λ (p : MemberSpec). p.symbols) ps
+listed_mapped [] = refl
+listed_mapped (p ∷ ps) = ap (λ names. p.symbols ++ names) (listed_mapped ps)

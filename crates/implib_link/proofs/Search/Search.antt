@@ -1,0 +1,386 @@
+-- What a linker takes of the members for GNU's linker.
+use Rattle.std.proofs.Common.{◌≡◌, ℕ, zero, suc, ◌+◌, ◌<◌, true, List, [], ◌∷◌, ◌++◌, Option, Some, None, refl, ap, sym, ◌∙◌, subst, inl, inr, ◌⊎◌, arith}
+use Rattle.std.specs.Prelude.{bytes_eq, slice_get, slice_index}
+use Rattle.std.specs.List.{IsDistinct, cons_option, filter_map, list_any}
+use Rattle.std.proofs.lemmas.Bool.{cases_Bool, true≢false}
+use Rattle.std.proofs.lemmas.List.{append_cancel_left}
+use Rattle.implib.specs.declared.flavor.Flavor.TheVariants.{Gnu}
+use Rattle.implib.specs.declared.machine.MachineType.{MachineType}
+use Rattle.implib.specs.Definition.{DefinitionView, ExportView}
+use Rattle.implib.specs.Members.Gnu.{archive_symbols, export_name, export_object, head_object, head_symbol, iname_symbol, numbered_name, mangled_name, tail_object, weak_address_name}
+use Rattle.implib.specs.Import.{imp_symbol, is_alias, public_exports}
+use Rattle.implib.specs.Link.LinkedMembers.{linked_members, numbered_spec}
+use Rattle.std.specs.Option.{option_map}
+use Rattle.implib.specs.Members.Members.{AreMembersOf}
+use Rattle.implib.specs.Members.MemberSpec.{MemberView, MemberSpec, member_of}
+use Rattle.implib.specs.Members.GnuMembers.{alias_specs, export_spec, gnu_specs, head_spec, numbered_specs, numbered_specs_of, tail_spec}
+use Rattle.implib.specs.Members.WeakExternal.{weak_spec}
+use Rattle.implib.specs.Formats.Object.{Object}
+use Rattle.implib.specs.Renaming.{renamed}
+use Rattle.implib.proofs.Link.LinkedMembers.{among_map, among_reverse}
+use Rattle.implib.proofs.Link.Placement.{export, head, tail}
+use Rattle.implib.proofs.Link.Ranges.{Among, among_back, among_first, among_front, among_later}
+use Rattle.implib_link.specs.Search.Search.{is_wanted, undefined_in, linked_if_any, numbers_wanted}
+use Rattle.implib_link.proofs.Search.Lists.{all_listed, among_any, among_either, among_mapped, among_reversed, any_among, one_member}
+
+-- What specifications there are.
+
+-- one export's specifications are among those of all
+pub numbered_in : (machine : MachineType) (dll : List ℕ) (exports : List ExportView) (start n : ℕ) (e : ExportView) (p : MemberSpec) → slice_get exports n ≡ Some e →
+    Among p (numbered_specs_of machine dll (start + n) e) → Among p (numbered_specs machine dll start exports)
+numbered_in machine dll [] start n e p is held = cc
+numbered_in machine dll (x ∷ exports) start zero e p is held =
+    let same : e ≡ x = cc in
+    let position : start + 0 ≡ start = omega arith in
+    among_front p (numbered_specs_of machine dll start x) (numbered_specs machine dll (start + 1) exports)
+    (subst (λ n. Among p (numbered_specs_of machine dll n x)) position (subst (λ y. Among p (numbered_specs_of machine dll (start + 0) y)) same held))
+numbered_in machine dll (x ∷ exports) start (suc n) e p is held =
+    let position : start + suc n ≡ start + 1 + n = omega arith in
+    among_back p (numbered_specs_of machine dll start x) (numbered_specs machine dll (start + 1) exports)
+    (numbered_in machine dll exports (start + 1) n e p is (subst (λ n. Among p (numbered_specs_of machine dll n e)) position held))
+
+-- a specification of an export: of its member, or it has an alias
+abbrev pub OfExport : MachineType → List ℕ → List ExportView → ℕ → MemberSpec → Type 0
+OfExport machine dll exports start p =
+    (n : ℕ) × (e : ExportView) × (slice_get exports n ≡ Some e) × ((p ≡ export_spec machine dll (start + n) e) ⊎ (is_alias e.alias_target e.name ≡ true))
+
+pub numbered_is : (machine : MachineType) (dll : List ℕ) (exports : List ExportView) (start : ℕ) (p : MemberSpec) → Among p (numbered_specs machine dll start exports) →
+    OfExport machine dll exports start p
+unfolding Among alias_specs
+numbered_is machine dll [] start p held = absurd held
+numbered_is machine dll (x ∷ exports) start p held =
+    elim (among_either p (numbered_specs_of machine dll start x) (numbered_specs machine dll (start + 1) exports) held) [
+      | inl own ↦ elim (cases_Bool (is_alias x.alias_target x.name)) [
+        | inl alias ↦ (0, x, refl, inr alias)
+        | inr none ↦
+            let position : start ≡ start + 0 = omega arith in
+            let only : Among p (export_spec machine dll start x ∷ []) = rw none at own in
+            elim only [
+              | inl is ↦ (0, x, refl, inl (subst (λ n. p ≡ export_spec machine dll n x) position is))
+              | inr nothing ↦ absurd nothing
+            ]
+      ]
+      | inr behind ↦
+          let later = numbered_is machine dll exports (start + 1) p behind in
+          let position : start + 1 + later.0 ≡ start + suc later.0 = omega arith in (
+            suc later.0,
+            later.1,
+            later.2,
+            elim later.3 [
+              | inl is ↦ inl (subst (λ n. p ≡ export_spec machine dll n later.1) position is)
+              | inr alias ↦ inr alias
+            ],
+          )
+    ]
+
+pub name_differs : (n m : ℕ) → n ≡ m → m < n → ⊥
+name_differs n m same below = omega arith
+
+-- The numbers of wanted exports.
+
+pub number_wanted : (wanted : List (List ℕ)) (exports : List ExportView) (start n : ℕ) (e : ExportView) → slice_get exports n ≡ Some e → is_wanted wanted e ≡ true →
+    Among (start + n) (numbers_wanted wanted start exports)
+unfolding Among
+number_wanted wanted [] start n e is want = cc
+number_wanted wanted (x ∷ exports) start zero e is want =
+    let same : e ≡ x = cc in
+    let position : start + 0 ≡ start = omega arith in
+    rw (subst (λ y. is_wanted wanted y ≡ true) same want) (inl position)
+number_wanted wanted (x ∷ exports) start (suc n) e is want =
+    let position : start + 1 + n ≡ start + suc n = omega arith in
+    let later : Among (start + suc n) (numbers_wanted wanted (start + 1) exports) =
+    subst (λ n. Among n (numbers_wanted wanted (start + 1) exports)) position (number_wanted wanted exports (start + 1) n e is want) in
+    elim (cases_Bool (is_wanted wanted x)) [ inl here ↦ rw here (inr later) | inr none ↦ rw none later ]
+
+pub wanted_number : (wanted : List (List ℕ)) (exports : List ExportView) (start k : ℕ) → Among k (numbers_wanted wanted start exports) →
+    (n : ℕ) × (e : ExportView) × (k ≡ start + n) × (slice_get exports n ≡ Some e) × (is_wanted wanted e ≡ true)
+unfolding Among
+wanted_number wanted [] start k held = absurd held
+wanted_number wanted (x ∷ exports) start k held =
+    elim (cases_Bool (is_wanted wanted x)) [
+      | inl here ↦
+          let either : Among k (start ∷ numbers_wanted wanted (start + 1) exports) = rw here at held in
+          elim either [
+            | inl is ↦ let position : start ≡ start + 0 = omega arith in (0, x, is ∙ position, refl, here)
+            | inr behind ↦ next (wanted_number wanted exports (start + 1) k behind)
+          ]
+      | inr none ↦ next (wanted_number wanted exports (start + 1) k (rw none at held))
+    ]
+  where
+    next : ((n : ℕ) × (e : ExportView) × (k ≡ start + 1 + n) × (slice_get exports n ≡ Some e) × (is_wanted wanted e ≡ true)) →
+        (n : ℕ) × (e : ExportView) × (k ≡ start + n) × (slice_get (x ∷ exports) n ≡ Some e) × (is_wanted wanted e ≡ true)
+    next later = let position : start + 1 + later.0 ≡ start + suc later.0 = omega arith in (suc later.0, later.1, later.2 ∙ position, later.3, later.4)
+
+-- a name of some names is wanted
+pub wants : (wanted names : List (List ℕ)) (name : List ℕ) → Among name names → Among name wanted → list_any (λ n. list_any (bytes_eq n) wanted) names ≡ true
+unfolding Among
+wants wanted [] name held want = absurd held
+wants wanted (n ∷ names) name (inl e) want = rw (among_any n wanted (subst (λ t. Among t wanted) e want)) refl
+wants wanted (n ∷ names) name (inr held) want =
+    elim (cases_Bool (list_any (bytes_eq n) wanted)) [ inl is ↦ rw is refl | inr none ↦ rw none (wants wanted names name held want) ]
+
+pub wanted_name : (wanted names : List (List ℕ)) → list_any (λ n. list_any (bytes_eq n) wanted) names ≡ true → (name : List ℕ) × Among name names × Among name wanted
+unfolding Among
+wanted_name wanted [] is = absurd (true≢false (sym is))
+wanted_name wanted (n ∷ names) is =
+    elim (cases_Bool (list_any (bytes_eq n) wanted)) [
+      | inl here ↦ (n, inl refl, any_among n wanted here)
+      | inr none ↦ let later = wanted_name wanted names (rw none at is) in (later.0, inr later.1, later.2)
+    ]
+
+-- The specifications of chosen exports.
+
+among_option : {X : Type 0} (x : X) (o : Option X) (xs : List X) → Among x xs → Among x (cons_option o xs)
+unfolding Among
+among_option x None xs held = held
+among_option x (Some y) xs held = inr held
+
+pub member_spec_chosen : (machine : MachineType) (dll : List ℕ) (exports : List ExportView) (chosen : List ℕ) (n : ℕ) (e : ExportView) → Among n chosen →
+    slice_get exports n ≡ Some e → Among (export_spec machine dll n e) (filter_map (numbered_spec machine dll exports) chosen)
+unfolding Among
+member_spec_chosen machine dll exports [] n e held is = absurd held
+member_spec_chosen machine dll exports (k ∷ chosen) n e (inl same) is =
+    let here : slice_get exports k ≡ Some e = subst (λ m. slice_get exports m ≡ Some e) same is in
+    rw here (inl (ap (λ m. export_spec machine dll m e) same))
+member_spec_chosen machine dll exports (k ∷ chosen) n e (inr held) is =
+    among_option (export_spec machine dll n e) (numbered_spec machine dll exports k) (filter_map (numbered_spec machine dll exports) chosen)
+    (member_spec_chosen machine dll exports chosen n e held is)
+
+-- a specification of a chosen export
+abbrev pub Chosen : MachineType → List ℕ → List ExportView → List ℕ → MemberSpec → Type 0
+Chosen machine dll exports chosen p =
+    (n : ℕ) × (e : ExportView) × Among n chosen × (slice_get exports n ≡ Some e) × (p ≡ export_spec machine dll n e)
+
+first_chosen : (machine : MachineType) (dll : List ℕ) (exports : List ExportView) (k : ℕ) (chosen : List ℕ) (p : MemberSpec) (o : Option ExportView) → slice_get exports k ≡ o →
+    (Among p (filter_map (numbered_spec machine dll exports) chosen) → Chosen machine dll exports chosen p) →
+    Among p (cons_option (option_map (export_spec machine dll k) o) (filter_map (numbered_spec machine dll exports) chosen)) → Chosen machine dll exports (k ∷ chosen) p
+unfolding Among
+first_chosen machine dll exports k chosen p None is next held = let later = next held in (later.0, later.1, inr later.2, later.3, later.4)
+first_chosen machine dll exports k chosen p (Some e) is next (inl same) = (k, e, inl refl, is, same)
+first_chosen machine dll exports k chosen p (Some e) is next (inr held) = let later = next held in (later.0, later.1, inr later.2, later.3, later.4)
+
+pub chosen_member_spec : (machine : MachineType) (dll : List ℕ) (exports : List ExportView) (chosen : List ℕ) (p : MemberSpec) →
+    Among p (filter_map (numbered_spec machine dll exports) chosen) → Chosen machine dll exports chosen p
+unfolding Among
+chosen_member_spec machine dll exports [] p held = absurd held
+chosen_member_spec machine dll exports (k ∷ chosen) p held =
+    first_chosen machine dll exports k chosen p (slice_get exports k) refl (chosen_member_spec machine dll exports chosen p) held
+
+-- What the members leave to others, claim, and are listed for.
+
+pub left_tail : (machine : MachineType) (dll : List ℕ) → undefined_in (tail machine dll) ≡ []
+unfolding undefined_in tail_object
+left_tail machine dll = refl
+
+pub left_head : (machine : MachineType) (dll : List ℕ) → undefined_in (head machine dll) ≡ iname_symbol machine dll ∷ []
+unfolding undefined_in head_object
+left_head machine dll = refl
+
+pub left_export : (machine : MachineType) (dll : List ℕ) (e : ExportView) → undefined_in (export machine dll e) ≡ head_symbol machine dll ∷ []
+unfolding undefined_in export_object
+left_export machine dll e = elim (cases_Bool e.is_data) [ inl is ↦ rw is refl | inr is ↦ rw is refl ]
+
+pub listed_tail : (machine : MachineType) (dll : List ℕ) → (member_of (tail_spec machine dll)).symbols ≡ iname_symbol machine dll ∷ []
+unfolding tail_spec
+listed_tail machine dll = refl
+
+pub listed_head : (machine : MachineType) (dll : List ℕ) → (member_of (head_spec machine dll)).symbols ≡ head_symbol machine dll ∷ []
+unfolding head_spec
+listed_head machine dll = refl
+
+pub listed_export : (machine : MachineType) (dll : List ℕ) (n : ℕ) (e : ExportView) → (member_of (export_spec machine dll n e)).symbols ≡ archive_symbols e
+unfolding export_spec
+listed_export machine dll n e = refl
+
+pub address_listed : (e : ExportView) → Among (imp_symbol e.name) (archive_symbols e)
+unfolding Among
+address_listed e = elim (cases_Bool e.is_data) [ inl is ↦ rw is (inl refl) | inr is ↦ rw is (inr (inl refl)) ]
+
+pub only_one : {X : Type 0} (x y : X) → Among x (y ∷ []) → x ≡ y
+unfolding Among
+only_one x y (inl e) = e
+only_one x y (inr nothing) = absurd nothing
+
+pub in_nothing : {X : Type 0} (x : X) → Among x [] → ⊥
+unfolding Among
+in_nothing x held = held
+
+pub same_export : (e other : ExportView) → Some e ≡ Some other → e ≡ other
+same_export e other same = cc
+
+same_object : (o other : Object) → Some o ≡ Some other → o ≡ other
+same_object o other e = cc
+
+names_apart : (dll : List ℕ) (n : ℕ) → weak_address_name dll n ≡ export_name dll n → ⊥
+unfolding numbered_name
+names_apart dll n same = name_differs 0x78 0x73 (ap (λ text. slice_index text 3) (append_cancel_left (mangled_name dll) _ _ same)) (omega arith)
+
+-- some export is wanted
+pub record AnyWanted (exports : List ExportView) (wanted : List (List ℕ)) : Type 0 where
+  pub number : ℕ
+  pub export : ExportView
+  pub is : slice_get exports number ≡ Some export
+  pub want : is_wanted wanted export ≡ true
+
+-- a member is that of an export
+pub record IsExport (machine : MachineType) (dll : List ℕ) (exports : List ExportView) (m : MemberView) : Type 0 where
+  pub number : ℕ
+  pub export : ExportView
+  pub is : slice_get exports number ≡ Some export
+  pub same : m ≡ member_of (export_spec machine dll number export)
+
+pub data Kind (machine : MachineType) (dll : List ℕ) (exports : List ExportView) (m : MemberView) : Type 0 where
+  IsTail : m ≡ member_of (tail_spec machine dll) → Kind machine dll exports m
+  IsHead : m ≡ member_of (head_spec machine dll) → Kind machine dll exports m
+  OfAnExport : IsExport machine dll exports m → Kind machine dll exports m
+
+-- a member that is needed for wanted names
+pub data Needed (machine : MachineType) (dll : List ℕ) (exports : List ExportView) (wanted : List (List ℕ)) (m : MemberView) : Type 0 where
+  TheTail : m ≡ member_of (tail_spec machine dll) → AnyWanted exports wanted → Needed machine dll exports wanted m
+  TheHead : m ≡ member_of (head_spec machine dll) → AnyWanted exports wanted → Needed machine dll exports wanted m
+  AnExport : (x : IsExport machine dll exports m) → is_wanted wanted x.export ≡ true → Needed machine dll exports wanted m
+
+pub any_wanted : (machine : MachineType) (dll : List ℕ) (exports : List ExportView) (wanted : List (List ℕ)) (m : MemberView) → Needed machine dll exports wanted m → AnyWanted exports wanted
+any_wanted machine dll exports wanted m (TheTail same any) = any
+any_wanted machine dll exports wanted m (TheHead same any) = any
+any_wanted machine dll exports wanted m (AnExport x want) = record { number = x.number; export = x.export; is = x.is; want = want }
+
+module _ (d : DefinitionView) (machine : MachineType) (members : List MemberView) (made : AreMembersOf d machine Gnu members)
+    (distinct : IsDistinct bytes_eq (all_listed members)) where
+  abbrev pub public : List ExportView
+  public = public_exports (renamed d)
+
+  abbrev pub the_head : MemberView
+  the_head = member_of (head_spec machine d.import_name)
+
+  abbrev pub the_tail : MemberView
+  the_tail = member_of (tail_spec machine d.import_name)
+
+  abbrev pub the_export : ℕ → ExportView → MemberView
+  the_export n e = member_of (export_spec machine d.import_name n e)
+
+  specified : (p : MemberSpec) → Among p (gnu_specs machine d.import_name public) → Among (member_of p) members
+  specified p held = subst (Among (member_of p)) (sym made.made) (among_map member_of p (gnu_specs machine d.import_name public) held)
+
+  member_spec_held : (n : ℕ) (e : ExportView) (p : MemberSpec) → slice_get public n ≡ Some e → Among p (numbered_specs_of machine d.import_name n e) → Among (member_of p) members
+  member_spec_held n e p is held =
+      let position : n ≡ 0 + n = omega arith in
+      specified p (among_later _ _ _ (among_later _ _ _ (among_reverse p (numbered_specs machine d.import_name 0 public)
+      (numbered_in machine d.import_name public 0 n e p is (subst (λ k. Among p (numbered_specs_of machine d.import_name k e)) position held)))))
+
+  pub export_held : (n : ℕ) (e : ExportView) → slice_get public n ≡ Some e → Among (the_export n e) members
+  export_held n e is =
+      member_spec_held n e (export_spec machine d.import_name n e) is
+      (among_back (export_spec machine d.import_name n e) (alias_specs machine d.import_name n e) (export_spec machine d.import_name n e ∷ []) (among_first _ _))
+
+  abbrev alias_of : ℕ → ExportView → MemberSpec
+  alias_of n e = weak_spec machine (weak_address_name d.import_name n) (imp_symbol e.name) (imp_symbol e.alias_target)
+
+  alias_there : (n : ℕ) (e : ExportView) → is_alias e.alias_target e.name ≡ true → Among (alias_of n e) (alias_specs machine d.import_name n e)
+  unfolding alias_specs
+  alias_there n e alias = rw alias (among_later _ _ _ (among_first _ _))
+
+  -- an alias is listed for a symbol of its export
+  pub no_alias : (n : ℕ) (e : ExportView) → slice_get public n ≡ Some e → is_alias e.alias_target e.name ≡ true → ⊥
+  unfolding export_spec
+  no_alias n e is alias =
+      names_apart d.import_name n (ap (λ (m : MemberView). m.name)
+      (one_member members (imp_symbol e.name) (member_of (alias_of n e)) (the_export n e) distinct
+      (member_spec_held n e (alias_of n e) is (among_front (alias_of n e) (alias_specs machine d.import_name n e) (export_spec machine d.import_name n e ∷ []) (alias_there n e alias)))
+      (export_held n e is) (among_first _ _) (address_listed e)))
+
+  kind_specified : (m : MemberView) (p : MemberSpec) → m ≡ member_of p → Among p (gnu_specs machine d.import_name public) → Kind machine d.import_name public m
+  unfolding Among
+  kind_specified m p same (inl e) = IsTail (same ∙ ap member_of e)
+  kind_specified m p same (inr (inl e)) = IsHead (same ∙ ap member_of e)
+  kind_specified m p same (inr (inr held)) =
+      let own = numbered_is machine d.import_name public 0 p (among_reversed p (numbered_specs machine d.import_name 0 public) held) in
+      let position : 0 + own.0 ≡ own.0 = omega arith in
+      elim own.3 [
+        | inl e ↦ OfAnExport (record { number = own.0; export = own.1; is = own.2; same = same ∙ ap member_of (e ∙ ap (λ n. export_spec machine d.import_name n own.1) position) })
+        | inr alias ↦ absurd (no_alias own.0 own.1 own.2 alias)
+      ]
+
+  pub kind : (m : MemberView) → Among m members → Kind machine d.import_name public m
+  kind m held =
+      let p = among_mapped member_of m (gnu_specs machine d.import_name public) (subst (Among m) made.made held) in
+      kind_specified m p.0 p.2 p.1
+
+-- What is linked of chosen exports.
+
+-- numbers are of just the wanted exports
+pub record AreWanted (exports : List ExportView) (wanted : List (List ℕ)) (chosen : List ℕ) : Type 0 where
+  pub only : (k : ℕ) → Among k chosen → (e : ExportView) × (slice_get exports k ≡ Some e) × (is_wanted wanted e ≡ true)
+  pub all : (k : ℕ) (e : ExportView) → slice_get exports k ≡ Some e → is_wanted wanted e ≡ true → Among k chosen
+
+pub numbers_are_wanted : (exports : List ExportView) (wanted : List (List ℕ)) → AreWanted exports wanted (numbers_wanted wanted 0 exports)
+numbers_are_wanted exports wanted = record {
+  only = λ k held.
+      let found = wanted_number wanted exports 0 k held in
+      let same : 0 + found.0 ≡ found.0 = omega arith in
+      (found.1, subst (λ n. slice_get exports n ≡ Some found.1) (sym (found.2 ∙ same)) found.3, found.4);
+  all = λ k e is want.
+      let same : 0 + k ≡ k = omega arith in
+      subst (λ n. Among n (numbers_wanted wanted 0 exports)) same (number_wanted wanted exports 0 k e is want);
+}
+
+abbrev member_specs_linked : MachineType → List ℕ → List ExportView → List ℕ → List MemberSpec
+member_specs_linked machine dll exports chosen = head_spec machine dll ∷ (filter_map (numbered_spec machine dll exports) chosen ++ tail_spec machine dll ∷ [])
+
+member_spec_linked : (machine : MachineType) (dll : List ℕ) (exports : List ExportView) (chosen : List ℕ) (p : MemberSpec) → Among p (member_specs_linked machine dll exports chosen) →
+    (p ≡ head_spec machine dll) ⊎ ((p ≡ tail_spec machine dll) ⊎ Chosen machine dll exports chosen p)
+unfolding Among
+member_spec_linked machine dll exports chosen p (inl e) = inl e
+member_spec_linked machine dll exports chosen p (inr held) =
+    elim (among_either p (filter_map (numbered_spec machine dll exports) chosen) (tail_spec machine dll ∷ []) held) [
+      | inl own ↦ inr (inr (chosen_member_spec machine dll exports chosen p own))
+      | inr last ↦ inr (inl (only_one p (tail_spec machine dll) last))
+    ]
+
+some_chosen : (d : DefinitionView) (machine : MachineType) (chosen : List ℕ) (k : ℕ) (m : MemberView) → Among k chosen → Among m (linked_members d machine chosen) →
+    Among m (linked_if_any d machine chosen)
+some_chosen d machine [] k m held is = absurd (in_nothing k held)
+some_chosen d machine (n ∷ chosen) k m held is = is
+
+-- what is linked, if any is, and one of the chosen numbers
+linked_some : (d : DefinitionView) (machine : MachineType) (chosen : List ℕ) (m : MemberView) → Among m (linked_if_any d machine chosen) →
+    (k : ℕ) × Among k chosen × Among m (linked_members d machine chosen)
+linked_some d machine [] m held = absurd (in_nothing m held)
+linked_some d machine (n ∷ chosen) m held = (n, among_first n chosen, held)
+
+module _ (d : DefinitionView) (machine : MachineType) (wanted : List (List ℕ)) (chosen : List ℕ) (are : AreWanted (public_exports (renamed d)) wanted chosen) where
+  pub member_spec_in : (p : MemberSpec) → Among p (member_specs_linked machine d.import_name (public_exports (renamed d)) chosen) → Among (member_of p) (linked_members d machine chosen)
+  member_spec_in p held = among_map member_of p (member_specs_linked machine d.import_name (public_exports (renamed d)) chosen) held
+
+  pub linked_if_needed : (m : MemberView) → Needed machine d.import_name (public_exports (renamed d)) wanted m → Among m (linked_if_any d machine chosen)
+  linked_if_needed m (TheTail same any) =
+      some_chosen d machine chosen any.number m (are.all any.number any.export any.is any.want) (subst (λ x. Among x (linked_members d machine chosen)) (sym same)
+      (member_spec_in (tail_spec machine d.import_name) (among_later _ _ _
+      (among_back _ (filter_map (numbered_spec machine d.import_name (public_exports (renamed d))) chosen) (tail_spec machine d.import_name ∷ []) (among_first _ _)))))
+  linked_if_needed m (TheHead same any) =
+      some_chosen d machine chosen any.number m (are.all any.number any.export any.is any.want) (subst (λ x. Among x (linked_members d machine chosen)) (sym same)
+      (member_spec_in (head_spec machine d.import_name) (among_first _ _)))
+  linked_if_needed m (AnExport x want) =
+      some_chosen d machine chosen x.number m (are.all x.number x.export x.is want) (subst (λ y. Among y (linked_members d machine chosen)) (sym x.same)
+      (member_spec_in (export_spec machine d.import_name x.number x.export) (among_later _ _ _
+      (among_front _ (filter_map (numbered_spec machine d.import_name (public_exports (renamed d))) chosen) (tail_spec machine d.import_name ∷ [])
+      (member_spec_chosen machine d.import_name (public_exports (renamed d)) chosen x.number x.export (are.all x.number x.export x.is want) x.is)))))
+
+  any_of : (k : ℕ) → Among k chosen → AnyWanted (public_exports (renamed d)) wanted
+  any_of k held = let found = are.only k held in record { number = k; export = found.0; is = found.1; want = found.2 }
+
+  needed_member_spec : (m : MemberView) (p : MemberSpec) → m ≡ member_of p → AnyWanted (public_exports (renamed d)) wanted →
+      (p ≡ head_spec machine d.import_name) ⊎ ((p ≡ tail_spec machine d.import_name) ⊎ Chosen machine d.import_name (public_exports (renamed d)) chosen p) →
+      Needed machine d.import_name (public_exports (renamed d)) wanted m
+  needed_member_spec m p same any (inl e) = TheHead (same ∙ ap member_of e) any
+  needed_member_spec m p same any (inr (inl e)) = TheTail (same ∙ ap member_of e) any
+  needed_member_spec m p same any (inr (inr c)) =
+      let found = are.only c.0 c.2 in
+      let own : c.1 ≡ found.0 = same_export c.1 found.0 (sym c.3 ∙ found.1) in
+      AnExport (record { number = c.0; export = c.1; is = c.3; same = same ∙ ap member_of c.4 }) (subst (λ e. is_wanted wanted e ≡ true) (sym own) found.2)
+
+  pub needed_if_linked : (m : MemberView) → Among m (linked_if_any d machine chosen) → Needed machine d.import_name (public_exports (renamed d)) wanted m
+  needed_if_linked m held =
+      let some = linked_some d machine chosen m held in
+      let p = among_mapped member_of m (member_specs_linked machine d.import_name (public_exports (renamed d)) chosen) some.2 in
+      needed_member_spec m p.0 p.2 (any_of some.0 some.1) (member_spec_linked machine d.import_name (public_exports (renamed d)) chosen p.0 p.1)

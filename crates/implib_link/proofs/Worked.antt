@@ -1,0 +1,7 @@
+-- What is worked by hand, computed.
+pub mod Programs
+pub mod RefusedLinks
+pub mod Search
+pub mod Archives
+pub mod Expansion
+pub mod Flavors

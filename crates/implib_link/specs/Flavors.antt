@@ -1,0 +1,6 @@
+-- Programs of members of both flavours.
+pub mod SectionSymbols
+pub mod Expansion
+pub mod Program
+pub mod Texts
+pub mod Loaded

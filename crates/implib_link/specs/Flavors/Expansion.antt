@@ -1,0 +1,139 @@
+-- Expansion: a linker takes a short import for the object that it stands for (PE/COFF specification, "Import
+-- Library Format"): a thunk in the address table and one in the lookup table, the hint and the name, a stub
+-- for code, and its symbols. The specification names the symbols; the sections are those of this project's
+-- model (docs/FORMATS.md, "Placement").
+use Rattle.std.specs.Prelude.{ℕ, ◌+◌, ◌-◌, Bool, ◌&&◌, ◌==◌, nat_le, not, List, [], ◌∷◌, ◌++◌, codes, Option, Some, None, if◌then◌else◌}
+use Rattle.std.specs.Option.{option_and_then, option_map}
+use Rattle.implib.specs.declared.coff.object.Relocation.{Relocation}
+use Rattle.implib.specs.declared.machine.MachineType.{MachineType}
+use Rattle.implib.specs.Ascii.{full_stop, holds}
+use Rattle.implib.specs.Formats.Bytes.{u16_bytes}
+use Rattle.implib.specs.Formats.Constants.{align_2bytes, align_4bytes, align_8bytes, class_external, class_static, cnt_code, cnt_initialized_data, mem_execute_read, mem_read_write, section_undefined}
+use Rattle.implib.specs.Formats.File.{File, ObjectFile, ShortImportFile, file_in}
+use Rattle.implib.specs.Members.Gnu.{section, stub_bytes, stub_relocations, text_name}
+use Rattle.implib.specs.Import.{Ask, Name, Ordinal, imp_symbol}
+use Rattle.implib.specs.Members.ImportTables.{relocation, thunk_flags, thunk_width, zeros}
+use Rattle.implib.specs.Machine.{is_32bit, machine_number}
+use Rattle.implib.specs.Formats.Object.{ASymbol, Entry, Object, ObjectSection}
+use Rattle.implib.specs.Formats.ShortImport.{ShortImport, ask_of_short_import, import_code, import_const, import_data, import_name_undecorate}
+use Rattle.implib_link.specs.Flavors.SectionSymbols.{with_section_symbols}
+
+-- what an import is used for ("Import Type")
+pub data Use : Type 0 where
+  Code : Use
+  Data : Use
+  Constant : Use
+
+-- the use that an import type says, if it is one of the specification's
+abbrev pub use_of : ℕ → Option Use
+use_of import_type =
+    if import_type == import_code then Some Code
+    else if import_type == import_data then Some Data
+    else if import_type == import_const then Some Constant
+    else None
+
+-- A DLL's name up to its last full stop. For example, `a.b` of a.b.dll, and `foo` of foo.drv.
+abbrev pub before_last_stop : List ℕ → List ℕ
+before_last_stop [] = []
+before_last_stop (byte ∷ rest) =
+    if (byte == full_stop) && not (holds full_stop rest) then [] else byte ∷ before_last_stop rest
+
+-- The descriptor's symbol that a linker looks for, by the DLL's name alone. For example,
+-- `__IMPORT_DESCRIPTOR_foo` for foo.dll, and for foo.drv.
+unfoldable pub descriptor_symbol_by_name : List ℕ → List ℕ
+descriptor_symbol_by_name dll = codes "__IMPORT_DESCRIPTOR_" ++ before_last_stop dll
+
+-- a symbol of value 0, by its name, section and class
+abbrev pub entry : List ℕ → ℕ → ℕ → Entry
+entry name number class =
+    ASymbol (record { name = name; value = 0; section = number; kind = 0; class = class })
+
+-- the thunk that asks so: an ordinal with the top bit set, or zeros for the address of a hint and a name
+abbrev pub thunk_asking : MachineType → Ask → List ℕ
+thunk_asking machine (Ordinal n) = u16_bytes n ++ (zeros (thunk_width machine - 3) ++ 0x80 ∷ [])
+thunk_asking machine (Name text hint) = zeros (thunk_width machine)
+
+-- its relocation, where it asks by name, to the symbol of `.idata$6`
+abbrev pub relocations_asking : MachineType → Ask → List Relocation
+relocations_asking machine (Ordinal n) = []
+relocations_asking machine (Name text hint) = relocation machine 0 3 ∷ []
+
+-- the hint and the name with its NUL
+abbrev pub hint_and_name : List ℕ → ℕ → List ℕ
+hint_and_name text hint = u16_bytes hint ++ (text ++ 0 ∷ [])
+
+-- the section of the hint and the name, where there is one; its flags are 0xC0200040
+abbrev pub hint_sections : Ask → List ObjectSection
+hint_sections (Ordinal n) = []
+hint_sections (Name text hint) =
+    section (codes ".idata$6") (cnt_initialized_data + align_2bytes + mem_read_write)
+    (hint_and_name text hint) []
+    ∷ []
+
+-- its symbol
+abbrev pub hint_entries : Ask → List Entry
+hint_entries (Ordinal n) = []
+hint_entries (Name text hint) = entry (codes ".idata$6") 4 class_static ∷ []
+
+-- the stub, for code alone
+abbrev pub stub_for : MachineType → Use → List ℕ
+stub_for machine Code = stub_bytes machine
+stub_for machine Data = []
+stub_for machine Constant = []
+
+-- its relocations, to the symbol of the address
+abbrev pub stub_relocations_for : MachineType → Use → List Relocation
+stub_relocations_for machine Code = stub_relocations machine 2
+stub_relocations_for machine Data = []
+stub_relocations_for machine Constant = []
+
+-- the symbol itself: of the stub for code, of the entry of the address table for a constant, none for data
+abbrev pub use_entries : List ℕ → Use → List Entry
+use_entries symbol Code = entry symbol 1 class_external ∷ []
+use_entries symbol Data = []
+use_entries symbol Constant = entry symbol 2 class_external ∷ []
+
+-- The object by which a DLL is asked so, under a symbol and for a use. For example, for bar of foo.dll on
+-- AMD64, as code and by its name: `.text` of 8 bytes, `.idata$5` and `.idata$4` of 8 zeros, and `.idata$6`,
+-- `00 00 62 61 72 00`; `__imp_bar` is in `.idata$5`, `bar` in `.text`, `__IMPORT_DESCRIPTOR_foo` undefined.
+unfoldable pub import_object : MachineType → List ℕ → List ℕ → Ask → Use → Object
+import_object machine dll symbol ask use_kind = record {
+  machine = machine_number machine;
+  time = 0;
+  optional_header_size = 0;
+  characteristics = 0;
+  sections =
+      section text_name (cnt_code + align_4bytes + mem_execute_read) (stub_for machine use_kind)
+      (stub_relocations_for machine use_kind)
+      ∷ section (codes ".idata$5") (thunk_flags machine) (thunk_asking machine ask)
+      (relocations_asking machine ask)
+      ∷ section (codes ".idata$4") (thunk_flags machine) (thunk_asking machine ask)
+      (relocations_asking machine ask)
+      ∷ hint_sections ask;
+  entries =
+      entry (descriptor_symbol_by_name dll) section_undefined class_external  -- 0
+      ∷ entry text_name 1 class_static  -- 1
+      ∷ entry (imp_symbol symbol) 2 class_external  -- 2
+      ∷ (hint_entries ask ++ use_entries symbol use_kind);  -- 3, by name: `.idata$6`
+}
+
+-- whether a short import is for a machine and has a name type of the specification
+abbrev pub is_import_for : MachineType → ShortImport → Bool
+is_import_for machine r = (r.machine == machine_number machine) && nat_le r.name_type import_name_undecorate
+
+-- the object that a short import stands for: none, where it is for another machine, or one of its types is
+-- none of the specification's
+abbrev pub expansion : MachineType → ShortImport → Option Object
+expansion machine r =
+    if is_import_for machine r
+    then option_map (import_object machine r.dll r.symbol (ask_of_short_import r)) (use_of r.import_type)
+    else None
+
+-- what a linker for a machine takes a file for
+abbrev pub expanded_as : MachineType → File → Option Object
+expanded_as machine (ShortImportFile r) = expansion machine r
+expanded_as machine (ObjectFile o) = Some (with_section_symbols o)
+
+-- what it takes the file in these bytes for
+unfoldable pub expanded_in : MachineType → List ℕ → Option Object
+expanded_in machine bytes = option_and_then (expanded_as machine) (file_in bytes)

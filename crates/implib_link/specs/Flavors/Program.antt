@@ -1,0 +1,213 @@
+-- Programs of DLLs in both flavours: objects that are linked, among them what a linker takes the chosen
+-- members of several DLLs for, each made for Microsoft's linker or for GNU's, and one null descriptor. The
+-- others hold no part of the import tables and claim no symbol of the members.
+use Rattle.std.specs.Prelude.{◌≡◌, ℕ, ◌+◌, ◌*◌, ◌%◌, false, not, List, [], ◌∷◌, ◌++◌, bytes_eq, length, map, slice_get, Some, if◌then◌else◌}
+use Rattle.std.specs.List.{AllByRecursion, Contains, IsDistinct, filter, filter_map, flat_map}
+use Rattle.implib.specs.declared.flavor.Flavor.{Flavor}
+use Rattle.implib.specs.declared.flavor.Flavor.TheVariants.{Gnu, Msvc}
+use Rattle.implib.specs.declared.machine.MachineType.{MachineType}
+use Rattle.implib.specs.Definition.{DefinitionView, ExportView}
+use Rattle.implib.specs.Members.Gnu.{head_symbol}
+use Rattle.implib.specs.Link.Image.{IsAdmissible, Range, image_of}
+use Rattle.implib.specs.Import.{Ask, Name, Ordinal, imp_symbol}
+use Rattle.implib.specs.Members.ImportTables.{thunk_width}
+use Rattle.implib.specs.Link.Linked.{AllFind, IsDefinedAt, IsDefinedOnce, undefined_names}
+use Rattle.implib.specs.Link.LinkedMembers.{LinkInput, chosen_exports, linked_specs}
+use Rattle.implib.specs.Link.Load.{LoadsStrictly}
+use Rattle.implib.specs.Members.MemberSpec.{MemberSpec, MemberView, member_of}
+use Rattle.implib.specs.Members.Members.{AreMembersOf}
+use Rattle.implib.specs.Members.Msvc.{short_import_symbol}
+use Rattle.implib.specs.Members.MsvcMembers.{descriptor_spec, null_descriptor_spec, null_thunk_spec, short_import_spec}
+use Rattle.implib.specs.Members.MsvcObjects.{descriptor_symbol, null_descriptor_symbol}
+use Rattle.implib.specs.Members.NameRules.{asked_in}
+use Rattle.implib.specs.Formats.Object.{Object}
+use Rattle.implib.specs.Link.Placement.{Bases, Descriptors, Placed, placed_from}
+use Rattle.implib.specs.Link.Resolution.{definitions_of}
+use Rattle.implib_link.specs.Directory.{DirectoryAt, Imported}
+use Rattle.implib_link.specs.Flavors.Expansion.{descriptor_symbol_by_name, expanded_in}
+use Rattle.implib_link.specs.Gnu.Packed.{group_end}
+use Rattle.implib_link.specs.Gnu.Program.{ClaimsNone, GetsAddress, has_tables, names_claimed_in, thunks_before, with_tables}
+use Rattle.implib_link.specs.Search.Search.{HaveSame}
+
+-- an input of a link in a flavour: a definition, its members for this flavour's linker, and the numbers of
+-- the chosen exports
+pub record FlavorInput : Type 0 where
+  pub flavor : Flavor
+  pub input : LinkInput
+
+-- the members are those of the definition
+abbrev pub IsMadeFor : MachineType → FlavorInput → Type 0
+IsMadeFor machine p = AreMembersOf p.input.definition machine p.flavor p.input.members
+
+-- the DLL's name
+abbrev pub dll_of : FlavorInput → List ℕ
+dll_of p = p.input.definition.import_name
+
+-- the exports that are chosen
+abbrev pub exports_chosen : FlavorInput → List ExportView
+exports_chosen p = chosen_exports p.input.definition p.input.chosen
+
+-- the symbol that an export is linked by
+abbrev pub symbol_in : Flavor → ExportView → List ℕ
+symbol_in Msvc e = short_import_symbol e
+symbol_in Gnu e = e.name
+
+-- an export is code: for Microsoft's linker neither data nor a constant, for GNU's no data
+abbrev pub IsCode : Flavor → ExportView → Type 0
+IsCode Msvc e = (e.is_data ≡ false) × (e.constant ≡ false)
+IsCode Gnu e = e.is_data ≡ false
+
+-- what an export's members ask the DLL for
+abbrev pub ask_in : Flavor → MachineType → ExportView → Ask
+ask_in flavor machine e =
+    if e.no_name then Ordinal e.ordinal else Name (asked_in flavor machine e) e.ordinal
+
+-- the symbol of a DLL's import descriptor
+abbrev pub descriptor_in : Flavor → MachineType → List ℕ → List ℕ
+descriptor_in Msvc machine dll = descriptor_symbol dll
+descriptor_in Gnu machine dll = head_symbol machine dll
+
+-- the specifications of what is linked: for Microsoft's linker the import descriptor, the short imports of
+-- the chosen exports and the null thunk, for GNU's the head, the chosen exports' members and the tail
+abbrev pub specs_in : Flavor → DefinitionView → MachineType → List ℕ → List MemberSpec
+specs_in Msvc d machine chosen =
+    descriptor_spec machine d.import_name
+    ∷ (map (short_import_spec machine d.import_name) (chosen_exports d chosen)
+    ++ null_thunk_spec machine d.import_name ∷ [])
+specs_in Gnu d machine chosen = linked_specs d machine chosen
+
+-- what is linked of an input
+abbrev pub members_linked : MachineType → FlavorInput → List MemberView
+members_linked machine p = map member_of (specs_in p.flavor p.input.definition machine p.input.chosen)
+
+-- what is linked of all inputs, one after another
+abbrev pub all_members : MachineType → List FlavorInput → List MemberView
+all_members machine inputs = flat_map (members_linked machine) inputs
+
+-- the symbols that members are listed for
+abbrev pub symbols_listed : List MemberView → List (List ℕ)
+symbols_listed members = flat_map (λ m. m.symbols) members
+
+-- the objects that a linker takes members for
+abbrev pub objects_taken : MachineType → List MemberView → List Object
+objects_taken machine members = filter_map (λ m. expanded_in machine m.bytes) members
+
+-- the null descriptor of a DLL's members for Microsoft's linker; all DLLs have the same, but for its name
+abbrev pub null_member : MachineType → List ℕ → MemberView
+null_member machine dll = member_of (null_descriptor_spec machine dll)
+
+-- Linkers find a DLL's descriptor: GNU's members name it, and for Microsoft's the symbol that is looked for
+-- by the DLL's name is the descriptor's. For example, that of foo.dll is found, and that of foo.drv is not.
+abbrev pub IsFoundByName : Flavor → List ℕ → Type 0
+IsFoundByName Msvc dll = descriptor_symbol_by_name dll ≡ descriptor_symbol dll
+IsFoundByName Gnu dll = Unit {0}
+
+-- What may be linked with the members of these inputs:
+-- `distinct`: no two members are listed for one symbol;
+-- `null_from`: an input for Microsoft's linker, whose null descriptor is linked, put in anywhere (`before`,
+-- `behind`) among the members (`members`);
+-- `tables`: the objects with import tables are what these are taken for;
+-- `others`: the other objects are anywhere before, between and behind, and claim none of the members'
+-- symbols;
+-- `found`: linkers find each descriptor by its DLL's name.
+pub record AreFlavorObjects (machine : MachineType) (inputs : List FlavorInput) (objects : List Object)
+    : Type 0 where
+  pub distinct : IsDistinct bytes_eq (null_descriptor_symbol ∷ symbols_listed (all_members machine inputs))
+  pub null_from : FlavorInput
+  pub null_held : Contains inputs null_from
+  pub null_flavor : null_from.flavor ≡ Msvc
+  pub before : List MemberView
+  pub behind : List MemberView
+  pub members : before ++ behind ≡ all_members machine inputs
+  pub tables : filter has_tables objects
+      ≡ objects_taken machine (before ++ null_member machine (dll_of null_from) ∷ behind)
+  pub others : AllByRecursion
+      (ClaimsNone (null_descriptor_symbol ∷ symbols_listed (all_members machine inputs)))
+      (filter (λ o. not (has_tables o)) objects)
+  pub found : AllByRecursion (λ p. IsFoundByName p.flavor (dll_of p)) inputs
+
+-- A program of such objects: the bases are admissible; the tables begin at multiples of a thunk's width;
+-- `.idata$3` begins where `.idata$2` ends.
+pub record IsFlavorProgram (machine : MachineType) (bases : Bases) (inputs : List FlavorInput)
+    (objects : List Object) : Type 0 where
+  pub held : AreFlavorObjects machine inputs objects
+  pub admissible : IsAdmissible machine bases objects
+  pub lookups : bases.lookups % thunk_width machine ≡ 0
+  pub addresses : bases.addresses % thunk_width machine ≡ 0
+  pub follows : bases.directory_ends ≡ group_end Descriptors bases.descriptors objects
+
+-- these symbols are at entries of `width` bytes, one after another from an address on, and nowhere else
+unfoldable pub SymbolsAt : List Placed → ℕ → ℕ → List (List ℕ) → Type 0
+SymbolsAt linked width address [] = Unit {0}
+SymbolsAt linked width address (name ∷ names) =
+    (definitions_of name linked ≡ record { name = name; address = Some address } ∷ [])
+    × SymbolsAt linked width (address + width) names
+
+-- an undefined symbol of each of these names, in any object that is linked, has the address of its own entry
+unfoldable pub SymbolsGet : List Placed → ℕ → ℕ → List (List ℕ) → Type 0
+SymbolsGet linked width address [] = Unit {0}
+SymbolsGet linked width address (name ∷ names) =
+    GetsAddress linked name address × SymbolsGet linked width (address + width) names
+
+-- what a program imports by an input
+abbrev pub imported_in : MachineType → FlavorInput → Imported
+imported_in machine p = record { dll = dll_of p; asks = map (ask_in p.flavor machine) (exports_chosen p) }
+
+-- the `__imp_` symbols of the chosen exports
+abbrev pub imp_symbols : FlavorInput → List (List ℕ)
+imp_symbols p = map (λ e. imp_symbol (symbol_in p.flavor e)) (exports_chosen p)
+
+-- A DLL's chosen exports are imported by the descriptor at an address, whose symbol has this address: a
+-- strict loader finds the DLL and what they ask for, the address table is at this address, and `__imp_`
+-- symbols are its entries.
+pub record InputImports (machine : MachineType) (image : List Range) (linked : List Placed)
+    (descriptor table : ℕ) (p : FlavorInput) : Type 0 where
+  pub top : definitions_of (descriptor_in p.flavor machine (dll_of p)) linked
+      ≡ record { name = descriptor_in p.flavor machine (dll_of p); address = Some descriptor } ∷ []
+  pub loads : LoadsStrictly image (thunk_width machine) descriptor (dll_of p)
+      (map (ask_in p.flavor machine) (exports_chosen p))
+  pub table_located : loads.plain.addresses ≡ table
+  pub entries : SymbolsAt linked (thunk_width machine) table (imp_symbols p)
+  pub gets : SymbolsGet linked (thunk_width machine) table (imp_symbols p)
+
+-- what is linked of an input are members of it, and a linker takes each for an object; for Microsoft's linker
+-- they have a null descriptor, too
+pub record IsTaken (machine : MachineType) (p : FlavorInput) : Type 0 where
+  pub from_members : AllByRecursion (Contains p.input.members) (members_linked machine p)
+  pub read : map (λ m. expanded_in machine m.bytes) (members_linked machine p)
+      ≡ map Some (objects_taken machine (members_linked machine p))
+  pub null : p.flavor ≡ Msvc → Contains p.input.members (null_member machine (dll_of p))
+
+-- the thunks in the tables of the first few DLLs, with the null thunks that end them
+abbrev pub thunks_of : ℕ → List FlavorInput → ℕ
+thunks_of i inputs = thunks_before i (map (λ p. p.input) inputs)
+
+-- What a link of a program gives, of objects placed at bases:
+-- `linked`: what is linked of each definition are its members;
+-- `imports`: the i-th DLL's descriptor is the i-th from the descriptors' base, its address table is
+-- behind those of the DLLs before it, and its imports are as above;
+-- `directory`: at the base is a directory of just these imports;
+-- `null`: it is the null descriptor that ends it, whose symbol has this address (`ended`);
+-- `targets`: every relocation of a member finds its target;
+-- `defined`: every symbol that a member leaves to others is defined once, at an address;
+-- `listed`: every symbol that a member is listed for is defined once;
+-- `claimed`: the names that the members claim are those that they are listed for, the null descriptor's with
+-- them, and no others.
+pub record FlavorsLink (machine : MachineType) (bases : Bases) (inputs : List FlavorInput)
+    (objects : List Object) : Type 0 where
+  pub linked : AllByRecursion (IsTaken machine) inputs
+  pub imports : (i : ℕ) (p : FlavorInput) → slice_get inputs i ≡ Some p →
+      InputImports machine (image_of machine bases (placed_from bases objects)) (placed_from bases objects)
+      (bases.descriptors + 20 * i) (bases.addresses + thunk_width machine * thunks_of i inputs) p
+  pub directory : DirectoryAt (image_of machine bases (placed_from bases objects))
+      (thunk_width machine) bases.descriptors (map (imported_in machine) inputs)
+  pub null : definitions_of null_descriptor_symbol (placed_from bases objects)
+      ≡ record { name = null_descriptor_symbol; address = Some bases.directory_ends } ∷ []
+  pub ended : bases.directory_ends ≡ bases.descriptors + 20 * length inputs
+  pub targets : AllByRecursion (AllFind (placed_from bases objects)) (with_tables (placed_from bases objects))
+  pub defined : AllByRecursion (IsDefinedAt (placed_from bases objects))
+      (undefined_names (with_tables (placed_from bases objects)))
+  pub listed : AllByRecursion (IsDefinedOnce (placed_from bases objects))
+      (symbols_listed (all_members machine inputs))
+  pub claimed : HaveSame (names_claimed_in (with_tables (placed_from bases objects)))
+      (null_descriptor_symbol ∷ symbols_listed (all_members machine inputs))

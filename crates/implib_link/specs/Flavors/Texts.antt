@@ -1,0 +1,78 @@
+-- Programs of both flavours from texts: what linking the members of module definition files gives, in the
+-- words of their statements.
+use Rattle.std.specs.Prelude.{◌≡◌, ℕ, ◌+◌, ◌*◌, List, [], ◌∷◌, map, slice_get, Some}
+use Rattle.implib.specs.declared.flavor.Flavor.{Flavor}
+use Rattle.implib.specs.declared.machine.MachineType.{MachineType}
+use Rattle.implib.specs.Asked.{exports_of_text}
+use Rattle.implib.specs.Definition.{DefinitionView}
+use Rattle.implib.specs.Link.Image.{Range, image_of}
+use Rattle.implib.specs.Members.ImportTables.{thunk_width}
+use Rattle.implib.specs.Library.{LibraryOf, LibraryView}
+use Rattle.implib.specs.Link.LinkedMembers.{chosen_exports}
+use Rattle.implib.specs.Members.MemberSpec.{MemberView}
+use Rattle.implib.specs.Members.Members.{AreMembersOf}
+use Rattle.implib.specs.Formats.Object.{Object}
+use Rattle.implib.specs.Text.Parses.{Parses}
+use Rattle.implib.specs.Link.Placement.{Bases, Placed, placed_from}
+use Rattle.implib_link.specs.Flavors.Program.{FlavorInput, FlavorsLink, InputImports, IsFlavorProgram, ask_in, symbol_in, thunks_of}
+use Rattle.implib_link.specs.Gnu.Texts.{Source, ask_stated, chosen_stated, link_input_of, source_of}
+
+-- a source in a flavour
+pub record FlavorSource : Type 0 where
+  pub flavor : Flavor
+  pub source : Source
+
+-- what `ImportLibrary::new` and then `members` promise when they succeed, for a flavour
+pub record IsFlavorSource (machine : MachineType) (s : FlavorSource) : Type 0 where
+  pub of_text : LibraryOf s.source.text machine s.flavor s.source.library
+  pub made : AreMembersOf s.source.library.definition s.source.library.machine s.source.library.flavor
+      s.source.members
+
+-- what is linked of a source
+abbrev pub input_of : FlavorSource → FlavorInput
+input_of s = record { flavor = s.flavor; input = link_input_of s.source }
+
+-- the same of a definition that its text means
+abbrev pub input_parsed : DefinitionView → FlavorSource → FlavorInput
+input_parsed d s = record {
+  flavor = s.flavor;
+  input = record { definition = d; members = s.source.members; chosen = s.source.chosen };
+}
+
+-- A text's chosen exports are imported by the descriptor at an address, with the address table at this
+-- address, each under its name, and each asks for the word of its own statement.
+pub record FlavorTextLinks (machine : MachineType) (image : List Range) (linked : List Placed)
+    (descriptor table : ℕ) (s : FlavorSource) : Type 0 where
+  pub parsed : DefinitionView
+  pub parses : Parses s.source.text machine parsed
+  pub imports : InputImports machine image linked descriptor table (input_parsed parsed s)
+  pub statements : map (λ t. t.export)
+      (chosen_stated parsed (exports_of_text parses.statements) s.source.chosen)
+      ≡ chosen_exports parsed s.source.chosen
+  pub names : map (symbol_in s.flavor) (chosen_exports parsed s.source.chosen)
+      ≡ map (λ e. e.name) (chosen_exports parsed s.source.chosen)
+  pub asks : map (ask_in s.flavor machine) (chosen_exports parsed s.source.chosen)
+      ≡ map ask_stated (chosen_stated parsed (exports_of_text parses.statements) s.source.chosen)
+
+-- What linking texts' members among objects gives: the program's link, and that of each text.
+pub record FlavorTextsLink (machine : MachineType) (bases : Bases) (sources : List FlavorSource)
+    (objects : List Object) : Type 0 where
+  pub among : FlavorsLink machine bases (map input_of sources) objects
+  pub imports : (i : ℕ) (s : FlavorSource) → slice_get sources i ≡ Some s →
+      FlavorTextLinks machine (image_of machine bases (placed_from bases objects)) (placed_from bases objects)
+      (bases.descriptors + 20 * i)
+      (bases.addresses + thunk_width machine * thunks_of i (map input_of sources)) s
+
+-- a text with its library, its members and the chosen exports, in a flavour
+abbrev pub flavor_source : Flavor → List ℕ → LibraryView → List MemberView → List ℕ → FlavorSource
+flavor_source flavor text library members chosen =
+    record { flavor = flavor; source = source_of text library members chosen }
+
+-- Members are those of a text for a flavour's linker, and link as it says: whichever exports are chosen, at
+-- whichever bases, among whichever objects of a program.
+abbrev pub LinkInFlavor : List ℕ → MachineType → Flavor → List MemberView → Type 0
+LinkInFlavor text machine flavor members =
+    (library : LibraryView) × (LibraryOf text machine flavor library ×
+    ((chosen : List ℕ) (bases : Bases) (objects : List Object) →
+    IsFlavorProgram machine bases (input_of (flavor_source flavor text library members chosen) ∷ []) objects →
+    FlavorTextsLink machine bases (flavor_source flavor text library members chosen ∷ []) objects))

@@ -1,0 +1,5 @@
+-- Programs of members for GNU's linker.
+pub mod Program
+pub mod Texts
+pub mod Loaded
+pub mod Packed

@@ -1,0 +1,74 @@
+-- Archive search of members for Microsoft's linker. The archive lists symbols for each member; what a member
+-- leaves to others is read in what a linker takes it for.
+use Rattle.std.specs.Prelude.{◌≡◌, ℕ, ◌+◌, Bool, false, List, [], ◌∷◌, ◌++◌, bytes_eq, map, Some, if◌then◌else◌}
+use Rattle.std.specs.List.{Contains, flat_map, list_any}
+use Rattle.implib.specs.declared.machine.MachineType.{MachineType}
+use Rattle.implib.specs.declared.flavor.Flavor.TheVariants.{Msvc}
+use Rattle.implib.specs.Definition.{DefinitionView, ExportView}
+use Rattle.implib.specs.Import.{public_exports}
+use Rattle.implib.specs.Members.MemberSpec.{MemberView, member_of}
+use Rattle.implib.specs.Members.Msvc.{short_import_symbols}
+use Rattle.implib.specs.Members.MsvcObjects.{descriptor_symbol, null_descriptor_symbol, null_thunk_symbol}
+use Rattle.implib.specs.Renaming.{renamed}
+use Rattle.implib_link.specs.Flavors.Program.{null_member, objects_taken, specs_in}
+use Rattle.implib_link.specs.Gnu.Program.{claimed_names}
+use Rattle.implib_link.specs.Search.Search.{first_listed, undefined_in}
+
+-- the names that members leave to others, and those that they claim, as a linker for a machine takes them
+unfoldable pub left_in : MachineType → List MemberView → List (List ℕ)
+left_in machine members = flat_map undefined_in (objects_taken machine members)
+
+unfoldable pub claimed_in : MachineType → List MemberView → List (List ℕ)
+claimed_in machine members = flat_map claimed_names (objects_taken machine members)
+
+-- An undefined name pulls in a member: the name is wanted or left by a member that is taken, no member that
+-- is taken defines it, and the first member that it is listed for is this one, which is not taken.
+pub record PullsInFor (machine : MachineType) (archive : List MemberView) (wanted : List (List ℕ))
+    (taken : List MemberView) (name : List ℕ) (m : MemberView) : Type 0 where
+  pub named : Contains (wanted ++ left_in machine taken) name
+  pub undefined : list_any (bytes_eq name) (claimed_in machine taken) ≡ false
+  pub listed : first_listed archive name ≡ Some m
+  pub new : Contains taken m → ⊥
+
+-- Members are taken one after another, the last one first: each is pulled in by some name that is undefined
+-- after those before it. The linker may take up the undefined names in any order.
+unfoldable pub AreTakenInTurn : MachineType → List MemberView → List (List ℕ) → List MemberView → Type 0
+AreTakenInTurn machine archive wanted [] = Unit {0}
+AreTakenInTurn machine archive wanted (m ∷ earlier) =
+    ((name : List ℕ) × PullsInFor machine archive wanted earlier name m)
+    × AreTakenInTurn machine archive wanted earlier
+
+-- What a linker takes of an archive for wanted names: it takes members in turn until no undefined name pulls
+-- in another.
+pub record TakesFor (machine : MachineType) (archive : List MemberView) (wanted : List (List ℕ))
+    (taken : List MemberView) : Type 0 where
+  pub in_turn : AreTakenInTurn machine archive wanted taken
+  pub ended : (name : List ℕ) (m : MemberView) → PullsInFor machine archive wanted taken name m → ⊥
+
+-- whether an export is wanted: one of the symbols that its short import is listed for is
+abbrev pub is_short_wanted : List (List ℕ) → ExportView → Bool
+is_short_wanted wanted e = list_any (λ name. list_any (bytes_eq name) wanted) (short_import_symbols e)
+
+-- the numbers of the exports that pass a test, the first one of this number
+abbrev pub numbers_passing : (ExportView → Bool) → ℕ → List ExportView → List ℕ
+numbers_passing test number [] = []
+numbers_passing test number (e ∷ exports) =
+    if test e then number ∷ numbers_passing test (number + 1) exports
+    else numbers_passing test (number + 1) exports
+
+-- the numbers of a definition's exports that are wanted, which count those that are not private from 0
+abbrev pub shorts_wanted : DefinitionView → List (List ℕ) → List ℕ
+shorts_wanted d wanted = numbers_passing (is_short_wanted wanted) 0 (public_exports (renamed d))
+
+-- the null descriptor, the import descriptor, the short imports of chosen exports and the null thunk; nothing
+-- where no export is chosen
+abbrev pub msvc_if_any : DefinitionView → MachineType → List ℕ → List MemberView
+msvc_if_any d machine [] = []
+msvc_if_any d machine (n ∷ chosen) =
+    null_member machine d.import_name ∷ map member_of (specs_in Msvc d machine (n ∷ chosen))
+
+-- no wanted name is one of the three by which only members name each other
+pub record NamesNoHeader (dll : List ℕ) (wanted : List (List ℕ)) : Type 0 where
+  pub descriptor : list_any (bytes_eq (descriptor_symbol dll)) wanted ≡ false
+  pub null_descriptor : list_any (bytes_eq null_descriptor_symbol) wanted ≡ false
+  pub null_thunk : list_any (bytes_eq (null_thunk_symbol dll)) wanted ≡ false

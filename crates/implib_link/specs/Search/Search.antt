@@ -1,0 +1,127 @@
+-- Archive search: which members of an archive a linker takes for the names that are undefined. The archive
+-- lists symbols for each member; what a member leaves to others is read in its bytes. Nothing in the search
+-- knows who wrote the members.
+use Rattle.std.specs.Prelude.{◌≡◌, ℕ, ◌+◌, Bool, false, List, [], ◌∷◌, ◌++◌, bytes_eq, map, not, Option, Some, None, if◌then◌else◌}
+use Rattle.std.specs.List.{AllByRecursion, Contains, IsDistinct, filter, filter_map, flat_map, list_any}
+use Rattle.implib.specs.declared.machine.MachineType.{MachineType}
+use Rattle.implib.specs.Definition.{DefinitionView, ExportView}
+use Rattle.implib.specs.Members.Gnu.{archive_symbols, head_symbol, iname_symbol}
+use Rattle.implib.specs.Import.{public_exports}
+use Rattle.implib.specs.Link.Image.{IsAdmissible}
+use Rattle.implib.specs.Link.Linked.{undefined_name}
+use Rattle.implib.specs.Link.LinkedMembers.{linked_members, objects_in}
+use Rattle.implib.specs.Members.MemberSpec.{MemberView, member_of}
+use Rattle.implib.specs.Members.GnuMembers.{head_spec, tail_spec}
+use Rattle.implib.specs.Formats.Object.{Object}
+use Rattle.implib.specs.Link.Placement.{Bases}
+use Rattle.implib.specs.Renaming.{renamed}
+use Rattle.implib_link.specs.Gnu.Program.{ClaimsNone, LinksAmong, claimed_names, has_tables, null_descriptor}
+
+-- whether the archive lists a name for a member
+abbrev pub is_listed_for : List ℕ → MemberView → Bool
+is_listed_for name m = list_any (bytes_eq name) m.symbols
+
+-- the first member of an archive that a name is listed for
+abbrev pub first_listed : List MemberView → List ℕ → Option MemberView
+first_listed [] name = None
+first_listed (m ∷ archive) name = if is_listed_for name m then Some m else first_listed archive name
+
+-- the names that an object leaves to others: those of its undefined external symbols
+unfoldable pub undefined_in : Object → List (List ℕ)
+undefined_in o = filter_map undefined_name o.entries
+
+-- the names that members leave to others, read in their bytes
+unfoldable pub names_undefined : List MemberView → List (List ℕ)
+names_undefined members = flat_map undefined_in (objects_in members)
+
+-- the names that members claim: they define them, read in their bytes
+unfoldable pub names_claimed : List MemberView → List (List ℕ)
+names_claimed members = flat_map claimed_names (objects_in members)
+
+-- An undefined name pulls in a member: the name is wanted or left by a member that is taken, no member that
+-- is taken defines it, and the first member that it is listed for is this one, which is not taken.
+pub record PullsIn (archive : List MemberView) (wanted : List (List ℕ)) (taken : List MemberView)
+    (name : List ℕ) (m : MemberView) : Type 0 where
+  pub named : Contains (wanted ++ names_undefined taken) name
+  pub undefined : list_any (bytes_eq name) (names_claimed taken) ≡ false
+  pub listed : first_listed archive name ≡ Some m
+  pub new : Contains taken m → ⊥
+
+-- Members are taken one after another, the last one first: each is pulled in by some name that is undefined
+-- after those before it. The linker may take up the undefined names in any order.
+unfoldable pub IsTakenInTurn : List MemberView → List (List ℕ) → List MemberView → Type 0
+IsTakenInTurn archive wanted [] = Unit {0}
+IsTakenInTurn archive wanted (m ∷ earlier) =
+    ((name : List ℕ) × PullsIn archive wanted earlier name m) × IsTakenInTurn archive wanted earlier
+
+-- What a linker takes of an archive for wanted names: it takes members in turn until no undefined name pulls
+-- in another.
+pub record Takes (archive : List MemberView) (wanted : List (List ℕ)) (taken : List MemberView) : Type 0 where
+  pub in_turn : IsTakenInTurn archive wanted taken
+  pub ended : (name : List ℕ) (m : MemberView) → PullsIn archive wanted taken name m → ⊥
+
+-- whether an export is wanted: one of its symbols is, its name, where it is no data, or `__imp_` and its name
+abbrev pub is_wanted : List (List ℕ) → ExportView → Bool
+is_wanted wanted e = list_any (λ name. list_any (bytes_eq name) wanted) (archive_symbols e)
+
+-- the numbers of the exports that are wanted, the first one of this number
+abbrev pub numbers_wanted : List (List ℕ) → ℕ → List ExportView → List ℕ
+numbers_wanted wanted number [] = []
+numbers_wanted wanted number (e ∷ exports) =
+    if is_wanted wanted e then number ∷ numbers_wanted wanted (number + 1) exports
+    else numbers_wanted wanted (number + 1) exports
+
+-- the numbers of a definition's exports that are wanted, which count those that are not private from 0
+abbrev pub exports_wanted : DefinitionView → List (List ℕ) → List ℕ
+exports_wanted d wanted = numbers_wanted wanted 0 (public_exports (renamed d))
+
+-- the head, the members of chosen exports and the tail; nothing where no export is chosen
+abbrev pub linked_if_any : DefinitionView → MachineType → List ℕ → List MemberView
+linked_if_any d machine [] = []
+linked_if_any d machine (n ∷ chosen) = linked_members d machine (n ∷ chosen)
+
+-- no wanted name is one of the two by which only members name each other: the descriptor's and the DLL name's
+pub record NamesNoHeadOrTail (machine : MachineType) (dll : List ℕ) (wanted : List (List ℕ)) : Type 0 where
+  pub head : list_any (bytes_eq (head_symbol machine dll)) wanted ≡ false
+  pub name : list_any (bytes_eq (iname_symbol machine dll)) wanted ≡ false
+
+-- two lists have the same elements
+abbrev pub HaveSame : {X : Type 0} → List X → List X → Type 0
+HaveSame {X} first second =
+    (x : X) → (Contains first x → Contains second x) × (Contains second x → Contains first x)
+
+-- what is taken, each member once, in an order in which the head is first and the tail last, as linkers
+-- have it that sort by member name
+pub record IsArranged (machine : MachineType) (dll : List ℕ) (taken arranged : List MemberView) : Type 0 where
+  pub between : List MemberView
+  pub order : arranged
+      ≡ member_of (head_spec machine dll) ∷ (between ++ member_of (tail_spec machine dll) ∷ [])
+  pub same : HaveSame taken arranged
+  pub once : IsDistinct bytes_eq (map (λ m. m.name) arranged)
+
+-- members are what is linked of just the wanted exports, in some order
+pub record IsLinkedOfWanted (machine : MachineType) (d : DefinitionView) (wanted : List (List ℕ))
+    (arranged : List MemberView) : Type 0 where
+  pub chosen : List ℕ
+  pub same : HaveSame chosen (exports_wanted d wanted)
+  pub linked : arranged ≡ linked_members d machine chosen
+
+-- A program of what a linker took of an archive, in such an order, and of other objects: the objects with
+-- import tables are those members and, behind them, the null descriptor; the others claim no symbol of
+-- theirs.
+pub record IsLinkedWith (machine : MachineType) (dll : List ℕ) (bases : Bases) (taken : List MemberView)
+    (objects : List Object) : Type 0 where
+  pub arranged : List MemberView
+  pub is_arranged : IsArranged machine dll taken arranged
+  pub tables : filter has_tables objects ≡ objects_in arranged ++ null_descriptor ∷ []
+  pub others : AllByRecursion (ClaimsNone (flat_map (λ m. m.symbols) arranged))
+      (filter (λ o. not (has_tables o)) objects)
+  pub admissible : IsAdmissible machine bases objects
+
+-- the objects link to a program that imports just the wanted exports, in some order
+pub record ImportsWanted (machine : MachineType) (d : DefinitionView) (members : List MemberView)
+    (wanted : List (List ℕ)) (bases : Bases) (objects : List Object) : Type 0 where
+  pub chosen : List ℕ
+  pub same : HaveSame chosen (exports_wanted d wanted)
+  pub links : LinksAmong machine bases
+      (record { definition = d; members = members; chosen = chosen } ∷ []) objects

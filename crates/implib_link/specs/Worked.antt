@@ -1,0 +1,7 @@
+-- Programs, expansions and searches worked by hand, and images that are wrong.
+pub mod Programs
+pub mod RefusedLinks
+pub mod Search
+pub mod Archives
+pub mod Expansion
+pub mod Flavors
