@@ -5,3 +5,5 @@ pub mod Search
 pub mod Archives
 pub mod Expansion
 pub mod Flavors
+pub mod Jumps
+pub mod LongNames
