@@ -7,3 +7,4 @@ pub mod Expansion
 pub mod Flavors
 pub mod Jumps
 pub mod LongNames
+pub mod MsvcSearch

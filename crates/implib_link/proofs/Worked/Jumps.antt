@@ -1,6 +1,5 @@
 -- Jumps by hand, by computing.
 use Rattle.std.proofs.Common.{refl}
-use Rattle.implib.specs.Formats.Bytes.{u16_bytes, u32_bytes}
 use Rattle.implib_link.specs.Worked.Jumps.{FarStubs, WorkedJumps, WorkedTargets}
 use Rattle.implib_link.proofs.Worked.Programs.{opened}
 

@@ -1,5 +1,5 @@
 -- Full names of sections by hand, in a file with a symbol and with two texts in its string table.
-use Rattle.std.specs.Prelude.{◌≡◌, ℕ, ◌+◌, Bool, false, true, List, [], ◌∷◌, ◌++◌, codes, length, map, Option, Some, None}
+use Rattle.std.specs.Prelude.{◌≡◌, ℕ, ◌+◌, true, List, [], ◌∷◌, ◌++◌, codes, length, map, Option, Some, None}
 use Rattle.std.specs.Option.{option_map}
 use Rattle.implib.specs.Formats.Bytes.{u16_bytes, u32_bytes}
 use Rattle.implib.specs.Formats.Object.{ObjectSection}

@@ -5,6 +5,7 @@ ghost use Rattle.implib_link.specs.Worked.Expansion.{WorkedExpansion};
 ghost use Rattle.implib_link.specs.Worked.Flavors.{RefusedTables, WorkedFlavors};
 ghost use Rattle.implib_link.specs.Worked.Jumps.{FarStubs, WorkedJumps, WorkedTargets};
 ghost use Rattle.implib_link.specs.Worked.LongNames.{WorkedLongNames};
+ghost use Rattle.implib_link.specs.Worked.MsvcSearch.{WorkedMsvcSearches};
 ghost use Rattle.implib_link.specs.Worked.Programs.{WorkedPrograms, WorkedStubs};
 
 /// Programs that were linked by hand, on each machine, meet what the laws ask for and have these tables,
@@ -42,4 +43,9 @@ pub fn worked_jumps()
 /// The full names of sections in a file with a symbol, by decimal offsets of two digits.
 pub fn worked_long_names()
     ensures { WorkedLongNames }
+{}
+
+/// On each machine, a search by hand of the members for Microsoft's linker takes just what the law says.
+pub fn worked_msvc_searches()
+    ensures { WorkedMsvcSearches }
 {}
