@@ -8,3 +8,4 @@ pub mod Flavors
 pub mod Jumps
 pub mod LongNames
 pub mod MsvcSearch
+pub mod Loads

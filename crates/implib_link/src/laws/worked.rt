@@ -4,6 +4,7 @@ ghost use Rattle.implib_link.specs.Worked.RefusedLinks.{RefusedLinks};
 ghost use Rattle.implib_link.specs.Worked.Expansion.{WorkedExpansion};
 ghost use Rattle.implib_link.specs.Worked.Flavors.{RefusedTables, WorkedFlavors};
 ghost use Rattle.implib_link.specs.Worked.Jumps.{FarStubs, WorkedJumps, WorkedTargets};
+ghost use Rattle.implib_link.specs.Worked.Loads.{WorkedCalls, WorkedLoads};
 ghost use Rattle.implib_link.specs.Worked.LongNames.{WorkedLongNames};
 ghost use Rattle.implib_link.specs.Worked.MsvcSearch.{WorkedMsvcSearches};
 ghost use Rattle.implib_link.specs.Worked.Programs.{WorkedPrograms, WorkedStubs};
@@ -48,4 +49,11 @@ pub fn worked_long_names()
 /// On each machine, a search by hand of the members for Microsoft's linker takes just what the law says.
 pub fn worked_msvc_searches()
     ensures { WorkedMsvcSearches }
+{}
+
+/// The programs that were linked by hand link as the laws say, on each machine; loaded by hand, they hold what
+/// the DLLs give, and calls of their stubs reach it.
+pub fn worked_loads()
+    ensures loads { WorkedLoads }
+    ensures calls { WorkedCalls }
 {}
