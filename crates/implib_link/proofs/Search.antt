@@ -10,3 +10,4 @@ pub mod One
 pub mod Searched
 pub mod Sorted
 pub mod Msvc
+pub mod MsvcEnds

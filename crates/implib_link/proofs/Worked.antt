@@ -5,3 +5,7 @@ pub mod Search
 pub mod Archives
 pub mod Expansion
 pub mod Flavors
+pub mod Jumps
+pub mod LongNames
+pub mod MsvcSearch
+pub mod Loads

@@ -57,11 +57,11 @@ own_member m = rw (same_text m.name, same_text m.bytes, own_names m.symbols) ref
 
 -- Whether a member is taken.
 
-is_taken : List MemberView → MemberView → Bool
+pub is_taken : List MemberView → MemberView → Bool
 is_taken [] m = false
 is_taken (t ∷ taken) m = is_same m t || is_taken taken m
 
-taken_among : (taken : List MemberView) (m : MemberView) → is_taken taken m ≡ true → Among m taken
+pub taken_among : (taken : List MemberView) (m : MemberView) → is_taken taken m ≡ true → Among m taken
 unfolding is_taken Among
 taken_among [] m is = absurd (true≢false (sym is))
 taken_among (t ∷ taken) m is =
@@ -70,7 +70,7 @@ taken_among (t ∷ taken) m is =
       | inr other ↦ inr (taken_among taken m (rw other at is))
     ]
 
-among_taken : (taken : List MemberView) (m : MemberView) → Among m taken → is_taken taken m ≡ true
+pub among_taken : (taken : List MemberView) (m : MemberView) → Among m taken → is_taken taken m ≡ true
 unfolding is_taken Among
 among_taken [] m held = absurd held
 among_taken (t ∷ taken) m (inl e) = rw (subst (λ y. is_same m y ≡ true) e (own_member m)) refl
@@ -82,7 +82,7 @@ among_taken (t ∷ taken) m (inr held) =
 
 -- How many of an archive's members are not taken.
 
-not_taken : List MemberView → List MemberView → ℕ
+pub not_taken : List MemberView → List MemberView → ℕ
 not_taken [] taken = 0
 not_taken (m ∷ archive) taken = (if is_taken taken m then 0 else 1) + not_taken archive taken
 
@@ -102,7 +102,7 @@ not_more (m ∷ archive) taken t =
       ]
     ]
 
-fewer : (archive taken : List MemberView) (t : MemberView) → Among t archive → is_taken taken t ≡ false → not_taken archive (t ∷ taken) < not_taken archive taken
+pub fewer : (archive taken : List MemberView) (t : MemberView) → Among t archive → is_taken taken t ≡ false → not_taken archive (t ∷ taken) < not_taken archive taken
 unfolding not_taken is_taken Among
 fewer [] taken t held new = absurd held
 fewer (m ∷ archive) taken t (inl e) new =
@@ -212,7 +212,7 @@ module _ (archive : List MemberView) (wanted : List (List ℕ)) where
       let counted : length (m ∷ earlier) ≡ suc (length earlier) = refl in
       omega arith
 
-none_taken : (archive : List MemberView) → not_taken archive [] ≤ length archive
+pub none_taken : (archive : List MemberView) → not_taken archive [] ≤ length archive
 unfolding not_taken is_taken
 none_taken [] = omega arith
 none_taken (m ∷ archive) =

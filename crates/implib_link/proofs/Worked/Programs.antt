@@ -20,7 +20,7 @@ use Rattle.implib_link.specs.Gnu.Program.{ClaimsNone, claimed_names, has_tables,
 use Rattle.implib_link.specs.Worked.Programs.{WorkedProgram, WorkedPrograms, WorkedStubs, another, both_inputs, caller, expected_4, expected_8, program_image, touching_4, touching_8}
 
 -- what the computing has to open
-abbrev opened : Unit {0}
+unfoldable pub opened : Unit {0}
 unfolding digits u16_bytes u32_bytes export_object five_digits head_name head_object head_symbol hint_name iname_symbol numbered_name relocations_of_stub relocations_of_thunk mangled_name stub tail_name tail_object thunk next_multiple with_address export_spec head_spec tail_spec before_nul bytes_at data_at each_at entries_at name_of object_in object_of_header relocation_at relocation_of section_at section_of strings_at symbol_of u16_at u32_at up_to_nul auxiliary_bytes auxiliary_count contents contents_offset contents_size header_bytes encoded name_field offsets_from pointer_or_zero record_count records relocation_bytes section_header section_headers string_bytes_of string_offsets string_size string_table strings_size symbol_bytes symbol_table_offset long_names name_location layout_of symbol_written with_long_name with_name
 opened = tt
 

@@ -7,10 +7,10 @@ ghost use Rattle.implib.specs.Members.MsvcObjects.{descriptor_symbol};
 ghost use Rattle.implib.specs.declared.machine.MachineType.{MachineType};
 ghost use Rattle.implib.specs.declared.flavor.Flavor.TheVariants.{Msvc};
 ghost use Rattle.implib_link.specs.Flavors.Expansion.{descriptor_symbol_by_name};
-ghost use Rattle.implib_link.specs.Search.Msvc.{NamesNoHeader, TakesFor, msvc_if_any, shorts_wanted};
+ghost use Rattle.implib_link.specs.Search.Msvc.{AreTakenInTurn, NamesNoHeader, TakesFor, msvc_if_any, shorts_wanted};
 ghost use Rattle.implib_link.specs.Search.Search.{HaveSame};
 ghost use Rattle.std.specs.List.{IsDistinct, flat_map};
-ghost use Rattle.std.specs.Prelude.{◌≡◌, ℕ, List, bytes_eq};
+ghost use Rattle.std.specs.Prelude.{◌≡◌, ◌≤◌, ℕ, List, bytes_eq, length};
 
 /// A linker takes of an archive of the members for Microsoft's linker just the short imports that are wanted,
 /// the import descriptor, the null descriptor and the null thunk, which are found by the symbols that they
@@ -26,4 +26,14 @@ pub fn search_takes_short_imports()
         NamesNoHeader d.import_name wanted →
         TakesFor machine members wanted taken →
         HaveSame taken (msvc_if_any d machine (shorts_wanted d wanted)) }
+{}
+
+/// Such a search of any archive for any names comes to an end, whichever undefined name the linker takes up
+/// first: it can go on until no undefined name pulls in a member, and never takes more members than the
+/// archive has.
+pub fn search_of_short_imports_ends()
+    ensures found { (machine : MachineType) (archive : List MemberView) (wanted : List (List ℕ)) →
+        (taken : List MemberView) × TakesFor machine archive wanted taken }
+    ensures bounded { (machine : MachineType) (archive taken : List MemberView) (wanted : List (List ℕ)) →
+        AreTakenInTurn machine archive wanted taken → length taken ≤ length archive }
 {}

@@ -3,6 +3,10 @@
 ghost use Rattle.implib_link.specs.Worked.RefusedLinks.{RefusedLinks};
 ghost use Rattle.implib_link.specs.Worked.Expansion.{WorkedExpansion};
 ghost use Rattle.implib_link.specs.Worked.Flavors.{RefusedTables, WorkedFlavors};
+ghost use Rattle.implib_link.specs.Worked.Jumps.{FarStubs, WorkedJumps, WorkedTargets};
+ghost use Rattle.implib_link.specs.Worked.Loads.{WorkedCalls, WorkedLoads};
+ghost use Rattle.implib_link.specs.Worked.LongNames.{WorkedLongNames};
+ghost use Rattle.implib_link.specs.Worked.MsvcSearch.{WorkedMsvcSearches};
 ghost use Rattle.implib_link.specs.Worked.Programs.{WorkedPrograms, WorkedStubs};
 
 /// Programs that were linked by hand, on each machine, meet what the laws ask for and have these tables,
@@ -27,4 +31,29 @@ pub fn worked_flavors()
 /// Images that are wrong in one way are not what the definitions describe.
 pub fn refused_links()
     ensures { RefusedLinks }
+{}
+
+/// Stubs in front of the tables jump to their entries; code with another instruction is no such jump; a
+/// stub's target is in the address table.
+pub fn worked_jumps()
+    ensures stubs { FarStubs }
+    ensures jumps { WorkedJumps }
+    ensures targets { WorkedTargets }
+{}
+
+/// The full names of sections in a file with a symbol, by decimal offsets of two digits.
+pub fn worked_long_names()
+    ensures { WorkedLongNames }
+{}
+
+/// On each machine, a search by hand of the members for Microsoft's linker takes just what the law says.
+pub fn worked_msvc_searches()
+    ensures { WorkedMsvcSearches }
+{}
+
+/// The programs that were linked by hand link as the laws say, on each machine; loaded by hand, they hold what
+/// the DLLs give, and calls of their stubs reach it.
+pub fn worked_loads()
+    ensures loads { WorkedLoads }
+    ensures calls { WorkedCalls }
 {}

@@ -1,0 +1,21 @@
+-- Full names of sections by hand, by computing.
+use Rattle.std.proofs.Common.{refl}
+use Rattle.implib_link.specs.FullNames.{decimal_in, digits_behind, full_name, object_by_full_names, sections_by_full_names, strings_of}
+use Rattle.implib_link.specs.Worked.LongNames.{WorkedLongNames}
+use Rattle.implib_link.specs.Gnu.Program.{has_tables}
+use Rattle.implib_link.proofs.Worked.Programs.{opened}
+
+pub worked_long_names : WorkedLongNames
+unfolding opened object_by_full_names strings_of sections_by_full_names full_name decimal_in digits_behind has_tables
+worked_long_names = record {
+  first = refl;
+  second = refl;
+  within = refl;
+  tables = refl;
+  beyond = refl;
+  no_digit = refl;
+  letter = refl;
+  no_offset = refl;
+  no_nul = refl;
+  short = refl;
+}
