@@ -8,5 +8,6 @@ pub mod Inputs
 pub mod Program
 pub mod Texts
 pub mod Loaded
+pub mod Reading
 pub mod Stubs
 pub mod Packed

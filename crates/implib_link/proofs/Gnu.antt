@@ -8,6 +8,7 @@ pub mod Program
 pub mod Alone
 pub mod Texts
 pub mod Loaded
+pub mod Reading
 pub mod Sized
 pub mod Packed
 pub mod Jumps

@@ -2,4 +2,5 @@
 pub mod Program
 pub mod Texts
 pub mod Loaded
+pub mod Reading
 pub mod Packed

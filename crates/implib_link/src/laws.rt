@@ -5,6 +5,7 @@ pub mod loaded;
 pub mod msvc_search;
 pub mod packed;
 pub mod program;
+pub mod reading;
 pub mod search;
 pub mod stubs;
 pub mod texts;
