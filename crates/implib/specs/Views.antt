@@ -5,3 +5,4 @@ pub mod Parser
 pub mod Layout
 pub mod Writer
 pub mod Table
+pub mod Making

@@ -11,6 +11,7 @@ ghost use Rattle.implib.specs.Members.MemberSpec.{member_of};
 ghost use Rattle.implib.specs.Members.Members.{is_too_long};
 ghost use Rattle.implib.specs.Members.WeakExternal.{weak_object, weak_section, weak_spec, weak_symbols};
 ghost use Rattle.implib.specs.Formats.Writer.{section_view};
+ghost use Rattle.implib.specs.Views.Making.{EncodesObject, MakesMember};
 ghost use Rattle.std.specs.Prelude.{Some, false, map, string_bytes, true, ◌<◌, ◌^◌, ◌≡◌, ◌≤◌, IfOk, OnOk};
 
 use crate::coff::constants::{class, flags, section_number, weak};
@@ -78,11 +79,9 @@ fn weak_external(
 ) -> Result<Vec<u8>, Error>
     requires weak_text { holds 0 weak.now ≡ false }
     requires target_text { holds 0 target.now ≡ false }
-    ensures bytes { IfOk result (λ bytes. bytes.items ≡ encoded (weak_object machine weak.now target.now)) }
-    ensures meaning { IfOk result (λ bytes. meaning_in bytes.items ≡ Some (AnAlias (record { weak = weak.now; target = target.now }))) }
-    ensures short { OnOk result (encoded_size (weak_object machine weak.now target.now) < 2 ^ 32) }
-    ensures too_long { IfInvalid result (λ cause. (cause ≡ MemberTooLong)
-        × (2 ^ 32 ≤ encoded_size (weak_object machine weak.now target.now))) }
+    ensures object { EncodesObject (weak_object machine weak.now target.now) result }
+    ensures meaning { IfOk result (λ bytes. meaning_in bytes.items
+        ≡ Some (AnAlias (record { weak = weak.now; target = target.now }))) }
 {
     let sections = [weak_section(alloc)];
     let symbols = weak_symbols();
@@ -108,10 +107,7 @@ pub(crate) fn weak_member(
 ) -> Result<Member, Error>
     requires weak_text { holds 0 weak.now ≡ false }
     requires target_text { holds 0 target.now ≡ false }
-    ensures ok { IfOk result (λ m. member_view m ≡ member_of (weak_spec machine (string_bytes name) weak.now target.now)) }
-    ensures fit { OnOk result (is_too_long (weak_spec machine (string_bytes name) weak.now target.now) ≡ false) }
-    ensures too_long { IfInvalid result (λ cause. (cause ≡ MemberTooLong)
-        × (is_too_long (weak_spec machine (string_bytes name) weak.now target.now) ≡ true)) }
+    ensures { MakesMember (weak_spec machine (string_bytes name) weak.now target.now) result }
 {
     let bytes = weak_external(alloc, machine, weak, target)?;
     let symbol = String::from_str(alloc, weak)?;

@@ -7,6 +7,7 @@ ghost use Rattle.implib.specs.Formats.Pass.{Puts};
 ghost use Rattle.implib.specs.Formats.Layout.{InRecord, InStringTable, Fits, FitsAuxiliary, auxiliary_bytes, auxiliary_count, contents, contents_offset, contents_size, header_bytes, encoded, encoded_size, name_field, pointer_or_zero, record_count, records, relocation_bytes, section_header, section_headers, string_bytes_of, string_size, string_table, string_offsets, strings_size, symbol, symbol_bytes, symbol_table_offset};
 ghost use Rattle.implib.specs.Views.Layout.{FitsField, Measured, name_view, layout_view, symbol_view};
 ghost use Rattle.implib.specs.Formats.Writer.{section_view};
+ghost use Rattle.implib.specs.Views.Making.{EncodesObject};
 ghost use Rattle.std.specs.Prelude.{All, ◌*◌, ◌+◌, ◌-◌, ◌<◌, ◌^◌, ◌≡◌, ◌≤◌, ℕ, IfErr, IfOk, OnOk, alloc_error, flat_map, length, map, min, slice_index, sum_by};
 
 use crate::coff::object::{Relocation, Section};
@@ -110,10 +111,7 @@ struct Measure {
 /// `OutOfMemory`.
 pub(crate) fn encode(alloc: Global, layout: &ObjectLayout) -> Result<Vec<u8>, Error>
     requires { Fits (layout_view layout.now) }
-    ensures bytes { IfOk result (λ bytes. bytes.items ≡ encoded (layout_view layout.now)) }
-    ensures short { OnOk result (encoded_size (layout_view layout.now) < 2 ^ 32) }
-    ensures refused { IfInvalid result (λ cause.
-        (cause ≡ Cause.MemberTooLong) × (2 ^ 32 ≤ encoded_size (layout_view layout.now))) }
+    ensures { EncodesObject (layout_view layout.now) result }
 {
     let measure = measure_of(layout)?;
     let offsets = offsets_of(alloc, layout.strings)?;

@@ -8,6 +8,7 @@ ghost use Rattle.implib.specs.Formats.Writer.{section_view};
 ghost use Rattle.implib.specs.Formats.Writer.{HasRoomFor, IsPlaceAmong, IsSymbolIndex, all_entries, entries_added, long_names, name_location, written_object, layout_of, section_number, symbol_written, with_long_name, with_relocation, with_section, with_symbol};
 ghost use Rattle.implib.specs.Formats.Writer.{added_view};
 ghost use Rattle.implib.specs.Views.Writer.{writer_state};
+ghost use Rattle.implib.specs.Views.Making.{EncodesObject};
 ghost use Rattle.std.specs.Prelude.{◌+◌, ◌<◌, ◌^◌, ◌≡◌, ◌≤◌, Some, [], IfErr, IfOk, IsSomeAnd, OnErr, OnOk, alloc_error, length, map, string_bytes};
 
 use crate::coff::constants::section_number;
@@ -164,10 +165,7 @@ fn write_parts(
     symbols: &[Symbol],
 ) -> Result<Vec<u8>, Error>
     requires { Fits (layout_of (writer_state machine sections.now symbols.now)) }
-    ensures bytes { IfOk result (λ bytes. bytes.items ≡ encoded (layout_of (writer_state machine sections.now symbols.now))) }
-    ensures short { OnOk result (encoded_size (layout_of (writer_state machine sections.now symbols.now)) < 2 ^ 32) }
-    ensures refused { IfInvalid result (λ cause. (cause ≡ Cause.MemberTooLong)
-        × (2 ^ 32 ≤ encoded_size (layout_of (writer_state machine sections.now symbols.now)))) }
+    ensures { EncodesObject (layout_of (writer_state machine sections.now symbols.now)) result }
 {
     let names = names_of(alloc, symbols)?;
     let layout = ObjectLayout {

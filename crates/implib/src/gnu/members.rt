@@ -13,6 +13,7 @@ ghost use Rattle.implib.specs.Members.MemberSpec.{member_of};
 ghost use Rattle.implib.specs.Members.ReadBack.{ReadBack};
 ghost use Rattle.implib.specs.Renaming.{is_renamed};
 ghost use Rattle.implib.specs.declared.flavor.Flavor.TheVariants.{Gnu};
+ghost use Rattle.implib.specs.Views.Making.{MakesMember, MakesMembers, PushesMembers};
 ghost use Rattle.std.specs.List.{list_all, list_any, sum_by};
 ghost use Rattle.std.specs.Prelude.{None, Some, [], false, map, min, string_bytes, true, ◌+◌, ◌++◌, ◌∷◌, ◌≡◌, IfOk, OnOk};
 
@@ -51,11 +52,9 @@ pub(crate) fn members(def: &ModuleDef, machine: MachineType) -> Result<Vec<Membe
 #[tactic(auto, using(crate::proofs::Members::GnuLoop::long_built))]
 fn named_members(def: &ModuleDef, machine: MachineType) -> Result<Vec<Member>, Error>
     requires { definition_names_refusal (definition_view def.now) machine Gnu ≡ None }
-    ensures ok { IfOk result (λ members. map member_view members.items ≡ map member_of (member_specs (definition_view def.now) machine Gnu)) }
-    ensures fit { OnOk result (list_any is_too_long (member_specs (definition_view def.now) machine Gnu) ≡ false) }
-    ensures ordinals { OnOk result (list_all has_u16_ordinal (public_exports (definition_view def.now)) ≡ true) }
-    ensures too_long { IfInvalid result (λ cause. (cause ≡ MemberTooLong)
-        × (list_any is_too_long (member_specs (definition_view def.now) machine Gnu) ≡ true)) }
+    ensures made { MakesMembers (member_specs (definition_view def.now) machine Gnu) result }
+    ensures ordinals { OnOk result
+        (list_all has_u16_ordinal (public_exports (definition_view def.now)) ≡ true) }
 {
     let dll = def.import_name.as_str();
     let head = head_symbol(*def.exports.allocator(), machine, dll)?;
@@ -70,13 +69,10 @@ fn named_members(def: &ModuleDef, machine: MachineType) -> Result<Vec<Member>, E
 fn build(def: &ModuleDef, machine: MachineType, head: &str) -> Result<Vec<Member>, Error>
     requires names { definition_names_refusal (definition_view def.now) machine Gnu ≡ None }
     requires head { head.now ≡ head_symbol machine (definition_view def.now).import_name }
-    ensures ok { IfOk result (λ members. map member_view members.items
-        ≡ map member_of (numbered_specs machine (definition_view def.now).import_name 0 (public_exports (definition_view def.now)))) }
-    ensures fit { OnOk result (list_any is_too_long
-        (numbered_specs machine (definition_view def.now).import_name 0 (public_exports (definition_view def.now))) ≡ false) }
-    ensures ordinals { OnOk result (list_all has_u16_ordinal (public_exports (definition_view def.now)) ≡ true) }
-    ensures too_long { IfInvalid result (λ cause. (cause ≡ MemberTooLong) × (list_any is_too_long
-        (numbered_specs machine (definition_view def.now).import_name 0 (public_exports (definition_view def.now))) ≡ true)) }
+    ensures made { MakesMembers (numbered_specs machine (definition_view def.now).import_name 0
+        (public_exports (definition_view def.now))) result }
+    ensures ordinals { OnOk result
+        (list_all has_u16_ordinal (public_exports (definition_view def.now)) ≡ true) }
 {
     let dll = def.import_name.as_str();
     let mut members = Vec::with_capacity(*def.exports.allocator(), member_count(def))?;
@@ -121,11 +117,8 @@ fn push_head_and_tail(
     dll: &str,
 ) -> Result<(), Error>
     requires { holds 0 dll.now ≡ false }
-    ensures ok { OnOk result (map member_view members.new.items
-        ≡ map member_view members.old.items ++ map member_of (head_spec machine dll.now ∷ tail_spec machine dll.now ∷ [])) }
-    ensures fit { OnOk result (list_any is_too_long (head_spec machine dll.now ∷ tail_spec machine dll.now ∷ []) ≡ false) }
-    ensures too_long { IfInvalid result (λ cause. (cause ≡ MemberTooLong)
-        × (list_any is_too_long (head_spec machine dll.now ∷ tail_spec machine dll.now ∷ []) ≡ true)) }
+    ensures { PushesMembers (head_spec machine dll.now ∷ tail_spec machine dll.now ∷ [])
+        members.old.items members.new.items result }
 {
     members.push(head_member(*members.allocator(), machine, dll)?)?;
     members.push(tail_member(*members.allocator(), machine, dll)?)?;
@@ -136,9 +129,7 @@ fn push_head_and_tail(
 #[tactic(auto, unfolding(crate::specs::Members::GnuMembers::head_spec))]
 fn head_member(alloc: Global, machine: MachineType, dll: &str) -> Result<Member, Error>
     requires { holds 0 dll.now ≡ false }
-    ensures ok { IfOk result (λ m. member_view m ≡ member_of (head_spec machine dll.now)) }
-    ensures fit { OnOk result (is_too_long (head_spec machine dll.now) ≡ false) }
-    ensures too_long { IfInvalid result (λ cause. (cause ≡ MemberTooLong) × (is_too_long (head_spec machine dll.now) ≡ true)) }
+    ensures { MakesMember (head_spec machine dll.now) result }
 {
     let symbol = head_symbol(alloc, machine, dll)?;
     let name = iname_symbol(alloc, machine, dll)?;
@@ -150,9 +141,7 @@ fn head_member(alloc: Global, machine: MachineType, dll: &str) -> Result<Member,
 #[tactic(auto, unfolding(crate::specs::Members::GnuMembers::tail_spec))]
 fn tail_member(alloc: Global, machine: MachineType, dll: &str) -> Result<Member, Error>
     requires { holds 0 dll.now ≡ false }
-    ensures ok { IfOk result (λ m. member_view m ≡ member_of (tail_spec machine dll.now)) }
-    ensures fit { OnOk result (is_too_long (tail_spec machine dll.now) ≡ false) }
-    ensures too_long { IfInvalid result (λ cause. (cause ≡ MemberTooLong) × (is_too_long (tail_spec machine dll.now) ≡ true)) }
+    ensures { MakesMember (tail_spec machine dll.now) result }
 {
     let symbol = iname_symbol(alloc, machine, dll)?;
     let bytes = tail_object(alloc, machine, dll, symbol.as_str())?;
@@ -173,12 +162,9 @@ fn push_export(
     requires head { head.now ≡ head_symbol machine dll.now }
     requires nul { holds_nul (export_view export.now) ≡ false }
     requires filled { is_empty_text (export_view export.now).name ≡ false }
-    ensures ok { OnOk result (map member_view members.new.items
-        ≡ map member_view members.old.items ++ map member_of (numbered_specs_of machine dll.now number (export_view export.now))) }
-    ensures fit { OnOk result (list_any is_too_long (numbered_specs_of machine dll.now number (export_view export.now)) ≡ false) }
+    ensures pushed { PushesMembers (numbered_specs_of machine dll.now number (export_view export.now))
+        members.old.items members.new.items result }
     ensures ordinal { OnOk result (has_u16_ordinal (export_view export.now) ≡ true) }
-    ensures too_long { IfInvalid result (λ cause. (cause ≡ MemberTooLong)
-        × (list_any is_too_long (numbered_specs_of machine dll.now number (export_view export.now)) ≡ true)) }
 {
     if has_aliases(export) {
         push_weak_externals(members, export, number, machine, dll)?;
@@ -198,11 +184,8 @@ fn push_weak_externals(
 ) -> Result<(), Error>
     requires nul { holds_nul (export_view export.now) ≡ false }
     requires aliases { is_alias (export_view export.now).alias_target (export_view export.now).name ≡ true }
-    ensures ok { OnOk result (map member_view members.new.items
-        ≡ map member_view members.old.items ++ map member_of (alias_specs machine dll.now number (export_view export.now))) }
-    ensures fit { OnOk result (list_any is_too_long (alias_specs machine dll.now number (export_view export.now)) ≡ false) }
-    ensures too_long { IfInvalid result (λ cause. (cause ≡ MemberTooLong)
-        × (list_any is_too_long (alias_specs machine dll.now number (export_view export.now)) ≡ true)) }
+    ensures { PushesMembers (alias_specs machine dll.now number (export_view export.now))
+        members.old.items members.new.items result }
 {
     let alloc = *members.allocator();
     let weak = export.name.as_str();
@@ -246,11 +229,9 @@ fn export_member(
     requires head { head.now ≡ head_symbol machine dll.now }
     requires name_text { holds 0 (export_view export.now).name ≡ false }
     requires filled { is_empty_text (export_view export.now).name ≡ false }
-    ensures ok { IfOk result (λ m. member_view m ≡ member_of (export_spec machine dll.now number (export_view export.now))) }
-    ensures fit { OnOk result (is_too_long (export_spec machine dll.now number (export_view export.now)) ≡ false) }
+    ensures made { MakesMember
+        (export_spec machine dll.now number (export_view export.now)) result }
     ensures ordinal { OnOk result (has_u16_ordinal (export_view export.now) ≡ true) }
-    ensures too_long { IfInvalid result (λ cause. (cause ≡ MemberTooLong)
-        × (is_too_long (export_spec machine dll.now number (export_view export.now)) ≡ true)) }
 {
     // This brings the range of the ordinal, 16 bits, into the proof.
     let _ordinal = export.ordinal;

@@ -11,6 +11,7 @@ ghost use Rattle.implib.specs.Members.ImportTables.{thunk_width};
 ghost use Rattle.implib.specs.Formats.Layout.{encoded, encoded_size};
 ghost use Rattle.implib.specs.Views.Table.{section_row, symbol_row};
 ghost use Rattle.implib.specs.Formats.Writer.{layout_of};
+ghost use Rattle.implib.specs.Views.Making.{EncodesObject};
 ghost use Rattle.std.specs.Prelude.{◌+◌, [], false, map, string_bytes, true, ◌∷◌, ◌++◌, ◌<◌, ◌^◌, ◌≡◌, ◌≤◌, IfOk, OnOk, if◌then◌else◌, take};
 
 use crate::coff::constants::{class, flags, relocation};
@@ -128,10 +129,7 @@ pub(crate) fn head_object(
     requires dll_text { holds 0 dll.now ≡ false }
     requires head { head.now ≡ head_symbol machine dll.now }
     requires name { name.now ≡ iname_symbol machine dll.now }
-    ensures bytes { IfOk result (λ bytes. bytes.items ≡ encoded (layout_of (head_object machine dll.now))) }
-    ensures short { OnOk result (encoded_size (layout_of (head_object machine dll.now)) < 2 ^ 32) }
-    ensures too_long { IfInvalid result (λ cause. (cause ≡ MemberTooLong)
-        × (2 ^ 32 ≤ encoded_size (layout_of (head_object machine dll.now)))) }
+    ensures { EncodesObject (layout_of (head_object machine dll.now)) result }
 {
     let relocations = [
         image_relocation(machine, descriptor::LOOKUP_TABLE, 3),
@@ -167,10 +165,7 @@ pub(crate) fn tail_object(
 ) -> Result<Vec<u8>, Error>
     requires dll_text { holds 0 dll.now ≡ false }
     requires name { name.now ≡ iname_symbol machine dll.now }
-    ensures bytes { IfOk result (λ bytes. bytes.items ≡ encoded (layout_of (tail_object machine dll.now))) }
-    ensures short { OnOk result (encoded_size (layout_of (tail_object machine dll.now)) < 2 ^ 32) }
-    ensures too_long { IfInvalid result (λ cause. (cause ≡ MemberTooLong)
-        × (2 ^ 32 ≤ encoded_size (layout_of (tail_object machine dll.now)))) }
+    ensures { EncodesObject (layout_of (tail_object machine dll.now)) result }
 {
     let thunk = zeros(alloc, thunk_width(machine))?;
     let text = ended_by_nul(alloc, dll)?;
@@ -305,10 +300,8 @@ pub(crate) fn export_object<'a>(
     requires filled { is_empty_text (export_view export.now).name ≡ false }
     requires head { head.now ≡ head_symbol machine dll.now }
     requires address { address.now ≡ imp_symbol (export_view export.now).name }
-    ensures bytes { IfOk result (λ bytes. bytes.items ≡ encoded (layout_of (export_object machine dll.now (export_view export.now)))) }
-    ensures short { OnOk result (encoded_size (layout_of (export_object machine dll.now (export_view export.now))) < 2 ^ 32) }
-    ensures too_long { IfInvalid result (λ cause. (cause ≡ MemberTooLong)
-        × (2 ^ 32 ≤ encoded_size (layout_of (export_object machine dll.now (export_view export.now))))) }
+    ensures { EncodesObject
+        (layout_of (export_object machine dll.now (export_view export.now))) result }
 {
     let to_head = [image_relocation(machine, 0, 0)];
     let to_name = [image_relocation(machine, 0, hint_name_symbol(export))];

@@ -5,6 +5,7 @@ ghost use Rattle.implib.specs.Formats.Layout.{encoded, encoded_size};
 ghost use Rattle.implib.specs.Formats.Object.{section_numbered};
 ghost use Rattle.implib.specs.Views.Table.{CanBeAdded, CanBeHeld, HasRoomForAll, bare_row, section_row, symbol_row, table_view, with_relocations};
 ghost use Rattle.implib.specs.Formats.Writer.{all_entries, layout_of};
+ghost use Rattle.implib.specs.Views.Making.{EncodesObject};
 ghost use Rattle.std.specs.List.{AllByRecursion};
 ghost use Rattle.std.specs.Prelude.{◌+◌, ◌++◌, ◌<◌, ◌^◌, ◌≡◌, ◌≤◌, [], IfErr, IfOk, IsSomeAnd, OnOk, alloc_error, length, map};
 
@@ -53,10 +54,7 @@ pub(crate) fn write_table(
     symbols: &[SymbolRow],
 ) -> Result<Vec<u8>, Error>
     requires { CanBeHeld (table_view machine sections.now symbols.now) }
-    ensures bytes { IfOk result (λ bytes. bytes.items ≡ encoded (layout_of (table_view machine sections.now symbols.now))) }
-    ensures short { OnOk result (encoded_size (layout_of (table_view machine sections.now symbols.now)) < 2 ^ 32) }
-    ensures too_long { IfInvalid result (λ cause. (cause ≡ MemberTooLong)
-        × (2 ^ 32 ≤ encoded_size (layout_of (table_view machine sections.now symbols.now)))) }
+    ensures { EncodesObject (layout_of (table_view machine sections.now symbols.now)) result }
 {
     let mut writer = ObjectWriter::new(alloc, machine);
     writer.reserve(sections.len(), symbols.len())?;

@@ -12,6 +12,7 @@ ghost use Rattle.implib.specs.Members.ReadBack.{ReadBack};
 ghost use Rattle.implib.specs.Renaming.{is_renamed};
 ghost use Rattle.implib.specs.Members.Msvc.{short_import_symbol};
 ghost use Rattle.implib.specs.declared.flavor.Flavor.TheVariants.{Msvc};
+ghost use Rattle.implib.specs.Views.Making.{MakesMembers, PushesMembers};
 ghost use Rattle.std.specs.List.{list_all, list_any, sum_by};
 ghost use Rattle.std.specs.Prelude.{None, Some, false, map, true, ◌+◌, ◌++◌, ◌≡◌, IfOk, OnOk, min};
 
@@ -47,11 +48,9 @@ pub(crate) fn members(def: &ModuleDef, machine: MachineType) -> Result<Vec<Membe
 // The members of a definition that breaks no rule on names, in order.
 fn named_members(def: &ModuleDef, machine: MachineType) -> Result<Vec<Member>, Error>
     requires { definition_names_refusal (definition_view def.now) machine Msvc ≡ None }
-    ensures ok { IfOk result (λ members. map member_view members.items ≡ map member_of (member_specs (definition_view def.now) machine Msvc)) }
-    ensures fit { OnOk result (list_any is_too_long (member_specs (definition_view def.now) machine Msvc) ≡ false) }
-    ensures ordinals { OnOk result (list_all has_u16_ordinal (public_exports (definition_view def.now)) ≡ true) }
-    ensures too_long { IfInvalid result (λ cause. (cause ≡ MemberTooLong)
-        × (list_any is_too_long (member_specs (definition_view def.now) machine Msvc) ≡ true)) }
+    ensures made { MakesMembers (member_specs (definition_view def.now) machine Msvc) result }
+    ensures ordinals { OnOk result
+        (list_all has_u16_ordinal (public_exports (definition_view def.now)) ≡ true) }
 {
     let alloc = *def.exports.allocator();
     let dll = def.import_name.as_str();
@@ -97,10 +96,8 @@ fn push_header_members(
     dll: &str,
 ) -> Result<(), Error>
     requires { holds 0 dll.now ≡ false }
-    ensures ok { OnOk result (map member_view members.new.items
-        ≡ map member_view members.old.items ++ map member_of (header_specs machine dll.now)) }
-    ensures fit { OnOk result (list_any is_too_long (header_specs machine dll.now) ≡ false) }
-    ensures too_long { IfInvalid result (λ cause. (cause ≡ MemberTooLong) × (list_any is_too_long (header_specs machine dll.now) ≡ true)) }
+    ensures { PushesMembers (header_specs machine dll.now)
+        members.old.items members.new.items result }
 {
     members.push(descriptor_member(*members.allocator(), machine, dll)?)?;
     members.push(null_descriptor_member(*members.allocator(), machine, dll)?)?;
@@ -117,12 +114,9 @@ fn push_export(
     dll: &str,
 ) -> Result<(), Error>
     requires { holds_nul (export_view export.now) ≡ false }
-    ensures ok { OnOk result (map member_view members.new.items
-        ≡ map member_view members.old.items ++ map member_of (export_specs machine dll.now (export_view export.now))) }
-    ensures fit { OnOk result (list_any is_too_long (export_specs machine dll.now (export_view export.now)) ≡ false) }
+    ensures pushed { PushesMembers (export_specs machine dll.now (export_view export.now))
+        members.old.items members.new.items result }
     ensures ordinal { OnOk result (has_u16_ordinal (export_view export.now) ≡ true) }
-    ensures too_long { IfInvalid result (λ cause. (cause ≡ MemberTooLong)
-        × (list_any is_too_long (export_specs machine dll.now (export_view export.now)) ≡ true)) }
 {
     if has_aliases(export) {
         push_weak_externals(members, export, machine, dll)?;
@@ -141,11 +135,8 @@ fn push_weak_externals(
 ) -> Result<(), Error>
     requires nul { holds_nul (export_view export.now) ≡ false }
     requires aliases { is_alias (export_view export.now).alias_target (short_import_symbol (export_view export.now)) ≡ true }
-    ensures ok { OnOk result (map member_view members.new.items
-        ≡ map member_view members.old.items ++ map member_of (weak_specs machine dll.now (export_view export.now))) }
-    ensures fit { OnOk result (list_any is_too_long (weak_specs machine dll.now (export_view export.now)) ≡ false) }
-    ensures too_long { IfInvalid result (λ cause. (cause ≡ MemberTooLong)
-        × (list_any is_too_long (weak_specs machine dll.now (export_view export.now)) ≡ true)) }
+    ensures { PushesMembers (weak_specs machine dll.now (export_view export.now))
+        members.old.items members.new.items result }
 {
     let alloc = *members.allocator();
     let symbol = short_import_symbol(export);

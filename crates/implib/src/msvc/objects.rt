@@ -11,6 +11,7 @@ ghost use Rattle.implib.specs.Members.MsvcObjects.{descriptor_symbols, null_desc
 ghost use Rattle.implib.specs.Formats.Layout.{encoded, encoded_size};
 ghost use Rattle.implib.specs.Views.Layout.{symbol_view};
 ghost use Rattle.implib.specs.Formats.Writer.{section_view};
+ghost use Rattle.implib.specs.Views.Making.{EncodesObject, MakesMember};
 ghost use Rattle.std.specs.List.{ends_with};
 ghost use Rattle.std.specs.Prelude.{Some, [], false, map, nat_eq, string_bytes, true, ◌∷◌, ◌<◌, ◌^◌, ◌≡◌, ◌≤◌, IfOk, OnOk};
 
@@ -155,9 +156,7 @@ fn descriptor_object<'a>(
     requires symbol { symbol.now ≡ descriptor_symbol dll.now }
     requires null_descriptor { null_descriptor.now ≡ null_descriptor_symbol }
     requires null_thunk { null_thunk.now ≡ null_thunk_symbol dll.now }
-    ensures bytes { IfOk result (λ bytes. bytes.items ≡ encoded (descriptor machine dll.now)) }
-    ensures short { OnOk result (encoded_size (descriptor machine dll.now) < 2 ^ 32) }
-    ensures too_long { IfInvalid result (λ cause. (cause ≡ MemberTooLong) × (2 ^ 32 ≤ encoded_size (descriptor machine dll.now))) }
+    ensures { EncodesObject (descriptor machine dll.now) result }
 {
     let sections = descriptor_sections(alloc, machine, dll)?;
     let symbols = descriptor_symbols();
@@ -181,9 +180,7 @@ pub(crate) fn descriptor_member(
     dll: &str,
 ) -> Result<Member, Error>
     requires { holds 0 dll.now ≡ false }
-    ensures ok { IfOk result (λ m. member_view m ≡ member_of (descriptor_spec machine dll.now)) }
-    ensures fit { OnOk result (is_too_long (descriptor_spec machine dll.now) ≡ false) }
-    ensures too_long { IfInvalid result (λ cause. (cause ≡ MemberTooLong) × (is_too_long (descriptor_spec machine dll.now) ≡ true)) }
+    ensures { MakesMember (descriptor_spec machine dll.now) result }
 {
     let symbol = descriptor_symbol(alloc, dll)?;
     let thunk = null_thunk_symbol(alloc, dll)?;
@@ -212,9 +209,7 @@ fn null_descriptor_section(alloc: Global) -> Result<Section, AllocError>
 
 // The object of the null descriptor.
 fn null_descriptor_object(alloc: Global, machine: MachineType) -> Result<Vec<u8>, Error>
-    ensures bytes { IfOk result (λ bytes. bytes.items ≡ encoded (null_descriptor machine)) }
-    ensures short { OnOk result (encoded_size (null_descriptor machine) < 2 ^ 32) }
-    ensures too_long { IfInvalid result (λ cause. (cause ≡ MemberTooLong) × (2 ^ 32 ≤ encoded_size (null_descriptor machine))) }
+    ensures { EncodesObject (null_descriptor machine) result }
 {
     let sections = [null_descriptor_section(alloc)?];
     encode(
@@ -236,9 +231,7 @@ pub(crate) fn null_descriptor_member(
     machine: MachineType,
     dll: &str,
 ) -> Result<Member, Error>
-    ensures ok { IfOk result (λ m. member_view m ≡ member_of (null_descriptor_spec machine dll.now)) }
-    ensures fit { OnOk result (is_too_long (null_descriptor_spec machine dll.now) ≡ false) }
-    ensures too_long { IfInvalid result (λ cause. (cause ≡ MemberTooLong) × (is_too_long (null_descriptor_spec machine dll.now) ≡ true)) }
+    ensures { MakesMember (null_descriptor_spec machine dll.now) result }
 {
     let bytes = null_descriptor_object(alloc, machine)?;
     let symbol = String::from_str(alloc, NULL_DESCRIPTOR_SYMBOL)?;
@@ -275,9 +268,7 @@ fn null_thunk_object(
 ) -> Result<Vec<u8>, Error>
     requires dll_text { holds 0 dll.now ≡ false }
     requires symbol { symbol.now ≡ null_thunk_symbol dll.now }
-    ensures bytes { IfOk result (λ bytes. bytes.items ≡ encoded (null_thunk machine dll.now)) }
-    ensures short { OnOk result (encoded_size (null_thunk machine dll.now) < 2 ^ 32) }
-    ensures too_long { IfInvalid result (λ cause. (cause ≡ MemberTooLong) × (2 ^ 32 ≤ encoded_size (null_thunk machine dll.now))) }
+    ensures { EncodesObject (null_thunk machine dll.now) result }
 {
     let address_table = null_thunk_section(alloc, machine, *b".idata$5")?;
     let lookup_table = null_thunk_section(alloc, machine, *b".idata$4")?;
@@ -301,9 +292,7 @@ pub(crate) fn null_thunk_member(
     dll: &str,
 ) -> Result<Member, Error>
     requires { holds 0 dll.now ≡ false }
-    ensures ok { IfOk result (λ m. member_view m ≡ member_of (null_thunk_spec machine dll.now)) }
-    ensures fit { OnOk result (is_too_long (null_thunk_spec machine dll.now) ≡ false) }
-    ensures too_long { IfInvalid result (λ cause. (cause ≡ MemberTooLong) × (is_too_long (null_thunk_spec machine dll.now) ≡ true)) }
+    ensures { MakesMember (null_thunk_spec machine dll.now) result }
 {
     let symbol = null_thunk_symbol(alloc, dll)?;
     let bytes = null_thunk_object(alloc, machine, dll, symbol.as_str())?;

@@ -1,6 +1,7 @@
 //! The short import of an export (PE/COFF specification, "Import Library Format"; docs/FORMATS.md, "Short
 //! imports").
 
+ghost use Rattle.implib.specs.Views.Making.{MakesMember};
 ghost use Rattle.implib.specs.declared.flavor.Flavor.TheVariants.{Msvc};
 ghost use Rattle.implib.specs.Definition.{definition_view, export_view};
 ghost use Rattle.implib.specs.Fault.{IfInvalid, MemberTooLong};
@@ -129,11 +130,8 @@ pub(crate) fn short_import_member(
     machine: MachineType,
     dll: &str,
 ) -> Result<Member, Error>
-    ensures ok { IfOk result (λ m. member_view m ≡ member_of (short_import_spec machine dll.now (export_view export.now))) }
-    ensures fits { OnOk result (is_too_long (short_import_spec machine dll.now (export_view export.now)) ≡ false) }
+    ensures made { MakesMember (short_import_spec machine dll.now (export_view export.now)) result }
     ensures ordinal { OnOk result (has_u16_ordinal (export_view export.now) ≡ true) }
-    ensures too_long { IfInvalid result (λ cause. (cause ≡ MemberTooLong)
-        × (is_too_long (short_import_spec machine dll.now (export_view export.now)) ≡ true)) }
 {
     // This brings the range of the ordinal, 16 bits, into the proof.
     let _ordinal = export.ordinal;

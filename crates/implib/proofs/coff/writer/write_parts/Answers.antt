@@ -21,11 +21,5 @@ same c = layout_same (writer_state c.args.machine c.args.sections.now c.args.sym
     (ap (map symbol_view) c.deref.ensures.value ∙ c.in_ok-names.ensures.symbols)
     (ap (map (λ t. t.now)) c.as_slice.ensures.keys ∙ c.in_ok-names.ensures.strings)
 
-pub returns-clause-bytes : goal.returns-clause-bytes
-returns-clause-bytes c = rw (← same c) c.encode.ensures.bytes
-
-pub returns-clause-short : goal.returns-clause-short
-returns-clause-short c = rw (← same c) c.encode.ensures.short
-
-pub returns-clause-refused : goal.returns-clause-refused
-returns-clause-refused c = rw (← same c) c.encode.ensures.refused
+pub returns : goal.returns
+returns c = rw (← same c) c.encode.ensures

@@ -33,9 +33,9 @@ loop-export-preserved c =
     elim c.if-not-export.branch [
       | then-not-export+in_ok-push_export w ↦
           let extended : map member_view w.push_export.new.members.items ≡ members ++ map member_of (numbered_specs_of machine dll number e) =
-          rw c.as_str-dll.ensures.value at (w.in_ok-push_export.ensures {u = tt}).ok in
+          rw c.as_str-dll.ensures.value at (w.in_ok-push_export.ensures {u = tt}).pushed.ok in
           let short : list_any is_too_long (numbered_specs_of machine dll number e) ≡ false =
-          rw c.as_str-dll.ensures.value at (w.in_ok-push_export.ensures {u = tt}).fit in
+          rw c.as_str-dll.ensures.value at (w.in_ok-push_export.ensures {u = tt}).pushed.fit in
           let after : Left machine dll all long sound (index + 1) c.if-not-export.number (map member_view c.if-not-export.members.items) others =
           subst (λ (n : ℕ). Left machine dll all long sound (index + 1) n (map member_view c.if-not-export.members.items) others) (sym w.number-is)
           (subst (λ x. Left machine dll all long sound (index + 1) (number + 1) (map member_view x.items) others) (sym w.members-is)

@@ -9,23 +9,22 @@ use Rattle.implib.specs.Members.MemberSpec.{member_of}
 use Rattle.implib.proofs.Members.GnuLoop.{long_turned, made_turned, map-reverse}
 use Rattle.implib.proofs.gnu.members.named_members.Goals as goal
 
-pub returns-clause-ok : goal.returns-clause-ok
-returns-clause-ok c =
+pub returns-clause-made : goal.returns-clause-made
+returns-clause-made c =
     let machine = c.args.machine in
     let dll = string_bytes c.args.def.now.import_name in
     let built = numbered_specs machine dll 0 (public_exports (definition_view c.args.def.now)) in
     let pushed : map member_view c.push_head_and_tail.new.members.items ≡ map member_of built ++ map member_of (head_spec machine dll ∷ tail_spec machine dll ∷ []) =
-    rw (c.in_ok-members.ensures.ok, c.as_str-dll.ensures.value) at c.in_ok-push_head_and_tail.ensures.ok in
-    ap (map member_view) c.reverse.ensures.items
-    ∙ (map-reverse member_view c.push_head_and_tail.new.members.items
-    ∙ made_turned (map member_view c.push_head_and_tail.new.members.items) built (head_spec machine dll) (tail_spec machine dll) pushed)
-
-pub returns-clause-fit : goal.returns-clause-fit
-returns-clause-fit c =
-    let machine = c.args.machine in
-    let dll = string_bytes c.args.def.now.import_name in
-    let built = numbered_specs machine dll 0 (public_exports (definition_view c.args.def.now)) in
+    rw (c.in_ok-members.ensures.made.ok, c.as_str-dll.ensures.value) at c.in_ok-push_head_and_tail.ensures.ok in
     let head_and_tail : list_any is_too_long (head_spec machine dll ∷ tail_spec machine dll ∷ []) ≡ false =
     rw c.as_str-dll.ensures.value at c.in_ok-push_head_and_tail.ensures.fit in
-    long_turned built (head_spec machine dll) (tail_spec machine dll)
-    ∙ (ap (λ b. b || list_any is_too_long (head_spec machine dll ∷ tail_spec machine dll ∷ [])) c.in_ok-members.ensures.fit ∙ head_and_tail)
+    record {
+      ok =
+          ap (map member_view) c.reverse.ensures.items
+          ∙ (map-reverse member_view c.push_head_and_tail.new.members.items
+          ∙ made_turned (map member_view c.push_head_and_tail.new.members.items) built (head_spec machine dll) (tail_spec machine dll) pushed);
+      fit =
+          long_turned built (head_spec machine dll) (tail_spec machine dll)
+          ∙ (ap (λ b. b || list_any is_too_long (head_spec machine dll ∷ tail_spec machine dll ∷ [])) c.in_ok-members.ensures.made.fit ∙ head_and_tail);
+      too_long = tt;
+    }

@@ -46,11 +46,5 @@ same c =
     )
     refl
 
-pub returns-clause-bytes : goal.returns-clause-bytes
-returns-clause-bytes c = rw (← same c) c.write_table.ensures.bytes
-
-pub returns-clause-short : goal.returns-clause-short
-returns-clause-short c = rw (← same c) c.write_table.ensures.short
-
-pub returns-clause-too_long : goal.returns-clause-too_long
-returns-clause-too_long c = rw (← same c) c.write_table.ensures.too_long
+pub returns : goal.returns
+returns c = rw (← same c) c.write_table.ensures

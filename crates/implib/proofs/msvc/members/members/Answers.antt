@@ -25,7 +25,7 @@ made c =
     let d = definition_view c.args.def.now in
     made_of (λ members. map member_view members.items) d c.args.machine Msvc c.named_members.result
     (renamed_same d c.requires) (c.in-None.ensures {u = tt})
-    c.named_members.ensures.ok c.named_members.ensures.fit c.named_members.ensures.ordinals
+    c.named_members.ensures.made.ok c.named_members.ensures.made.fit c.named_members.ensures.ordinals
 
 pub returns-in-None-clause-ok : goal.returns-in-None-clause-ok
 returns-in-None-clause-ok c = made c
@@ -39,7 +39,7 @@ pub returns-in-None-clause-refused : goal.returns-in-None-clause-refused
 returns-in-None-clause-refused c =
     let d = definition_view c.args.def.now in
     refused_by_length d c.args.machine Msvc c.named_members.result (renamed_same d c.requires) (c.in-None.ensures {u = tt})
-    c.named_members.ensures.too_long
+    c.named_members.ensures.made.too_long
 
 pub returns-in-None-clause-names_refused_always : goal.returns-in-None-clause-names_refused_always
 returns-in-None-clause-names_refused_always c =

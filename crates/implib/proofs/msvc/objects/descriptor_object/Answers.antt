@@ -1,8 +1,7 @@
-use Rattle.std.proofs.Common.{◌≡◌, ◌<◌, ◌≤◌, ◌^◌, sym, subst, List, ℕ, [], ◌∷◌}
-use Rattle.std.specs.Prelude.{IfOk, OnOk}
-use Rattle.implib.specs.Fault.{IfInvalid, MemberTooLong}
+use Rattle.std.proofs.Common.{◌≡◌, sym, subst, List, ℕ, [], ◌∷◌}
+use Rattle.implib.specs.Views.Making.{EncodesObject}
 use Rattle.implib.specs.Members.MsvcObjects.{descriptor}
-use Rattle.implib.specs.Formats.Layout.{Fits, ObjectLayout, encoded, encoded_size}
+use Rattle.implib.specs.Formats.Layout.{Fits}
 use Rattle.implib.proofs.Members.MsvcObjects.{Fits-descriptor, same_layout}
 use Rattle.implib.proofs.msvc.objects.descriptor_object.Goals as goal
 
@@ -13,20 +12,8 @@ pub encode-requires : goal.encode-requires
 unfolding descriptor
 encode-requires c = subst Fits (same_layout (descriptor c.args.machine c.args.dll.now) _ _ _ _ _ c.number.ensures c.descriptor_characteristics.ensures c.in_ok-sections.ensures c.descriptor_symbols-symbols.ensures (listed_strings c.requires.symbol c.requires.null_descriptor c.requires.null_thunk)) (Fits-descriptor c.args.machine c.args.dll.now c.requires.dll_text)
 
-pub returns-clause-bytes : goal.returns-clause-bytes
+pub returns : goal.returns
 unfolding descriptor
-returns-clause-bytes c =
-    let P : ObjectLayout → Type 0 = λ p. IfOk c.encode.result (λ bytes. bytes.items ≡ encoded p) in
-    subst P (sym (same_layout (descriptor c.args.machine c.args.dll.now) _ _ _ _ _ c.number.ensures c.descriptor_characteristics.ensures c.in_ok-sections.ensures c.descriptor_symbols-symbols.ensures (listed_strings c.requires.symbol c.requires.null_descriptor c.requires.null_thunk))) c.encode.ensures.bytes
-
-pub returns-clause-short : goal.returns-clause-short
-unfolding descriptor
-returns-clause-short c =
-    let P : ObjectLayout → Type 0 = λ p. OnOk c.encode.result (encoded_size p < 2 ^ 32) in
-    subst P (sym (same_layout (descriptor c.args.machine c.args.dll.now) _ _ _ _ _ c.number.ensures c.descriptor_characteristics.ensures c.in_ok-sections.ensures c.descriptor_symbols-symbols.ensures (listed_strings c.requires.symbol c.requires.null_descriptor c.requires.null_thunk))) c.encode.ensures.short
-
-pub returns-clause-too_long : goal.returns-clause-too_long
-unfolding descriptor
-returns-clause-too_long c =
-    let P : ObjectLayout → Type 0 = λ p. IfInvalid c.encode.result (λ cause. (cause ≡ MemberTooLong) × (2 ^ 32 ≤ encoded_size p)) in
-    subst P (sym (same_layout (descriptor c.args.machine c.args.dll.now) _ _ _ _ _ c.number.ensures c.descriptor_characteristics.ensures c.in_ok-sections.ensures c.descriptor_symbols-symbols.ensures (listed_strings c.requires.symbol c.requires.null_descriptor c.requires.null_thunk))) c.encode.ensures.refused
+returns c =
+    subst (λ p. EncodesObject p c.encode.result)
+    (sym (same_layout (descriptor c.args.machine c.args.dll.now) _ _ _ _ _ c.number.ensures c.descriptor_characteristics.ensures c.in_ok-sections.ensures c.descriptor_symbols-symbols.ensures (listed_strings c.requires.symbol c.requires.null_descriptor c.requires.null_thunk))) c.encode.ensures

@@ -44,7 +44,7 @@ refused_given c =
     (ap (λ h. h.machine) c.self.view_is)
     (ap (map section_view) c.deref.ensures.value ∙ ap (λ h. h.sections) c.self.view_is)
     (ap (map added_view) c.deref-2.ensures.value ∙ ap (λ h. h.symbols) c.self.view_is))
-    c.write_parts.ensures.refused
+    c.write_parts.ensures.too_long
 
 read_given : (c : After-write_parts) → IfOk c.write_parts.result (λ bytes. object_in bytes.items ≡ Some (written_object c.args.self.now))
 read_given c =
