@@ -77,7 +77,7 @@ loaded_below image (r ∷ written) a b low high covers is =
 
 -- So nothing is written into code.
 
-holder : (ranges : List Range) (a b : ℕ) → byte_at ranges a ≡ Some b → (r : Range) × (Among r ranges × (is_in a r ≡ true))
+pub holder : (ranges : List Range) (a b : ℕ) → byte_at ranges a ≡ Some b → (r : Range) × (Among r ranges × (is_in a r ≡ true))
 unfolding Among
 holder [] a b is = cc
 holder (r ∷ ranges) a b is =
@@ -86,7 +86,7 @@ holder (r ∷ ranges) a b is =
       | inr outside ↦ let later = holder ranges a b (rw outside at is) in (later.0, (inr later.1.0, later.1.1))
     ]
 
-not_in_both : (xs ys : List Range) (r s : Range) (a : ℕ) → AllApart (xs ++ ys) → Among r xs → Among s ys → is_in a r ≡ true → is_in a s ≡ true → ⊥
+pub not_in_both : (xs ys : List Range) (r s : Range) (a : ℕ) → AllApart (xs ++ ys) → Among r xs → Among s ys → is_in a r ≡ true → is_in a s ≡ true → ⊥
 unfolding Among
 not_in_both [] ys r s a apart m n first second = absurd m
 not_in_both (x ∷ xs) ys r s a apart (inl e) n first second =

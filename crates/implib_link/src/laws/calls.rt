@@ -14,6 +14,7 @@ ghost use Rattle.implib_link.specs.Gnu.Calls.{AreBeside, CallArrives, HasCall, P
 ghost use Rattle.implib_link.specs.Gnu.Loaded.{Writes};
 ghost use Rattle.implib_link.specs.Gnu.Program.{IsProgram};
 ghost use Rattle.implib_link.specs.Stub.{CanJump};
+ghost use Rattle.implib_link.specs.Worked.Calls.{WorkedCalls, WorkedReading};
 ghost use Rattle.std.specs.List.{AllByRecursion, Contains};
 ghost use Rattle.std.specs.Prelude.{◌≡◌, ◌+◌, ◌++◌, ℕ, List, Some, length, map, slice_get};
 
@@ -58,4 +59,11 @@ pub fn calls_of_flavors_reach_through_entries()
         CallArrives machine image_base (written ++ (image_of machine bases (placed_from bases objects)
         ++ code_ranges machine image_base targets codes))
         (c.position + offset) (gives (dll_of p) (ask_in p.flavor machine e)) }
+{}
+
+/// Calls that were relocated by hand arrive, on three machines; a loader that reads the image of a program that
+/// was linked by hand loads it, and one that reads an image without the DLL's name does not.
+pub fn worked_calls()
+    ensures calls { WorkedCalls }
+    ensures reading { WorkedReading }
 {}
