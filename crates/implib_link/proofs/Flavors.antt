@@ -10,4 +10,5 @@ pub mod Texts
 pub mod Loaded
 pub mod Reading
 pub mod Stubs
+pub mod Calls
 pub mod Packed

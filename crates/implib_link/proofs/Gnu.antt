@@ -9,7 +9,11 @@ pub mod Alone
 pub mod Texts
 pub mod Loaded
 pub mod Reading
+pub mod CallBytes
+pub mod CallReads
+pub mod Memory
 pub mod Sized
 pub mod Packed
 pub mod Jumps
 pub mod Stubs
+pub mod Calls

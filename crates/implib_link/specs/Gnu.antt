@@ -3,4 +3,5 @@ pub mod Program
 pub mod Texts
 pub mod Loaded
 pub mod Reading
+pub mod Calls
 pub mod Packed

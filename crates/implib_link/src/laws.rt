@@ -1,5 +1,6 @@
 //! Laws: what a caller may conclude from the definitions, each as the contract of an empty function.
 
+pub mod calls;
 pub mod flavors;
 pub mod loaded;
 pub mod msvc_search;

@@ -10,13 +10,13 @@ use Rattle.implib.specs.Link.Placement.{Placed}
 use Rattle.implib.specs.Link.Resolution.{target_address}
 use Rattle.implib_link.specs.Stub.{adrp_immediate, bits_of, code_relocated, jump_reads, ldr_immediate, page, plus_signed, with_adrp, with_bits, with_ldr}
 
-number-u32 : (n : ℕ) → number_in (u32_bytes n) ≡ n % 2 ^ 32
+pub number-u32 : (n : ℕ) → number_in (u32_bytes n) ≡ n % 2 ^ 32
 unfolding u32_bytes
 number-u32 n = omega arith
 
 -- I386: the field is the entry's address.
 
-i386_field : (image_base entry : ℕ) → image_base + 2 ^ 31 ≤ 2 ^ 32 → entry < 2 ^ 31 → (0 + (image_base + entry)) % 2 ^ 32 % 2 ^ 32 ≡ image_base + entry
+pub i386_field : (image_base entry : ℕ) → image_base + 2 ^ 31 ≤ 2 ^ 32 → entry < 2 ^ 31 → (0 + (image_base + entry)) % 2 ^ 32 % 2 ^ 32 ≡ image_base + entry
 i386_field image_base entry fits small = omega arith
 
 pub i386_jumps : (image_base position entry : ℕ) (linked : List Placed) (p : Placed) → image_base + 2 ^ 31 ≤ 2 ^ 32 → entry < 2 ^ 31 → target_address linked p 2 ≡ entry →
@@ -27,7 +27,7 @@ i386_jumps image_base position entry linked p fits small target =
 
 -- AMD64: the field is the entry's address behind the jump.
 
-amd64_field : (image_base position entry : ℕ) → position + 16 ≤ 2 ^ 31 → entry < 2 ^ 31 →
+pub amd64_field : (image_base position entry : ℕ) → position + 16 ≤ 2 ^ 31 → entry < 2 ^ 31 →
     plus_signed 32 1 ((0 + entry + (2 ^ 32 - (position + 2 + 4) % 2 ^ 32)) % 2 ^ 32 % 2 ^ 32) (image_base + position + 6) ≡ image_base + entry
 amd64_field image_base position entry near small =
     let field : ℕ = (0 + entry + (2 ^ 32 - (position + 2 + 4) % 2 ^ 32)) % 2 ^ 32 % 2 ^ 32 in
@@ -46,13 +46,13 @@ amd64_jumps image_base position entry linked p near small target =
 -- ARM64: `adrp` has the entry's page relative to its own, `ldr` the entry's offset in its page.
 
 -- the two instructions with these immediates
-abbrev adrp_word : ℕ → ℕ → ℕ
+abbrev pub adrp_word : ℕ → ℕ → ℕ
 adrp_word high low = 0x9000_0010 + high * 32 + low * 0x2000_0000
 
-abbrev ldr_word : ℕ → ℕ
+abbrev pub ldr_word : ℕ → ℕ
 ldr_word n = 0xF940_0210 + n * 1024
 
-adrp_is : (n high low : ℕ) → n / 4 % 2 ^ 19 ≡ high → n % 4 ≡ low → with_adrp n 0x9000_0010 ≡ adrp_word high low
+pub adrp_is : (n high low : ℕ) → n / 4 % 2 ^ 19 ≡ high → n % 4 ≡ low → with_adrp n 0x9000_0010 ≡ adrp_word high low
 adrp_is n high low first second = omega arith
 
 adrp_cleared : (high low : ℕ) → high < 2 ^ 19 → low < 4 → with_adrp 0 (adrp_word high low) ≡ 0x9000_0010
@@ -61,7 +61,7 @@ adrp_cleared high low first second = omega arith
 adrp_read : (high low : ℕ) → high < 2 ^ 19 → low < 4 → adrp_immediate (adrp_word high low) ≡ high * 4 + low
 adrp_read high low first second = omega arith
 
-ldr_is : (n : ℕ) → n < 4096 → with_ldr n 0xF940_0210 ≡ ldr_word (n / 8)
+pub ldr_is : (n : ℕ) → n < 4096 → with_ldr n 0xF940_0210 ≡ ldr_word (n / 8)
 ldr_is n small = omega arith
 
 ldr_cleared : (n : ℕ) → n < 4096 → with_bits 10 12 0 (ldr_word n) ≡ 0xF940_0210
@@ -77,7 +77,7 @@ ldr_read : (n : ℕ) → n < 4096 → ldr_immediate (ldr_word n) ≡ n * 8
 ldr_read n small = ap (λ k. bits_of 10 12 (ldr_word n) * 2 ^ k) (ldr_scale n small) ∙ ap (λ k. k * 8) (ldr_field n small)
 
 -- what the jump reads, of its first two words
-abbrev arm64_reads : ℕ → ℕ → ℕ → Option ℕ
+abbrev pub arm64_reads : ℕ → ℕ → ℕ → Option ℕ
 arm64_reads address first second =
     if (with_adrp 0 first == 0x9000_0010) && (with_bits 10 12 0 second == 0xF940_0210) && true then
     Some (plus_signed 21 4096 (adrp_immediate first) (page address * 4096) + ldr_immediate second)
@@ -109,10 +109,10 @@ near_pages : (image_base position entry : ℕ) → position + 16 ≤ 2 ^ 31 → 
     (page (image_base + position) < page (image_base + entry) + 2 ^ 20) × (page (image_base + entry) < page (image_base + position) + 2 ^ 20)
 near_pages image_base position entry near small = (omega arith, omega arith)
 
-adrp_small : (high low : ℕ) → high < 2 ^ 19 → low < 4 → adrp_word high low < 2 ^ 32
+pub adrp_small : (high low : ℕ) → high < 2 ^ 19 → low < 4 → adrp_word high low < 2 ^ 32
 adrp_small high low first second = omega arith
 
-ldr_small : (n : ℕ) → n < 4096 → ldr_word n < 2 ^ 32
+pub ldr_small : (n : ℕ) → n < 4096 → ldr_word n < 2 ^ 32
 ldr_small n small = omega arith
 
 whole_eights : (n : ℕ) → n % 8 ≡ 0 → n % 4096 / 8 * 8 ≡ n % 4096
@@ -121,7 +121,7 @@ whole_eights n even = omega arith
 page_and_offset : (n : ℕ) → page n * 4096 + n % 4096 ≡ n
 page_and_offset n = omega arith
 
-sum_of_eights : (image_base entry : ℕ) → image_base % 8 ≡ 0 → entry % 8 ≡ 0 → (image_base + entry) % 8 ≡ 0
+pub sum_of_eights : (image_base entry : ℕ) → image_base % 8 ≡ 0 → entry % 8 ≡ 0 → (image_base + entry) % 8 ≡ 0
 sum_of_eights image_base entry first second = omega arith
 
 tests_pass : (first second value : ℕ) → first ≡ 0x9000_0010 → second ≡ 0xF940_0210 →
@@ -129,7 +129,7 @@ tests_pass : (first second value : ℕ) → first ≡ 0x9000_0010 → second ≡
 tests_pass first second value first_is second_is = rw (first_is, second_is) refl
 
 -- the code, relocated: sums with 0 are those that the relocations and the stub's own immediates give
-plain_sums : (image_base position entry : ℕ) → (image_base + entry + 0 ≡ image_base + entry) × (image_base + (position + 0) ≡ image_base + position)
+pub plain_sums : (image_base position entry : ℕ) → (image_base + entry + 0 ≡ image_base + entry) × (image_base + (position + 0) ≡ image_base + position)
 plain_sums image_base position entry = (omega arith, omega arith)
 
 arm64_code : (image_base position entry : ℕ) (linked : List Placed) (p : Placed) → target_address linked p 2 ≡ entry →
@@ -143,7 +143,7 @@ arm64_code image_base position entry linked p target =
     ++ (u32_bytes (with_ldr ((image_base + entry) % 4096) 0xF940_0210) ++ 0 ∷ 2 ∷ 0x1F ∷ 0xD6 ∷ []) in
     rw (target, sums.0, sums.1) (refl {a = code})
 
-arm64_leads : (image_base position entry : ℕ) → position + 16 ≤ 2 ^ 31 → entry < 2 ^ 31 → (image_base + entry) % 8 ≡ 0 → (n : ℕ) →
+pub arm64_leads : (image_base position entry : ℕ) → position + 16 ≤ 2 ^ 31 → entry < 2 ^ 31 → (image_base + entry) % 8 ≡ 0 → (n : ℕ) →
     n ≡ page (image_base + entry) + (2 ^ 21 - page (image_base + position) % 2 ^ 21) →
     arm64_reads (image_base + position) (adrp_word (n / 4 % 2 ^ 19) (n % 4)) (ldr_word ((image_base + entry) % 4096 / 8)) ≡ Some (image_base + entry)
 arm64_leads image_base position entry near small even n is =

@@ -1,0 +1,329 @@
+-- The calls that were relocated by hand, and the loader that reads, by computing and by the laws.
+use Rattle.std.proofs.Common.{◌≡◌, ℕ, zero, suc, ◌+◌, ◌*◌, ◌<◌, ◌^◌, ◌⊎◌, true, false, List, [], ◌∷◌, ◌++◌, codes, length, map, Some, None, Option, refl, ap, sym, ◌∙◌, subst, inl, inr, arith, true≢false}
+use Rattle.std.specs.Prelude.{slice_get}
+use Rattle.std.specs.Fmt.{digits}
+use Rattle.std.specs.List.{AllByRecursion, Contains}
+use Rattle.std.specs.Option.{option_and_then}
+use Rattle.implib.specs.declared.machine.MachineType.{MachineType}
+use Rattle.implib.specs.declared.machine.MachineType.TheVariants.{I386, ARMNT, AMD64, ARM64}
+use Rattle.implib.specs.Definition.{ExportView}
+use Rattle.implib.specs.Formats.Bytes.{u16_bytes, u32_bytes}
+use Rattle.implib.specs.Formats.Constants.{class_external}
+use Rattle.implib.specs.Formats.File.{is_defined_external}
+use Rattle.implib.specs.Import.{Ask, Name, Ordinal, imp_symbol}
+use Rattle.implib.specs.Members.Gnu.{export_object, five_digits, head_name, head_object, head_symbol, hint_name, iname_symbol, numbered_name, relocations_of_stub, relocations_of_thunk, mangled_name, stub, tail_name, tail_object, thunk}
+use Rattle.implib.specs.Link.Image.{Range, image_of, with_address}
+use Rattle.implib.specs.Link.Load.{BytesAt}
+use Rattle.implib.specs.Members.GnuMembers.{alias_specs, export_spec, head_spec, tail_spec}
+use Rattle.implib.specs.Members.ImportTables.{thunk_width, zeros}
+use Rattle.implib.specs.Members.Members.{refusal, renamed_refusal}
+use Rattle.implib.specs.Members.WeakExternal.{weak_object}
+use Rattle.implib.specs.Formats.Object.{ASymbol, Entry, ObjectSymbol, before_nul, bytes_at, data_at, each_at, entries_at, name_of, object_in, object_of_header, relocation_at, relocation_of, section_at, section_of, strings_at, symbol_of, u16_at, u32_at, up_to_nul}
+use Rattle.implib.specs.Formats.Layout.{auxiliary_bytes, auxiliary_count, contents, contents_offset, contents_size, header_bytes, encoded, encoded_size, name_field, offsets_from, pointer_or_zero, record_count, records, relocation_bytes, section_header, section_headers, string_bytes_of, string_offsets, string_size, string_table, strings_size, symbol_bytes, symbol_table_offset}
+use Rattle.implib.specs.Link.Placement.{Bases, Placed, next_multiple}
+use Rattle.implib.specs.Link.Resolution.{address_or_zero, definitions_of, is_undefined_external, symbol_address, target_address}
+use Rattle.implib.specs.Formats.Writer.{long_names, name_location, layout_of, symbol_written, with_long_name, with_name}
+use Rattle.implib.proofs.Link.Loading.{number_once}
+use Rattle.implib.proofs.Link.Ranges.{Among, apart_as_they_rise, ends_below}
+use Rattle.implib.specs.Worked.Statements.{plain_export}
+use Rattle.implib_link.specs.Directory.{StopsAt}
+use Rattle.implib_link.specs.Gnu.Calls.{AreBeside, CallArrives, Defines, HasCall, PlacedCode, Resolves, call_relocations, code_range, code_ranges}
+use Rattle.implib_link.specs.Gnu.Loaded.{HoldsAt}
+use Rattle.implib_link.specs.Gnu.Program.{IsProgram, has_tables, linked_symbols}
+use Rattle.implib_link.specs.Gnu.Reading.{ReadsAndWrites}
+use Rattle.implib_link.specs.Worked.Calls.{WorkedCall, WorkedCalls, WorkedReading, calling, calling_at, calling_memory, calling_objects, calling_placed, first_bytes, given, given_on, last_bytes, nameless_image, table_targets}
+use Rattle.implib_link.specs.Worked.Programs.{another, both_inputs, foo_exports, foo_input, program_image, program_objects, program_placed, symbol_of_class, symbol_on, touching_4, touching_8}
+use Rattle.implib_link.proofs.Gnu.Calls.{calls_reach_through_entries}
+use Rattle.implib_link.proofs.Gnu.Memory.{holder, not_in_both}
+use Rattle.implib_link.proofs.Gnu.Reading.{reader_loads}
+use Rattle.implib_link.proofs.Gnu.Stubs.{same_address}
+use Rattle.implib_link.proofs.Search.Lists.{among_at, contains_among}
+use Rattle.implib_link.proofs.Worked.Programs.{claims_none_by, distinct_by, worked_programs}
+use Rattle.implib_link.proofs.Worked.RefusedLinks.{differ, number}
+
+-- what the computing has to open
+abbrev opened : Unit {0}
+unfolding digits u16_bytes u32_bytes export_object five_digits head_name head_object head_symbol hint_name iname_symbol numbered_name relocations_of_stub relocations_of_thunk mangled_name stub tail_name tail_object thunk next_multiple with_address export_spec head_spec tail_spec before_nul bytes_at data_at each_at entries_at name_of object_in object_of_header relocation_at relocation_of section_at section_of strings_at symbol_of u16_at u32_at up_to_nul auxiliary_bytes auxiliary_count contents contents_offset contents_size header_bytes encoded name_field offsets_from pointer_or_zero record_count records relocation_bytes section_header section_headers string_bytes_of string_offsets string_size string_table strings_size symbol_bytes symbol_table_offset long_names name_location layout_of symbol_written with_long_name with_name
+opened = tt
+
+-- Code of one object, whose first symbol is its own and whose second is another object's, is resolved by the tables.
+
+one_of : {X : Type 0} (x k : X) → Among x (k ∷ []) → x ≡ k
+unfolding Among
+one_of x k (inl same) = same
+one_of x k (inr none) = absurd none
+
+first_or_second : (x m u : Entry) → Among x (m ∷ u ∷ []) → (x ≡ m) ⊎ (x ≡ u)
+unfolding Among
+first_or_second x m u (inl same) = inl same
+first_or_second x m u (inr (inl same)) = inr same
+first_or_second x m u (inr (inr none)) = absurd none
+
+second_at : (m u s : ObjectSymbol) (index : ℕ) → is_undefined_external m ≡ false → is_undefined_external s ≡ true → slice_get (ASymbol m ∷ ASymbol u ∷ []) index ≡ Some (ASymbol s) → s ≡ u
+second_at m u s zero own undefined at =
+    let same : m ≡ s = cc in
+    absurd (true≢false (sym undefined ∙ sym (ap is_undefined_external same) ∙ own))
+second_at m u s (suc zero) own undefined at = let same : u ≡ s = cc in sym same
+second_at m u s (suc (suc index)) own undefined at = cc
+
+not_named : (m u t : ObjectSymbol) → is_defined_external u ≡ false → (m.name ≡ u.name → ⊥) → is_defined_external t ≡ true → t.name ≡ u.name → (ASymbol t ≡ ASymbol m) ⊎ (ASymbol t ≡ ASymbol u) → ⊥
+not_named m u t other differs external named (inl is) =
+    let same : t ≡ m = cc in
+    differs (sym (ap (λ (x : ObjectSymbol). x.name) same) ∙ named)
+not_named m u t other differs external named (inr is) =
+    let same : t ≡ u = cc in
+    true≢false (sym external ∙ ap is_defined_external same ∙ other)
+
+one_code_resolves : (linked : List Placed) (k : PlacedCode) (m u : ObjectSymbol) → k.from.object.entries ≡ ASymbol m ∷ ASymbol u ∷ [] → is_undefined_external m ≡ false → is_defined_external u ≡ false →
+    (m.name ≡ u.name → ⊥) → Resolves linked (k ∷ []) (λ c index. target_address linked c.from index)
+one_code_resolves linked k m u entries own other differs = record {
+  tables = λ c index address entry held at is. rw at (ap address_or_zero is);
+  code = λ c d index s t first second at undefined defines named.
+      let c_is : c ≡ k = one_of c k (contains_among c (k ∷ []) first) in
+      let d_is : d ≡ k = one_of d k (contains_among d (k ∷ []) second) in
+      let at_k : slice_get (ASymbol m ∷ ASymbol u ∷ []) index ≡ Some (ASymbol s) = subst (λ es. slice_get es index ≡ Some (ASymbol s)) (ap (λ (x : PlacedCode). x.from.object.entries) c_is ∙ entries) at in
+      let s_is : s ≡ u = second_at m u s index own undefined at_k in
+      let among : Among (ASymbol t) (ASymbol m ∷ ASymbol u ∷ []) =
+      subst (Among (ASymbol t)) (ap (λ (x : PlacedCode). x.from.object.entries) d_is ∙ entries) (contains_among (ASymbol t) d.from.object.entries defines.held) in
+      absurd (not_named m u t other differs defines.external (named ∙ ap (λ (x : ObjectSymbol). x.name) s_is) (first_or_second (ASymbol t) (ASymbol m) (ASymbol u) among));
+}
+
+amd64_program : IsProgram AMD64 touching_8 (both_inputs AMD64) (calling_objects AMD64)
+unfolding opened refusal renamed_refusal alias_specs encoded_size weak_object has_tables
+amd64_program = record {
+  distinct = distinct_by (linked_symbols AMD64 (both_inputs AMD64)) refl;
+  tables = refl;
+  others = (claims_none_by (linked_symbols AMD64 (both_inputs AMD64)) (calling AMD64) refl, (claims_none_by (linked_symbols AMD64 (both_inputs AMD64)) (another AMD64) refl, tt));
+  admissible = record {
+    descriptors = (omega arith, refl);
+    directory_ends = (omega arith, refl);
+    lookups = (omega arith, refl);
+    addresses = (omega arith, refl);
+    hint_names = (omega arith, refl);
+    dll_names = (omega arith, refl);
+    ends = ends_below (2 ^ 31) (image_of AMD64 touching_8 (calling_placed AMD64 touching_8)) refl;
+    apart = apart_as_they_rise (2 ^ 31) (image_of AMD64 touching_8 (calling_placed AMD64 touching_8)) refl;
+  };
+}
+
+amd64_beside : AreBeside AMD64 0x1_4000_0000 touching_8 (calling_objects AMD64) (calling_at AMD64 0x1000 ∷ []) (table_targets AMD64 touching_8)
+unfolding opened refusal renamed_refusal alias_specs encoded_size weak_object has_tables
+amd64_beside = record {
+  held = ((0, omega arith, refl), tt);
+  sections = (refl, tt);
+  ends = (omega arith, tt);
+  apart = apart_as_they_rise (2 ^ 31) (calling_memory AMD64 0x1_4000_0000 touching_8) refl;
+  resolved = one_code_resolves (calling_placed AMD64 touching_8) (calling_at AMD64 0x1000) (symbol_of_class (codes "main") 1 class_external)
+      (symbol_of_class (imp_symbol (symbol_on AMD64 (codes "open"))) 0 class_external) refl refl refl (λ same. cc);
+}
+
+amd64_has : HasCall AMD64 (calling_at AMD64 0x1000) 4 (imp_symbol (symbol_on AMD64 (codes "open")))
+amd64_has = record {
+  front = first_bytes AMD64;
+  back = last_bytes AMD64;
+  instructions = refl;
+  here = refl;
+  index = 1;
+  before = [];
+  behind = [];
+  relocated = refl;
+  aside_before = tt;
+  aside_behind = tt;
+  symbol = symbol_of_class (imp_symbol (symbol_on AMD64 (codes "open"))) 0 class_external;
+  target = refl;
+  undefined = refl;
+  named = refl;
+}
+
+i386_program : IsProgram I386 touching_4 (both_inputs I386) (calling_objects I386)
+unfolding opened refusal renamed_refusal alias_specs encoded_size weak_object has_tables
+i386_program = record {
+  distinct = distinct_by (linked_symbols I386 (both_inputs I386)) refl;
+  tables = refl;
+  others = (claims_none_by (linked_symbols I386 (both_inputs I386)) (calling I386) refl, (claims_none_by (linked_symbols I386 (both_inputs I386)) (another I386) refl, tt));
+  admissible = record {
+    descriptors = (omega arith, refl);
+    directory_ends = (omega arith, refl);
+    lookups = (omega arith, refl);
+    addresses = (omega arith, refl);
+    hint_names = (omega arith, refl);
+    dll_names = (omega arith, refl);
+    ends = ends_below (2 ^ 31) (image_of I386 touching_4 (calling_placed I386 touching_4)) refl;
+    apart = apart_as_they_rise (2 ^ 31) (image_of I386 touching_4 (calling_placed I386 touching_4)) refl;
+  };
+}
+
+i386_beside : AreBeside I386 0x40_0000 touching_4 (calling_objects I386) (calling_at I386 0x1000 ∷ []) (table_targets I386 touching_4)
+unfolding opened refusal renamed_refusal alias_specs encoded_size weak_object has_tables
+i386_beside = record {
+  held = ((0, omega arith, refl), tt);
+  sections = (refl, tt);
+  ends = (omega arith, tt);
+  apart = apart_as_they_rise (2 ^ 31) (calling_memory I386 0x40_0000 touching_4) refl;
+  resolved = one_code_resolves (calling_placed I386 touching_4) (calling_at I386 0x1000) (symbol_of_class (codes "main") 1 class_external)
+      (symbol_of_class (imp_symbol (symbol_on I386 (codes "open"))) 0 class_external) refl refl refl (λ same. cc);
+}
+
+i386_has : HasCall I386 (calling_at I386 0x1000) 4 (imp_symbol (symbol_on I386 (codes "open")))
+i386_has = record {
+  front = first_bytes I386;
+  back = last_bytes I386;
+  instructions = refl;
+  here = refl;
+  index = 1;
+  before = [];
+  behind = [];
+  relocated = refl;
+  aside_before = tt;
+  aside_behind = tt;
+  symbol = symbol_of_class (imp_symbol (symbol_on I386 (codes "open"))) 0 class_external;
+  target = refl;
+  undefined = refl;
+  named = refl;
+}
+
+arm64_program : IsProgram ARM64 touching_8 (both_inputs ARM64) (calling_objects ARM64)
+unfolding opened refusal renamed_refusal alias_specs encoded_size weak_object has_tables
+arm64_program = record {
+  distinct = distinct_by (linked_symbols ARM64 (both_inputs ARM64)) refl;
+  tables = refl;
+  others = (claims_none_by (linked_symbols ARM64 (both_inputs ARM64)) (calling ARM64) refl, (claims_none_by (linked_symbols ARM64 (both_inputs ARM64)) (another ARM64) refl, tt));
+  admissible = record {
+    descriptors = (omega arith, refl);
+    directory_ends = (omega arith, refl);
+    lookups = (omega arith, refl);
+    addresses = (omega arith, refl);
+    hint_names = (omega arith, refl);
+    dll_names = (omega arith, refl);
+    ends = ends_below (2 ^ 31) (image_of ARM64 touching_8 (calling_placed ARM64 touching_8)) refl;
+    apart = apart_as_they_rise (2 ^ 31) (image_of ARM64 touching_8 (calling_placed ARM64 touching_8)) refl;
+  };
+}
+
+arm64_beside : AreBeside ARM64 0x1_4000_0000 touching_8 (calling_objects ARM64) (calling_at ARM64 0x1000 ∷ []) (table_targets ARM64 touching_8)
+unfolding opened refusal renamed_refusal alias_specs encoded_size weak_object has_tables
+arm64_beside = record {
+  held = ((0, omega arith, refl), tt);
+  sections = (refl, tt);
+  ends = (omega arith, tt);
+  apart = apart_as_they_rise (2 ^ 31) (calling_memory ARM64 0x1_4000_0000 touching_8) refl;
+  resolved = one_code_resolves (calling_placed ARM64 touching_8) (calling_at ARM64 0x1000) (symbol_of_class (codes "main") 1 class_external)
+      (symbol_of_class (imp_symbol (symbol_on ARM64 (codes "open"))) 0 class_external) refl refl refl (λ same. cc);
+}
+
+arm64_has : HasCall ARM64 (calling_at ARM64 0x1000) 4 (imp_symbol (symbol_on ARM64 (codes "open")))
+arm64_has = record {
+  front = first_bytes ARM64;
+  back = last_bytes ARM64;
+  instructions = refl;
+  here = refl;
+  index = 1;
+  before = [];
+  behind = [];
+  relocated = refl;
+  aside_before = tt;
+  aside_behind = tt;
+  symbol = symbol_of_class (imp_symbol (symbol_on ARM64 (codes "open"))) 0 class_external;
+  target = refl;
+  undefined = refl;
+  named = refl;
+}
+
+wide : (machine : MachineType) (dll : List ℕ) (ask : Ask) → length (given_on machine dll ask) ≡ thunk_width machine
+unfolding u32_bytes
+wide I386 dll (Ordinal n) = refl
+wide I386 dll (Name text hint) = refl
+wide ARMNT dll (Ordinal n) = refl
+wide ARMNT dll (Name text hint) = refl
+wide AMD64 dll (Ordinal n) = refl
+wide AMD64 dll (Name text hint) = refl
+wide ARM64 dll (Ordinal n) = refl
+wide ARM64 dll (Name text hint) = refl
+
+-- the export that is called
+abbrev open_export : MachineType → ExportView
+open_export machine = record (plain_export (symbol_on machine (codes "open"))) { ordinal = 258 }
+
+amd64 : WorkedCall AMD64 0x1_4000_0000 touching_8 (0xFF ∷ 0x15 ∷ 0x76 ∷ 0xF0 ∷ 0xFF ∷ 0xFF ∷ []) 0x80 (0x40 ∷ 0 ∷ 0 ∷ 0x10 ∷ 0 ∷ 0 ∷ 0 ∷ 0 ∷ [])
+unfolding opened refusal renamed_refusal alias_specs encoded_size weak_object has_tables
+amd64 = record {
+  made = worked_programs.amd64.made;
+  program = amd64_program;
+  can = tt;
+  beside = amd64_beside;
+  calls = amd64_has;
+  bytes = refl;
+  reads = refl;
+  arrives = λ written writes.
+      calls_reach_through_entries AMD64 0x1_4000_0000 touching_8 (both_inputs AMD64) (calling_objects AMD64) (calling_at AMD64 0x1000 ∷ []) (table_targets AMD64 touching_8) (given_on AMD64) written 0 1 (foo_input AMD64) (open_export AMD64)
+      (calling_at AMD64 0x1000) 4 worked_programs.amd64.made amd64_program tt amd64_beside (wide AMD64) writes refl refl (0, omega arith, refl) amd64_has;
+}
+
+i386 : WorkedCall I386 0x40_0000 touching_4 (0xFF ∷ 0x15 ∷ 0x60 ∷ 0 ∷ 0x40 ∷ 0 ∷ []) 0x60 (0x40 ∷ 0 ∷ 0 ∷ 0x10 ∷ [])
+unfolding opened refusal renamed_refusal alias_specs encoded_size weak_object has_tables
+i386 = record {
+  made = worked_programs.i386.made;
+  program = i386_program;
+  can = omega arith;
+  beside = i386_beside;
+  calls = i386_has;
+  bytes = refl;
+  reads = refl;
+  arrives = λ written writes.
+      calls_reach_through_entries I386 0x40_0000 touching_4 (both_inputs I386) (calling_objects I386) (calling_at I386 0x1000 ∷ []) (table_targets I386 touching_4) (given_on I386) written 0 1 (foo_input I386) (open_export I386)
+      (calling_at I386 0x1000) 4 worked_programs.i386.made i386_program omega arith i386_beside (wide I386) writes refl refl (0, omega arith, refl) i386_has;
+}
+
+arm64 : WorkedCall ARM64 0x1_4000_0000 touching_8 (0xF0 ∷ 0xFF ∷ 0xFF ∷ 0xF0 ∷ 0x10 ∷ 0x42 ∷ 0x40 ∷ 0xF9 ∷ 0 ∷ 2 ∷ 0x3F ∷ 0xD6 ∷ []) 0x80 (0x40 ∷ 0 ∷ 0 ∷ 0x10 ∷ 0 ∷ 0 ∷ 0 ∷ 0 ∷ [])
+unfolding opened refusal renamed_refusal alias_specs encoded_size weak_object has_tables
+arm64 = record {
+  made = worked_programs.arm64.made;
+  program = arm64_program;
+  can = (refl, refl);
+  beside = arm64_beside;
+  calls = arm64_has;
+  bytes = refl;
+  reads = refl;
+  arrives = λ written writes.
+      calls_reach_through_entries ARM64 0x1_4000_0000 touching_8 (both_inputs ARM64) (calling_objects ARM64) (calling_at ARM64 0x1000 ∷ []) (table_targets ARM64 touching_8) (given_on ARM64) written 0 1 (foo_input ARM64) (open_export ARM64)
+      (calling_at ARM64 0x1000) 4 worked_programs.arm64.made arm64_program (refl, refl) arm64_beside (wide ARM64) writes refl refl (0, omega arith, refl) arm64_has;
+}
+
+-- code over the address tables
+over_tables : AreBeside AMD64 0x1_4000_0000 touching_8 (calling_objects AMD64) (calling_at AMD64 0x78 ∷ []) (table_targets AMD64 touching_8) → ⊥
+unfolding opened refusal renamed_refusal alias_specs encoded_size weak_object has_tables Among
+over_tables beside =
+    let image : List Range = image_of AMD64 touching_8 (calling_placed AMD64 touching_8) in
+    let over : Range = code_range AMD64 0x1_4000_0000 (table_targets AMD64 touching_8) (calling_at AMD64 0x78) in
+    let found = holder image 0x80 0xB0 refl in
+    not_in_both image (over ∷ []) found.0 over 0x80 beside.apart found.1.0 (inl refl) found.1.1 refl
+
+pub worked_calls : WorkedCalls
+worked_calls = record { amd64 = amd64; i386 = i386; arm64 = arm64; refused = over_tables }
+
+amd64_reading : (n : ℕ) (written : List Range) → ReadsAndWrites (program_image AMD64 touching_8) 8 (given_on AMD64) n 4 written → (n ≡ 2) × BytesAt (written ++ program_image AMD64 touching_8) 0x80 (0x40 ∷ 0 ∷ 0 ∷ 0x10 ∷ 0 ∷ 0 ∷ 0 ∷ 0 ∷ [])
+unfolding opened refusal renamed_refusal alias_specs encoded_size weak_object has_tables
+amd64_reading n written reads =
+    let all = reader_loads AMD64 touching_8 (both_inputs AMD64) (program_objects AMD64) (given_on AMD64) n written worked_programs.amd64.made worked_programs.amd64.program (wide AMD64) reads in
+    let holds = all.1.entries 0 1 (foo_input AMD64) (open_export AMD64) refl refl in
+    let name : List ℕ = imp_symbol (symbol_on AMD64 (codes "open")) in
+    let same : holds.address ≡ 0x80 = same_address name holds.address 0x80 (definitions_of name (program_placed AMD64 touching_8)) holds.once refl in
+    (all.0, subst (λ a. BytesAt (written ++ program_image AMD64 touching_8) a (0x40 ∷ 0 ∷ 0 ∷ 0x10 ∷ 0 ∷ 0 ∷ 0 ∷ 0 ∷ [])) same holds.located)
+
+i386_reading : (n : ℕ) (written : List Range) → ReadsAndWrites (program_image I386 touching_4) 4 (given_on I386) n 4 written → (n ≡ 2) × BytesAt (written ++ program_image I386 touching_4) 0x60 (0x40 ∷ 0 ∷ 0 ∷ 0x10 ∷ [])
+unfolding opened refusal renamed_refusal alias_specs encoded_size weak_object has_tables
+i386_reading n written reads =
+    let all = reader_loads I386 touching_4 (both_inputs I386) (program_objects I386) (given_on I386) n written worked_programs.i386.made worked_programs.i386.program (wide I386) reads in
+    let holds = all.1.entries 0 1 (foo_input I386) (open_export I386) refl refl in
+    let name : List ℕ = imp_symbol (symbol_on I386 (codes "open")) in
+    let same : holds.address ≡ 0x60 = same_address name holds.address 0x60 (definitions_of name (program_placed I386 touching_4)) holds.once refl in
+    (all.0, subst (λ a. BytesAt (written ++ program_image I386 touching_4) a (0x40 ∷ 0 ∷ 0 ∷ 0x10 ∷ [])) same holds.located)
+
+nothing_read : (n : ℕ) (written : List Range) → ReadsAndWrites nameless_image 8 (given_on AMD64) n 4 written → (n ≡ 0) × (written ≡ [])
+unfolding opened ReadsAndWrites
+nothing_read zero written reads = (refl, reads.1)
+nothing_read (suc n) written (found, (step, later)) =
+    absurd (differ 0 step.name (number_once nameless_image 4 16 0 step.name (number nameless_image 4 16 0 (0 ∷ 0 ∷ 0 ∷ 0 ∷ []) refl refl refl) step.name_field) step.has_name)
+
+pub worked_reading : WorkedReading
+worked_reading = record { amd64 = amd64_reading; i386 = i386_reading; refused = nothing_read }

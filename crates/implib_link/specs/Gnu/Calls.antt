@@ -1,0 +1,150 @@
+-- Calls of imports in the code of any object that is linked: by the import's entry of the address table, or by
+-- its stub. Addresses of code count from the image's base.
+use Rattle.std.specs.Prelude.{◌≡◌, ℕ, ◌+◌, ◌*◌, ◌^◌, ◌≤◌, ◌⊎◌, ◌&&◌, ◌==◌, true, List, [], ◌∷◌, ◌++◌, bytes_eq, length, map, slice_get, take, Option, Some, None, if◌then◌else◌}
+use Rattle.std.specs.List.{AllByRecursion, Contains}
+use Rattle.implib.specs.declared.coff.object.Relocation.{Relocation}
+use Rattle.implib.specs.declared.machine.MachineType.{MachineType}
+use Rattle.implib.specs.declared.machine.MachineType.TheVariants.{I386, ARMNT, AMD64, ARM64}
+use Rattle.implib.specs.Formats.Constants.{amd64_rel32, arm64_pagebase_rel21, arm64_pageoffset_12l, i386_dir32}
+use Rattle.implib.specs.Formats.File.{is_defined_external}
+use Rattle.implib.specs.Formats.Object.{ASymbol, Entry, Object, ObjectSection, ObjectSymbol, section_numbered}
+use Rattle.implib.specs.Link.Image.{AllApart, Range, image_of}
+use Rattle.implib.specs.Link.Load.{BytesAt}
+use Rattle.implib.specs.Link.Placement.{Bases, Placed, placed_from}
+use Rattle.implib.specs.Link.Resolution.{is_undefined_external, symbol_address}
+use Rattle.implib_link.specs.Stub.{adrp_immediate, code_word, ldr_immediate, page, plus_signed, with_adrp, with_bits, with_word, word_at}
+
+-- a section of a placed object, by its number, which counts from 1, with the address of its code
+pub record PlacedCode : Type 0 where
+  pub from : Placed
+  pub number : ℕ
+  pub code : ObjectSection
+  pub position : ℕ
+
+-- The bytes of code at an address, relocated by the addresses that a linker takes for the symbols of its
+-- object, by their indices (PE/COFF specification, "COFF Relocations").
+abbrev pub code_relocated_by : MachineType → ℕ → (ℕ → ℕ) → ℕ → List Relocation → List ℕ → List ℕ
+code_relocated_by machine image_base targets position [] bytes = bytes
+code_relocated_by machine image_base targets position (r ∷ relocations) bytes =
+    code_relocated_by machine image_base targets position relocations
+    (with_word bytes r.offset
+    (code_word machine r.kind image_base (position + r.offset) (targets r.symbol) (word_at bytes r.offset)))
+
+-- the range of the code, relocated
+abbrev pub code_range : MachineType → ℕ → (PlacedCode → ℕ → ℕ) → PlacedCode → Range
+code_range machine image_base targets c = record {
+  start = c.position;
+  bytes = code_relocated_by machine image_base (targets c) c.position c.code.relocations c.code.bytes;
+}
+
+-- the ranges of several codes
+abbrev pub code_ranges : MachineType → ℕ → (PlacedCode → ℕ → ℕ) → List PlacedCode → List Range
+code_ranges machine image_base targets codes = map (code_range machine image_base targets) codes
+
+-- code defines a symbol: it is an external of its object, in this section
+pub record Defines (c : PlacedCode) (t : ObjectSymbol) : Type 0 where
+  pub held : Contains c.from.object.entries (ASymbol t)
+  pub external : is_defined_external t ≡ true
+  pub here : t.section ≡ c.number
+
+-- What a linker takes symbols' addresses to be in code:
+-- `tables`: where a symbol has an address in the import tables, it is that;
+-- `code`: an undefined symbol that placed code defines has its address there.
+-- Of other symbols nothing is asked.
+pub record Resolves (linked : List Placed) (codes : List PlacedCode) (targets : PlacedCode → ℕ → ℕ)
+    : Type 0 where
+  pub tables : (c : PlacedCode) (index address : ℕ) (entry : Entry) → Contains codes c →
+      slice_get c.from.object.entries index ≡ Some entry →
+      symbol_address linked c.from entry ≡ Some address → targets c index ≡ address
+  pub code : (c d : PlacedCode) (index : ℕ) (s t : ObjectSymbol) → Contains codes c → Contains codes d →
+      slice_get c.from.object.entries index ≡ Some (ASymbol s) → is_undefined_external s ≡ true →
+      Defines d t → t.name ≡ s.name → targets c index ≡ d.position + t.value
+
+-- Code that is placed beside the import tables: sections of objects that are linked, each ending 16 bytes
+-- below 2^31 at least, relocated by what a linker takes for their symbols; no address is in two ranges.
+pub record AreBeside (machine : MachineType) (image_base : ℕ) (bases : Bases) (objects : List Object)
+    (codes : List PlacedCode) (targets : PlacedCode → ℕ → ℕ) : Type 0 where
+  pub held : AllByRecursion (λ c. Contains (placed_from bases objects) c.from) codes
+  pub sections : AllByRecursion (λ c. section_numbered c.from.object.sections c.number ≡ Some c.code) codes
+  pub ends : AllByRecursion (λ c. c.position + length c.code.bytes + 16 ≤ 2 ^ 31) codes
+  pub apart : AllApart (image_of machine bases (placed_from bases objects)
+      ++ code_ranges machine image_base targets codes)
+  pub resolved : Resolves (placed_from bases objects) codes targets
+
+-- a relocation so much further on
+abbrev pub moved_by : ℕ → Relocation → Relocation
+moved_by offset r = record { offset = offset + r.offset; symbol = r.symbol; kind = r.kind }
+
+-- a relocation changes nothing in so many bytes from an offset on: its field, of at most 8 bytes, is before or
+-- behind them
+abbrev pub IsAside : ℕ → ℕ → Relocation → Type 0
+IsAside offset count r = (r.offset + 8 ≤ offset) ⊎ (offset + count ≤ r.offset)
+
+-- Code has instructions at an offset, with these relocations against the symbol of an index: the symbol is an
+-- undefined one of this name, and no other relocation changes the instructions.
+pub record HasInstructions (c : PlacedCode) (offset : ℕ) (name bytes : List ℕ)
+    (relocations : ℕ → List Relocation) : Type 0 where
+  pub front : List ℕ
+  pub back : List ℕ
+  pub instructions : c.code.bytes ≡ front ++ (bytes ++ back)
+  pub here : length front ≡ offset
+  pub index : ℕ
+  pub before : List Relocation
+  pub behind : List Relocation
+  pub relocated : c.code.relocations ≡ before ++ (map (moved_by offset) (relocations index) ++ behind)
+  pub aside_before : AllByRecursion (IsAside offset (length bytes)) before
+  pub aside_behind : AllByRecursion (IsAside offset (length bytes)) behind
+  pub symbol : ObjectSymbol
+  pub target : slice_get c.from.object.entries index ≡ Some (ASymbol symbol)
+  pub undefined : is_undefined_external symbol ≡ true
+  pub named : symbol.name ≡ name
+
+-- A call through a pointer, with empty fields: I386 `call [disp32]`; AMD64 `call [rip + disp32]`; ARM64
+-- `adrp x16, page`, `ldr x16, [x16, offset]`, `blr x16`.
+abbrev pub call_bytes : MachineType → List ℕ
+call_bytes I386 = 0xFF ∷ 0x15 ∷ 0 ∷ 0 ∷ 0 ∷ 0 ∷ []
+call_bytes ARMNT = []
+call_bytes AMD64 = 0xFF ∷ 0x15 ∷ 0 ∷ 0 ∷ 0 ∷ 0 ∷ []
+call_bytes ARM64 = 0x10 ∷ 0 ∷ 0 ∷ 0x90 ∷ 0x10 ∷ 2 ∷ 0x40 ∷ 0xF9 ∷ 0 ∷ 2 ∷ 0x3F ∷ 0xD6 ∷ []
+
+-- the relocations of such a call against the symbol of an index
+abbrev pub call_relocations : MachineType → ℕ → List Relocation
+call_relocations I386 index = record { offset = 2; symbol = index; kind = i386_dir32 } ∷ []
+call_relocations ARMNT index = []
+call_relocations AMD64 index = record { offset = 2; symbol = index; kind = amd64_rel32 } ∷ []
+call_relocations ARM64 index =
+    record { offset = 0; symbol = index; kind = arm64_pagebase_rel21 }
+    ∷ record { offset = 4; symbol = index; kind = arm64_pageoffset_12l }
+    ∷ []
+
+-- code has such a call of a name at an offset
+abbrev pub HasCall : MachineType → PlacedCode → ℕ → List ℕ → Type 0
+HasCall machine c offset name = HasInstructions c offset name (call_bytes machine) (call_relocations machine)
+
+-- Where a call through a pointer at an address reads its target, by the rule of its instructions: I386 at the
+-- displacement; AMD64 that far behind the call; ARM64 at the offset in the page.
+abbrev pub call_reads : MachineType → ℕ → List ℕ → Option ℕ
+call_reads I386 address bytes =
+    if bytes_eq (take 2 bytes) (0xFF ∷ 0x15 ∷ []) then Some (word_at bytes 2) else None
+call_reads ARMNT address bytes = None
+call_reads AMD64 address bytes =
+    if bytes_eq (take 2 bytes) (0xFF ∷ 0x15 ∷ [])
+    then Some (plus_signed 32 1 (word_at bytes 2) (address + 6))
+    else None
+call_reads ARM64 address bytes =
+    if (with_adrp 0 (word_at bytes 0) == 0x9000_0010) && (with_bits 10 12 0 (word_at bytes 4) == 0xF940_0210)
+    && (word_at bytes 8 == 0xD63F_0200) then
+    Some (plus_signed 21 4096 (adrp_immediate (word_at bytes 0)) (page address * 4096)
+    + ldr_immediate (word_at bytes 4))
+    else None
+
+-- At an address of memory is a call, by the bytes that are there, whose target is read at a place where these
+-- bytes are: say, the address of a DLL's function.
+pub record CallArrives (machine : MachineType) (image_base : ℕ) (memory : List Range) (address : ℕ)
+    (bytes : List ℕ) : Type 0 where
+  pub instructions : List ℕ
+  pub here : BytesAt memory address instructions
+  pub whole : length instructions ≡ length (call_bytes machine)
+  pub entry : ℕ
+  pub reads : call_reads machine (image_base + address) instructions ≡ Some (image_base + entry)
+  pub located : BytesAt memory entry bytes
