@@ -9,3 +9,4 @@ pub mod Jumps
 pub mod LongNames
 pub mod MsvcSearch
 pub mod Loads
+pub mod Searched

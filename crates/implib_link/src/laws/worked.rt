@@ -8,6 +8,7 @@ ghost use Rattle.implib_link.specs.Worked.Loads.{WorkedCalls, WorkedLoads};
 ghost use Rattle.implib_link.specs.Worked.LongNames.{WorkedLongNames};
 ghost use Rattle.implib_link.specs.Worked.MsvcSearch.{WorkedMsvcSearches};
 ghost use Rattle.implib_link.specs.Worked.Programs.{WorkedPrograms, WorkedStubs};
+ghost use Rattle.implib_link.specs.Worked.Searched.{WorkedLibraries, WorkedSearched};
 
 /// Programs that were linked by hand, on each machine, meet what the laws ask for and have these tables,
 /// and but for ARMNT these stubs.
@@ -56,4 +57,10 @@ pub fn worked_msvc_searches()
 pub fn worked_loads()
     ensures loads { WorkedLoads }
     ensures calls { WorkedCalls }
+{}
+
+/// Programs of what was taken by hand of an archive, and of two libraries, are as the laws of the search say.
+pub fn worked_searched_programs()
+    ensures one { WorkedSearched }
+    ensures two { WorkedLibraries }
 {}
