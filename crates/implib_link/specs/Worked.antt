@@ -10,3 +10,4 @@ pub mod LongNames
 pub mod MsvcSearch
 pub mod Loads
 pub mod Searched
+pub mod FlavorLoads

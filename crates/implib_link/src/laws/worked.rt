@@ -4,6 +4,7 @@ ghost use Rattle.implib_link.specs.Worked.RefusedLinks.{RefusedLinks};
 ghost use Rattle.implib_link.specs.Worked.Expansion.{WorkedExpansion};
 ghost use Rattle.implib_link.specs.Worked.Flavors.{RefusedTables, WorkedFlavors};
 ghost use Rattle.implib_link.specs.Worked.Jumps.{FarStubs, WorkedJumps, WorkedTargets};
+ghost use Rattle.implib_link.specs.Worked.FlavorLoads.{WorkedFlavorCalls, WorkedFlavorLoads};
 ghost use Rattle.implib_link.specs.Worked.Loads.{WorkedCalls, WorkedLoads};
 ghost use Rattle.implib_link.specs.Worked.LongNames.{WorkedLongNames};
 ghost use Rattle.implib_link.specs.Worked.MsvcSearch.{WorkedMsvcSearches};
@@ -63,4 +64,11 @@ pub fn worked_loads()
 pub fn worked_searched_programs()
     ensures one { WorkedSearched }
     ensures two { WorkedLibraries }
+{}
+
+/// The programs of both flavours that were linked by hand link, load and are called as the laws say, on each
+/// machine.
+pub fn worked_flavor_loads()
+    ensures loads { WorkedFlavorLoads }
+    ensures calls { WorkedFlavorCalls }
 {}
