@@ -10,3 +10,5 @@ pub mod Jumps
 pub mod LongNames
 pub mod MsvcSearch
 pub mod Loads
+pub mod Searched
+pub mod FlavorLoads

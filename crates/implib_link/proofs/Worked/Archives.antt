@@ -14,31 +14,31 @@ use Rattle.implib_link.specs.Search.Search.{IsTakenInTurn, Takes, undefined_in, 
 use Rattle.implib_link.specs.Worked.Archives.{WorkedArchives, both_wanted, two_libraries}
 use Rattle.implib_link.proofs.Worked.Search.{pulls_in_now, opened, settled_ends}
 
-abbrev foo_weak : MemberView
+abbrev pub foo_weak : MemberView
 foo_weak = member_of (weak_spec AMD64 (weak_name (codes "foo.dll") 0) (codes "bar") (codes "baz"))
 
-abbrev foo_baz : MemberView
+abbrev pub foo_baz : MemberView
 foo_baz = member_of (export_spec AMD64 (codes "foo.dll") 1 (plain_export (codes "baz")))
 
-abbrev head_named : List ℕ → MemberView
+abbrev pub head_named : List ℕ → MemberView
 head_named dll = member_of (head_spec AMD64 dll)
 
-abbrev tail_named : List ℕ → MemberView
+abbrev pub tail_named : List ℕ → MemberView
 tail_named dll = member_of (tail_spec AMD64 dll)
 
-abbrev zed_queue : MemberView
+abbrev pub zed_queue : MemberView
 zed_queue = member_of (export_spec AMD64 (codes "zed.dll") 0 (plain_export (codes "queue")))
 
-abbrev foo_taken : List MemberView
+abbrev pub foo_taken : List MemberView
 foo_taken = tail_named (codes "foo.dll") ∷ head_named (codes "foo.dll") ∷ foo_baz ∷ foo_weak ∷ []
 
-abbrev both_taken : List MemberView
+abbrev pub both_taken : List MemberView
 both_taken = tail_named (codes "zed.dll") ∷ head_named (codes "zed.dll") ∷ zed_queue ∷ foo_taken
 
 abbrev archive : List MemberView
 archive = archive_of two_libraries
 
-both_takes : Takes (archive_of two_libraries) both_wanted both_taken
+pub both_takes : Takes (archive_of two_libraries) both_wanted both_taken
 unfolding opened alias_specs encoded_size names_undefined names_claimed undefined_in IsTakenInTurn weak_object archive_of
 both_takes = record {
   in_turn = (

@@ -1,7 +1,7 @@
 -- Programs of DLLs in both flavours, by computing.
 use Rattle.std.proofs.Common.{◌≡◌, ℕ, ◌+◌, ◌^◌, List, [], ◌∷◌, refl, ◌∙◌, arith, subst}
 use Rattle.std.specs.Prelude.{drop, take}
-use Rattle.implib.specs.declared.machine.MachineType.TheVariants.{I386, AMD64}
+use Rattle.implib.specs.declared.machine.MachineType.TheVariants.{I386, ARMNT, AMD64, ARM64}
 use Rattle.implib.specs.Link.Image.{Range, with_address}
 use Rattle.std.specs.Fmt.{digits}
 use Rattle.implib.specs.Formats.Bytes.{u16_bytes, u32_bytes}
@@ -30,7 +30,7 @@ use Rattle.implib_link.proofs.Worked.RefusedLinks.{differ, number}
 use Rattle.implib_link.proofs.Worked.Programs.{claims_none_by, distinct_by}
 
 -- what the computing has to open
-abbrev opened : Unit {0}
+unfoldable pub opened : Unit {0}
 unfolding digits u16_bytes u32_bytes export_object five_digits head_name head_object head_symbol hint_name iname_symbol numbered_name relocations_of_stub relocations_of_thunk mangled_name stub tail_name tail_object thunk next_multiple with_address export_spec head_spec tail_spec before_nul bytes_at data_at each_at entries_at name_of object_in object_of_header relocation_at relocation_of section_at section_of strings_at symbol_of u16_at u32_at up_to_nul auxiliary_bytes auxiliary_count contents contents_offset contents_size header_bytes encoded name_field offsets_from pointer_or_zero record_count records relocation_bytes section_header section_headers string_bytes_of string_offsets string_size string_table strings_size symbol_bytes symbol_table_offset long_names name_location layout_of symbol_written with_long_name with_name
 opened = tt
 
@@ -120,8 +120,94 @@ i386 = record {
   named = refl;
 }
 
+arm64 : WorkedFlavorProgram ARM64 9 flavor_bases_8 flavor_expected_8
+unfolding opened refusal renamed_refusal alias_specs encoded_size weak_object has_tables expanded_in short_import_in import_object descriptor_symbol_by_name with_section_symbols descriptor null_descriptor null_thunk descriptor_symbol null_descriptor_symbol null_thunk_symbol base_name descriptor_spec null_descriptor_spec null_thunk_spec header_specs weak_specs group_end sections_end
+arm64 = record {
+  made = (record { accepted = refl; made = refl; ordinals = refl }, (record { accepted = refl; made = refl; ordinals = refl }, tt));
+  program = record {
+    held = record {
+      distinct = distinct_by (null_descriptor_symbol ∷ symbols_listed (all_members ARM64 (both_inputs ARM64))) refl;
+      null_from = foo_input ARM64;
+      null_held = (0, omega arith, refl);
+      null_flavor = refl;
+      before = take 9 (all_members ARM64 (both_inputs ARM64));
+      behind = drop 9 (all_members ARM64 (both_inputs ARM64));
+      members = refl;
+      tables = refl;
+      others = (
+        claims_none_by (null_descriptor_symbol ∷ symbols_listed (all_members ARM64 (both_inputs ARM64))) (caller ARM64) refl,
+        (claims_none_by (null_descriptor_symbol ∷ symbols_listed (all_members ARM64 (both_inputs ARM64))) (another ARM64) refl, tt),
+      );
+      found = (refl, (tt, tt));
+    };
+    admissible = record {
+      descriptors = (omega arith, refl);
+      directory_ends = (omega arith, refl);
+      lookups = (omega arith, refl);
+      addresses = (omega arith, refl);
+      hint_names = (omega arith, refl);
+      dll_names = (omega arith, refl);
+      ends = ends_below (2 ^ 31) (flavor_image ARM64 9 flavor_bases_8) refl;
+      apart = apart_as_they_rise (2 ^ 31) (flavor_image ARM64 9 flavor_bases_8) refl;
+    };
+    lookups = refl;
+    addresses = refl;
+    follows = refl;
+  };
+  descriptors = refl;
+  lookups = refl;
+  addresses = refl;
+  hints = refl;
+  zed = refl;
+  entries = refl;
+  named = refl;
+}
+
+armnt : WorkedFlavorProgram ARMNT 2 flavor_bases_4 flavor_expected_4
+unfolding opened refusal renamed_refusal alias_specs encoded_size weak_object has_tables expanded_in short_import_in import_object descriptor_symbol_by_name with_section_symbols descriptor null_descriptor null_thunk descriptor_symbol null_descriptor_symbol null_thunk_symbol base_name descriptor_spec null_descriptor_spec null_thunk_spec header_specs weak_specs group_end sections_end
+armnt = record {
+  made = (record { accepted = refl; made = refl; ordinals = refl }, (record { accepted = refl; made = refl; ordinals = refl }, tt));
+  program = record {
+    held = record {
+      distinct = distinct_by (null_descriptor_symbol ∷ symbols_listed (all_members ARMNT (both_inputs ARMNT))) refl;
+      null_from = foo_input ARMNT;
+      null_held = (0, omega arith, refl);
+      null_flavor = refl;
+      before = take 2 (all_members ARMNT (both_inputs ARMNT));
+      behind = drop 2 (all_members ARMNT (both_inputs ARMNT));
+      members = refl;
+      tables = refl;
+      others = (
+        claims_none_by (null_descriptor_symbol ∷ symbols_listed (all_members ARMNT (both_inputs ARMNT))) (caller ARMNT) refl,
+        (claims_none_by (null_descriptor_symbol ∷ symbols_listed (all_members ARMNT (both_inputs ARMNT))) (another ARMNT) refl, tt),
+      );
+      found = (refl, (tt, tt));
+    };
+    admissible = record {
+      descriptors = (omega arith, refl);
+      directory_ends = (omega arith, refl);
+      lookups = (omega arith, refl);
+      addresses = (omega arith, refl);
+      hint_names = (omega arith, refl);
+      dll_names = (omega arith, refl);
+      ends = ends_below (2 ^ 31) (flavor_image ARMNT 2 flavor_bases_4) refl;
+      apart = apart_as_they_rise (2 ^ 31) (flavor_image ARMNT 2 flavor_bases_4) refl;
+    };
+    lookups = refl;
+    addresses = refl;
+    follows = refl;
+  };
+  descriptors = refl;
+  lookups = refl;
+  addresses = refl;
+  hints = refl;
+  zed = refl;
+  entries = refl;
+  named = refl;
+}
+
 pub worked_flavors : WorkedFlavors
-worked_flavors = record { amd64 = amd64; i386 = i386 }
+worked_flavors = record { amd64 = amd64; i386 = i386; arm64 = arm64; armnt = armnt }
 
 abbrev shifted : List Range
 shifted = flavor_image AMD64 0 shifted_bases

@@ -20,7 +20,7 @@ use Rattle.implib_link.proofs.Gnu.Stubs.{calls_reach, stubs_jump}
 use Rattle.implib_link.proofs.Worked.Programs.{opened, worked_programs}
 use Rattle.implib_link.proofs.Worked.RefusedLinks.{number}
 
-amd64_given : (dll : List ℕ) (ask : Ask) → length (gives_by_hand AMD64 dll ask) ≡ thunk_width AMD64
+pub amd64_given : (dll : List ℕ) (ask : Ask) → length (gives_by_hand AMD64 dll ask) ≡ thunk_width AMD64
 amd64_given dll (Ordinal n) = refl
 amd64_given dll (Name text hint) = refl
 
@@ -53,7 +53,7 @@ amd64_call = record {
   reaches = calls_reach AMD64 0x1_4000_0000 touching_8 (both_inputs AMD64) (program_objects AMD64) (gives_by_hand AMD64) (written_8 AMD64) 1 0 (zed_input AMD64) (plain_export (symbol_on AMD64 (codes "queue"))) worked_programs.amd64.made worked_programs.amd64.program amd64_can amd64_given amd64_writes refl refl refl;
 }
 
-arm64_given : (dll : List ℕ) (ask : Ask) → length (gives_by_hand ARM64 dll ask) ≡ thunk_width ARM64
+pub arm64_given : (dll : List ℕ) (ask : Ask) → length (gives_by_hand ARM64 dll ask) ≡ thunk_width ARM64
 arm64_given dll (Ordinal n) = refl
 arm64_given dll (Name text hint) = refl
 
@@ -86,7 +86,7 @@ arm64_call = record {
   reaches = calls_reach ARM64 0x1_4000_0000 touching_8 (both_inputs ARM64) (program_objects ARM64) (gives_by_hand ARM64) (written_8 ARM64) 1 0 (zed_input ARM64) (plain_export (symbol_on ARM64 (codes "queue"))) worked_programs.arm64.made worked_programs.arm64.program arm64_can arm64_given arm64_writes refl refl refl;
 }
 
-i386_given : (dll : List ℕ) (ask : Ask) → length (gives_by_hand I386 dll ask) ≡ thunk_width I386
+pub i386_given : (dll : List ℕ) (ask : Ask) → length (gives_by_hand I386 dll ask) ≡ thunk_width I386
 i386_given dll (Ordinal n) = refl
 i386_given dll (Name text hint) = refl
 
@@ -119,7 +119,7 @@ i386_call = record {
   reaches = calls_reach I386 0x40_0000 touching_4 (both_inputs I386) (program_objects I386) (gives_by_hand I386) (written_4 I386) 1 0 (zed_input I386) (plain_export (symbol_on I386 (codes "queue"))) worked_programs.i386.made worked_programs.i386.program i386_can i386_given i386_writes refl refl refl;
 }
 
-armnt_given : (dll : List ℕ) (ask : Ask) → length (gives_by_hand ARMNT dll ask) ≡ thunk_width ARMNT
+pub armnt_given : (dll : List ℕ) (ask : Ask) → length (gives_by_hand ARMNT dll ask) ≡ thunk_width ARMNT
 armnt_given dll (Ordinal n) = refl
 armnt_given dll (Name text hint) = refl
 

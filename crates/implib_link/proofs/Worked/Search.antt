@@ -17,7 +17,7 @@ use Rattle.implib.specs.Formats.Layout.{auxiliary_bytes, auxiliary_count, conten
 use Rattle.implib.specs.Formats.Writer.{long_names, name_location, layout_of, symbol_written, with_long_name, with_name}
 use Rattle.implib.proofs.Link.LinkedMembers.{among_contains, among_map}
 use Rattle.implib.proofs.Link.Ranges.{Among}
-use Rattle.implib_link.specs.Search.Search.{PullsIn, IsTakenInTurn, first_listed, undefined_in, names_claimed, names_undefined}
+use Rattle.implib_link.specs.Search.Search.{PullsIn, IsTakenInTurn, Takes, first_listed, undefined_in, names_claimed, names_undefined}
 use Rattle.implib_link.specs.Worked.Search.{MayTake, WorkedSearch, members_of, three, wanted}
 use Rattle.implib_link.proofs.Search.Lists.{among_any, any_among, contains_among}
 
@@ -56,40 +56,40 @@ unfoldable pub opened : Unit {0}
 unfolding digits u16_bytes u32_bytes export_object five_digits head_name head_object head_symbol hint_name iname_symbol numbered_name relocations_of_stub relocations_of_thunk mangled_name stub tail_name tail_object thunk export_spec head_spec tail_spec before_nul bytes_at data_at each_at entries_at name_of object_in object_of_header relocation_at relocation_of section_at section_of strings_at symbol_of u16_at u32_at up_to_nul auxiliary_bytes auxiliary_count contents contents_offset contents_size header_bytes encoded name_field offsets_from pointer_or_zero record_count records relocation_bytes section_header section_headers string_bytes_of string_offsets string_size string_table strings_size symbol_bytes symbol_table_offset long_names name_location layout_of symbol_written with_long_name with_name
 opened = tt
 
-abbrev the_head : MemberView
+abbrev pub the_head : MemberView
 the_head = member_of (head_spec AMD64 (codes "foo.dll"))
 
-abbrev the_tail : MemberView
+abbrev pub the_tail : MemberView
 the_tail = member_of (tail_spec AMD64 (codes "foo.dll"))
 
-abbrev bar : MemberView
+abbrev pub bar : MemberView
 bar = member_of (export_spec AMD64 (codes "foo.dll") 0 (plain_export (codes "bar")))
 
-abbrev qux : MemberView
+abbrev pub qux : MemberView
 qux = member_of (export_spec AMD64 (codes "foo.dll") 2 (record empty_export { name = codes "qux"; is_data = true }))
 
-takes_three : MayTake three wanted (codes "foo_dll_a_s00002.o" ∷ codes "foo_dll_a_t.o" ∷ codes "foo_dll_a_h.o" ∷ codes "foo_dll_a_s00000.o" ∷ [])
+pub three_takes : Takes (members_of three) wanted (qux ∷ the_tail ∷ the_head ∷ bar ∷ [])
 unfolding opened alias_specs encoded_size names_undefined names_claimed undefined_in IsTakenInTurn
-takes_three = (
-  qux ∷ the_tail ∷ the_head ∷ bar ∷ [],
-  record {
-    in_turn = (
-      (codes "__imp_qux", pulls_in_now (members_of three) wanted (the_tail ∷ the_head ∷ bar ∷ []) (codes "__imp_qux") qux refl refl refl refl),
+three_takes = record {
+  in_turn = (
+    (codes "__imp_qux", pulls_in_now (members_of three) wanted (the_tail ∷ the_head ∷ bar ∷ []) (codes "__imp_qux") qux refl refl refl refl),
+    (
+      (codes "foo_dll_iname", pulls_in_now (members_of three) wanted (the_head ∷ bar ∷ []) (codes "foo_dll_iname") the_tail refl refl refl refl),
       (
-        (codes "foo_dll_iname", pulls_in_now (members_of three) wanted (the_head ∷ bar ∷ []) (codes "foo_dll_iname") the_tail refl refl refl refl),
+        (codes "_head_foo_dll", pulls_in_now (members_of three) wanted (bar ∷ []) (codes "_head_foo_dll") the_head refl refl refl refl),
         (
-          (codes "_head_foo_dll", pulls_in_now (members_of three) wanted (bar ∷ []) (codes "_head_foo_dll") the_head refl refl refl refl),
-          (
-            (codes "bar", pulls_in_now (members_of three) wanted [] (codes "bar") bar refl refl refl refl),
-            tt,
-          ),
+          (codes "bar", pulls_in_now (members_of three) wanted [] (codes "bar") bar refl refl refl refl),
+          tt,
         ),
       ),
-    );
-    ended = settled_ends (members_of three) wanted (qux ∷ the_tail ∷ the_head ∷ bar ∷ []) refl;
-  },
-  refl,
-)
+    ),
+  );
+  ended = settled_ends (members_of three) wanted (qux ∷ the_tail ∷ the_head ∷ bar ∷ []) refl;
+}
+
+takes_three : MayTake three wanted (codes "foo_dll_a_s00002.o" ∷ codes "foo_dll_a_t.o" ∷ codes "foo_dll_a_h.o" ∷ codes "foo_dll_a_s00000.o" ∷ [])
+unfolding opened
+takes_three = (qux ∷ the_tail ∷ the_head ∷ bar ∷ [], three_takes, refl)
 
 takes_nothing : MayTake three (codes "printf" ∷ []) []
 unfolding opened alias_specs encoded_size names_undefined names_claimed undefined_in IsTakenInTurn

@@ -5,7 +5,7 @@ use Rattle.std.specs.Prelude.{◌≡◌, ℕ, ◌+◌, List, [], ◌∷◌, ◌+
 use Rattle.std.specs.List.{AllByRecursion}
 use Rattle.implib.specs.declared.flavor.Flavor.TheVariants.{Gnu, Msvc}
 use Rattle.implib.specs.declared.machine.MachineType.{MachineType}
-use Rattle.implib.specs.declared.machine.MachineType.TheVariants.{I386, AMD64}
+use Rattle.implib.specs.declared.machine.MachineType.TheVariants.{I386, ARMNT, AMD64, ARM64}
 use Rattle.implib.specs.Formats.Constants.{class_external}
 use Rattle.implib.specs.Definition.{DefinitionView, ExportView}
 use Rattle.implib.specs.Link.Image.{IsAdmissible, Range, image_of}
@@ -156,10 +156,12 @@ pub record WorkedFlavorProgram (machine : MachineType) (count : ℕ) (bases : Ba
       (ASymbol (symbol_of_class (imp_symbol (symbol_on machine (codes "open"))) 0 class_external))
       ≡ expected.named
 
--- the null descriptor in front of all members, and between those of foo.dll
+-- on all four machines: the null descriptor in front of all members, between those of foo.dll, and behind all
 pub record WorkedFlavors : Type 0 where
   pub amd64 : WorkedFlavorProgram AMD64 0 flavor_bases_8 flavor_expected_8
   pub i386 : WorkedFlavorProgram I386 2 flavor_bases_4 flavor_expected_4
+  pub arm64 : WorkedFlavorProgram ARM64 9 flavor_bases_8 flavor_expected_8
+  pub armnt : WorkedFlavorProgram ARMNT 2 flavor_bases_4 flavor_expected_4
 
 -- what foo.dll is asked for
 abbrev pub foo_asks : List Ask

@@ -4,10 +4,12 @@ ghost use Rattle.implib_link.specs.Worked.RefusedLinks.{RefusedLinks};
 ghost use Rattle.implib_link.specs.Worked.Expansion.{WorkedExpansion};
 ghost use Rattle.implib_link.specs.Worked.Flavors.{RefusedTables, WorkedFlavors};
 ghost use Rattle.implib_link.specs.Worked.Jumps.{FarStubs, WorkedJumps, WorkedTargets};
+ghost use Rattle.implib_link.specs.Worked.FlavorLoads.{WorkedFlavorCalls, WorkedFlavorLoads};
 ghost use Rattle.implib_link.specs.Worked.Loads.{WorkedCalls, WorkedLoads};
 ghost use Rattle.implib_link.specs.Worked.LongNames.{WorkedLongNames};
 ghost use Rattle.implib_link.specs.Worked.MsvcSearch.{WorkedMsvcSearches};
 ghost use Rattle.implib_link.specs.Worked.Programs.{WorkedPrograms, WorkedStubs};
+ghost use Rattle.implib_link.specs.Worked.Searched.{WorkedLibraries, WorkedSearched};
 
 /// Programs that were linked by hand, on each machine, meet what the laws ask for and have these tables,
 /// and but for ARMNT these stubs.
@@ -56,4 +58,17 @@ pub fn worked_msvc_searches()
 pub fn worked_loads()
     ensures loads { WorkedLoads }
     ensures calls { WorkedCalls }
+{}
+
+/// Programs of what was taken by hand of an archive, and of two libraries, are as the laws of the search say.
+pub fn worked_searched_programs()
+    ensures one { WorkedSearched }
+    ensures two { WorkedLibraries }
+{}
+
+/// The programs of both flavours that were linked by hand link, load and are called as the laws say, on each
+/// machine.
+pub fn worked_flavor_loads()
+    ensures loads { WorkedFlavorLoads }
+    ensures calls { WorkedFlavorCalls }
 {}
