@@ -9,3 +9,4 @@ pub mod Layouts
 pub mod Members
 pub mod Gnu
 pub mod Links
+pub mod Refused

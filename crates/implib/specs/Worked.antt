@@ -11,3 +11,4 @@ pub mod Machines
 pub mod Tables
 pub mod MemberSpecs
 pub mod Layouts
+pub mod Refused

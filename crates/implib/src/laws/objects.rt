@@ -4,6 +4,7 @@ ghost use Rattle.implib.specs.Formats.Object.{Object, object_in};
 ghost use Rattle.implib.specs.Formats.Layout.{Fits, ObjectLayout, encoded, encoded_size, object_of};
 ghost use Rattle.implib.specs.Worked.Layouts.{WorkedLayouts};
 ghost use Rattle.implib.specs.Worked.Objects.{WorkedObjects};
+ghost use Rattle.implib.specs.Worked.Refused.{RefusedNames, RefusedObjects, RefusedShortImports};
 ghost use Rattle.implib.specs.Worked.Tables.{WorkedAskedNames, WorkedGnuNames, WorkedGnuTables, WorkedMsvcTables, WorkedNameTypes, WorkedNames, WorkedRecords};
 ghost use Rattle.std.specs.Prelude.{◌<◌, ◌^◌, ◌≡◌, ℕ, List, Some, length};
 
@@ -44,4 +45,11 @@ pub fn worked_records()
     ensures bytes { WorkedRecords }
     ensures name_types { WorkedNameTypes }
     ensures asked { WorkedAskedNames }
+{}
+
+/// From bytes, names and numbers that were made by hand nothing is read, or nothing that has a meaning.
+pub fn refused_readings()
+    ensures objects { RefusedObjects }
+    ensures short_imports { RefusedShortImports }
+    ensures names { RefusedNames }
 {}
