@@ -5,6 +5,9 @@
  *
  * MACHINE is I386, ARMNT, AMD64 or ARM64, FLAVOUR is msvc or gnu. The exit status is 0 where the archive is
  * made, 1 where it is not, and 2 for other arguments.
+ *
+ * OUT is replaced by a whole archive or stays as it was. Only a regular file is replaced: no folder, device,
+ * FIFO or symbolic link.
  */
 #define _POSIX_C_SOURCE 200809L
 
@@ -93,22 +96,65 @@ static int write_members(const char *folder, struct reader members, FILE *list)
     return 1;
 }
 
+/* Whether an archive can be put at this path: nothing is there, or a regular file. */
+static int is_replaceable(const char *path)
+{
+    struct stat found;
+    if (lstat(path, &found) != 0)
+        return errno == ENOENT || failed(path, strerror(errno));
+    return S_ISREG(found.st_mode) || failed(path, "is no regular file");
+}
+
 /* Packs the files of a list, in its order: `q` puts each at the end, `s` makes the index. */
-static int pack(const char *list, const char *archive)
+static int run_archiver(const char *list, char *archive)
 {
     char files[300];
     snprintf(files, sizeof files, "@%s", list);
-    char *words[] = {"llvm-ar", "qcs", (char *)archive, files, NULL};
+    char *words[] = {"llvm-ar", "qcs", archive, files, NULL};
     pid_t child;
     int status;
-    if (remove(archive) != 0 && errno != ENOENT)
-        return failed(archive, strerror(errno));
     int fault = posix_spawnp(&child, words[0], NULL, NULL, words, environ);
     if (fault != 0)
         return failed(words[0], strerror(fault));
     if (waitpid(child, &status, 0) != child || !WIFEXITED(status) || WEXITSTATUS(status) != 0)
         return failed(words[0], "failed");
     return 1;
+}
+
+/* Makes the archive in this new folder, which is beside its place, and moves it there once it is whole. */
+static int pack_in(char *folder, const char *list, const char *archive)
+{
+    size_t room = strlen(folder) + sizeof "/archive";
+    char *made = malloc(room);
+    if (made == NULL)
+        return failed(archive, strerror(ENOMEM));
+    snprintf(made, room, "%s/archive", folder);
+    int is_packed = run_archiver(list, made);
+    if (is_packed && rename(made, archive) != 0)
+        is_packed = failed(archive, strerror(errno));
+    if (!is_packed)
+        remove(made);
+    free(made);
+    return is_packed;
+}
+
+/* Packs the files of a list. Where this fails, what is at the archive's path stays. */
+static int pack(const char *list, const char *archive)
+{
+    size_t room = strlen(archive) + sizeof "-XXXXXX";
+    char *folder = malloc(room);
+    int is_packed = 0;
+    if (folder == NULL)
+        return failed(archive, strerror(ENOMEM));
+    snprintf(folder, room, "%s-XXXXXX", archive);
+    if (mkdtemp(folder) == NULL) {
+        failed(archive, strerror(errno));
+    } else {
+        is_packed = pack_in(folder, list, archive);
+        rmdir(folder);
+    }
+    free(folder);
+    return is_packed;
 }
 
 /* Removes the files of the members, as far as they were written, and their folder. */
@@ -139,6 +185,8 @@ static int make_archive(struct reader members, const char *archive)
 {
     char folder[] = "/tmp/dlltool-XXXXXX";
     char list[64];
+    if (!is_replaceable(archive))
+        return 0;
     if (mkdtemp(folder) == NULL)
         return failed(folder, strerror(errno));
     snprintf(list, sizeof list, "%s/list", folder);
