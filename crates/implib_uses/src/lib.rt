@@ -1,6 +1,6 @@
 //! Eight callers of `implib`, each with what its own caller can conclude from its contract.
 //!
-//! `docs/CALLING.md` quotes the first, and the contracts that they stand on.
+//! `docs/CALLING.md` quotes some, and the contracts that they stand on.
 #![tactic(auto)]
 
 mod errors;
