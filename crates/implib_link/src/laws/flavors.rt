@@ -38,8 +38,8 @@ pub fn flavored_texts_link()
         FlavorTextsLink machine bases sources objects }
 {}
 
-/// Whatever a loader writes that walks the directory of a program: at each `__imp_` symbol is what the
-/// DLL gives for the export, and no byte outside the address tables changed. Such a loader can write.
+/// A loader that is given the imports of a program's directory writes into its address tables: at each `__imp_`
+/// symbol is what the DLL gives for the export, and no other byte changed. Such a loader can write.
 ///
 /// What a DLL gives has as many bytes as an entry.
 pub fn program_of_flavors_loads()

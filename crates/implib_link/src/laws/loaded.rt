@@ -13,8 +13,8 @@ ghost use Rattle.implib_link.specs.Gnu.Program.{IsProgram};
 ghost use Rattle.std.specs.List.{AllByRecursion};
 ghost use Rattle.std.specs.Prelude.{◌≡◌, ℕ, List, length, map};
 
-/// Whatever a loader writes that walks the directory of a program: at each `__imp_` symbol is what the
-/// DLL gives for the export, and no byte outside the address tables changed. Such a loader can write.
+/// A loader that is given the imports of a program's directory writes into its address tables: at each `__imp_`
+/// symbol is what the DLL gives for the export, and no other byte changed. Such a loader can write.
 ///
 /// What a DLL gives has as many bytes as an entry.
 pub fn program_loads()

@@ -82,8 +82,9 @@ pub fn libraries_are_searched()
         LinksAmong machine bases (inputs_wanted libraries wanted) objects }
 {}
 
-/// A search of any archive for any names comes to an end, whichever undefined name the linker takes up first:
-/// it can go on until no undefined name pulls in a member, and never takes more members than the archive has.
+/// A search of any archive, whose members are read as objects, for any names ends, whichever undefined name the
+/// linker takes up first: it can go on until no undefined name pulls in a member, and never takes more members
+/// than the archive has.
 pub fn search_ends()
     ensures found { (archive : List MemberView) (wanted : List (List ℕ)) →
         (taken : List MemberView) × Takes archive wanted taken }

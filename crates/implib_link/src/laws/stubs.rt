@@ -29,7 +29,7 @@ pub fn stubs_jump()
         (bases.addresses + thunk_width machine * thunks_before i inputs + thunk_width machine * j) }
 {}
 
-/// In a loaded program, a call of an export goes where its DLL says that it is.
+/// In a loaded program, the stub of an export, wherever it is placed, jumps to what the DLL gives for the export.
 pub fn calls_reach_their_imports()
     ensures reaches { (machine : MachineType) (image_base : ℕ) (bases : Bases) (inputs : List LinkInput) (objects : List Object)
         (gives : List ℕ → Ask → List ℕ) (written : List Range) (i j : ℕ) (p : LinkInput) (e : ExportView) →
