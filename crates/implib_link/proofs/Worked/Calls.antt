@@ -1,9 +1,7 @@
 -- The calls that were relocated by hand, and the loader that reads, by computing and by the laws.
-use Rattle.std.proofs.Common.{◌≡◌, ℕ, zero, suc, ◌+◌, ◌*◌, ◌<◌, ◌^◌, ◌⊎◌, true, false, List, [], ◌∷◌, ◌++◌, codes, length, map, Some, None, Option, refl, ap, sym, ◌∙◌, subst, inl, inr, arith, true≢false}
+use Rattle.std.proofs.Common.{◌≡◌, ℕ, zero, suc, ◌^◌, ◌⊎◌, true, false, List, [], ◌∷◌, ◌++◌, codes, length, Some, refl, ap, sym, ◌∙◌, subst, inl, inr, arith, true≢false}
 use Rattle.std.specs.Prelude.{slice_get}
 use Rattle.std.specs.Fmt.{digits}
-use Rattle.std.specs.List.{AllByRecursion, Contains}
-use Rattle.std.specs.Option.{option_and_then}
 use Rattle.implib.specs.declared.machine.MachineType.{MachineType}
 use Rattle.implib.specs.declared.machine.MachineType.TheVariants.{I386, ARMNT, AMD64, ARM64}
 use Rattle.implib.specs.Definition.{ExportView}
@@ -15,29 +13,27 @@ use Rattle.implib.specs.Members.Gnu.{export_object, five_digits, head_name, head
 use Rattle.implib.specs.Link.Image.{Range, image_of, with_address}
 use Rattle.implib.specs.Link.Load.{BytesAt}
 use Rattle.implib.specs.Members.GnuMembers.{alias_specs, export_spec, head_spec, tail_spec}
-use Rattle.implib.specs.Members.ImportTables.{thunk_width, zeros}
+use Rattle.implib.specs.Members.ImportTables.{thunk_width}
 use Rattle.implib.specs.Members.Members.{refusal, renamed_refusal}
 use Rattle.implib.specs.Members.WeakExternal.{weak_object}
 use Rattle.implib.specs.Formats.Object.{ASymbol, Entry, ObjectSymbol, before_nul, bytes_at, data_at, each_at, entries_at, name_of, object_in, object_of_header, relocation_at, relocation_of, section_at, section_of, strings_at, symbol_of, u16_at, u32_at, up_to_nul}
 use Rattle.implib.specs.Formats.Layout.{auxiliary_bytes, auxiliary_count, contents, contents_offset, contents_size, header_bytes, encoded, encoded_size, name_field, offsets_from, pointer_or_zero, record_count, records, relocation_bytes, section_header, section_headers, string_bytes_of, string_offsets, string_size, string_table, strings_size, symbol_bytes, symbol_table_offset}
-use Rattle.implib.specs.Link.Placement.{Bases, Placed, next_multiple}
-use Rattle.implib.specs.Link.Resolution.{address_or_zero, definitions_of, is_undefined_external, symbol_address, target_address}
+use Rattle.implib.specs.Link.Placement.{Placed, next_multiple}
+use Rattle.implib.specs.Link.Resolution.{address_or_zero, definitions_of, is_undefined_external, target_address}
 use Rattle.implib.specs.Formats.Writer.{long_names, name_location, layout_of, symbol_written, with_long_name, with_name}
 use Rattle.implib.proofs.Link.Loading.{number_once}
 use Rattle.implib.proofs.Link.Ranges.{Among, apart_as_they_rise, ends_below}
 use Rattle.implib.specs.Worked.Statements.{plain_export}
-use Rattle.implib_link.specs.Directory.{StopsAt}
-use Rattle.implib_link.specs.Gnu.Calls.{AreBeside, CallArrives, Defines, HasCall, PlacedCode, Resolves, call_relocations, code_range, code_ranges}
-use Rattle.implib_link.specs.Gnu.Loaded.{HoldsAt}
+use Rattle.implib_link.specs.Gnu.Calls.{AreBeside, HasCall, PlacedCode, Resolves, code_range}
 use Rattle.implib_link.specs.Gnu.Program.{IsProgram, has_tables, linked_symbols}
 use Rattle.implib_link.specs.Gnu.Reading.{ReadsAndWrites}
-use Rattle.implib_link.specs.Worked.Calls.{WorkedCall, WorkedCalls, WorkedReading, calling, calling_at, calling_memory, calling_objects, calling_placed, first_bytes, given, given_on, last_bytes, nameless_image, table_targets}
-use Rattle.implib_link.specs.Worked.Programs.{another, both_inputs, foo_exports, foo_input, program_image, program_objects, program_placed, symbol_of_class, symbol_on, touching_4, touching_8}
+use Rattle.implib_link.specs.Worked.Calls.{WorkedCall, WorkedCalls, WorkedReading, calling, calling_at, calling_memory, calling_objects, calling_placed, first_bytes, given_on, last_bytes, nameless_image, table_targets}
+use Rattle.implib_link.specs.Worked.Programs.{another, both_inputs, foo_input, program_image, program_objects, program_placed, symbol_of_class, symbol_on, touching_4, touching_8}
 use Rattle.implib_link.proofs.Gnu.Calls.{calls_reach_through_entries}
 use Rattle.implib_link.proofs.Gnu.Memory.{holder, not_in_both}
 use Rattle.implib_link.proofs.Gnu.Reading.{reader_loads}
 use Rattle.implib_link.proofs.Gnu.Stubs.{same_address}
-use Rattle.implib_link.proofs.Search.Lists.{among_at, contains_among}
+use Rattle.implib_link.proofs.Search.Lists.{contains_among}
 use Rattle.implib_link.proofs.Worked.Programs.{claims_none_by, distinct_by, worked_programs}
 use Rattle.implib_link.proofs.Worked.RefusedLinks.{differ, number}
 
