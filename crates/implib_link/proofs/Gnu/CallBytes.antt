@@ -1,5 +1,5 @@
 -- Instructions in relocated code: relocations beside them leave them, their own act on them as on code of their own.
-use Rattle.std.proofs.Common.{◌≡◌, ℕ, ◌+◌, ◌-◌, ◌*◌, ◌≤◌, ◌⊎◌, List, [], ◌∷◌, ◌++◌, length, map, take, drop, refl, ap, sym, ◌∙◌, subst, inl, inr, arith}
+use Rattle.std.proofs.Common.{◌≡◌, ℕ, ◌+◌, ◌-◌, ◌≤◌, ◌⊎◌, List, [], ◌∷◌, ◌++◌, length, map, take, drop, refl, ap, sym, ◌∙◌, subst, inl, inr, arith}
 use Rattle.std.specs.List.{AllByRecursion}
 use Rattle.std.proofs.Math.Seq.{drop-append-add, take-append-add}
 use Rattle.std.proofs.lemmas.List.{append_assoc, drop-append-le, length-append, length-drop, length-take-le, take-append-le}
@@ -23,7 +23,7 @@ pub record Split (bytes : List ℕ) (offset : ℕ) (window : List ℕ) : Type 0 
 word_before : (front rest : List ℕ) (k w : ℕ) → k + 4 ≤ length front → with_word (front ++ rest) k w ≡ with_word front k w ++ rest
 word_before front rest k w within =
     rw (take-append-le k front rest (omega arith), drop-append-le (k + 4) front rest within)
-        (ap (λ xs. take k front ++ xs) (sym (append_assoc (u32_bytes w) (drop (k + 4) front) rest)) ∙ sym (append_assoc (take k front) (u32_bytes w ++ drop (k + 4) front) rest))
+    (ap (λ xs. take k front ++ xs) (sym (append_assoc (u32_bytes w) (drop (k + 4) front) rest)) ∙ sym (append_assoc (take k front) (u32_bytes w ++ drop (k + 4) front) rest))
 
 word_behind : (front rest : List ℕ) (k w : ℕ) → with_word (front ++ rest) (length front + k) w ≡ front ++ with_word rest k w
 word_behind front rest k w =

@@ -1,16 +1,14 @@
 -- Calls through entries arrive.
-use Rattle.std.proofs.Common.{◌≡◌, ℕ, ◌+◌, ◌*◌, ◌^◌, ◌<◌, ◌≤◌, List, ◌∷◌, [], ◌++◌, length, map, Some, refl, ap, sym, ◌∙◌, subst, arith}
+use Rattle.std.proofs.Common.{◌≡◌, ℕ, ◌+◌, ◌*◌, ◌^◌, ◌<◌, ◌≤◌, List, ◌∷◌, [], ◌++◌, length, map, Some, ap, sym, ◌∙◌, subst, arith}
 use Rattle.std.specs.Prelude.{slice_get}
 use Rattle.std.specs.List.{AllByRecursion, Contains}
 use Rattle.std.proofs.lemmas.List.{length-append}
 use Rattle.implib.specs.declared.coff.object.Relocation.{Relocation}
 use Rattle.implib.specs.declared.machine.MachineType.{MachineType}
-use Rattle.implib.specs.declared.machine.MachineType.TheVariants.{I386, ARMNT, AMD64, ARM64}
 use Rattle.implib.specs.Definition.{ExportView}
-use Rattle.implib.specs.Formats.Bytes.{u32_bytes}
 use Rattle.implib.specs.Formats.Object.{ASymbol, Object}
 use Rattle.implib.specs.Import.{Ask, expected_ask, imp_symbol}
-use Rattle.implib.specs.Link.Image.{IsAdmissible, Range, image_of, range_end}
+use Rattle.implib.specs.Link.Image.{IsAdmissible, Range, image_of}
 use Rattle.implib.specs.Link.Linked.{EntriesAt}
 use Rattle.implib.specs.Link.LinkedMembers.{IsMade, LinkInput, chosen_exports}
 use Rattle.implib.specs.Link.Load.{BytesAt}
@@ -21,7 +19,7 @@ use Rattle.implib.proofs.Link.LinkedBlocks.{ends, starts}
 use Rattle.implib.proofs.Link.LinkedMembers.{among_contains, among_map}
 use Rattle.implib.proofs.Link.Ranges.{Among, all_among, among_back, located_parts, range_located}
 use Rattle.implib_link.specs.Directory.{imported}
-use Rattle.implib_link.specs.Gnu.Calls.{AreBeside, CallArrives, HasCall, HasInstructions, IsAside, PlacedCode, call_bytes, call_reads, call_relocations, code_range, code_ranges, code_relocated_by, moved_by}
+use Rattle.implib_link.specs.Gnu.Calls.{AreBeside, CallArrives, HasCall, HasInstructions, IsAside, PlacedCode, call_bytes, call_relocations, code_range, code_ranges, code_relocated_by, moved_by}
 use Rattle.implib_link.specs.Gnu.Loaded.{Writes}
 use Rattle.implib_link.specs.Gnu.Program.{IsProgram, thunks_before}
 use Rattle.implib_link.specs.Stub.{CanJump}
@@ -57,7 +55,7 @@ module _ (machine : MachineType) (image_base : ℕ) (bases : Bases) (objects : L
       let third = all_aside machine image_base (targets c) c.position has.behind (code_relocated_by machine image_base (targets c) c.position (map (moved_by offset) (relocations has.index)) first) offset window
       (subst (λ n. AllByRecursion (IsAside offset n) has.behind) (sym long) has.aside_behind) second in
       let whole : (code_range machine image_base targets c).bytes
-          ≡ code_relocated_by machine image_base (targets c) c.position has.behind (code_relocated_by machine image_base (targets c) c.position (map (moved_by offset) (relocations has.index)) first) =
+      ≡ code_relocated_by machine image_base (targets c) c.position has.behind (code_relocated_by machine image_base (targets c) c.position (map (moved_by offset) (relocations has.index)) first) =
       ap (λ rs. code_relocated_by machine image_base (targets c) c.position rs c.code.bytes) has.relocated
       ∙ code_appended machine image_base (targets c) c.position has.before (map (moved_by offset) (relocations has.index) ++ has.behind) c.code.bytes
       ∙ code_appended machine image_base (targets c) c.position (map (moved_by offset) (relocations has.index)) has.behind first in

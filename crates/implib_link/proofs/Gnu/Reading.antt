@@ -42,8 +42,7 @@ module _ (image : List Range) (width : ℕ) (gives : List ℕ → Ask → List �
       (n ≡ length imports) × Writes image width gives address imports written
   directory_read n address imports written directory reads =
       let found = found_by n address written reads in
-      let same : imports ≡ found.0 = walk_once image width address imports found.0 directory found.1.1.0 in
-      (
+      let same : imports ≡ found.0 = walk_once image width address imports found.0 directory found.1.1.0 in (
         sym found.1.0 ∙ sym (ap length same),
         subst (λ (is : List Imported). Writes image width gives address is written) (sym same) found.1.1.1,
       )

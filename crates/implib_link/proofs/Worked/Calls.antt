@@ -1,9 +1,7 @@
 -- The calls that were relocated by hand, and the loader that reads, by computing and by the laws.
-use Rattle.std.proofs.Common.{◌≡◌, ℕ, zero, suc, ◌+◌, ◌*◌, ◌<◌, ◌^◌, ◌⊎◌, true, false, List, [], ◌∷◌, ◌++◌, codes, length, map, Some, None, Option, refl, ap, sym, ◌∙◌, subst, inl, inr, arith, true≢false}
+use Rattle.std.proofs.Common.{◌≡◌, ℕ, zero, suc, ◌^◌, ◌⊎◌, true, false, List, [], ◌∷◌, ◌++◌, codes, length, Some, refl, ap, sym, ◌∙◌, subst, inl, inr, arith, true≢false}
 use Rattle.std.specs.Prelude.{slice_get}
 use Rattle.std.specs.Fmt.{digits}
-use Rattle.std.specs.List.{AllByRecursion, Contains}
-use Rattle.std.specs.Option.{option_and_then}
 use Rattle.implib.specs.declared.machine.MachineType.{MachineType}
 use Rattle.implib.specs.declared.machine.MachineType.TheVariants.{I386, ARMNT, AMD64, ARM64}
 use Rattle.implib.specs.Definition.{ExportView}
@@ -15,29 +13,39 @@ use Rattle.implib.specs.Members.Gnu.{export_object, five_digits, head_name, head
 use Rattle.implib.specs.Link.Image.{Range, image_of, with_address}
 use Rattle.implib.specs.Link.Load.{BytesAt}
 use Rattle.implib.specs.Members.GnuMembers.{alias_specs, export_spec, head_spec, tail_spec}
-use Rattle.implib.specs.Members.ImportTables.{thunk_width, zeros}
+use Rattle.implib.specs.Members.ImportTables.{thunk_width}
 use Rattle.implib.specs.Members.Members.{refusal, renamed_refusal}
 use Rattle.implib.specs.Members.WeakExternal.{weak_object}
 use Rattle.implib.specs.Formats.Object.{ASymbol, Entry, ObjectSymbol, before_nul, bytes_at, data_at, each_at, entries_at, name_of, object_in, object_of_header, relocation_at, relocation_of, section_at, section_of, strings_at, symbol_of, u16_at, u32_at, up_to_nul}
 use Rattle.implib.specs.Formats.Layout.{auxiliary_bytes, auxiliary_count, contents, contents_offset, contents_size, header_bytes, encoded, encoded_size, name_field, offsets_from, pointer_or_zero, record_count, records, relocation_bytes, section_header, section_headers, string_bytes_of, string_offsets, string_size, string_table, strings_size, symbol_bytes, symbol_table_offset}
-use Rattle.implib.specs.Link.Placement.{Bases, Placed, next_multiple}
-use Rattle.implib.specs.Link.Resolution.{address_or_zero, definitions_of, is_undefined_external, symbol_address, target_address}
+use Rattle.implib.specs.Link.Placement.{Placed, next_multiple}
+use Rattle.implib.specs.Link.Resolution.{address_or_zero, definitions_of, is_undefined_external, target_address}
 use Rattle.implib.specs.Formats.Writer.{long_names, name_location, layout_of, symbol_written, with_long_name, with_name}
 use Rattle.implib.proofs.Link.Loading.{number_once}
 use Rattle.implib.proofs.Link.Ranges.{Among, apart_as_they_rise, ends_below}
 use Rattle.implib.specs.Worked.Statements.{plain_export}
-use Rattle.implib_link.specs.Directory.{StopsAt}
-use Rattle.implib_link.specs.Gnu.Calls.{AreBeside, CallArrives, Defines, HasCall, PlacedCode, Resolves, call_relocations, code_range, code_ranges}
-use Rattle.implib_link.specs.Gnu.Loaded.{HoldsAt}
+use Rattle.implib.specs.Members.MsvcMembers.{descriptor_spec, header_specs, null_descriptor_spec, null_thunk_spec, weak_specs}
+use Rattle.implib.specs.Members.MsvcObjects.{base_name, descriptor, descriptor_symbol, null_descriptor, null_descriptor_symbol, null_thunk, null_thunk_symbol}
+use Rattle.implib.specs.Formats.ShortImport.{short_import_in}
+use Rattle.std.specs.Prelude.{drop, take}
+use Rattle.implib_link.specs.Flavors.Expansion.{import_object, descriptor_symbol_by_name, expanded_in}
+use Rattle.implib_link.specs.Flavors.Program.{IsFlavorProgram, all_members, symbols_listed}
+use Rattle.implib_link.specs.Flavors.SectionSymbols.{with_section_symbols}
+use Rattle.implib_link.specs.Gnu.Packed.{group_end, sections_end}
+use Rattle.implib_link.specs.Worked.Flavors.{both_inputs as flavor_inputs, flavor_bases_8, flavor_image, flavor_objects, flavor_placed, foo_input as msvc_input}
+use Rattle.implib_link.proofs.Flavors.Calls.{flavors_calls_reach}
+use Rattle.implib_link.proofs.Flavors.Reading.{flavors_reader_loads}
+use Rattle.implib_link.proofs.Worked.Flavors.{worked_flavors}
+use Rattle.implib_link.specs.Gnu.Calls.{AreBeside, HasCall, PlacedCode, Resolves, code_range, code_ranges}
 use Rattle.implib_link.specs.Gnu.Program.{IsProgram, has_tables, linked_symbols}
 use Rattle.implib_link.specs.Gnu.Reading.{ReadsAndWrites}
-use Rattle.implib_link.specs.Worked.Calls.{WorkedCall, WorkedCalls, WorkedReading, calling, calling_at, calling_memory, calling_objects, calling_placed, first_bytes, given, given_on, last_bytes, nameless_image, table_targets}
-use Rattle.implib_link.specs.Worked.Programs.{another, both_inputs, foo_exports, foo_input, program_image, program_objects, program_placed, symbol_of_class, symbol_on, touching_4, touching_8}
+use Rattle.implib_link.specs.Worked.Calls.{WorkedFlavorCall, calling_flavors, flavor_targets, flavors_placed, WorkedCall, WorkedCalls, WorkedReading, calling, calling_at, calling_memory, calling_objects, calling_placed, first_bytes, given_on, last_bytes, nameless_image, table_targets}
+use Rattle.implib_link.specs.Worked.Programs.{another, both_inputs, foo_input, program_image, program_objects, program_placed, symbol_of_class, symbol_on, touching_4, touching_8}
 use Rattle.implib_link.proofs.Gnu.Calls.{calls_reach_through_entries}
 use Rattle.implib_link.proofs.Gnu.Memory.{holder, not_in_both}
 use Rattle.implib_link.proofs.Gnu.Reading.{reader_loads}
 use Rattle.implib_link.proofs.Gnu.Stubs.{same_address}
-use Rattle.implib_link.proofs.Search.Lists.{among_at, contains_among}
+use Rattle.implib_link.proofs.Search.Lists.{contains_among}
 use Rattle.implib_link.proofs.Worked.Programs.{claims_none_by, distinct_by, worked_programs}
 use Rattle.implib_link.proofs.Worked.RefusedLinks.{differ, number}
 
@@ -319,6 +327,16 @@ i386_reading n written reads =
     let same : holds.address ≡ 0x60 = same_address name holds.address 0x60 (definitions_of name (program_placed I386 touching_4)) holds.once refl in
     (all.0, subst (λ a. BytesAt (written ++ program_image I386 touching_4) a (0x40 ∷ 0 ∷ 0 ∷ 0x10 ∷ [])) same holds.located)
 
+flavors_reading : (n : ℕ) (written : List Range) → ReadsAndWrites (flavor_image AMD64 0 flavor_bases_8) 8 (given_on AMD64) n 8 written →
+    (n ≡ 2) × BytesAt (written ++ flavor_image AMD64 0 flavor_bases_8) 0x88 (0x40 ∷ 0 ∷ 0 ∷ 0x10 ∷ 0 ∷ 0 ∷ 0 ∷ 0 ∷ [])
+unfolding opened refusal renamed_refusal alias_specs encoded_size weak_object has_tables expanded_in short_import_in import_object descriptor_symbol_by_name with_section_symbols descriptor null_descriptor null_thunk descriptor_symbol null_descriptor_symbol null_thunk_symbol base_name descriptor_spec null_descriptor_spec null_thunk_spec header_specs weak_specs group_end sections_end
+flavors_reading n written reads =
+    let all = flavors_reader_loads AMD64 flavor_bases_8 (flavor_inputs AMD64) (flavor_objects AMD64 0) (given_on AMD64) n written worked_flavors.amd64.made worked_flavors.amd64.program (wide AMD64) reads in
+    let holds = all.1.entries 0 1 (msvc_input AMD64) (open_export AMD64) refl refl in
+    let name : List ℕ = imp_symbol (symbol_on AMD64 (codes "open")) in
+    let same : holds.address ≡ 0x88 = same_address name holds.address 0x88 (definitions_of name (flavor_placed AMD64 0 flavor_bases_8)) holds.once refl in
+    (all.0, subst (λ a. BytesAt (written ++ flavor_image AMD64 0 flavor_bases_8) a (0x40 ∷ 0 ∷ 0 ∷ 0x10 ∷ 0 ∷ 0 ∷ 0 ∷ 0 ∷ [])) same holds.located)
+
 nothing_read : (n : ℕ) (written : List Range) → ReadsAndWrites nameless_image 8 (given_on AMD64) n 4 written → (n ≡ 0) × (written ≡ [])
 unfolding opened ReadsAndWrites
 nothing_read zero written reads = (refl, reads.1)
@@ -326,4 +344,63 @@ nothing_read (suc n) written (found, (step, later)) =
     absurd (differ 0 step.name (number_once nameless_image 4 16 0 step.name (number nameless_image 4 16 0 (0 ∷ 0 ∷ 0 ∷ 0 ∷ []) refl refl refl) step.name_field) step.has_name)
 
 pub worked_reading : WorkedReading
-worked_reading = record { amd64 = amd64_reading; i386 = i386_reading; refused = nothing_read }
+worked_reading = record { amd64 = amd64_reading; i386 = i386_reading; flavors = flavors_reading; refused = nothing_read }
+
+-- The program of both flavours.
+
+flavors_program : IsFlavorProgram AMD64 flavor_bases_8 (flavor_inputs AMD64) calling_flavors
+unfolding opened refusal renamed_refusal alias_specs encoded_size weak_object has_tables expanded_in short_import_in import_object descriptor_symbol_by_name with_section_symbols descriptor null_descriptor null_thunk descriptor_symbol null_descriptor_symbol null_thunk_symbol base_name descriptor_spec null_descriptor_spec null_thunk_spec header_specs weak_specs group_end sections_end
+flavors_program = record {
+  held = record {
+    distinct = distinct_by (null_descriptor_symbol ∷ symbols_listed (all_members AMD64 (flavor_inputs AMD64))) refl;
+    null_from = msvc_input AMD64;
+    null_held = (0, omega arith, refl);
+    null_flavor = refl;
+    before = take 0 (all_members AMD64 (flavor_inputs AMD64));
+    behind = drop 0 (all_members AMD64 (flavor_inputs AMD64));
+    members = refl;
+    tables = refl;
+    others = (
+      claims_none_by (null_descriptor_symbol ∷ symbols_listed (all_members AMD64 (flavor_inputs AMD64))) (calling AMD64) refl,
+      (claims_none_by (null_descriptor_symbol ∷ symbols_listed (all_members AMD64 (flavor_inputs AMD64))) (another AMD64) refl, tt),
+    );
+    found = (refl, (tt, tt));
+  };
+  admissible = record {
+    descriptors = (omega arith, refl);
+    directory_ends = (omega arith, refl);
+    lookups = (omega arith, refl);
+    addresses = (omega arith, refl);
+    hint_names = (omega arith, refl);
+    dll_names = (omega arith, refl);
+    ends = ends_below (2 ^ 31) (image_of AMD64 flavor_bases_8 flavors_placed) refl;
+    apart = apart_as_they_rise (2 ^ 31) (image_of AMD64 flavor_bases_8 flavors_placed) refl;
+  };
+  lookups = refl;
+  addresses = refl;
+  follows = refl;
+}
+
+flavors_beside : AreBeside AMD64 0x1_4000_0000 flavor_bases_8 calling_flavors (calling_at AMD64 0x1000 ∷ []) flavor_targets
+unfolding opened refusal renamed_refusal alias_specs encoded_size weak_object has_tables expanded_in short_import_in import_object descriptor_symbol_by_name with_section_symbols descriptor null_descriptor null_thunk descriptor_symbol null_descriptor_symbol null_thunk_symbol base_name descriptor_spec null_descriptor_spec null_thunk_spec header_specs weak_specs group_end sections_end
+flavors_beside = record {
+  held = ((0, omega arith, refl), tt);
+  sections = (refl, tt);
+  ends = (omega arith, tt);
+  apart = apart_as_they_rise (2 ^ 31) (image_of AMD64 flavor_bases_8 flavors_placed ++ code_ranges AMD64 0x1_4000_0000 flavor_targets (calling_at AMD64 0x1000 ∷ [])) refl;
+  resolved = one_code_resolves flavors_placed (calling_at AMD64 0x1000) (symbol_of_class (codes "main") 1 class_external)
+      (symbol_of_class (imp_symbol (symbol_on AMD64 (codes "open"))) 0 class_external) refl refl refl (λ same. cc);
+}
+
+pub worked_flavor_call : WorkedFlavorCall
+unfolding opened refusal renamed_refusal alias_specs encoded_size weak_object has_tables expanded_in short_import_in import_object descriptor_symbol_by_name with_section_symbols descriptor null_descriptor null_thunk descriptor_symbol null_descriptor_symbol null_thunk_symbol base_name descriptor_spec null_descriptor_spec null_thunk_spec header_specs weak_specs group_end sections_end
+worked_flavor_call = record {
+  made = worked_flavors.amd64.made;
+  program = flavors_program;
+  beside = flavors_beside;
+  bytes = refl;
+  reads = refl;
+  arrives = λ written writes.
+      flavors_calls_reach AMD64 0x1_4000_0000 flavor_bases_8 (flavor_inputs AMD64) calling_flavors (calling_at AMD64 0x1000 ∷ []) flavor_targets (given_on AMD64) written 0 1 (msvc_input AMD64)
+      (open_export AMD64) (calling_at AMD64 0x1000) 4 worked_flavors.amd64.made flavors_program tt flavors_beside (wide AMD64) writes refl refl (0, omega arith, refl) amd64_has;
+}

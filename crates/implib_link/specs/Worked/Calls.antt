@@ -1,6 +1,6 @@
 -- Calls that were relocated by hand: a program as in Worked/Programs, whose own code calls `open` of foo.dll
 -- through its entry, on three machines; and a loader that reads the program's image.
-use Rattle.std.specs.Prelude.{◌≡◌, ℕ, ◌+◌, ◌*◌, List, [], ◌∷◌, ◌++◌, codes, length, map, take, drop, Some}
+use Rattle.std.specs.Prelude.{◌≡◌, ℕ, ◌+◌, ◌*◌, List, [], ◌∷◌, ◌++◌, codes, length, map, Some}
 use Rattle.std.specs.List.{AllByRecursion}
 use Rattle.implib.specs.declared.machine.MachineType.{MachineType}
 use Rattle.implib.specs.declared.machine.MachineType.TheVariants.{I386, ARMNT, AMD64, ARM64}
@@ -16,11 +16,13 @@ use Rattle.implib.specs.Link.Resolution.{target_address}
 use Rattle.implib.specs.Members.Gnu.{section, text_name}
 use Rattle.implib.specs.Members.ImportTables.{thunk_width, zeros}
 use Rattle.implib_link.specs.Directory.{imported}
+use Rattle.implib_link.specs.Flavors.Program.{IsFlavorProgram, IsMadeFor, imported_in, objects_taken}
 use Rattle.implib_link.specs.Gnu.Calls.{AreBeside, CallArrives, HasCall, PlacedCode, call_bytes, call_reads, call_relocations, code_range, code_ranges, moved_by}
 use Rattle.implib_link.specs.Gnu.Loaded.{Writes}
 use Rattle.implib_link.specs.Gnu.Program.{IsProgram, null_descriptor}
 use Rattle.implib_link.specs.Gnu.Reading.{ReadsAndWrites}
 use Rattle.implib_link.specs.Stub.{CanJump}
+use Rattle.implib_link.specs.Worked.Flavors.{both_inputs as flavor_inputs, flavor_bases_8, flavor_image, members_with_null}
 use Rattle.implib_link.specs.Worked.Programs.{another, both_inputs, foo_input, input_objects, program_image, symbol_of_class, symbol_on, touching_4, touching_8, zed_input}
 
 -- what a function of a machine begins with, 4 bytes: I386 four `nop`; AMD64 `sub rsp, 40`; ARM64
@@ -135,12 +137,41 @@ pub record WorkedCalls : Type 0 where
   pub refused : AreBeside AMD64 0x1_4000_0000 touching_8 (calling_objects AMD64) (calling_at AMD64 0x78 ∷ [])
       (table_targets AMD64 touching_8) → ⊥
 
+-- what is linked of both flavours: the calling object, what the members of foo.dll for Microsoft's linker, its
+-- null descriptor, and those of zed.dll for GNU's are taken for, and another object
+abbrev pub calling_flavors : List Object
+calling_flavors = calling AMD64 ∷ (objects_taken AMD64 (members_with_null AMD64 0) ++ another AMD64 ∷ [])
+
+abbrev pub flavors_placed : List Placed
+flavors_placed = placed_from flavor_bases_8 calling_flavors
+
+-- what the symbols of code are taken to be: their addresses in the tables
+abbrev pub flavor_targets : PlacedCode → ℕ → ℕ
+flavor_targets c index = target_address flavors_placed c.from index
+
+-- The program of both flavours and the code at 0x1000 meet all that the law of calls asks for; the entry of
+-- `open` is at 0x88, and the call at 0x1004 arrives at what foo.dll gives for it.
+pub record WorkedFlavorCall : Type 0 where
+  pub made : AllByRecursion (IsMadeFor AMD64) (flavor_inputs AMD64)
+  pub program : IsFlavorProgram AMD64 flavor_bases_8 (flavor_inputs AMD64) calling_flavors
+  pub beside : AreBeside AMD64 0x1_4000_0000 flavor_bases_8 calling_flavors (calling_at AMD64 0x1000 ∷ []) flavor_targets
+  -- call [rip - 0xF82]
+  pub bytes : (code_range AMD64 0x1_4000_0000 flavor_targets (calling_at AMD64 0x1000)).bytes
+      ≡ first_bytes AMD64 ++ (0xFF ∷ 0x15 ∷ 0x7E ∷ 0xF0 ∷ 0xFF ∷ 0xFF ∷ last_bytes AMD64)
+  pub reads : call_reads AMD64 0x1_4000_1004 (0xFF ∷ 0x15 ∷ 0x7E ∷ 0xF0 ∷ 0xFF ∷ 0xFF ∷ []) ≡ Some 0x1_4000_0088
+  pub arrives : (written : List Range) →
+      Writes (image_of AMD64 flavor_bases_8 flavors_placed) 8 (given_on AMD64) 8
+      (map (imported_in AMD64) (flavor_inputs AMD64)) written →
+      CallArrives AMD64 0x1_4000_0000 (written ++ (image_of AMD64 flavor_bases_8 flavors_placed
+      ++ code_ranges AMD64 0x1_4000_0000 flavor_targets (calling_at AMD64 0x1000 ∷ []))) 0x1004
+      (0x40 ∷ 0 ∷ 0 ∷ 0x10 ∷ 0 ∷ 0 ∷ 0 ∷ 0 ∷ [])
+
 -- the image of the worked program with zeros where the first descriptor has the address of the DLL's name
 abbrev pub nameless_image : List Range
 nameless_image = record { start = 16; bytes = zeros 4 } ∷ program_image AMD64 touching_8
 
 -- A loader that reads the worked program's image from 4 on goes on at two descriptors, and writes what foo.dll
--- gives for `open` to 0x80 (0x60 on I386); where the first descriptor has no name, a loader goes on at none and
+-- gives for `open` to 0x80 (0x60 on I386, 0x88 in the program of both flavours, from 8 on); where the first descriptor has no name, a loader goes on at none and
 -- writes nothing.
 pub record WorkedReading : Type 0 where
   pub amd64 : (n : ℕ) (written : List Range) →
@@ -149,5 +180,9 @@ pub record WorkedReading : Type 0 where
   pub i386 : (n : ℕ) (written : List Range) →
       ReadsAndWrites (program_image I386 touching_4) 4 (given_on I386) n 4 written →
       (n ≡ 2) × BytesAt (written ++ program_image I386 touching_4) 0x60 (0x40 ∷ 0 ∷ 0 ∷ 0x10 ∷ [])
+  pub flavors : (n : ℕ) (written : List Range) →
+      ReadsAndWrites (flavor_image AMD64 0 flavor_bases_8) 8 (given_on AMD64) n 8 written →
+      (n ≡ 2) × BytesAt (written ++ flavor_image AMD64 0 flavor_bases_8) 0x88
+      (0x40 ∷ 0 ∷ 0 ∷ 0x10 ∷ 0 ∷ 0 ∷ 0 ∷ 0 ∷ [])
   pub refused : (n : ℕ) (written : List Range) → ReadsAndWrites nameless_image 8 (given_on AMD64) n 4 written →
       (n ≡ 0) × (written ≡ [])

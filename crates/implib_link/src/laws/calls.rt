@@ -14,7 +14,7 @@ ghost use Rattle.implib_link.specs.Gnu.Calls.{AreBeside, CallArrives, HasCall, P
 ghost use Rattle.implib_link.specs.Gnu.Loaded.{Writes};
 ghost use Rattle.implib_link.specs.Gnu.Program.{IsProgram};
 ghost use Rattle.implib_link.specs.Stub.{CanJump};
-ghost use Rattle.implib_link.specs.Worked.Calls.{WorkedCalls, WorkedReading};
+ghost use Rattle.implib_link.specs.Worked.Calls.{WorkedCalls, WorkedFlavorCall, WorkedReading};
 ghost use Rattle.std.specs.List.{AllByRecursion, Contains};
 ghost use Rattle.std.specs.Prelude.{◌≡◌, ◌+◌, ◌++◌, ℕ, List, Some, length, map, slice_get};
 
@@ -65,5 +65,6 @@ pub fn calls_of_flavors_reach_through_entries()
 /// was linked by hand loads it, and one that reads an image without the DLL's name does not.
 pub fn worked_calls()
     ensures calls { WorkedCalls }
+    ensures flavors { WorkedFlavorCall }
     ensures reading { WorkedReading }
 {}
