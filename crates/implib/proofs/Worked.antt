@@ -10,3 +10,4 @@ pub mod Members
 pub mod Gnu
 pub mod Links
 pub mod Refused
+pub mod Records

@@ -12,3 +12,4 @@ pub mod Tables
 pub mod MemberSpecs
 pub mod Layouts
 pub mod Refused
+pub mod Records

@@ -33,5 +33,6 @@ worked = record {
   other_spaces = Lexed-by_computing _ _ refl refl;
   keywords = Lexed-by_computing _ _ refl refl;
   no_keywords = Lexed-by_computing _ _ refl refl;
+  longer_and_shorter_words = Lexed-by_computing _ _ refl refl;
   delimiters = Lexed-by_computing _ _ refl refl;
 }

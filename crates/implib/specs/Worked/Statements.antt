@@ -40,6 +40,16 @@ pub record WorkedSettings : Type 0 where
   pub lone_major : Parses (codes "VERSION 1") AMD64 (record empty_definition { major_image_version = 1 })
   pub greatest_version : Parses (codes "VERSION 4294967295.0") AMD64
       (record empty_definition { major_image_version = 4294967295 })
+  pub minor_above_16_bits : Parses (codes "VERSION 1.70000") AMD64
+      (record empty_definition { major_image_version = 1; minor_image_version = 70000 })
+  pub greatest_minor : Parses (codes "VERSION 1.4294967295") AMD64
+      (record empty_definition { major_image_version = 1; minor_image_version = 4294967295 })
+  pub base_above_32_bits : Parses (codes "NAME a.exe BASE=5368709120") AMD64
+      (record empty_definition { import_name = codes "a.exe"; image_base = 5368709120 })
+  pub greatest_base : Parses (codes "LIBRARY a.dll BASE=18446744073709551615") I386
+      (record empty_definition { import_name = codes "a.dll"; image_base = 18446744073709551615 })
+  pub commit_above_32_bits : Parses (codes "STACKSIZE 4294967296,8589934592") AMD64
+      (record empty_definition { stack_reserve = 4294967296; stack_commit = 8589934592 })
   pub name : Parses (codes "NAME foo") AMD64 (of_name (codes "foo"))
   pub comment_before : Parses (codes ";\n; comment\nLIBRARY foo.dll") AMD64 (of_name (codes "foo.dll"))
   pub quoted_keyword : Parses (codes "LIBRARY \"NAME\"") AMD64 (of_name (codes "NAME"))
@@ -106,6 +116,23 @@ pub record WorkedExports : Type 0 where
       ∷ []))
   pub greatest_ordinal : Parses (codes "EXPORTS f @65535") AMD64
       (of_exports (record empty_export { name = codes "f"; ordinal = 65535 } ∷ []))
+  pub no_keywords : Parses (codes "EXPORTS\nCONST\nSECTIONS\nDESCRIPTION\nIMPORTS\nEXPORT\nBASED\ndata DATA") AMD64
+      (of_exports
+      (plain_export (codes "CONST")
+      ∷ plain_export (codes "SECTIONS")
+      ∷ plain_export (codes "DESCRIPTION")
+      ∷ plain_export (codes "IMPORTS")
+      ∷ plain_export (codes "EXPORT")
+      ∷ plain_export (codes "BASED")
+      ∷ record empty_export { name = codes "data"; is_data = true }
+      ∷ []))
+  pub signs_in_names : Parses (codes "EXPORTS\na+b $c [d] e.f") AMD64
+      (of_exports
+      (plain_export (codes "a+b")
+      ∷ plain_export (codes "$c")
+      ∷ plain_export (codes "[d]")
+      ∷ plain_export (codes "e.f")
+      ∷ []))
   pub decorated_target : Parses (codes "EXPORTS\nf = @g@4") I386
       (of_exports (record empty_export { name = codes "@g@4"; ext_name = Some (codes "_f") } ∷ []))
 
@@ -122,6 +149,11 @@ pub record WorkedRefusals : Type 0 where
   pub three_numbers : Refuses (codes "VERSION 1.2.3") ExpectedInteger
   pub no_major : Refuses (codes "VERSION .1") ExpectedInteger
   pub no_minor : Refuses (codes "VERSION 1.") ExpectedInteger
+  pub minor_too_great : Refuses (codes "VERSION 1.4294967296") ExpectedInteger
+  pub base_too_great : Refuses (codes "NAME x BASE=18446744073709551616") ExpectedInteger
+  pub commit_too_great : Refuses (codes "STACKSIZE 1,18446744073709551616") ExpectedInteger
+  pub description : Refuses (codes "DESCRIPTION \"x\"") (UnknownDirective (codes "DESCRIPTION"))
+  pub sections : Refuses (codes "SECTIONS") (UnknownDirective (codes "SECTIONS"))
   pub base_without_sign : Refuses (codes "NAME x BASE 5") (ExpectedEqual kind.Identifier)
   pub base_without_number : Refuses (codes "NAME x BASE=") (ExpectedIdentifier kind.Eof)
   pub alias_without_word : Refuses

@@ -3,7 +3,8 @@ use Rattle.std.specs.Prelude.{◌≡◌, ℕ, true, List, [], ◌∷◌, ◌++�
 use Rattle.implib.specs.declared.machine.MachineType.{MachineType}
 use Rattle.implib.specs.declared.machine.MachineType.TheVariants.{I386, ARMNT, AMD64, ARM64}
 use Rattle.implib.specs.Definition.{ExportView, empty_export}
-use Rattle.implib.specs.Members.Gnu.{export_object, five_digits, head_object, mangled_name, tail_object}
+use Rattle.implib.specs.Members.Gnu.{export_object, five_digits, head_name, head_object, head_symbol, iname_symbol}
+use Rattle.implib.specs.Members.Gnu.{mangled_name, numbered_name, tail_name, tail_object}
 use Rattle.implib.specs.Members.Msvc.{asked_by_short_import, short_import_bytes, short_import_of}
 use Rattle.implib.specs.Members.MsvcObjects.{base_name}
 use Rattle.implib.specs.Members.WeakExternal.{weak_object}
@@ -59,6 +60,13 @@ pub record WorkedGnuNames : Type 0 where
   pub with_two_at_signs : gnu_export I386 (plain_export (codes "@h@4"))
       ≡ function_asking (numbers I386) (codes "@h@4") (codes "__imp_@h@4") (hex "00 00 40 68 40 34 00")
 
+-- a space, and every printable sign that is no letter, and the same with `_` for the full stop
+abbrev pub signs : List ℕ
+signs = codes " !\"#$%&'()*+,-./0123456789:;<=>?@[\\]^_`{|}~"
+
+abbrev pub signs_mangled : List ℕ
+signs_mangled = codes " !\"#$%&'()*+,-_/0123456789:;<=>?@[\\]^_`{|}~"
+
 -- What members and symbols are named after: the import name less one extension, and with `_` for each `.`.
 pub record WorkedNames : Type 0 where
   pub base_of_dll : base_name (codes "a-b.dll") ≡ codes "a-b"
@@ -68,10 +76,34 @@ pub record WorkedNames : Type 0 where
   pub base_in_capitals : base_name (codes "a.DLL") ≡ codes "a.DLL"
   pub base_without_full_stop : base_name (codes "dll") ≡ codes "dll"
   pub base_of_extension : base_name (codes ".dll") ≡ []
+  pub base_of_drv : base_name (codes "a.drv") ≡ codes "a.drv"
+  pub base_of_ocx : base_name (codes "a.ocx") ≡ codes "a.ocx"
+  pub base_of_cpl : base_name (codes "a.cpl") ≡ codes "a.cpl"
+  pub base_of_exe_in_capitals : base_name (codes "a.EXE") ≡ codes "a.EXE"
+  pub base_of_one_capital : base_name (codes "a.Dll") ≡ codes "a.Dll"
+  pub base_of_another_sign : base_name (codes "a-dll") ≡ codes "a-dll"
+  pub base_with_plus : base_name (codes "a+b.dll") ≡ codes "a+b"
+  pub base_of_signs : base_name (signs ++ codes ".exe") ≡ signs
   pub mangled_name_of_sys : mangled_name (codes "a.sys") ≡ codes "a_sys"
   pub mangled_name_of_dll : mangled_name (codes "a-b.dll") ≡ codes "a-b_dll"
   pub mangled_name_of_two : mangled_name (codes "a.b.dll.dll") ≡ codes "a_b_dll_dll"
   pub mangled_name_of_underscore : mangled_name (codes "A_b/@.Dll") ≡ codes "A_b/@_Dll"
+  pub mangled_name_of_drv : mangled_name (codes "a.drv") ≡ codes "a_drv"
+  pub mangled_name_of_exe_in_capitals : mangled_name (codes "a.EXE") ≡ codes "a_EXE"
+  pub mangled_name_with_plus : mangled_name (codes "a+b.dll") ≡ codes "a+b_dll"
+  pub mangled_name_with_dollar_sign : mangled_name (codes "a$b") ≡ codes "a$b"
+  pub mangled_name_with_space : mangled_name (codes "a b.dll") ≡ codes "a b_dll"
+  pub mangled_name_of_signs : mangled_name signs ≡ signs_mangled
+  pub descriptor_of_drv : msvc.descriptor_symbol (codes "a+b.drv") ≡ codes "__IMPORT_DESCRIPTOR_a+b.drv"
+  pub descriptor_of_signs : msvc.descriptor_symbol (signs ++ codes ".dll") ≡ codes "__IMPORT_DESCRIPTOR_" ++ signs
+  pub null_thunk_of_drv : msvc.null_thunk_symbol (codes "a+b.drv") ≡ 0x7F ∷ codes "a+b.drv_NULL_THUNK_DATA"
+  pub head_of_drv : head_symbol AMD64 (codes "a+b.drv") ≡ codes "_head_a+b_drv"
+  pub head_of_drv_on_i386 : head_symbol I386 (codes "a+b.drv") ≡ codes "__head_a+b_drv"
+  pub iname_of_drv : iname_symbol ARMNT (codes "a+b.drv") ≡ codes "a+b_drv_iname"
+  pub iname_of_drv_on_i386 : iname_symbol I386 (codes "a+b.drv") ≡ codes "_a+b_drv_iname"
+  pub head_member_of_drv : head_name (codes "a+b.drv") ≡ codes "a+b_drv_a_h.o"
+  pub tail_member_of_drv : tail_name (codes "a+b.drv") ≡ codes "a+b_drv_a_t.o"
+  pub numbered_member_of_drv : numbered_name (codes "a+b.drv") (codes "w") 12345 ≡ codes "a+b_drv_a_w12345.o"
   pub first_number : five_digits 0 ≡ codes "00000"
   pub greatest_number_of_five : five_digits 99999 ≡ codes "99999"
   pub number_of_six : five_digits 100000 ≡ codes "100000"
@@ -129,6 +161,20 @@ pub record WorkedNameTypes : Type 0 where
   pub at_sign_alone : types_of I386 (under_symbol (codes "f@8") (codes "g")) ≡ hex "0c 00"
   pub underscore_alone : types_of I386 (under_symbol (codes "_f") (codes "g")) ≡ hex "0c 00"
   pub other_symbol_before_prefix : types_of I386 (under_symbol (codes "f") (codes "_g")) ≡ hex "0c 00"
+  pub data_under_symbol : types_of AMD64 (record (under_symbol (codes "f") (codes "g")) { is_data = true })
+      ≡ hex "0d 00"
+  pub constant_under_symbol : types_of I386 (record (under_symbol (codes "f") (codes "_g")) { constant = true })
+      ≡ hex "0e 00"
+  pub both_under_symbol :
+      types_of ARMNT (record (under_symbol (codes "f") (codes "g")) { is_data = true; constant = true })
+      ≡ hex "0d 00"
+  pub constant_with_prefix :
+      types_of I386 (record empty_export { name = codes "_v"; constant = true }) ≡ hex "0a 00"
+  pub decorated_data : types_of I386 (record empty_export { name = codes "_v@8"; is_data = true }) ≡ hex "05 00"
+  pub question_mark : types_of I386 (plain_export (codes "?f@@YAXXZ")) ≡ hex "04 00"
+  pub question_mark_as_symbol : types_of AMD64 (under_symbol (codes "f") (codes "?f@@YAXXZ")) ≡ hex "0c 00"
+  pub question_mark_under_symbol : types_of I386 (under_symbol (codes "?f@@YAXXZ") (codes "_f")) ≡ hex "0c 00"
+  pub own_symbol : types_of I386 (under_symbol (codes "_f") (codes "_f")) ≡ hex "08 00"
   pub ordinal_before_all : types_of I386
       (record (under_symbol (codes "_f@8") (codes "_g")) { no_name = true })
       ≡ hex "00 00"

@@ -84,6 +84,15 @@ pub record WorkedTokens : Type 0 where
       ∷ identifier (codes "DATA1") 10
       ∷ eof 15
       ∷ [])
+  pub longer_and_shorter_words : Lexed (codes "CONST SECTIONS DESCRIPTION BASED NONAMES EXPORT")
+      (identifier (codes "CONST") 0
+      ∷ identifier (codes "SECTIONS") 6
+      ∷ identifier (codes "DESCRIPTION") 15
+      ∷ identifier (codes "BASED") 27
+      ∷ identifier (codes "NONAMES") 33
+      ∷ identifier (codes "EXPORT") 41
+      ∷ eof 47
+      ∷ [])
   pub delimiters : Lexed (codes "a=b,c;\nd\re f\tg\u{b}h")
       (identifier (codes "a") 0
       ∷ token kind.Equal (codes "=") 1

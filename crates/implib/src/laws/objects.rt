@@ -4,6 +4,7 @@ ghost use Rattle.implib.specs.Formats.Object.{Object, object_in};
 ghost use Rattle.implib.specs.Formats.Layout.{Fits, ObjectLayout, encoded, encoded_size, object_of};
 ghost use Rattle.implib.specs.Worked.Layouts.{WorkedLayouts};
 ghost use Rattle.implib.specs.Worked.Objects.{WorkedObjects};
+ghost use Rattle.implib.specs.Worked.Records.{WorkedFieldsOfRecords};
 ghost use Rattle.implib.specs.Worked.Refused.{RefusedNames, RefusedObjects, RefusedShortImports};
 ghost use Rattle.implib.specs.Worked.Tables.{WorkedAskedNames, WorkedGnuNames, WorkedGnuTables, WorkedMsvcTables, WorkedNameTypes, WorkedNames, WorkedRecords};
 ghost use Rattle.std.specs.Prelude.{◌<◌, ◌^◌, ◌≡◌, ℕ, List, Some, length};
@@ -26,10 +27,11 @@ pub fn object_is_one()
     ensures { (bytes : List ℕ) (a b : Object) → object_in bytes ≡ Some a → object_in bytes ≡ Some b → a ≡ b }
 {}
 
-/// Objects that were worked by hand have these sizes, offsets and bytes.
+/// Objects that were worked by hand have these sizes, offsets and bytes, and their records these fields.
 pub fn worked_objects()
     ensures sizes { WorkedObjects }
     ensures bytes { WorkedLayouts }
+    ensures fields { WorkedFieldsOfRecords }
 {}
 
 /// The tables of foo.dll, which was worked by hand, are these objects on each machine.
