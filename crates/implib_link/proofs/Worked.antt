@@ -11,3 +11,5 @@ pub mod MsvcSearch
 pub mod Loads
 pub mod Searched
 pub mod FlavorLoads
+pub mod Packed
+pub mod RefusedTexts
