@@ -13,3 +13,4 @@ pub mod Searched
 pub mod FlavorLoads
 pub mod Packed
 pub mod RefusedTexts
+pub mod Sources

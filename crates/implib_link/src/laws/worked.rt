@@ -12,6 +12,7 @@ ghost use Rattle.implib_link.specs.Worked.Packed.{WorkedPackings};
 ghost use Rattle.implib_link.specs.Worked.Programs.{WorkedPrograms, WorkedStubs};
 ghost use Rattle.implib_link.specs.Worked.RefusedTexts.{RefusedTexts};
 ghost use Rattle.implib_link.specs.Worked.Searched.{WorkedLibraries, WorkedSearched};
+ghost use Rattle.implib_link.specs.Worked.Sources.{WorkedSources};
 
 /// Programs that were linked by hand, on each machine, meet what the laws ask for and have these tables,
 /// and but for ARMNT these stubs.
@@ -83,4 +84,9 @@ pub fn worked_packings()
 /// Images with a text that has no NUL do not load.
 pub fn refused_texts()
     ensures { RefusedTexts }
+{}
+
+/// Programs of texts, for GNU's linker and in both flavours, link as the laws say.
+pub fn worked_sources()
+    ensures { WorkedSources }
 {}
