@@ -12,3 +12,6 @@ pub mod MsvcSearch
 pub mod Loads
 pub mod Searched
 pub mod FlavorLoads
+pub mod Packed
+pub mod RefusedTexts
+pub mod Sources

@@ -34,7 +34,7 @@ is_the_byte : (o : Option ℕ) (n : ℕ) → is_byte o n ≡ true → o ≡ Some
 is_the_byte None n is = cc
 is_the_byte (Some m) n is = ap Some (eqb-true m n is)
 
-are_located : (image : List Range) (bytes : List ℕ) (a : ℕ) → is_each_located image a bytes ≡ true → BytesAt image a bytes
+pub are_located : (image : List Range) (bytes : List ℕ) (a : ℕ) → is_each_located image a bytes ≡ true → BytesAt image a bytes
 unfolding BytesAt
 are_located image [] a is = tt
 are_located image (byte ∷ bytes) a is =

@@ -8,8 +8,11 @@ ghost use Rattle.implib_link.specs.Worked.FlavorLoads.{WorkedFlavorCalls, Worked
 ghost use Rattle.implib_link.specs.Worked.Loads.{WorkedCalls, WorkedLoads};
 ghost use Rattle.implib_link.specs.Worked.LongNames.{WorkedLongNames};
 ghost use Rattle.implib_link.specs.Worked.MsvcSearch.{WorkedMsvcSearches};
+ghost use Rattle.implib_link.specs.Worked.Packed.{WorkedPackings};
 ghost use Rattle.implib_link.specs.Worked.Programs.{WorkedPrograms, WorkedStubs};
+ghost use Rattle.implib_link.specs.Worked.RefusedTexts.{RefusedTexts};
 ghost use Rattle.implib_link.specs.Worked.Searched.{WorkedLibraries, WorkedSearched};
+ghost use Rattle.implib_link.specs.Worked.Sources.{WorkedSources};
 
 /// Programs that were linked by hand, on each machine, meet what the laws ask for and have these tables,
 /// and but for ARMNT these stubs.
@@ -71,4 +74,19 @@ pub fn worked_searched_programs()
 pub fn worked_flavor_loads()
     ensures loads { WorkedFlavorLoads }
     ensures calls { WorkedFlavorCalls }
+{}
+
+/// The programs that were linked by hand, packed, are as the law says; too far behind they are none.
+pub fn worked_packings()
+    ensures { WorkedPackings }
+{}
+
+/// Images with a text that has no NUL do not load.
+pub fn refused_texts()
+    ensures { RefusedTexts }
+{}
+
+/// Programs of texts, for GNU's linker and in both flavours, link as the laws say.
+pub fn worked_sources()
+    ensures { WorkedSources }
 {}
