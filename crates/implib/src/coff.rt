@@ -1,4 +1,5 @@
-//! COFF objects: the specification's numbers, a writer of objects, and the writer of bytes below it.
+//! COFF objects: the specification's numbers, a writer of objects, and the writer of bytes below
+//! it.
 
 pub(crate) mod constants;
 pub(crate) mod layout;

@@ -11,7 +11,8 @@ use std::alloc::{AllocError, AllocFailed};
 
 /// What is wrong with a text (docs/GRAMMAR.md, "Syntax errors") or with a definition.
 ///
-/// A `usize` is the index of an export among all exports of the definition, private ones counted, from 0.
+/// A `usize` is the index of an export among all exports of the definition, private ones counted,
+/// from 0.
 #[derive(Debug, PartialEq, Eq, Drop, thiserror::Error)]
 pub enum Fault {
     /// `parse`: a statement begins with this value, which is no directive.
@@ -47,13 +48,13 @@ pub enum Fault {
     /// `members`: this export asks the DLL for an empty name.
     #[error("asked name is empty")]
     EmptyAskedName(usize),
-    /// `members`, `write`: a file has more than 2^32 - 1 bytes.
+    /// `members`, `write`: a file would have more than 2^32 - 1 bytes.
     #[error("member too long")]
     MemberTooLong,
 }
 
 impl Fault {
-    /// The index of the export that is at fault, among all exports of the definition, from 0.
+    /// The index of the export at fault among all exports of the definition, from 0.
     pub fn export_index(&self) -> Option<usize>
         ensures { result ≡ export_index (cause_of self.now) }
     {
@@ -98,7 +99,7 @@ impl<T: Drop> From<AllocFailed<T>> for Error {
 /// A fault of a text with its position, or a failed allocation.
 #[derive(Debug, Drop, thiserror::Error)]
 pub enum ParseError {
-    /// The text is refused for the fault, at the token that it names: the position is that of the token's value.
+    /// The text is refused for this fault. The position is that of the refused token's value.
     #[error("{1}: {0}")]
     Invalid(Fault, Position),
     /// An allocation failed.
@@ -106,7 +107,7 @@ pub enum ParseError {
     OutOfMemory(AllocError),
 }
 
-/// The error without its position, which is the one that `parse` gives.
+/// The error without its position, as `parse` gives it.
 impl From<ParseError> for Error {
     ghost from_gives = { λ placed error. error ≡ without_position placed };
 

@@ -23,7 +23,8 @@ mod names;
 mod objects;
 mod table;
 
-/// The import library of a module definition for GNU's linker (docs/FORMATS.md, "Members for GNU's linker").
+/// The import library of a module definition for GNU's linker (docs/FORMATS.md, "Members for GNU's
+/// linker").
 #[derive(Drop)]
 pub struct GnuImportLibrary {
     library: ImportLibrary,
@@ -42,16 +43,20 @@ impl Model for GnuImportLibrary {
 }
 
 impl GnuImportLibrary {
-    /// The library of a definition: each `ext_name` that is given is moved into `name`.
+    /// The library of a definition; each `ext_name` that is set replaces its export's `name`.
     pub fn new(def: ModuleDef, machine: MachineType) -> Self
-        ensures held { result ≡ record { definition = renamed (definition_view def); machine = machine; flavor = Gnu } }
+        ensures held { result ≡ record {
+          definition = renamed (definition_view def);
+          machine = machine;
+          flavor = Gnu;
+        } }
     {
         GnuImportLibrary {
             library: ImportLibrary::from_def(def, machine, Flavor::Gnu),
         }
     }
 
-    /// The library, of which the other calls are.
+    /// The underlying [`ImportLibrary`].
     pub fn library(&self) -> &ImportLibrary
         ensures { result.now ≡ self.now }
     {
@@ -68,8 +73,10 @@ impl GnuImportLibrary {
             AreMembersOf self.now.definition self.now.machine Gnu (map member_view members.items)) }
         ensures reads { IfOk result (λ members.
             ReadBack self.now.definition self.now.machine Gnu (map member_view members.items)) }
-        ensures refused { IfInvalid result (λ cause. refusal self.now.definition self.now.machine Gnu ≡ Some cause) }
-        ensures names_refused_always { RefusesAlways self.now.definition self.now.machine Gnu result }
+        ensures refused { IfInvalid result
+            (λ cause. refusal self.now.definition self.now.machine Gnu ≡ Some cause) }
+        ensures names_refused_always { RefusesAlways
+            self.now.definition self.now.machine Gnu result }
     {
         self.library.members()
     }

@@ -1,11 +1,12 @@
-//! The name that an export asks its DLL for, in each flavour (docs/FORMATS.md, "Short imports" and "Members
-//! for GNU's linker").
+//! The name that an export asks its DLL for, in each flavour (docs/FORMATS.md, "Short imports" and
+//! "Members for GNU's linker").
 
 ghost use Rattle.implib.specs.Definition.{export_view};
 ghost use Rattle.implib.specs.Import.{at_sign};
 ghost use Rattle.implib.specs.Underscore.{asked_name};
 ghost use Rattle.implib.specs.Ascii.{begins_with};
-ghost use Rattle.implib.specs.Members.Msvc.{asked_by_short_import, name_type_of, short_import_symbol};
+ghost use Rattle.implib.specs.Members.Msvc.{asked_by_short_import, name_type_of};
+ghost use Rattle.implib.specs.Members.Msvc.{short_import_symbol};
 ghost use Rattle.implib.specs.Members.NameRules.{asked_in};
 ghost use Rattle.implib.specs.Formats.ShortImport.{before_at_sign, without_prefix};
 ghost use Rattle.std.specs.List.{position};

@@ -1,4 +1,4 @@
-//! What the import tables of an object are made of, for either linker (docs/FORMATS.md, "Import tables").
+//! The parts of an object's import tables, for either linker (docs/FORMATS.md, "Import tables").
 
 ghost use Rattle.implib.specs.Formats.Constants.{image_relative};
 ghost use Rattle.implib.specs.Import.{imp_symbol};
@@ -26,7 +26,7 @@ pub(crate) mod descriptor {
 /// read and written.
 pub(crate) const DATA: u32 = flags::CNT_INITIALIZED_DATA | flags::MEM_READ | flags::MEM_WRITE;
 
-// What begins the symbol of an import's address.
+// The prefix of the symbol of an import's address.
 const ADDRESS_PREFIX: &str = "__imp_";
 
 // The type of an image-relative relocation.
@@ -41,8 +41,8 @@ fn image_relative(machine: MachineType) -> u16
     }
 }
 
-/// The size in bytes of a thunk, an entry of the address table or the lookup table (PE/COFF specification,
-/// "Import Lookup Table").
+/// The size in bytes of a thunk, an entry of the address table or the lookup table (PE/COFF
+/// specification, "Import Lookup Table").
 pub(crate) fn thunk_width(machine: MachineType) -> usize
     ensures { result ≡ thunk_width machine }
 {
@@ -56,7 +56,7 @@ pub(crate) fn zeros(alloc: Global, count: usize) -> Result<Vec<u8>, AllocError>
     Ok(vec![in alloc; 0; count]?)
 }
 
-/// An image-relative relocation, at an offset in bytes, to the symbol of an index.
+/// An image-relative relocation at an offset in bytes, to the symbol of this index.
 pub(crate) fn image_relocation(machine: MachineType, offset: u32, symbol: u32) -> Relocation
     ensures { result ≡ relocation machine offset symbol }
 {
@@ -78,7 +78,7 @@ pub(crate) fn imp_symbol(alloc: Global, symbol: &str) -> Result<String, AllocErr
     Ok(address)
 }
 
-/// A text and a NUL.
+/// The text, followed by a NUL.
 pub(crate) fn ended_by_nul(alloc: Global, text: &str) -> Result<Vec<u8>, AllocError>
     ensures { IfOk result (λ bytes. bytes.items ≡ text.now ++ 0 ∷ []) }
 {

@@ -1,5 +1,5 @@
-//! Laws: what a caller may conclude from the definitions, each as the contract of a function that does
-//! nothing; and in `kinds` what `==` and `default` give.
+//! Laws: what a caller may conclude from the definitions, each as the contract of a function that
+//! does nothing; and in `kinds` what `==` and `default` give.
 
 pub mod asked;
 pub mod definition;

@@ -1,18 +1,19 @@
 //! The members of import libraries for Windows DLLs, from module definition files (`.def`).
 //!
-//! A module definition names a DLL and its exports. This crate parses it and makes the members of the DLL's
-//! import library. For Microsoft's linker these are an import descriptor, a null descriptor, a null thunk and
-//! a short import for each export; for GNU's linker a head, a tail and an object for each export. Archives
-//! are for others to write.
+//! A module definition names a DLL and its exports. This crate parses it and makes the members of
+//! the DLL's import library. For Microsoft's linker these are an import descriptor, a null
+//! descriptor, a null thunk and a short import for each export; for GNU's linker a head, a tail and
+//! an object for each export. It writes no archives.
 //!
-//! It is proved that a text is parsed to what its grammar means, or refused for its first syntax error, and
-//! that readers of the PE/COFF formats, which know nothing of the code, find in the members exactly the
-//! imports and aliases that the text means. The members for GNU's linker link and load to exactly the
-//! selected imports, in a model of linker and loader.
+//! It is proved that a text is parsed to its meaning under the grammar, or refused for its first
+//! syntax error. Readers of the PE/COFF formats, defined apart from the code, find in the members
+//! exactly the imports and aliases that the text means. The members for GNU's linker link and load
+//! to exactly the selected imports, in a model of linker and loader.
 //!
-//! [`ImportLibrary`] makes members of a text. [`def`] has definitions and their parser, which also tells where
-//! a text is wrong, [`coff`] a writer of objects, [`laws`] what a caller may conclude. `docs/GUARANTEES.md`
-//! says what is promised, `docs/GRAMMAR.md` what a text means, `docs/FORMATS.md` what each byte is.
+//! [`ImportLibrary`] makes the members of a text. [`def`] has definitions and their parser, which
+//! also gives the position of an error, [`coff`] a writer of objects, [`laws`] what a caller may
+//! conclude. `docs/GUARANTEES.md` says what is promised, `docs/GRAMMAR.md` what a text means,
+//! `docs/FORMATS.md` what each byte is.
 //!
 //! ```
 //! use implib::{Error, Flavor, ImportLibrary, MachineType, Member};

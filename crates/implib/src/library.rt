@@ -43,7 +43,8 @@ impl Model for ImportLibrary {
 }
 
 impl ImportLibrary {
-    /// The library of the definition that a text means, each export under the name to link by.
+    /// The library of the definition that a text means; each `ext_name` replaces its export's
+    /// `name`.
     ///
     /// # Errors
     ///
@@ -61,9 +62,13 @@ impl ImportLibrary {
         Ok(ImportLibrary::from_def(def, machine, flavor))
     }
 
-    /// The library of a definition: each `ext_name` that is given is moved into `name`.
+    /// The library of a definition; each `ext_name` that is set replaces its export's `name`.
     pub fn from_def(def: ModuleDef, machine: MachineType, flavor: Flavor) -> Self
-        ensures held { result ≡ record { definition = renamed (definition_view def); machine = machine; flavor = flavor } }
+        ensures held { result ≡ record {
+          definition = renamed (definition_view def);
+          machine = machine;
+          flavor = flavor;
+        } }
     {
         ImportLibrary {
             def: rename(def),
@@ -72,7 +77,7 @@ impl ImportLibrary {
         }
     }
 
-    /// The definition, each export under the name to link by.
+    /// The definition, with each export under its linker symbol.
     pub fn definition(&self) -> &ModuleDef
         ensures { definition_view result.now ≡ self.now.definition }
     {
@@ -93,7 +98,7 @@ impl ImportLibrary {
         self.flavor
     }
 
-    /// The definition, each export under the name to link by.
+    /// The definition, with each export under its linker symbol.
     pub fn into_def(self) -> ModuleDef
         ensures { definition_view result ≡ self.definition }
     {
@@ -107,23 +112,27 @@ impl ImportLibrary {
         self.def.import_name.as_str()
     }
 
-    /// The members, in order (docs/FORMATS.md, "Members for Microsoft's linker" and "Members for GNU's
-    /// linker"). An error leaves the library as it was.
+    /// The members, in order (docs/FORMATS.md, "Members for Microsoft's linker" and "Members for
+    /// GNU's linker"). An error leaves the library as it was.
     ///
     /// # Errors
     ///
-    /// The first that applies: `EmptyImportName` or `NulInImportName`; then, export by export, private ones
-    /// left out, `EmptyName`, `NulInExport` (of its name, symbol name or alias target) or `EmptyAskedName`,
-    /// with the index of the export in the definition; then `MemberTooLong` for a member of more than
-    /// 2^32 - 1 bytes. Those of names come whatever memory there is; `OutOfMemory` can precede the others.
+    /// The first error that applies: `EmptyImportName` or `NulInImportName`; then, export by
+    /// export, private ones left out, `EmptyName`, `NulInExport` (of its name, symbol name or alias
+    /// target) or `EmptyAskedName`, with the index of the export in the definition; then
+    /// `MemberTooLong` for a member of more than 2^32 - 1 bytes. Errors in names are reported even
+    /// when memory runs out; `OutOfMemory` can precede the others.
     pub fn members(&self) -> Result<Vec<Member>, Error>
         ensures ok { IfOk result (λ members.
-            AreMembersOf self.now.definition self.now.machine self.now.flavor (map member_view members.items)) }
+            AreMembersOf self.now.definition self.now.machine self.now.flavor
+            (map member_view members.items)) }
         ensures reads { IfOk result (λ members.
-            ReadBack self.now.definition self.now.machine self.now.flavor (map member_view members.items)) }
+            ReadBack self.now.definition self.now.machine self.now.flavor
+            (map member_view members.items)) }
         ensures refused { IfInvalid result (λ cause.
             refusal self.now.definition self.now.machine self.now.flavor ≡ Some cause) }
-        ensures names_refused_always { RefusesAlways self.now.definition self.now.machine self.now.flavor result }
+        ensures names_refused_always { RefusesAlways
+            self.now.definition self.now.machine self.now.flavor result }
     {
         match self.flavor {
             Flavor::Msvc => msvc_members(&self.def, self.machine),
@@ -131,7 +140,7 @@ impl ImportLibrary {
         }
     }
 
-    /// An equal library.
+    /// A copy of the library.
     ///
     /// # Errors
     ///

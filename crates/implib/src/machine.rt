@@ -1,6 +1,7 @@
 //! The machines that import objects are made for, with their names and numbers.
 
-ghost use Rattle.implib.specs.Conversions.{IsConverted, machine_name, machine_named, machine_numbered};
+ghost use Rattle.implib.specs.Conversions.{IsConverted, machine_name, machine_named};
+ghost use Rattle.implib.specs.Conversions.{machine_numbered};
 ghost use Rattle.implib.specs.Machine.{has_leading_underscore, is_32bit, machine_number};
 ghost use Rattle.std.specs.Fmt.{padded};
 ghost use Rattle.std.specs.Prelude.{Some, ◌≡◌};

@@ -42,16 +42,20 @@ impl Model for MsvcImportLibrary {
 }
 
 impl MsvcImportLibrary {
-    /// The library of a definition: each `ext_name` that is given is moved into `name`.
+    /// The library of a definition; each `ext_name` that is set replaces its export's `name`.
     pub fn new(def: ModuleDef, machine: MachineType) -> Self
-        ensures held { result ≡ record { definition = renamed (definition_view def); machine = machine; flavor = Msvc } }
+        ensures held { result ≡ record {
+          definition = renamed (definition_view def);
+          machine = machine;
+          flavor = Msvc;
+        } }
     {
         MsvcImportLibrary {
             library: ImportLibrary::from_def(def, machine, Flavor::Msvc),
         }
     }
 
-    /// The library, of which the other calls are.
+    /// The underlying [`ImportLibrary`].
     pub fn library(&self) -> &ImportLibrary
         ensures { result.now ≡ self.now }
     {
@@ -65,11 +69,14 @@ impl MsvcImportLibrary {
     /// Those of [`ImportLibrary::members`].
     pub fn members(&self) -> Result<Vec<Member>, Error>
         ensures ok { IfOk result (λ members.
-            AreMembersOf self.now.definition self.now.machine Msvc (map member_view members.items)) }
+            AreMembersOf self.now.definition self.now.machine Msvc
+            (map member_view members.items)) }
         ensures reads { IfOk result (λ members.
             ReadBack self.now.definition self.now.machine Msvc (map member_view members.items)) }
-        ensures refused { IfInvalid result (λ cause. refusal self.now.definition self.now.machine Msvc ≡ Some cause) }
-        ensures names_refused_always { RefusesAlways self.now.definition self.now.machine Msvc result }
+        ensures refused { IfInvalid result
+            (λ cause. refusal self.now.definition self.now.machine Msvc ≡ Some cause) }
+        ensures names_refused_always { RefusesAlways
+            self.now.definition self.now.machine Msvc result }
     {
         self.library.members()
     }

@@ -3,7 +3,8 @@
 ghost use Rattle.implib.specs.Definition.{definition_view, export_view};
 ghost use Rattle.implib.specs.Fault.{cause_of};
 ghost use Rattle.implib.specs.Import.{holds};
-ghost use Rattle.implib.specs.Members.NameRules.{definition_names_refusal, import_name_refusal, name_refusal, names_refusal};
+ghost use Rattle.implib.specs.Members.NameRules.{definition_names_refusal, import_name_refusal};
+ghost use Rattle.implib.specs.Members.NameRules.{name_refusal, names_refusal};
 ghost use Rattle.std.specs.Option.{option_map};
 ghost use Rattle.std.specs.Prelude.{map, string_bytes, ◌≡◌};
 
@@ -16,7 +17,8 @@ use crate::machine::MachineType;
 /// The first rule on names that the definition breaks: of the import name, then of each export that
 /// is not private, in order.
 pub(crate) fn names_fault(def: &ModuleDef, machine: MachineType, flavor: Flavor) -> Option<Fault>
-    ensures { option_map cause_of result ≡ definition_names_refusal (definition_view def.now) machine flavor }
+    ensures { option_map cause_of result
+        ≡ definition_names_refusal (definition_view def.now) machine flavor }
 {
     if let Some(fault) = import_name_fault(def.import_name.as_str()) {
         return Some(fault);
@@ -58,7 +60,8 @@ fn export_fault(
     machine: MachineType,
     flavor: Flavor,
 ) -> Option<Fault>
-    ensures { option_map cause_of result ≡ name_refusal flavor machine index (export_view export.now) }
+    ensures { option_map cause_of result
+        ≡ name_refusal flavor machine index (export_view export.now) }
 {
     if export.name.is_empty() {
         Some(Fault::EmptyName(index))

@@ -1,4 +1,4 @@
-//! I386's underscore: C symbols of I386 begin with one, which the names that DLLs export lack.
+//! I386's underscore: on I386 C symbols begin with one, which DLL exports lack.
 
 ghost use Rattle.implib.specs.Ascii.{begins_with, underscore};
 ghost use Rattle.implib.specs.Machine.{has_leading_underscore};

@@ -1,18 +1,15 @@
 //! Weak externals: a symbol that another one replaces where nothing defines it, in both flavours
-//! (docs/FORMATS.md, "Weak externals"; PE/COFF specification, "Auxiliary Format 3: Weak Externals").
+//! (docs/FORMATS.md, "Weak externals"; PE/COFF specification, "Auxiliary Format 3: Weak
+//! Externals").
 
-ghost use Rattle.implib.specs.Fault.{IfInvalid, MemberTooLong};
 ghost use Rattle.implib.specs.Formats.File.{AnAlias, meaning_in};
 ghost use Rattle.implib.specs.Import.{holds, is_alias};
-ghost use Rattle.implib.specs.Formats.Layout.{encoded, encoded_size};
 ghost use Rattle.implib.specs.Views.Layout.{symbol_view};
-ghost use Rattle.implib.specs.Library.{member_view};
-ghost use Rattle.implib.specs.Members.MemberSpec.{member_of};
-ghost use Rattle.implib.specs.Members.Members.{is_too_long};
-ghost use Rattle.implib.specs.Members.WeakExternal.{weak_object, weak_section, weak_spec, weak_symbols};
+ghost use Rattle.implib.specs.Members.WeakExternal.{weak_object, weak_section, weak_spec};
+ghost use Rattle.implib.specs.Members.WeakExternal.{weak_symbols};
 ghost use Rattle.implib.specs.Formats.Writer.{section_view};
 ghost use Rattle.implib.specs.Views.Making.{EncodesObject, MakesMember};
-ghost use Rattle.std.specs.Prelude.{Some, false, map, string_bytes, true, ◌<◌, ◌^◌, ◌≡◌, ◌≤◌, IfOk, OnOk};
+ghost use Rattle.std.specs.Prelude.{Some, false, map, string_bytes, ◌<◌, ◌≡◌, IfOk};
 
 use crate::coff::constants::{class, flags, section_number, weak};
 use crate::coff::layout::{LayoutSymbol, ObjectLayout, SymbolName, encode};
@@ -32,7 +29,7 @@ const ALIAS: u8 = weak::SEARCH_ALIAS as u8;
 // characteristics.
 const WEAK_AUXILIARY: [u8; 18] = [2, 0, 0, 0, ALIAS, 0, 0, 0, 0, 0, 0, 0, 0, 0, 0, 0, 0, 0];
 
-/// Whether the symbol is weak for an alias target: there is one, and it is another symbol.
+/// Whether the alias target is non-empty and differs from the symbol.
 pub(crate) fn is_alias(target: &str, symbol: &str) -> bool
     ensures { result ≡ is_alias target.now symbol.now }
 {
@@ -51,7 +48,7 @@ fn weak_section(alloc: Global) -> Section
     }
 }
 
-// The symbols of a weak external: of the two names in the string table, the second is weak for the first.
+// The symbols of a weak external: the second name in the string table is weak for the first.
 #[tactic(auto, unfolding(crate::specs::Formats::Bytes::u32_bytes))]
 fn weak_symbols() -> [LayoutSymbol<'static>; 4]
     ensures { map symbol_view result ≡ weak_symbols }

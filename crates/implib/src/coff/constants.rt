@@ -1,4 +1,4 @@
-//! Numbers of the PE/COFF specification. Each doc line gives the name that the specification has for it.
+//! Numbers of the PE/COFF specification, each with the specification's name for it.
 
 /// "Machine Types".
 pub mod machine {
@@ -66,7 +66,8 @@ pub mod class {
     pub const FILE: u8 = 103;
     /// `IMAGE_SYM_CLASS_SECTION`: a section.
     pub const SECTION: u8 = 104;
-    /// `IMAGE_SYM_CLASS_WEAK_EXTERNAL`: a name with a default, "Auxiliary Format 3: Weak Externals".
+    /// `IMAGE_SYM_CLASS_WEAK_EXTERNAL`: a name with a default, "Auxiliary Format 3: Weak
+    /// Externals".
     pub const WEAK_EXTERNAL: u8 = 105;
 }
 
@@ -92,7 +93,8 @@ pub mod relocation {
     pub const AMD64_REL32: u16 = 4;
     /// `IMAGE_REL_ARM64_ADDR32NB`: the address relative to the image.
     pub const ARM64_ADDR32NB: u16 = 2;
-    /// `IMAGE_REL_ARM64_PAGEBASE_REL21`: the page of the address, relative to the page of the instruction.
+    /// `IMAGE_REL_ARM64_PAGEBASE_REL21`: the page of the address, relative to the page of the
+    /// instruction.
     pub const ARM64_PAGEBASE_REL21: u16 = 4;
     /// `IMAGE_REL_ARM64_PAGEOFFSET_12L`: the offset of the address in its page, for a load.
     pub const ARM64_PAGEOFFSET_12L: u16 = 7;

@@ -1,22 +1,31 @@
-//! Encodes an object from a borrowed layout of it, front to back (docs/FORMATS.md, "The layout of an
-//! object").
+//! Encodes an object from a borrowed layout of it, front to back (docs/FORMATS.md, "The layout of
+//! an object").
 
 ghost use Rattle.implib.specs.Formats.Bytes.{u16_bytes, u32_bytes};
-ghost use Rattle.implib.specs.Fault.{Cause, IfInvalid};
 ghost use Rattle.implib.specs.Formats.Pass.{Puts};
-ghost use Rattle.implib.specs.Formats.Layout.{InRecord, InStringTable, Fits, FitsAuxiliary, auxiliary_bytes, auxiliary_count, contents, contents_offset, contents_size, header_bytes, encoded, encoded_size, name_field, pointer_or_zero, record_count, records, relocation_bytes, section_header, section_headers, string_bytes_of, string_size, string_table, string_offsets, strings_size, symbol, symbol_bytes, symbol_table_offset};
-ghost use Rattle.implib.specs.Views.Layout.{FitsField, Measured, name_view, layout_view, symbol_view};
+ghost use Rattle.implib.specs.Formats.Layout.{InRecord, InStringTable, Fits, FitsAuxiliary};
+ghost use Rattle.implib.specs.Formats.Layout.{auxiliary_bytes, auxiliary_count, contents};
+ghost use Rattle.implib.specs.Formats.Layout.{contents_offset, contents_size, header_bytes};
+ghost use Rattle.implib.specs.Formats.Layout.{encoded, encoded_size, name_field, pointer_or_zero};
+ghost use Rattle.implib.specs.Formats.Layout.{record_count, records, relocation_bytes};
+ghost use Rattle.implib.specs.Formats.Layout.{section_header, section_headers, string_bytes_of};
+ghost use Rattle.implib.specs.Formats.Layout.{string_size, string_table, string_offsets};
+ghost use Rattle.implib.specs.Formats.Layout.{strings_size, symbol, symbol_bytes};
+ghost use Rattle.implib.specs.Formats.Layout.{symbol_table_offset};
+ghost use Rattle.implib.specs.Views.Layout.{FitsField, Measured, name_view, layout_view};
+ghost use Rattle.implib.specs.Views.Layout.{symbol_view};
 ghost use Rattle.implib.specs.Formats.Writer.{section_view};
 ghost use Rattle.implib.specs.Views.Making.{EncodesObject};
-ghost use Rattle.std.specs.Prelude.{All, ◌*◌, ◌+◌, ◌-◌, ◌<◌, ◌^◌, ◌≡◌, ◌≤◌, ℕ, IfErr, IfOk, OnOk, alloc_error, flat_map, length, map, min, slice_index, sum_by};
+ghost use Rattle.std.specs.Prelude.{All, ◌*◌, ◌+◌, ◌-◌, ◌<◌, ◌^◌, ◌≡◌, ◌≤◌, ℕ, IfErr, IfOk};
+ghost use Rattle.std.specs.Prelude.{alloc_error, flat_map, length, map, min, slice_index, sum_by};
 
 use crate::coff::object::{Relocation, Section};
 use crate::coff::pass::Pass;
 use crate::error::{Error, Fault};
 use std::alloc::{AllocError, Global};
 
-// Sizes in bytes: of the file header, of a section header, of a relocation, of a symbol record, and of
-// the size that begins the string table.
+// Sizes in bytes: of the file header, of a section header, of a relocation, of a symbol record, and
+// of the size that begins the string table.
 const FILE_HEADER_SIZE: u32 = 20;
 
 const SECTION_HEADER_SIZE: u32 = 40;
@@ -107,8 +116,8 @@ struct Measure {
 ///
 /// # Errors
 ///
-/// `Invalid` with `MemberTooLong` where its bytes are more than 2^32 - 1, before they are allocated;
-/// `OutOfMemory`.
+/// `Invalid` with `MemberTooLong` where its bytes are more than 2^32 - 1, before they are
+/// allocated; `OutOfMemory`.
 pub(crate) fn encode(alloc: Global, layout: &ObjectLayout) -> Result<Vec<u8>, Error>
     requires { Fits (layout_view layout.now) }
     ensures { EncodesObject (layout_view layout.now) result }
@@ -214,7 +223,8 @@ fn strings_length(strings: &[&str]) -> u64
 // The offset of each string in the string table.
 fn offsets_of(alloc: Global, strings: &[&str]) -> Result<Vec<u32>, AllocError>
     requires { strings_size (map (λ text. text.now) strings.now) < 2 ^ 32 }
-    ensures { IfOk result (λ offsets. offsets.items ≡ string_offsets (map (λ text. text.now) strings.now)) }
+    ensures { IfOk result
+        (λ offsets. offsets.items ≡ string_offsets (map (λ text. text.now) strings.now)) }
 {
     let mut offsets = Vec::with_capacity(alloc, strings.len())?;
     let mut offset = STRING_TABLE_SIZE_FIELD;
@@ -244,9 +254,11 @@ fn put_file_header(pass: &mut Pass, layout: &ObjectLayout, measure: &Measure)
 // Puts the header of each section.
 fn put_section_headers(pass: &mut Pass, sections: &[Section])
     requires room { 40 * length sections.now ≤ pass.old.left }
-    requires short { 20 + 40 * length sections.now + sum_by contents_size (map section_view sections.now) < 2 ^ 32 }
+    requires short { 20 + 40 * length sections.now
+        + sum_by contents_size (map section_view sections.now) < 2 ^ 32 }
     requires count { All (λ s. length s.relocations.items < 2 ^ 16) sections.now }
-    ensures { Puts pass.old pass.new (section_headers (20 + 40 * length sections.now) (map section_view sections.now)) }
+    ensures { Puts pass.old pass.new
+        (section_headers (20 + 40 * length sections.now) (map section_view sections.now)) }
 {
     let mut offset = FILE_HEADER_SIZE + SECTION_HEADER_SIZE * sections.len() as u32;
     for section in sections {
@@ -327,10 +339,12 @@ fn put_relocation(pass: &mut Pass, relocation: &Relocation)
 
 // Puts each symbol's record, and its auxiliary record.
 fn put_symbols(pass: &mut Pass, symbols: &[LayoutSymbol], offsets: &[u32])
-    requires room { length (flat_map (λ s. symbol_bytes offsets.now (symbol_view s)) symbols.now) ≤ pass.old.left }
+    requires room { length (flat_map (λ s. symbol_bytes offsets.now (symbol_view s)) symbols.now)
+        ≤ pass.old.left }
     requires fits { All (λ s. FitsField (length offsets.now) (name_view s.name)) symbols.now }
     requires aux { All (λ s. FitsAuxiliary s.aux) symbols.now }
-    ensures { Puts pass.old pass.new (flat_map (λ s. symbol_bytes offsets.now (symbol_view s)) symbols.now) }
+    ensures { Puts pass.old pass.new
+        (flat_map (λ s. symbol_bytes offsets.now (symbol_view s)) symbols.now) }
 {
     for symbol in symbols {
         put_symbol(pass, symbol, offsets);

@@ -19,8 +19,8 @@ pub struct Section {
 }
 
 impl Section {
-    /// A section with a copy of these bytes, at most 2^32 - 1 of them, and without relocations. The name is
-    /// filled with NUL; the flags are a sum of those in `coff::flags`.
+    /// A section with a copy of these bytes, at most 2^32 - 1 of them, and without relocations. The
+    /// name is filled with NUL; the flags are a sum of those in `coff::flags`.
     ///
     /// # Errors
     ///
@@ -43,8 +43,8 @@ impl Section {
     }
 }
 
-/// A relocation: the address of a symbol goes into a field of a section's data (PE/COFF specification, "COFF
-/// Relocations").
+/// A relocation: the address of a symbol goes into a field of a section's data (PE/COFF
+/// specification, "COFF Relocations").
 #[derive(Clone, Copy, Debug)]
 pub struct Relocation {
     /// The offset in bytes of the field in the data.
@@ -58,7 +58,8 @@ pub struct Relocation {
 /// A symbol (PE/COFF specification, "COFF Symbol Table").
 #[derive(Debug, Drop)]
 pub struct Symbol {
-    /// The name: one byte or more, without NUL. One of more than 8 bytes goes into the string table.
+    /// The name: one byte or more, without NUL. One of more than 8 bytes goes into the string
+    /// table.
     pub name: String,
     /// The value: the offset in bytes in the section, where the symbol is defined in one.
     pub value: u32,

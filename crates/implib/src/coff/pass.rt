@@ -1,4 +1,4 @@
-//! A writer of bytes whose number is known before.
+//! A writer of a known number of bytes.
 
 ghost use Rattle.implib.specs.Formats.Bytes.{u16_bytes, u32_bytes};
 ghost use Rattle.implib.specs.Formats.Pass.{Puts};
@@ -8,7 +8,7 @@ use crate::error::Error;
 use std::alloc::Global;
 use std::marker::Model;
 
-/// A writer of bytes, front to back, into one reservation. What was put is not changed again.
+/// A writer of bytes, front to back, into one reservation.
 #[derive(Debug, Drop)]
 pub struct Pass {
     bytes: Vec<u8>,
@@ -43,7 +43,7 @@ impl Pass {
         })
     }
 
-    /// Appends a number in 2 bytes, the low one first. There is room for them.
+    /// Appends a number as 2 bytes, little-endian. There must be room for them.
     #[tactic(auto, unfolding(crate::specs::Formats::Bytes::u16_bytes))]
     pub fn put_u16(&mut self, value: u16)
         requires { 2 ≤ self.old.left }
@@ -54,7 +54,7 @@ impl Pass {
         self.left -= 2;
     }
 
-    /// Appends a number in 4 bytes, the low one first. There is room for them.
+    /// Appends a number as 4 bytes, little-endian. There must be room for them.
     #[tactic(auto, unfolding(crate::specs::Formats::Bytes::u32_bytes))]
     pub fn put_u32(&mut self, value: u32)
         requires { 4 ≤ self.old.left }
@@ -65,7 +65,7 @@ impl Pass {
         self.left -= 4;
     }
 
-    /// Appends bytes as they are. There is room for them.
+    /// Appends the bytes. There must be room for them.
     pub fn put_bytes(&mut self, bytes: &[u8])
         requires { length bytes.now ≤ self.old.left }
         ensures puts { Puts self.old self.new bytes.now }

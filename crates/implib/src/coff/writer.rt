@@ -5,11 +5,16 @@ ghost use Rattle.implib.specs.Formats.Object.{object_in, section_numbered};
 ghost use Rattle.implib.specs.Formats.Layout.{Fits, HasNoNul, encoded, encoded_size};
 ghost use Rattle.implib.specs.Views.Layout.{name_view, symbol_view};
 ghost use Rattle.implib.specs.Formats.Writer.{section_view};
-ghost use Rattle.implib.specs.Formats.Writer.{HasRoomFor, IsPlaceAmong, IsSymbolIndex, all_entries, entries_added, long_names, name_location, written_object, layout_of, section_number, symbol_written, with_long_name, with_relocation, with_section, with_symbol};
+ghost use Rattle.implib.specs.Formats.Writer.{HasRoomFor, IsPlaceAmong, IsSymbolIndex, all_entries};
+ghost use Rattle.implib.specs.Formats.Writer.{entries_added, long_names, name_location};
+ghost use Rattle.implib.specs.Formats.Writer.{written_object, layout_of, section_number};
+ghost use Rattle.implib.specs.Formats.Writer.{symbol_written, with_long_name, with_relocation};
+ghost use Rattle.implib.specs.Formats.Writer.{with_section, with_symbol};
 ghost use Rattle.implib.specs.Formats.Writer.{added_view};
 ghost use Rattle.implib.specs.Views.Writer.{writer_state};
 ghost use Rattle.implib.specs.Views.Making.{EncodesObject};
-ghost use Rattle.std.specs.Prelude.{◌+◌, ◌<◌, ◌^◌, ◌≡◌, ◌≤◌, Some, [], IfErr, IfOk, IsSomeAnd, OnErr, OnOk, alloc_error, length, map, string_bytes};
+ghost use Rattle.std.specs.Prelude.{◌+◌, ◌<◌, ◌^◌, ◌≡◌, ◌≤◌, Some, [], IfErr, IfOk, IsSomeAnd};
+ghost use Rattle.std.specs.Prelude.{OnErr, OnOk, alloc_error, length, map, string_bytes};
 
 use crate::coff::constants::section_number;
 use crate::coff::layout::{LayoutSymbol, ObjectLayout, SymbolName, auxiliary_count, encode};
@@ -20,7 +25,7 @@ use indexmap::IndexSet;
 use std::alloc::{AllocError, Global};
 use std::marker::Model;
 
-/// An object that is being made: sections and symbols, in the order in which they are added.
+/// An object under construction: its sections and symbols, in the order in which they are added.
 #[derive(Debug, Drop)]
 pub struct ObjectWriter {
     machine: MachineType,
@@ -47,7 +52,8 @@ impl Model for ObjectWriter {
 
     ghost view = { λ w. writer_state w.machine w.sections.items w.symbols.items };
 
-    ghost invariant = { λ w. IsSound (writer_state w.machine w.sections.items w.symbols.items) w.records };
+    ghost invariant = { λ w.
+        IsSound (writer_state w.machine w.sections.items w.symbols.items) w.records };
 }
 
 impl ObjectWriter {
@@ -94,8 +100,8 @@ impl ObjectWriter {
 
     /// Adds a symbol and gives its index, for which auxiliary records count too.
     ///
-    /// The name has a byte or more and no NUL. The symbol is in no section, or in one that was added. The
-    /// symbol table has at most 2^32 - 1 records.
+    /// The name has a byte or more and no NUL. The symbol is in no section, or in one that was
+    /// added. The symbol table has at most 2^32 - 1 records.
     ///
     /// # Errors
     ///
@@ -120,14 +126,15 @@ impl ObjectWriter {
 
     /// Adds a relocation to the section of this number.
     ///
-    /// The section was added, with four bytes of data at the offset, and has at most 65,535 relocations. The
-    /// symbol's index is one that `add_symbol` gave.
+    /// The section was added, with four bytes of data at the offset, and has at most 65,535
+    /// relocations. The symbol's index is one that `add_symbol` gave.
     ///
     /// # Errors
     ///
     /// `OutOfMemory` alone; the writer is as before.
     pub fn add_relocation(&mut self, section: u16, relocation: Relocation) -> Result<(), Error>
-        requires section { IsSomeAnd (section_numbered self.old.sections section) (HasRoomFor relocation) }
+        requires section { IsSomeAnd (section_numbered self.old.sections section)
+            (HasRoomFor relocation) }
         requires symbol { IsSymbolIndex self.old.symbols relocation.symbol }
         ensures ok { OnOk result (self.new ≡ with_relocation self.old section relocation) }
         ensures err { OnErr result (self.new ≡ self.old) }
@@ -146,8 +153,10 @@ impl ObjectWriter {
     /// `OutOfMemory`.
     pub fn write(&self) -> Result<Vec<u8>, Error>
         ensures bytes { IfOk result (λ bytes. bytes.items ≡ encoded (layout_of self.now)) }
-        ensures read { IfOk result (λ bytes. object_in bytes.items ≡ Some (written_object self.now)) }
-        ensures length { IfOk result (λ bytes. length bytes.items ≡ encoded_size (layout_of self.now)) }
+        ensures read { IfOk result
+            (λ bytes. object_in bytes.items ≡ Some (written_object self.now)) }
+        ensures length { IfOk result
+            (λ bytes. length bytes.items ≡ encoded_size (layout_of self.now)) }
         ensures short { OnOk result (encoded_size (layout_of self.now) < 2 ^ 32) }
         ensures refused { IfInvalid result (λ cause.
             (cause ≡ Cause.MemberTooLong) × (2 ^ 32 ≤ encoded_size (layout_of self.now))) }
@@ -183,7 +192,8 @@ fn names_of(alloc: Global, symbols: &[Symbol]) -> Result<Names<'_>, AllocError>
     ensures strings { IfOk result (λ names.
         map (λ text. text.now) names.strings.keys ≡ long_names (map added_view symbols.now)) }
     ensures symbols { IfOk result (λ names. map symbol_view names.symbols.items
-        ≡ map (symbol_written (long_names (map added_view symbols.now))) (map added_view symbols.now)) }
+        ≡ map (symbol_written (long_names (map added_view symbols.now)))
+        (map added_view symbols.now)) }
 {
     let mut strings = IndexSet::new(alloc);
     let mut named = Vec::with_capacity(alloc, symbols.len())?;
@@ -206,7 +216,8 @@ fn names_of(alloc: Global, symbols: &[Symbol]) -> Result<Names<'_>, AllocError>
 fn name_of<'a>(strings: &mut IndexSet<&'a str>, text: &'a str) -> Result<SymbolName<'a>, AllocError>
     ensures strings { OnOk result (map (λ t. t.now) strings.new.keys
         ≡ with_long_name (map (λ t. t.now) strings.old.keys) text.now) }
-    ensures name { IfOk result (λ name. name_view name ≡ name_location (map (λ t. t.now) strings.new.keys) text.now) }
+    ensures name { IfOk result
+        (λ name. name_view name ≡ name_location (map (λ t. t.now) strings.new.keys) text.now) }
 {
     if text.len() > LONGEST_IN_RECORD {
         let (index, _) = strings.insert_full(text)?;

@@ -1,6 +1,7 @@
 //! What a module definition says: its settings and its exports.
 
-ghost use Rattle.implib.specs.Definition.{definition_view, empty_definition, empty_export, export_view};
+ghost use Rattle.implib.specs.Definition.{definition_view, empty_definition, empty_export};
+ghost use Rattle.implib.specs.Definition.{export_view};
 ghost use Rattle.implib.specs.Fault.{error_cause};
 ghost use Rattle.implib.specs.Renaming.{renamed, renamed_export};
 ghost use Rattle.std.specs.Prelude.{◌≡◌, IfErr, IfOk, None, map};
@@ -11,26 +12,27 @@ use std::alloc::Global;
 /// One export of a module definition.
 #[derive(Debug, Drop)]
 pub struct ShortExport {
-    /// The name to link by; where `ext_name` is given, the name inside the DLL. On I386 parsing puts `_`
+    /// The linker symbol; if `ext_name` is set, the DLL-internal name. On I386 parsing puts `_`
     /// before it, and before `ext_name`, unless it is decorated.
     pub name: String,
-    /// The name outside the DLL, where it differs. An import library moves it into `name`.
+    /// The linker symbol, if `name` is the DLL-internal name. An import library moves it into
+    /// `name`.
     pub ext_name: Option<String>,
-    /// The symbol of the short import, where it differs from `name`; empty for none. Parsing leaves it empty.
-    /// It has no effect for GNU's linker.
+    /// The symbol of the short import, where it differs from `name`; empty for none. Parsing leaves
+    /// it empty. It has no effect for GNU's linker.
     pub symbol_name: String,
-    /// What the name is a weak external for (`==`); empty for none.
+    /// The alias target (`==`): what the linker symbol is a weak external for; empty for none.
     pub alias_target: String,
-    /// The ordinal, or the hint of an export that is asked for by name. It is 0 where none is given; this is
-    /// not distinguished from `@0`.
+    /// The ordinal, or the hint of an import by name. It is 0 where none is given, and for `@0`.
     pub ordinal: u16,
-    /// Whether the export is asked for by its ordinal (`NONAME`).
+    /// Whether the import is by ordinal (`NONAME`).
     pub no_name: bool,
     /// Whether it is data (`DATA`): then only its `__imp_` symbol is declared.
     pub is_data: bool,
     /// Whether it is left out of the import library (`PRIVATE`).
     pub private: bool,
-    /// Whether it is a constant (`CONSTANT`). It has no effect for GNU's linker, nor beside `is_data`.
+    /// Whether it is a constant (`CONSTANT`). It has no effect for GNU's linker, nor beside
+    /// `is_data`.
     pub constant: bool,
 }
 
@@ -39,10 +41,11 @@ pub struct ShortExport {
 pub struct ModuleDef {
     /// The exports, in the order of the text.
     pub exports: Vec<ShortExport>,
-    /// The name of the DLL or program; empty where no statement gives it. An import library of an empty name
-    /// has no members: `ImportLibrary::members` refuses it with `EmptyImportName`.
+    /// The name of the DLL or program; empty where no statement gives it. An import library of an
+    /// empty name has no members: `ImportLibrary::members` refuses it with `EmptyImportName`.
     pub import_name: String,
-    /// `BASE`: the preferred address of the image, in bytes; 0 where none is given. No alignment is required.
+    /// `BASE`: the preferred address of the image, in bytes; 0 where none is given. No alignment is
+    /// required.
     pub image_base: u64,
     /// `STACKSIZE`: the size in bytes to reserve for the stack; 0 where none is given.
     pub stack_reserve: u64,
@@ -86,7 +89,8 @@ impl ShortExport {
     ///
     /// `OutOfMemory` alone.
     pub fn named(alloc: Global, name: &str) -> Result<Self, Error>
-        ensures ok { IfOk result (λ export. export_view export ≡ record empty_export { name = name.now }) }
+        ensures ok { IfOk result
+            (λ export. export_view export ≡ record empty_export { name = name.now }) }
         ensures memory { IfErr result (λ error. error_cause error ≡ None) }
     {
         let mut export = ShortExport::empty(alloc);
@@ -94,7 +98,7 @@ impl ShortExport {
         Ok(export)
     }
 
-    /// An equal export.
+    /// A copy of the export.
     ///
     /// # Errors
     ///
@@ -141,7 +145,7 @@ impl ModuleDef {
         }
     }
 
-    /// An equal definition.
+    /// A copy of the definition.
     ///
     /// # Errors
     ///
@@ -166,9 +170,10 @@ impl ModuleDef {
     }
 }
 
-// Equal exports, in order.
+// Copies of the exports, in order.
 fn clone_exports(exports: &Vec<ShortExport>) -> Result<Vec<ShortExport>, Error>
-    ensures ok { IfOk result (λ copies. map export_view copies.items ≡ map export_view exports.now.items) }
+    ensures ok { IfOk result
+        (λ copies. map export_view copies.items ≡ map export_view exports.now.items) }
     ensures memory { IfErr result (λ error. error_cause error ≡ None) }
 {
     let mut copies = Vec::with_capacity(*exports.allocator(), exports.len())?;
@@ -178,7 +183,7 @@ fn clone_exports(exports: &Vec<ShortExport>) -> Result<Vec<ShortExport>, Error>
     Ok(copies)
 }
 
-/// Moves each external name that is given into the name.
+/// Replaces each export's name by its `ext_name`, where that is set.
 pub(crate) fn rename(mut def: ModuleDef) -> ModuleDef
     ensures { definition_view result ≡ renamed (definition_view def) }
 {
@@ -188,7 +193,7 @@ pub(crate) fn rename(mut def: ModuleDef) -> ModuleDef
     def
 }
 
-// Moves the external name, where it is given, into the name.
+// Replaces the name by `ext_name`, where that is set.
 fn rename_export(export: &mut ShortExport)
     ensures { export_view export.new ≡ renamed_export (export_view export.old) }
 {

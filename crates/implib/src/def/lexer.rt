@@ -1,10 +1,13 @@
 //! The tokens of a module definition, as slices of its text (docs/GRAMMAR.md, "Tokens").
 
-ghost use Rattle.implib.specs.Views.Scanner.{BeginsNoTrivia, PassesTrivia, SkipsTrivia, StartsWord, TakesLexeme, TakesToken, tokens_left};
-ghost use Rattle.implib.specs.Text.Token.{is_delimiter, is_equal_sign, is_quote, kind_of_word, token_view, value_start, IsWordEnd, Lexed, TokenView};
+ghost use Rattle.implib.specs.Views.Scanner.{BeginsNoTrivia, PassesTrivia, SkipsTrivia, StartsWord};
+ghost use Rattle.implib.specs.Views.Scanner.{TakesLexeme, TakesToken, tokens_left};
+ghost use Rattle.implib.specs.Text.Token.{is_delimiter, is_equal_sign, is_quote, kind_of_word};
+ghost use Rattle.implib.specs.Text.Token.{token_view, value_start, IsWordEnd, Lexed, TokenView};
 ghost use Rattle.implib.specs.Ascii.{begins};
 ghost use Rattle.std.specs.Iterator.{item_count, YieldsFirstBy};
-ghost use Rattle.std.specs.Prelude.{◌≡◌, ◌==◌, ◌+◌, ◌<◌, ◌≤◌, ◌^◌, [], ◌∷◌, drop, length, take, true, List};
+ghost use Rattle.std.specs.Prelude.{◌≡◌, ◌==◌, ◌+◌, ◌<◌, ◌≤◌, ◌^◌, [], ◌∷◌, drop, length, take};
+ghost use Rattle.std.specs.Prelude.{true, List};
 ghost use Rattle.std.specs.Str.{trim, IsCharBoundary, IsUtf8};
 
 use crate::ascii::begins_with;
@@ -62,8 +65,8 @@ impl fmt::Display for TokenKind {
 pub struct Token<'a> {
     /// What the token is.
     pub kind: TokenKind,
-    /// Its value, a slice of the text: of a word without white space at its end, of a quoted name without
-    /// white space at both ends; empty at the end of the text.
+    /// The value, a slice of the text: a word without trailing white space, or a quoted name
+    /// without white space at either end. It is empty at the end of the text.
     pub value: &'a str,
     /// The offset in bytes of `value` in the text.
     pub at: usize,
@@ -86,7 +89,7 @@ impl<'a> Model for Lexer<'a> {
 }
 
 impl<'a> Lexer<'a> {
-    /// The tokens of `text`, none of them given yet.
+    /// A lexer at the beginning of `text`.
     pub fn new(text: &'a str) -> Self
         ensures { Lexed text.now result }
     {
@@ -118,11 +121,10 @@ impl<'a> Iterator for Lexer<'a> {
     }
 }
 
-/// Where a word ends that goes on at the index `from`: the index of the next byte that ends a word,
-/// which may be at `from` itself, or the length.
+/// The index of the first delimiter at or after `from`, or the length.
 ///
-/// `=`, `,`, `;`, `\r`, `\n`, space, `\t` and `\x0B` end a word. `from` is at most the length. The bytes need
-/// not be UTF-8.
+/// The delimiters are `=`, `,`, `;`, `\r`, `\n`, space, `\t` and `\x0B`. `from` is at most the
+/// length. The bytes need not be UTF-8.
 pub fn word_end(bytes: &[u8], from: usize) -> usize
     requires { from ≤ length bytes.now }
     ensures { IsWordEnd bytes.now from result }
@@ -188,7 +190,8 @@ fn first_token<'a>(text: &'a str, at: usize) -> (Token<'a>, &'a str)
 // The token whose value is the first `len` bytes, and what follows them.
 fn cut_token<'a>(kind: TokenKind, text: &'a str, len: usize, at: usize) -> (Token<'a>, &'a str)
     requires { IsCharBoundary text.now len }
-    ensures token { token_view result.0 ≡ record { kind = kind; value = take len text.now; at = at } }
+    ensures token { token_view result.0
+        ≡ record { kind = kind; value = take len text.now; at = at } }
     ensures after { result.1.now ≡ drop len text.now }
 {
     let (value, after) = text.split_at(len);
@@ -264,7 +267,7 @@ fn word<'a>(text: &'a str, at: usize) -> (Token<'a>, &'a str)
     (Token { kind, value, at }, after)
 }
 
-// The kind of a word; a keyword is one in this case alone.
+// The kind of a word; keywords are case-sensitive.
 #[tactic(auto, unfolding(crate::specs::Text::Token::kind_of_word))]
 fn word_kind(word: &str) -> TokenKind
     ensures { result ≡ kind_of_word word.now }

@@ -4,9 +4,11 @@ ghost use Rattle.implib.specs.Definition.{definition_view};
 ghost use Rattle.implib.specs.Fault.{IfInvalid};
 ghost use Rattle.implib.specs.Text.Parser.{ParsesFrom, RefusesFrom};
 ghost use Rattle.implib.specs.Text.Parses.{Parses, Refuses};
-ghost use Rattle.implib.specs.Views.Parser.{all_put, Gives, OfRefusal, one_put, RefusesFromAt, settings_put};
+ghost use Rattle.implib.specs.Views.Parser.{all_put, Gives, OfRefusal, one_put, RefusesFromAt};
+ghost use Rattle.implib.specs.Views.Parser.{settings_put};
 ghost use Rattle.implib.specs.Text.RefusedAt.{IsRefusedAt};
-ghost use Rattle.implib.specs.Views.TokenReader.{name_read, statement_read, statements_read, with_statement};
+ghost use Rattle.implib.specs.Views.TokenReader.{name_read, statement_read, statements_read};
+ghost use Rattle.implib.specs.Views.TokenReader.{with_statement};
 ghost use Rattle.implib.specs.Text.Token.{Lexed};
 ghost use Rattle.std.specs.Prelude.{◌≡◌, ◌<◌, ◌≤◌, length, IfErr, IfOk, IsTrue, OnOk};
 
@@ -40,11 +42,13 @@ impl ModuleDef {
         Parser::new(def, machine).parse(alloc)
     }
 
-    /// The same, with the position of the token that a fault names: the first one, from the left, that no
-    /// derivation allows. Its offset is that of the token's value, as [`Token::at`] is: of a quoted name that
-    /// of its value behind the quote, of `Eof` that of the end, which is the text's length or a NUL.
+    /// What a text means on a machine, as [`ModuleDef::parse`] gives it; a fault comes with its
+    /// position.
     ///
-    /// A refused text is passed once more, to find line and column.
+    /// The fault is that of the first token, from the left, that no derivation allows. The position
+    /// is that of the token's value ([`Token::at`]): a quoted name begins behind its quote, and
+    /// `Eof` is at the end of the text, which is its length or a NUL. Line and column take a second
+    /// pass over a refused text.
     ///
     /// # Errors
     ///
@@ -71,7 +75,7 @@ impl ModuleDef {
 
 /// A parser of one module definition, for one machine.
 ///
-/// It borrows the text, and keeps no copy of it.
+/// It borrows the text and copies nothing.
 #[derive(Drop)]
 pub struct Parser<'a> {
     tokens: Tokens<'a>,
@@ -102,10 +106,10 @@ impl<'a> Parser<'a> {
     ///
     /// # Errors
     ///
-    /// `Invalid` where the text is no module definition, with the fault of the first token, from the left,
-    /// that no derivation allows: `UnknownDirective`, `ExpectedIdentifier`, `ExpectedEqual`,
-    /// `ExpectedInteger`, `InvalidOrdinal` or `LoneAt` (docs/GRAMMAR.md, "Syntax errors"). `OutOfMemory`
-    /// where an allocation failed.
+    /// `Invalid` where the text is no module definition, with the fault of the first token, from
+    /// the left, that no derivation allows: `UnknownDirective`, `ExpectedIdentifier`,
+    /// `ExpectedEqual`, `ExpectedInteger`, `InvalidOrdinal` or `LoneAt` (docs/GRAMMAR.md, "Syntax
+    /// errors"). `OutOfMemory` where an allocation failed.
     pub fn parse(self, alloc: Global) -> Result<ModuleDef, Error>
         ensures parses { IfOk result (λ d. ParsesFrom self.entry (definition_view d)) }
         ensures refused { IfInvalid result (RefusesFrom self.entry) }
@@ -191,7 +195,7 @@ impl<'a> Tokens<'a> {
         Ok(true)
     }
 
-    // Sets the name and the base, to nothing and 0 where they are not given.
+    // Sets the name and the base; they are empty and 0 where they are not given.
     fn set_name(&mut self, alloc: Global, def: &mut ModuleDef) -> Result<(), ReadError>
         ensures read { Gives (λ _. (definition_view def.new, self.new)) result
             (settings_put (definition_view def.old) (name_read self.old)) }

@@ -19,7 +19,7 @@ pub struct Position {
 impl Position {
     /// The position of the byte at `offset` in the text, in one pass over the bytes before it.
     ///
-    /// The end of the text has a position, too; line and column of a greater offset are those of the end.
+    /// The end of the text has a position too. A greater offset has the line and column of the end.
     pub fn at(text: &str, offset: usize) -> Position
         ensures { result ≡ position_at text.now offset }
     {

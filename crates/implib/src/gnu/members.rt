@@ -1,21 +1,25 @@
 //! The members for GNU's linker.
 
 ghost use Rattle.implib.specs.Definition.{definition_view, export_view};
-ghost use Rattle.implib.specs.Fault.{IfInvalid, MemberTooLong};
+ghost use Rattle.implib.specs.Fault.{IfInvalid};
 ghost use Rattle.implib.specs.Members.Gnu.{archive_symbols, head_symbol};
 ghost use Rattle.implib.specs.Import.{imp_symbol, holds, is_alias, is_empty_text, public_exports};
 ghost use Rattle.implib.specs.Library.{member_view};
-ghost use Rattle.implib.specs.Members.Members.{AreMembersOf, has_u16_ordinal, is_too_long, member_specs, refusal};
-ghost use Rattle.implib.specs.Members.NameRules.{RefusesAlways, definition_names_refusal, holds_nul};
-ghost use Rattle.implib.specs.Members.GnuMembers.{alias_specs, export_spec, gnu_member_count, head_spec, numbered_specs, numbered_specs_of, tail_spec};
+ghost use Rattle.implib.specs.Members.Members.{AreMembersOf, has_u16_ordinal, member_specs};
+ghost use Rattle.implib.specs.Members.Members.{refusal};
+ghost use Rattle.implib.specs.Members.NameRules.{RefusesAlways, definition_names_refusal};
+ghost use Rattle.implib.specs.Members.NameRules.{holds_nul};
+ghost use Rattle.implib.specs.Members.GnuMembers.{alias_specs, export_spec, gnu_member_count};
+ghost use Rattle.implib.specs.Members.GnuMembers.{head_spec, numbered_specs, numbered_specs_of};
+ghost use Rattle.implib.specs.Members.GnuMembers.{tail_spec};
 ghost use Rattle.implib.specs.Members.WeakExternal.{weak_spec};
-ghost use Rattle.implib.specs.Members.MemberSpec.{member_of};
 ghost use Rattle.implib.specs.Members.ReadBack.{ReadBack};
 ghost use Rattle.implib.specs.Renaming.{is_renamed};
 ghost use Rattle.implib.specs.declared.flavor.Flavor.TheVariants.{Gnu};
 ghost use Rattle.implib.specs.Views.Making.{MakesMember, MakesMembers, PushesMembers};
-ghost use Rattle.std.specs.List.{list_all, list_any, sum_by};
-ghost use Rattle.std.specs.Prelude.{None, Some, [], false, map, min, string_bytes, true, ◌+◌, ◌++◌, ◌∷◌, ◌≡◌, IfOk, OnOk};
+ghost use Rattle.std.specs.List.{list_all, sum_by};
+ghost use Rattle.std.specs.Prelude.{None, Some, [], false, map, min, string_bytes, true, ◌+◌, ◌∷◌};
+ghost use Rattle.std.specs.Prelude.{◌≡◌, IfOk, OnOk};
 
 use crate::def::definition::{ModuleDef, ShortExport};
 use crate::error::Error;
@@ -37,9 +41,12 @@ const HEAD_AND_TAIL: usize = 2;
 /// The members, in order, of a definition whose exports are under their names to link by.
 pub(crate) fn members(def: &ModuleDef, machine: MachineType) -> Result<Vec<Member>, Error>
     requires { is_renamed (map export_view def.now.exports.items) ≡ true }
-    ensures ok { IfOk result (λ members. AreMembersOf (definition_view def.now) machine Gnu (map member_view members.items)) }
-    ensures reads { IfOk result (λ members. ReadBack (definition_view def.now) machine Gnu (map member_view members.items)) }
-    ensures refused { IfInvalid result (λ cause. refusal (definition_view def.now) machine Gnu ≡ Some cause) }
+    ensures ok { IfOk result (λ members.
+        AreMembersOf (definition_view def.now) machine Gnu (map member_view members.items)) }
+    ensures reads { IfOk result (λ members.
+        ReadBack (definition_view def.now) machine Gnu (map member_view members.items)) }
+    ensures refused { IfInvalid result
+        (λ cause. refusal (definition_view def.now) machine Gnu ≡ Some cause) }
     ensures names_refused_always { RefusesAlways (definition_view def.now) machine Gnu result }
 {
     match names_fault(def, machine, Flavor::Gnu) {
@@ -64,8 +71,8 @@ fn named_members(def: &ModuleDef, machine: MachineType) -> Result<Vec<Member>, E
     Ok(members)
 }
 
-// The members of the exports, by the head's symbol, in the order of building, with room for the head and
-// the tail.
+// The members of the exports in the reverse of their final order, with room for the head and the
+// tail.
 fn build(def: &ModuleDef, machine: MachineType, head: &str) -> Result<Vec<Member>, Error>
     requires names { definition_names_refusal (definition_view def.now) machine Gnu ≡ None }
     requires head { head.now ≡ head_symbol machine (definition_view def.now).import_name }
@@ -88,7 +95,8 @@ fn build(def: &ModuleDef, machine: MachineType, head: &str) -> Result<Vec<Member
 
 // The number of members; 2^64 - 1 where it is more.
 fn member_count(def: &ModuleDef) -> usize
-    ensures { result ≡ min u64.MAX (2 + sum_by gnu_member_count (public_exports (definition_view def.now))) }
+    ensures { result
+        ≡ min u64.MAX (2 + sum_by gnu_member_count (public_exports (definition_view def.now))) }
 {
     let mut count = HEAD_AND_TAIL;
     for export in def.exports.iter() {
@@ -105,12 +113,12 @@ fn member_count(def: &ModuleDef) -> usize
 
 // Whether the export's name is weak for another.
 fn has_aliases(export: &ShortExport) -> bool
-    ensures { result ≡ is_alias (export_view export.now).alias_target (export_view export.now).name }
+    ensures { result
+        ≡ is_alias (export_view export.now).alias_target (export_view export.now).name }
 {
     is_alias(export.alias_target.as_str(), export.name.as_str())
 }
 
-// Pushes the head and the tail.
 fn push_head_and_tail(
     members: &mut Vec<Member>,
     machine: MachineType,
@@ -125,7 +133,6 @@ fn push_head_and_tail(
     Ok(())
 }
 
-// The head.
 #[tactic(auto, unfolding(crate::specs::Members::GnuMembers::head_spec))]
 fn head_member(alloc: Global, machine: MachineType, dll: &str) -> Result<Member, Error>
     requires { holds 0 dll.now ≡ false }
@@ -137,7 +144,6 @@ fn head_member(alloc: Global, machine: MachineType, dll: &str) -> Result<Member,
     Ok(Member::of_symbol(alloc, head_name(alloc, dll)?, bytes, symbol)?)
 }
 
-// The tail.
 #[tactic(auto, unfolding(crate::specs::Members::GnuMembers::tail_spec))]
 fn tail_member(alloc: Global, machine: MachineType, dll: &str) -> Result<Member, Error>
     requires { holds 0 dll.now ≡ false }
@@ -148,7 +154,7 @@ fn tail_member(alloc: Global, machine: MachineType, dll: &str) -> Result<Member,
     Ok(Member::of_symbol(alloc, tail_name(alloc, dll)?, bytes, symbol)?)
 }
 
-// Pushes the weak externals of an export, if any, and then the export; the number is the export's.
+// Pushes the weak externals of an export, if any, and then the member of the export.
 #[tactic(auto, unfolding(crate::specs::Members::GnuMembers::alias_specs))]
 fn push_export(
     members: &mut Vec<Member>,
@@ -162,7 +168,8 @@ fn push_export(
     requires head { head.now ≡ head_symbol machine dll.now }
     requires nul { holds_nul (export_view export.now) ≡ false }
     requires filled { is_empty_text (export_view export.now).name ≡ false }
-    ensures pushed { PushesMembers (numbered_specs_of machine dll.now number (export_view export.now))
+    ensures pushed { PushesMembers
+        (numbered_specs_of machine dll.now number (export_view export.now))
         members.old.items members.new.items result }
     ensures ordinal { OnOk result (has_u16_ordinal (export_view export.now) ≡ true) }
 {
@@ -183,7 +190,8 @@ fn push_weak_externals(
     dll: &str,
 ) -> Result<(), Error>
     requires nul { holds_nul (export_view export.now) ≡ false }
-    requires aliases { is_alias (export_view export.now).alias_target (export_view export.now).name ≡ true }
+    requires aliases { is_alias (export_view export.now).alias_target (export_view export.now).name
+        ≡ true }
     ensures { PushesMembers (alias_specs machine dll.now number (export_view export.now))
         members.old.items members.new.items result }
 {
@@ -199,14 +207,15 @@ fn push_weak_externals(
     Ok(())
 }
 
-// The archive symbols of an export, whose `__imp_` symbol is given.
+// The archive symbols of an export; `address` is its `__imp_` symbol.
 fn archive_symbols(
     alloc: Global,
     export: &ShortExport,
     address: String,
 ) -> Result<Vec<String>, AllocError>
     requires { string_bytes address ≡ imp_symbol (export_view export.now).name }
-    ensures { IfOk result (λ symbols. map string_bytes symbols.items ≡ archive_symbols (export_view export.now)) }
+    ensures { IfOk result
+        (λ symbols. map string_bytes symbols.items ≡ archive_symbols (export_view export.now)) }
 {
     if export.is_data {
         return Ok(vec![in alloc; address]?);

@@ -1,6 +1,8 @@
 //! The names of the members for GNU's linker, and of the head's and the tail's symbols.
 
-ghost use Rattle.implib.specs.Members.Gnu.{export_name, five_digits, head_name, head_symbol, iname_symbol, mangled_name, numbered_name, tail_name, weak_address_name, weak_name};
+ghost use Rattle.implib.specs.Members.Gnu.{export_name, five_digits, head_name, head_symbol};
+ghost use Rattle.implib.specs.Members.Gnu.{iname_symbol, mangled_name, numbered_name, tail_name};
+ghost use Rattle.implib.specs.Members.Gnu.{weak_address_name, weak_name};
 ghost use Rattle.std.specs.List.{position};
 ghost use Rattle.std.specs.Prelude.{string_bytes, ◌++◌, ◌==◌, ◌≡◌, IfOk, OnOk};
 
@@ -30,10 +32,10 @@ fn push_mangled_name(out: &mut String, dll: &str) -> Result<(), AllocError>
     Ok(())
 }
 
-// Room for what follows the mangled name in a member's name, which is seldom more: `_a_s00000.o`.
+// Room for what mostly follows the mangled name: `_a_s00000.o`.
 const AFTER_MANGLED_NAME: usize = 11;
 
-// The DLL's name with each full stop as an underscore, and then this text; there is room for more.
+// The mangled DLL name followed by this text, with room for more.
 fn mangled_name_with(alloc: Global, dll: &str, end: &str) -> Result<String, AllocError>
     ensures { IfOk result (λ name. string_bytes name ≡ mangled_name dll.now ++ end.now) }
 {
@@ -66,7 +68,7 @@ fn push_five_digits(out: &mut String, number: usize) -> Result<(), AllocError>
     write!(out, "{number:05}")
 }
 
-// The name of a member of the export of this number; the letter says of which.
+// The name of a member of the export of this number; the letter tells which member.
 #[tactic(auto, unfolding(crate::specs::Members::Gnu::numbered_name))]
 fn numbered_name(
     alloc: Global,

@@ -1,18 +1,21 @@
-//! The objects for GNU's linker: the head, the tail, and the exports (docs/FORMATS.md, "Members for GNU's
-//! linker").
+//! The objects for GNU's linker: the head, the tail, and the exports (docs/FORMATS.md, "Members for
+//! GNU's linker").
 
 ghost use Rattle.implib.specs.Definition.{export_view};
 ghost use Rattle.implib.specs.Formats.Constants.{align_4bytes, cnt_code, mem_execute_read};
-ghost use Rattle.implib.specs.Fault.{IfInvalid, MemberTooLong};
-ghost use Rattle.implib.specs.Members.Gnu.{added, empty_sections, export_object, export_symbols, file_symbol, head_object, head_sections, head_symbol, head_symbols, hint_name, hint_name_symbol, iname_symbol, relocations_of_stub, relocations_of_thunk, section, stub, tail_object, tail_sections, tail_symbols, thunk};
+ghost use Rattle.implib.specs.Members.Gnu.{added, empty_sections, export_object, export_symbols};
+ghost use Rattle.implib.specs.Members.Gnu.{file_symbol, head_object, head_sections, head_symbol};
+ghost use Rattle.implib.specs.Members.Gnu.{head_symbols, hint_name, hint_name_symbol, iname_symbol};
+ghost use Rattle.implib.specs.Members.Gnu.{relocations_of_stub, relocations_of_thunk, section};
+ghost use Rattle.implib.specs.Members.Gnu.{stub, tail_object, tail_sections, tail_symbols, thunk};
 ghost use Rattle.implib.specs.Import.{imp_symbol, holds, is_empty_text};
 ghost use Rattle.implib.specs.Underscore.{asked_name};
 ghost use Rattle.implib.specs.Members.ImportTables.{thunk_width};
-ghost use Rattle.implib.specs.Formats.Layout.{encoded, encoded_size};
 ghost use Rattle.implib.specs.Views.Table.{section_row, symbol_row};
 ghost use Rattle.implib.specs.Formats.Writer.{layout_of};
 ghost use Rattle.implib.specs.Views.Making.{EncodesObject};
-ghost use Rattle.std.specs.Prelude.{◌+◌, [], false, map, string_bytes, true, ◌∷◌, ◌++◌, ◌<◌, ◌^◌, ◌≡◌, ◌≤◌, IfOk, OnOk, if◌then◌else◌, take};
+ghost use Rattle.std.specs.Prelude.{◌+◌, [], false, map, string_bytes, ◌∷◌, ◌++◌, ◌<◌, ◌≡◌, IfOk};
+ghost use Rattle.std.specs.Prelude.{if◌then◌else◌, take};
 
 use crate::coff::constants::{class, flags, relocation};
 use crate::coff::object::{Place, Relocation};
@@ -29,7 +32,7 @@ const TEXT: u32 = flags::CNT_CODE | flags::MEM_EXECUTE | flags::MEM_READ;
 
 const BSS: u32 = flags::CNT_UNINITIALIZED_DATA | flags::MEM_READ | flags::MEM_WRITE;
 
-// The flags of what the head and the tail put into the import tables: 0xC0300040.
+// The flags of the head's and the tail's import-table sections: 0xC0300040.
 const TABLE_FLAGS: u32 = DATA | flags::ALIGN_4BYTES;
 
 // The names of the sections that every object has, filled with NUL.
@@ -39,10 +42,10 @@ const DATA_NAME: [u8; 8] = *b".data\0\0\0";
 
 const BSS_NAME: [u8; 8] = *b".bss\0\0\0\0";
 
-// The flags of what an export puts into the import tables: 0xC0300000.
+// The flags of an export's import-table sections: 0xC0300000.
 const ENTRY_FLAGS: u32 = flags::ALIGN_4BYTES | flags::MEM_READ | flags::MEM_WRITE;
 
-// The top bit of a thunk, in its last byte, says that it is an ordinal.
+// The top bit of a thunk, in its last byte, marks an ordinal.
 const ORDINAL_BYTE: u8 = 0x80;
 
 // The index of an export's `__imp_` symbol, where the export has code.
@@ -51,7 +54,6 @@ const IMP_SYMBOL: u32 = 2;
 // The auxiliary record of the file's name.
 const FILE_AUXILIARY: [u8; 18] = *b"fake\0\0\0\0\0\0\0\0\0\0\0\0\0\0";
 
-// A section.
 fn section<'a>(
     name: [u8; 8],
     flags: u32,
@@ -68,14 +70,13 @@ fn section<'a>(
     }
 }
 
-// A section that holds nothing.
 fn empty_section(name: [u8; 8], flags: u32) -> SectionRow<'static>
     ensures { section_row result ≡ section name flags [] [] }
 {
     section(name, flags, &[], &[])
 }
 
-// The sections of the head or of the tail: the empty ones, and then these.
+// The sections of the head or of the tail: `.text`, `.data` and `.bss`, all empty, and then these.
 fn head_or_tail_sections<'a>(
     first: SectionRow<'a>,
     second: SectionRow<'a>,
@@ -181,7 +182,8 @@ pub(crate) fn tail_object(
     write_table(alloc, machine, &sections, &symbols)
 }
 
-// The instructions that jump to the address of the import (docs/FORMATS.md, "Stubs"); data has none.
+// The instructions that jump to the address of the import (docs/FORMATS.md, "Stubs"); data has
+// none.
 #[tactic(auto, unfolding(crate::specs::Members::Gnu::stub))]
 fn stub(export: &ShortExport, machine: MachineType) -> &'static [u8]
     ensures { result.now ≡ stub machine (export_view export.now) }
@@ -196,7 +198,7 @@ fn stub(export: &ShortExport, machine: MachineType) -> &'static [u8]
     }
 }
 
-// The relocations of these instructions.
+// The relocations of the stub (docs/FORMATS.md, "Stubs").
 #[tactic(auto, unfolding(crate::specs::Members::Gnu::relocations_of_stub))]
 fn stub_relocations(export: &ShortExport, machine: MachineType) -> &'static [Relocation]
     ensures { result.now ≡ relocations_of_stub machine (export_view export.now) }
@@ -235,8 +237,7 @@ fn stub_relocations(export: &ShortExport, machine: MachineType) -> &'static [Rel
     }
 }
 
-// The entry of the export in the lookup table and in the address table; it is the first bytes of the
-// result, as many as an entry has.
+// The thunk of the export; only the first `thunk_width` bytes count.
 #[tactic(auto, unfolding(crate::specs::Members::Gnu::thunk, crate::specs::Formats::Bytes::u16_bytes))]
 fn thunk(export: &ShortExport, machine: MachineType) -> [u8; 8]
     ensures { take (thunk_width machine) result ≡ thunk machine (export_view export.now) }
@@ -252,21 +253,21 @@ fn thunk(export: &ShortExport, machine: MachineType) -> [u8; 8]
     }
 }
 
-// The index of the symbol of the hint and the name.
+// The index of the symbol of the hint/name table entry.
 fn hint_name_symbol(export: &ShortExport) -> u32
     ensures { result ≡ hint_name_symbol (export_view export.now) }
 {
     if export.is_data { 2 } else { 3 }
 }
 
-// The relocations of an entry, where there is a name.
+// The relocations of a thunk; an ordinal has none.
 fn entry_relocations<'a>(export: &ShortExport, by_name: &'a [Relocation]) -> &'a [Relocation]
     ensures { result.now ≡ (if (export_view export.now).no_name then [] else by_name.now) }
 {
     if export.no_name { &[] } else { by_name }
 }
 
-// The hint and the name that the export asks the DLL for.
+// The hint/name table entry of the export; empty for an ordinal.
 #[tactic(auto, unfolding(crate::specs::Members::Gnu::hint_name, crate::specs::Formats::Bytes::u16_bytes))]
 fn hint_name(
     alloc: Global,

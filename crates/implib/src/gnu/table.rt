@@ -1,13 +1,13 @@
 //! An object as a table: the rows of its sections and symbols, and the writer that takes them.
 
-ghost use Rattle.implib.specs.Fault.{IfInvalid, MemberTooLong};
-ghost use Rattle.implib.specs.Formats.Layout.{encoded, encoded_size};
 ghost use Rattle.implib.specs.Formats.Object.{section_numbered};
-ghost use Rattle.implib.specs.Views.Table.{CanBeAdded, CanBeHeld, HasRoomForAll, bare_row, section_row, symbol_row, table_view, with_relocations};
+ghost use Rattle.implib.specs.Views.Table.{CanBeAdded, CanBeHeld, HasRoomForAll, bare_row};
+ghost use Rattle.implib.specs.Views.Table.{section_row, symbol_row, table_view, with_relocations};
 ghost use Rattle.implib.specs.Formats.Writer.{all_entries, layout_of};
 ghost use Rattle.implib.specs.Views.Making.{EncodesObject};
 ghost use Rattle.std.specs.List.{AllByRecursion};
-ghost use Rattle.std.specs.Prelude.{◌+◌, ◌++◌, ◌<◌, ◌^◌, ◌≡◌, ◌≤◌, [], IfErr, IfOk, IsSomeAnd, OnOk, alloc_error, length, map};
+ghost use Rattle.std.specs.Prelude.{◌+◌, ◌++◌, ◌<◌, ◌^◌, ◌≡◌, ◌≤◌, [], IfErr, IfOk, IsSomeAnd};
+ghost use Rattle.std.specs.Prelude.{OnOk, alloc_error, length, map};
 
 use crate::coff::object::{Place, Relocation, Section, Symbol};
 use crate::coff::writer::ObjectWriter;
@@ -64,7 +64,7 @@ pub(crate) fn write_table(
     writer.write()
 }
 
-// Adds the sections of the rows, without their relocations.
+// Adds the sections of the rows without their relocations.
 fn add_sections(alloc: Global, writer: &mut ObjectWriter, rows: &[SectionRow]) -> Result<(), Error>
     requires { length writer.old.sections + length rows.now ≤ 32767 }
     ensures ok { OnOk result (writer.new
@@ -77,9 +77,9 @@ fn add_sections(alloc: Global, writer: &mut ObjectWriter, rows: &[SectionRow]) -
     Ok(())
 }
 
-// Adds the symbols of the rows.
 fn add_symbols(alloc: Global, writer: &mut ObjectWriter, rows: &[SymbolRow]) -> Result<(), Error>
-    requires each { AllByRecursion (CanBeAdded (length writer.old.sections)) (map symbol_row rows.now) }
+    requires each { AllByRecursion (CanBeAdded (length writer.old.sections))
+        (map symbol_row rows.now) }
     requires room { length (all_entries (writer.old.symbols ++ map symbol_row rows.now)) < 2 ^ 32 }
     ensures ok { OnOk result (writer.new
         ≡ record writer.old { symbols = writer.old.symbols ++ map symbol_row rows.now }) }
@@ -97,8 +97,10 @@ fn add_symbols(alloc: Global, writer: &mut ObjectWriter, rows: &[SymbolRow]) -> 
 fn add_relocations(writer: &mut ObjectWriter, rows: &[SectionRow]) -> Result<(), Error>
     requires few { length rows.now ≤ 32767 }
     requires added { writer.old.sections ≡ map bare_row rows.now }
-    requires each { AllByRecursion (λ s. HasRoomForAll writer.old.symbols s.relocations (record s { relocations = [] })) (map section_row rows.now) }
-    ensures ok { OnOk result (writer.new ≡ record writer.old { sections = map section_row rows.now }) }
+    requires each { AllByRecursion (λ s. HasRoomForAll writer.old.symbols s.relocations
+        (record s { relocations = [] })) (map section_row rows.now) }
+    ensures ok { OnOk result
+        (writer.new ≡ record writer.old { sections = map section_row rows.now }) }
     ensures memory { IfErr result (λ e. e ≡ Error.OutOfMemory alloc_error) }
 {
     let mut number = 1u16;
@@ -111,9 +113,11 @@ fn add_relocations(writer: &mut ObjectWriter, rows: &[SectionRow]) -> Result<(),
 
 // Adds relocations to the section of this number.
 fn relocate(writer: &mut ObjectWriter, number: u16, relocations: &[Relocation]) -> Result<(), Error>
-    requires { IsSomeAnd (section_numbered writer.old.sections number) (HasRoomForAll writer.old.symbols relocations.now) }
-    ensures ok { OnOk result (writer.new
-        ≡ record writer.old { sections = with_relocations writer.old.sections number relocations.now }) }
+    requires { IsSomeAnd (section_numbered writer.old.sections number)
+        (HasRoomForAll writer.old.symbols relocations.now) }
+    ensures ok { OnOk result (writer.new ≡ record writer.old {
+      sections = with_relocations writer.old.sections number relocations.now;
+    }) }
     ensures memory { IfErr result (λ e. e ≡ Error.OutOfMemory alloc_error) }
 {
     for relocation in relocations {

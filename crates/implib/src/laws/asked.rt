@@ -6,8 +6,8 @@ ghost use Rattle.implib.specs.Text.Parses.{Parses};
 
 use crate::machine::MachineType;
 
-/// Each export of a text that asks its DLL by name asks for the word that the text gives it first,
-/// on every machine and in both flavours.
+/// An export imported by name is imported under its statement's first word, on every machine and in
+/// both flavours.
 pub fn asked_is_word(text: &str, machine: MachineType)
     ensures { (definition : DefinitionView) (parsed : Parses text.now machine definition) →
         AsksForWords text.now machine definition parsed }

@@ -1,20 +1,22 @@
 //! The members for Microsoft's linker.
 
 ghost use Rattle.implib.specs.Definition.{definition_view, export_view};
-ghost use Rattle.implib.specs.Fault.{IfInvalid, MemberTooLong};
+ghost use Rattle.implib.specs.Fault.{IfInvalid};
 ghost use Rattle.implib.specs.Import.{holds, is_alias, public_exports};
 ghost use Rattle.implib.specs.Library.{member_view};
-ghost use Rattle.implib.specs.Members.Members.{AreMembersOf, has_u16_ordinal, is_too_long, member_specs, refusal};
-ghost use Rattle.implib.specs.Members.NameRules.{RefusesAlways, definition_names_refusal, holds_nul};
-ghost use Rattle.implib.specs.Members.MsvcMembers.{export_specs, header_specs, member_count, weak_specs};
-ghost use Rattle.implib.specs.Members.MemberSpec.{member_of};
+ghost use Rattle.implib.specs.Members.Members.{AreMembersOf, has_u16_ordinal, member_specs};
+ghost use Rattle.implib.specs.Members.Members.{refusal};
+ghost use Rattle.implib.specs.Members.NameRules.{RefusesAlways, definition_names_refusal};
+ghost use Rattle.implib.specs.Members.NameRules.{holds_nul};
+ghost use Rattle.implib.specs.Members.MsvcMembers.{export_specs, header_specs, member_count};
+ghost use Rattle.implib.specs.Members.MsvcMembers.{weak_specs};
 ghost use Rattle.implib.specs.Members.ReadBack.{ReadBack};
 ghost use Rattle.implib.specs.Renaming.{is_renamed};
 ghost use Rattle.implib.specs.Members.Msvc.{short_import_symbol};
 ghost use Rattle.implib.specs.declared.flavor.Flavor.TheVariants.{Msvc};
 ghost use Rattle.implib.specs.Views.Making.{MakesMembers, PushesMembers};
-ghost use Rattle.std.specs.List.{list_all, list_any, sum_by};
-ghost use Rattle.std.specs.Prelude.{None, Some, false, map, true, ◌+◌, ◌++◌, ◌≡◌, IfOk, OnOk, min};
+ghost use Rattle.std.specs.List.{list_all, sum_by};
+ghost use Rattle.std.specs.Prelude.{None, Some, false, map, true, ◌+◌, ◌≡◌, IfOk, OnOk, min};
 
 use crate::def::definition::{ModuleDef, ShortExport};
 use crate::error::Error;
@@ -34,9 +36,12 @@ const HEADER_MEMBERS: usize = 3;
 /// The members, in order, of a definition whose exports are under their names to link by.
 pub(crate) fn members(def: &ModuleDef, machine: MachineType) -> Result<Vec<Member>, Error>
     requires { is_renamed (map export_view def.now.exports.items) ≡ true }
-    ensures ok { IfOk result (λ members. AreMembersOf (definition_view def.now) machine Msvc (map member_view members.items)) }
-    ensures reads { IfOk result (λ members. ReadBack (definition_view def.now) machine Msvc (map member_view members.items)) }
-    ensures refused { IfInvalid result (λ cause. refusal (definition_view def.now) machine Msvc ≡ Some cause) }
+    ensures ok { IfOk result (λ members.
+        AreMembersOf (definition_view def.now) machine Msvc (map member_view members.items)) }
+    ensures reads { IfOk result (λ members.
+        ReadBack (definition_view def.now) machine Msvc (map member_view members.items)) }
+    ensures refused { IfInvalid result
+        (λ cause. refusal (definition_view def.now) machine Msvc ≡ Some cause) }
     ensures names_refused_always { RefusesAlways (definition_view def.now) machine Msvc result }
 {
     match names_fault(def, machine, Flavor::Msvc) {
@@ -66,7 +71,8 @@ fn named_members(def: &ModuleDef, machine: MachineType) -> Result<Vec<Member>, E
 
 // The number of members; 2^64 - 1 where it is more.
 fn member_count(def: &ModuleDef) -> usize
-    ensures { result ≡ min u64.MAX (3 + sum_by member_count (public_exports (definition_view def.now))) }
+    ensures { result
+        ≡ min u64.MAX (3 + sum_by member_count (public_exports (definition_view def.now))) }
 {
     let mut count = HEADER_MEMBERS;
     for export in def.exports.iter() {
@@ -83,7 +89,8 @@ fn member_count(def: &ModuleDef) -> usize
 
 // Whether the export's symbol is weak for another.
 fn has_aliases(export: &ShortExport) -> bool
-    ensures { result ≡ is_alias (export_view export.now).alias_target (short_import_symbol (export_view export.now)) }
+    ensures { result ≡ is_alias (export_view export.now).alias_target
+        (short_import_symbol (export_view export.now)) }
 {
     is_alias(export.alias_target.as_str(), short_import_symbol(export))
 }
@@ -134,7 +141,8 @@ fn push_weak_externals(
     dll: &str,
 ) -> Result<(), Error>
     requires nul { holds_nul (export_view export.now) ≡ false }
-    requires aliases { is_alias (export_view export.now).alias_target (short_import_symbol (export_view export.now)) ≡ true }
+    requires aliases { is_alias (export_view export.now).alias_target
+        (short_import_symbol (export_view export.now)) ≡ true }
     ensures { PushesMembers (weak_specs machine dll.now (export_view export.now))
         members.old.items members.new.items result }
 {

@@ -1,19 +1,21 @@
-//! The objects for Microsoft's linker: import descriptor, null descriptor and null thunk (docs/FORMATS.md,
-//! "Members for Microsoft's linker").
+//! The objects for Microsoft's linker: import descriptor, null descriptor and null thunk
+//! (docs/FORMATS.md, "Members for Microsoft's linker").
 
-ghost use Rattle.implib.specs.Fault.{IfInvalid, MemberTooLong};
 ghost use Rattle.implib.specs.Import.{holds};
 ghost use Rattle.implib.specs.Library.{member_view};
-ghost use Rattle.implib.specs.Members.MsvcMembers.{descriptor_spec, null_descriptor_spec, null_thunk_spec};
-ghost use Rattle.implib.specs.Members.Members.{is_too_long};
-ghost use Rattle.implib.specs.Members.MemberSpec.{member_of};
-ghost use Rattle.implib.specs.Members.MsvcObjects.{descriptor_symbols, null_descriptor_section, base_name, descriptor, descriptor_characteristics, descriptor_symbol, null_descriptor, null_descriptor_symbol, null_thunk, null_thunk_section, null_thunk_symbol};
-ghost use Rattle.implib.specs.Formats.Layout.{encoded, encoded_size};
+ghost use Rattle.implib.specs.Members.MsvcMembers.{descriptor_spec, null_descriptor_spec};
+ghost use Rattle.implib.specs.Members.MsvcMembers.{null_thunk_spec};
+ghost use Rattle.implib.specs.Members.MsvcObjects.{descriptor_symbols, null_descriptor_section};
+ghost use Rattle.implib.specs.Members.MsvcObjects.{base_name, descriptor};
+ghost use Rattle.implib.specs.Members.MsvcObjects.{descriptor_characteristics, descriptor_symbol};
+ghost use Rattle.implib.specs.Members.MsvcObjects.{null_descriptor, null_descriptor_symbol};
+ghost use Rattle.implib.specs.Members.MsvcObjects.{null_thunk, null_thunk_section};
+ghost use Rattle.implib.specs.Members.MsvcObjects.{null_thunk_symbol};
 ghost use Rattle.implib.specs.Views.Layout.{symbol_view};
 ghost use Rattle.implib.specs.Formats.Writer.{section_view};
 ghost use Rattle.implib.specs.Views.Making.{EncodesObject, MakesMember};
 ghost use Rattle.std.specs.List.{ends_with};
-ghost use Rattle.std.specs.Prelude.{Some, [], false, map, nat_eq, string_bytes, true, ◌∷◌, ◌<◌, ◌^◌, ◌≡◌, ◌≤◌, IfOk, OnOk};
+ghost use Rattle.std.specs.Prelude.{[], false, map, nat_eq, string_bytes, ◌∷◌, ◌<◌, ◌≡◌, IfOk};
 
 use crate::coff::constants::{characteristics, class, flags, section_number};
 use crate::coff::layout::{LayoutSymbol, ObjectLayout, encode};
@@ -27,7 +29,6 @@ use std::alloc::{AllocError, Global};
 // The symbol of the descriptor that ends the import directory.
 const NULL_DESCRIPTOR_SYMBOL: &str = "__NULL_IMPORT_DESCRIPTOR";
 
-// Whether a text ends with this suffix.
 #[tactic(auto, using(std::proofs::lemmas::Str::Pattern::ends_text))]
 fn ends_with(text: &str, suffix: &str) -> bool
     ensures { result ≡ ends_with nat_eq text.now suffix.now }
@@ -35,7 +36,7 @@ fn ends_with(text: &str, suffix: &str) -> bool
     text.ends_with(suffix)
 }
 
-// The DLL's name without a last `.dll` or `.exe`.
+// The DLL's name without a trailing `.dll` or `.exe`.
 #[tactic(auto, unfolding(crate::specs::Members::MsvcObjects::base_name))]
 fn base_name(dll: &str) -> &str
     ensures { result.now ≡ base_name dll.now }
@@ -47,7 +48,6 @@ fn base_name(dll: &str) -> &str
     }
 }
 
-// The symbol of the import descriptor.
 #[tactic(auto, unfolding(crate::specs::Members::MsvcObjects::descriptor_symbol))]
 fn descriptor_symbol(alloc: Global, dll: &str) -> Result<String, AllocError>
     ensures { IfOk result (λ symbol. string_bytes symbol ≡ descriptor_symbol dll.now) }
@@ -68,7 +68,7 @@ fn null_thunk_symbol(alloc: Global, dll: &str) -> Result<String, AllocError>
     Ok(symbol)
 }
 
-// The characteristics of the first three members.
+// The characteristics of the objects of the descriptors and of the null thunk.
 fn descriptor_characteristics(machine: MachineType) -> u16
     ensures { result ≡ descriptor_characteristics machine }
 {
@@ -103,7 +103,8 @@ fn descriptor_sections(
     machine: MachineType,
     dll: &str,
 ) -> Result<[Section; 2], AllocError>
-    ensures { IfOk result (λ sections. map section_view sections ≡ (descriptor machine dll.now).sections) }
+    ensures { IfOk result
+        (λ sections. map section_view sections ≡ (descriptor machine dll.now).sections) }
 {
     let relocations = vec![in alloc;
         image_relocation(machine, descriptor::NAME, 2),
@@ -172,7 +173,6 @@ fn descriptor_object<'a>(
     )
 }
 
-/// The import descriptor.
 #[tactic(auto, unfolding(crate::specs::Members::MsvcMembers::descriptor_spec, crate::specs::Members::MsvcObjects::null_descriptor_symbol))]
 pub(crate) fn descriptor_member(
     alloc: Global,
@@ -195,7 +195,6 @@ pub(crate) fn descriptor_member(
     Ok(object_member(alloc, dll, bytes, symbol)?)
 }
 
-// The null descriptor's section.
 fn null_descriptor_section(alloc: Global) -> Result<Section, AllocError>
     ensures { IfOk result (λ section. section_view section ≡ null_descriptor_section) }
 {
@@ -207,7 +206,6 @@ fn null_descriptor_section(alloc: Global) -> Result<Section, AllocError>
     })
 }
 
-// The object of the null descriptor.
 fn null_descriptor_object(alloc: Global, machine: MachineType) -> Result<Vec<u8>, Error>
     ensures { EncodesObject (null_descriptor machine) result }
 {
@@ -238,7 +236,7 @@ pub(crate) fn null_descriptor_member(
     Ok(object_member(alloc, dll, bytes, symbol)?)
 }
 
-// A table's last thunk.
+// The section of a table's last thunk.
 fn null_thunk_section(
     alloc: Global,
     machine: MachineType,

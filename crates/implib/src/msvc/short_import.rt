@@ -1,5 +1,5 @@
-//! The short import of an export (PE/COFF specification, "Import Library Format"; docs/FORMATS.md, "Short
-//! imports").
+//! The short import of an export (PE/COFF specification, "Import Library Format"; docs/FORMATS.md,
+//! "Short imports").
 
 ghost use Rattle.implib.specs.Views.Making.{MakesMember};
 ghost use Rattle.implib.specs.declared.flavor.Flavor.TheVariants.{Msvc};
@@ -12,10 +12,16 @@ ghost use Rattle.implib.specs.Members.Members.{has_u16_ordinal, is_too_long, mem
 ghost use Rattle.implib.specs.Members.MemberSpec.{member_of};
 ghost use Rattle.implib.specs.Members.MsvcMembers.{short_import_spec};
 ghost use Rattle.implib.specs.Formats.Pass.{Puts};
-ghost use Rattle.implib.specs.Members.Msvc.{asked_by_short_import, import_type_of, name_type_of, short_import_bytes, short_import_data_size, short_import_header, short_import_symbols, short_import_of, short_import_size, short_import_symbol};
-ghost use Rattle.implib.specs.Formats.ShortImport.{asked_by_name_type, before_at_sign, without_prefix};
+ghost use Rattle.implib.specs.Members.Msvc.{asked_by_short_import, import_type_of, name_type_of};
+ghost use Rattle.implib.specs.Members.Msvc.{short_import_bytes, short_import_data_size};
+ghost use Rattle.implib.specs.Members.Msvc.{short_import_header, short_import_symbols};
+ghost use Rattle.implib.specs.Members.Msvc.{short_import_of, short_import_size};
+ghost use Rattle.implib.specs.Members.Msvc.{short_import_symbol};
+ghost use Rattle.implib.specs.Formats.ShortImport.{asked_by_name_type, before_at_sign};
+ghost use Rattle.implib.specs.Formats.ShortImport.{without_prefix};
 ghost use Rattle.std.specs.List.{list_all, list_any, position};
-ghost use Rattle.std.specs.Prelude.{false, map, nat_lt, string_bytes, true, ◌+◌, ◌<◌, ◌==◌, ◌≡◌, ◌≤◌, IfNone, IfOk, IfSome, OnOk, length};
+ghost use Rattle.std.specs.Prelude.{false, map, nat_lt, string_bytes, true, ◌+◌, ◌<◌, ◌==◌, ◌≡◌};
+ghost use Rattle.std.specs.Prelude.{◌≤◌, IfNone, IfOk, IfSome, OnOk, length};
 
 use crate::coff::constants::import_type::{IMPORT_CODE, IMPORT_CONST, IMPORT_DATA};
 use crate::coff::pass::Pass;
@@ -32,7 +38,6 @@ const RECORD_HEADER_SIZE: usize = 20;
 
 const RECORD_NULS: usize = 2;
 
-// The import type.
 fn import_type(export: &ShortExport) -> u16
     ensures number { result ≡ import_type_of (export_view export.now) }
     ensures at_most { result ≤ IMPORT_CONST }
@@ -48,25 +53,29 @@ fn import_type(export: &ShortExport) -> u16
 
 // The size in bytes of a short import, where a `u32` can hold it.
 fn short_import_size(symbol: &str, dll: &str) -> Option<u32>
-    ensures fits { IfSome result (λ size. size ≡ RECORD_HEADER_SIZE + (length symbol.now + length dll.now + RECORD_NULS)) }
-    ensures too_long { IfNone result (u32.MAX < RECORD_HEADER_SIZE + (length symbol.now + length dll.now + RECORD_NULS)) }
+    ensures fits { IfSome result (λ size.
+        size ≡ RECORD_HEADER_SIZE + (length symbol.now + length dll.now + RECORD_NULS)) }
+    ensures too_long { IfNone result
+        (u32.MAX < RECORD_HEADER_SIZE + (length symbol.now + length dll.now + RECORD_NULS)) }
 {
     let texts = symbol.len().checked_add(dll.len())?;
     let size = texts.checked_add(RECORD_HEADER_SIZE + RECORD_NULS)?;
     u32::try_from(size).ok()
 }
 
-// The bytes of the export's short import.
 fn short_import_bytes(
     alloc: Global,
     export: &ShortExport,
     machine: MachineType,
     dll: &str,
 ) -> Result<Vec<u8>, Error>
-    ensures ok { IfOk result (λ bytes. bytes.items ≡ short_import_bytes (short_import_of machine dll.now (export_view export.now))) }
-    ensures fits { OnOk result (short_import_size (short_import_of machine dll.now (export_view export.now)) ≤ u32.MAX) }
+    ensures ok { IfOk result (λ bytes. bytes.items
+        ≡ short_import_bytes (short_import_of machine dll.now (export_view export.now))) }
+    ensures fits { OnOk result
+        (short_import_size (short_import_of machine dll.now (export_view export.now)) ≤ u32.MAX) }
     ensures too_long { IfInvalid result (λ cause. (cause ≡ MemberTooLong)
-        × (u32.MAX < short_import_size (short_import_of machine dll.now (export_view export.now)))) }
+        × (u32.MAX
+        < short_import_size (short_import_of machine dll.now (export_view export.now)))) }
 {
     let symbol = short_import_symbol(export);
     let Some(size) = short_import_size(symbol, dll) else {
@@ -87,7 +96,8 @@ fn short_import_bytes(
     Ok(pass.finish())
 }
 
-// Puts the header of the export's short import, whose texts have this size in bytes with their NULs.
+// Puts the header of the export's short import; `data_size` is the size of its texts with their
+// NULs.
 fn put_header(
     pass: &mut Pass,
     export: &ShortExport,
@@ -96,8 +106,10 @@ fn put_header(
     data_size: u32,
 )
     requires room { RECORD_HEADER_SIZE ≤ pass.old.left }
-    requires size { data_size ≡ short_import_data_size (short_import_of machine dll.now (export_view export.now)) }
-    ensures puts { Puts pass.old pass.new (short_import_header (short_import_of machine dll.now (export_view export.now))) }
+    requires size { data_size
+        ≡ short_import_data_size (short_import_of machine dll.now (export_view export.now)) }
+    ensures puts { Puts pass.old pass.new
+        (short_import_header (short_import_of machine dll.now (export_view export.now))) }
     ensures left { pass.new.left + RECORD_HEADER_SIZE ≡ pass.old.left }
 {
     pass.put_u16(0);
@@ -112,7 +124,8 @@ fn put_header(
 
 // The archive symbols of the export's short import.
 fn short_import_symbols(alloc: Global, export: &ShortExport) -> Result<Vec<String>, AllocError>
-    ensures { IfOk result (λ symbols. map string_bytes symbols.items ≡ short_import_symbols (export_view export.now)) }
+    ensures { IfOk result (λ symbols. map string_bytes symbols.items
+        ≡ short_import_symbols (export_view export.now)) }
 {
     let symbol = short_import_symbol(export);
     let address = imp_symbol(alloc, symbol)?;
@@ -123,7 +136,6 @@ fn short_import_symbols(alloc: Global, export: &ShortExport) -> Result<Vec<Strin
     Ok(vec![in alloc; address, name]?)
 }
 
-/// The member of the export's short import.
 pub(crate) fn short_import_member(
     alloc: Global,
     export: &ShortExport,

@@ -3,7 +3,8 @@
 ghost use Rattle.implib.specs.Definition.{export_view};
 ghost use Rattle.implib.specs.Underscore.{decorated, is_decorated};
 ghost use Rattle.implib.specs.Views.Parser.{all_put, Gives, one_put, value_of, with_export};
-ghost use Rattle.implib.specs.Views.TokenReader.{export_read, exports_read, named_export, target_read};
+ghost use Rattle.implib.specs.Views.TokenReader.{export_read, exports_read, named_export};
+ghost use Rattle.implib.specs.Views.TokenReader.{target_read};
 ghost use Rattle.std.specs.Prelude.{◌≡◌, ◌<◌, ◌≤◌, length, map, IfOk, IsTrue, OnOk};
 ghost use Rattle.std.specs.String.{string_bytes};
 
@@ -88,7 +89,8 @@ impl<'a> Tokens<'a> {
     }
 }
 
-// An export with its names alone: the word, or the target inside and the word outside.
+// An export with its names alone: `name` is the target if given, and the word becomes `ext_name`;
+// otherwise `name` is the word.
 fn named_export(
     alloc: Global,
     machine: MachineType,

@@ -10,13 +10,13 @@ ghost use Rattle.std.specs.Prelude.{◌≡◌};
 pub enum AtWord {
     /// `@` alone.
     Lone,
-    /// `@` and a number of 16 bits.
+    /// `@` and a 16-bit number.
     WithOrdinal(u16),
     /// Any other word.
     Plain,
 }
 
-/// The number of 16 bits that the text is.
+/// The text as a 16-bit number.
 #[tactic(auto, using(crate::proofs::Text::NumberParsed::number_parsed))]
 pub fn u16_of(text: &str) -> Option<u16>
     ensures { result ≡ number_of text.now u16_limit }
@@ -24,7 +24,7 @@ pub fn u16_of(text: &str) -> Option<u16>
     text.parse::<u16>().ok()
 }
 
-// The number of 32 bits that the text is.
+// The text as a 32-bit number.
 #[tactic(auto, using(crate::proofs::Text::NumberParsed::number_parsed))]
 fn u32_of(text: &str) -> Option<u32>
     ensures { result ≡ number_of text.now u32_limit }
@@ -32,7 +32,7 @@ fn u32_of(text: &str) -> Option<u32>
     text.parse::<u32>().ok()
 }
 
-/// The number of 64 bits that the text is.
+/// The text as a 64-bit number.
 #[tactic(auto, using(crate::proofs::Text::NumberParsed::number_parsed))]
 pub fn u64_of(text: &str) -> Option<u64>
     ensures { result ≡ number_of text.now u64_limit }
@@ -40,7 +40,7 @@ pub fn u64_of(text: &str) -> Option<u64>
     text.parse::<u64>().ok()
 }
 
-/// The numbers of 32 bits before and after the first `.`; without one, the number and 0.
+/// The 32-bit numbers before and after the first `.`; without a `.`, the number and 0.
 pub fn version_of(text: &str) -> Option<(u32, u32)>
     ensures { result ≡ version_of text.now }
 {
@@ -50,7 +50,7 @@ pub fn version_of(text: &str) -> Option<(u32, u32)>
     }
 }
 
-/// What the word is.
+/// Which of these the word is.
 #[tactic(auto, using(crate::proofs::Text::WordsCut::plain_unstripped))]
 pub fn at_word(word: &str) -> AtWord
     ensures { at_word_view result ≡ at_word word.now }

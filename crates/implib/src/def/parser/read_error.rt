@@ -10,8 +10,9 @@ use std::alloc::{AllocError, AllocFailed};
 /// A refused token, or a failed allocation.
 #[derive(Drop)]
 pub enum ReadError {
-    /// A token is refused for the fault; its value begins at this offset. The offset is 0 where no token is
-    /// left, which no text leads to: `Eof` is its last token, and no reader takes it and goes on.
+    /// The fault of a refused token, and the offset of its value. The offset is 0 where no token is
+    /// left. That never happens for a text: `Eof` is its last token, and no reader reads on behind
+    /// it.
     Refused(Fault, usize),
     /// An allocation failed.
     OutOfMemory(AllocError),

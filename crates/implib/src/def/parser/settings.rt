@@ -1,7 +1,8 @@
 //! The numbers and names that statements other than `EXPORTS` set.
 
 ghost use Rattle.implib.specs.Views.Parser.{Gives, named};
-ghost use Rattle.implib.specs.Views.TokenReader.{base_read, commit_read, name_read, sizes_read, version_read};
+ghost use Rattle.implib.specs.Views.TokenReader.{base_read, commit_read, name_read, sizes_read};
+ghost use Rattle.implib.specs.Views.TokenReader.{version_read};
 ghost use Rattle.std.specs.Prelude.{◌≡◌, ◌<◌, ◌≤◌, length, OnOk};
 
 use crate::def::lexer::TokenKind;
