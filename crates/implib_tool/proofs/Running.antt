@@ -1,5 +1,5 @@
 -- Lemmas on the runs of the program.
-use Rattle.std.proofs.Common.{◌≡◌, ℕ, ◌-◌, Bool, true, List, [], ◌∷◌, ◌++◌, Option, None, Some, IfSome, IsNone, MatchOption, Err, false, ◌↔◌, inl, inr, length, take, drop, refl, sym, ap, subst, ◌∙◌, append_assoc, append-nil, take-append-drop}
+use Rattle.std.proofs.Common.{◌≡◌, ℕ, ◌-◌, Bool, true, List, [], ◌∷◌, ◌++◌, ◌⊎◌, Option, None, Some, IfSome, IsNone, MatchOption, Result, Ok, Err, OnOk, OnErr, false, ◌↔◌, inl, inr, length, take, drop, refl, sym, ap, subst, ◌∙◌, append_assoc, append-nil, take-append-drop}
 use Rattle.std.proofs.KnownBytes.{Appends-kept, Appends-nil, Appends-trans, Keeps-refl, Keeps-trans}
 use Rattle.std.proofs.lemmas.List.{take_rest}
 use Rattle.std.specs.Borrow.{Bor}
@@ -27,15 +27,20 @@ never_both b low high = cc (sym low ∙ high)
 both_ways : (P : Type 0) (b : Bool) → b ≡ false → b ≡ true → P
 both_ways P b low high = absurd (never_both b low high)
 
+-- what the new writer's state gives, or the promise
+sure_before : {A B C : Type 0} → (A → B) → A ⊎ C → B ⊎ C
+sure_before earlier (inl now) = inl (earlier now)
+sure_before earlier (inr promise) = inr promise
+
 -- more bytes, after some
-pub passes_more : (old middle new : Buffered) (bytes more : List ℕ) → Passes old middle bytes → Passes middle new more → Passes old new (bytes ++ more)
-passes_more old middle new bytes more p q = by_bool (Passes old new (bytes ++ more)) middle.failed
+pub passes_more : {keeps : Bool} (old middle new : Buffered) (bytes more : List ℕ) → Passes keeps old middle bytes → Passes keeps middle new more → Passes keeps old new (bytes ++ more)
+passes_more {keeps} old middle new bytes more p q = by_bool (Passes keeps old new (bytes ++ more)) middle.failed
     (λ sound. record {
       taken = p.taken ++ q.taken;
       left = q.left;
       whole = sym (append_assoc old.waiting bytes more) ∙ ap (λ t. t ++ more) p.whole ∙ append_assoc p.taken p.left more
           ∙ ap (λ t. p.taken ++ (t ++ more)) (p.waits sound) ∙ ap (λ t. p.taken ++ t) q.whole ∙ sym (append_assoc p.taken q.taken q.left);
-      written = Appends-trans old.contents middle.contents new.contents p.taken q.taken p.written q.written;
+      written = λ sure. Appends-trans old.contents middle.contents new.contents p.taken q.taken (p.written (inl sound)) (q.written sure);
       waits = q.waits;
       sound = λ h. p.sound (q.sound h);
       stopped = λ h. both_ways (Keeps old.contents new.contents) old.failed (p.sound sound) h;
@@ -44,30 +49,30 @@ passes_more old middle new bytes more p q = by_bool (Passes old new (bytes ++ mo
       taken = p.taken;
       left = p.left ++ more;
       whole = sym (append_assoc old.waiting bytes more) ∙ ap (λ t. t ++ more) p.whole ∙ append_assoc p.taken p.left more;
-      written = Appends-kept old.contents middle.contents new.contents p.taken p.written (q.stopped failed);
+      written = λ sure. Appends-kept old.contents middle.contents new.contents p.taken (p.written (sure_before q.sound sure)) (q.stopped failed);
       waits = λ h. both_ways (p.left ++ more ≡ new.waiting) middle.failed (q.sound h) failed;
       sound = λ h. p.sound (q.sound h);
       stopped = λ h. Keeps-trans old.contents middle.contents new.contents (p.stopped h) (q.stopped failed);
     })
 
 -- the same bytes
-pub passes_as : (old new : Buffered) (bytes same : List ℕ) → bytes ≡ same → Passes old new bytes → Passes old new same
-passes_as old new bytes same e p = subst (Passes old new) e p
+pub passes_as : {keeps : Bool} (old new : Buffered) (bytes same : List ℕ) → bytes ≡ same → Passes keeps old new bytes → Passes keeps old new same
+passes_as {keeps} old new bytes same e p = subst (Passes keeps old new) e p
 
 -- nothing follows
-pub passes_nothing : (old : Buffered) → Passes old old []
+pub passes_nothing : {keeps : Bool} (old : Buffered) → Passes keeps old old []
 passes_nothing old = record {
   taken = [];
   left = old.waiting;
   whole = append-nil old.waiting;
-  written = Appends-nil old.contents;
+  written = λ sure. Appends-nil old.contents;
   waits = λ h. refl;
   sound = λ h. h;
   stopped = λ h. Keeps-refl old.contents;
 }
 
 -- a writer that has failed takes no more
-pub passes_failed : (old new : Buffered) (bytes more : List ℕ) → Passes old new bytes → new.failed ≡ true → Passes old new (bytes ++ more)
+pub passes_failed : {keeps : Bool} (old new : Buffered) (bytes more : List ℕ) → Passes keeps old new bytes → new.failed ≡ true → Passes keeps old new (bytes ++ more)
 passes_failed old new bytes more p failed = record {
   taken = p.taken;
   left = p.left ++ more;
@@ -78,15 +83,60 @@ passes_failed old new bytes more p failed = record {
   stopped = p.stopped;
 }
 
--- in any case a beginning is written
-pub beginning_written : (before after : Option (List ℕ)) (failed failed' : Bool) (waiting waiting' bytes : List ℕ) → waiting ≡ [] → Passes (buffered before failed waiting) (buffered after failed' waiting') bytes
-    → AppendsBeginning before after bytes
-beginning_written before after failed failed' waiting waiting' bytes none p = record {
+-- with a writer that takes no byte in a write that fails, a beginning is written in any case
+pub beginning_written : {keeps : Bool} (before after : Option (List ℕ)) (failed failed' : Bool) (waiting waiting' bytes : List ℕ) → waiting ≡ [] → Passes keeps (buffered before failed waiting) (buffered after failed' waiting') bytes
+    → keeps ≡ true → AppendsBeginning before after bytes
+beginning_written before after failed failed' waiting waiting' bytes none p keeping = record {
   taken = p.taken;
   left = p.left;
   whole = ap (λ t. t ++ bytes) (sym none) ∙ p.whole;
-  written = p.written;
+  written = p.written (inr keeping);
 }
+
+neither : {A B : Type 0} → (A → ⊥) → (B → ⊥) → A ⊎ B → ⊥
+neither left right (inl a) = left a
+neither left right (inr b) = right b
+
+-- what `write_all` answers to a writer that has not failed, and does
+pub passes_written : {E : Type 0} (keeps : Bool) (before after : Option (List ℕ)) (failed failed' : Bool) (bytes : List ℕ) (answer : Result (Unit {0}) E) → failed ≡ false → OnOk answer (Appends before after bytes)
+    → OnOk answer (failed' ≡ failed) → (keeps ≡ true → OnErr answer (AppendsBeginning before after bytes)) → OnErr answer (failed' ≡ true)
+    → Passes keeps (buffered before failed []) (buffered after failed' []) bytes
+passes_written keeps before after failed failed' bytes (Ok done) good moved sound beginning fault = record {
+  taken = bytes;
+  left = [];
+  whole = sym (append-nil bytes);
+  written = λ sure. moved;
+  waits = λ h. refl;
+  sound = λ h. good;
+  stopped = λ h. both_ways (Keeps before after) failed good h;
+}
+passes_written keeps before after failed failed' bytes (Err error) good moved sound beginning fault = by_bool (Passes keeps (buffered before failed []) (buffered after failed' []) bytes) keeps
+    (λ tears. record {
+      taken = [];
+      left = bytes;
+      whole = refl;
+      written = λ sure. absurd (neither (λ h. never_both failed' h fault) (λ h. never_both keeps tears h) sure);
+      waits = λ h. both_ways (bytes ≡ []) failed' h fault;
+      sound = λ h. good;
+      stopped = λ h. both_ways (Keeps before after) failed good h;
+    })
+    (λ keeping.
+    let front = beginning keeping in record {
+      taken = front.taken;
+      left = front.left;
+      whole = front.whole;
+      written = λ sure. front.written;
+      waits = λ h. both_ways (front.left ≡ []) failed' h fault;
+      sound = λ h. good;
+      stopped = λ h. both_ways (Keeps before after) failed good h;
+    })
+
+-- where the writer has not failed and nothing waits, all is written
+pub all_written : {keeps : Bool} (before after : Option (List ℕ)) (failed failed' : Bool) (waiting waiting' bytes : List ℕ) → waiting ≡ [] → waiting' ≡ [] → failed' ≡ false
+    → Passes keeps (buffered before failed waiting) (buffered after failed' waiting') bytes → Appends before after bytes
+all_written before after failed failed' waiting waiting' bytes none done sound p =
+    let same : bytes ≡ p.taken = ap (λ t. t ++ bytes) (sym none) ∙ p.whole ∙ ap (λ t. p.taken ++ t) (p.waits sound ∙ done) ∙ append-nil p.taken in
+    subst (Appends before after) (sym same) (p.written (inl sound))
 
 -- one more write
 pub written_more : (before middle after : Option (List ℕ)) (bytes rest : List ℕ) (count : ℕ) → WrittenSoFar before middle bytes rest → Appends middle after (take count rest)

@@ -86,12 +86,23 @@ pub record FirstRefused (text : List ℕ) (machine : MachineType) (flavor : Flav
   pub refused : IsRefused document machine flavor cause
 
 -- what is known of the devices: the bytes that the reader has left and those that the writer has, if they are
--- known, and whether they have failed
+-- known, whether they have failed, and whether the writer takes no byte in a write that fails
 pub record Devices : Type 0 where
   pub remaining : Option (List ℕ)
-  pub contents : Option (List ℕ)
   pub reader_failed : Bool
+  pub contents : Option (List ℕ)
   pub writer_failed : Bool
+  pub writer_keeps : Bool
+
+-- the devices: the reader's bytes and whether it has failed, and the same of the writer
+abbrev pub devices : Option (List ℕ) → Bool → Option (List ℕ) → Bool → Bool → Devices
+devices remaining reader_failed contents writer_failed writer_keeps = record {
+  remaining = remaining;
+  reader_failed = reader_failed;
+  contents = contents;
+  writer_failed = writer_failed;
+  writer_keeps = writer_keeps;
+}
 
 -- the reader is read to its end, and the writer has the listing of the text after what it had
 pub record IsDone (machine : MachineType) (flavor : Flavor) (before after : Devices) : Type 0 where
@@ -113,7 +124,8 @@ abbrev pub run_error : Error → RunError
 run_error (error.Invalid fault) = Refused fault
 run_error (error.OutOfMemory refused) = OutOfMemory
 
--- when each error comes, and what it leaves
+-- when each error comes, and what it leaves: the writer's error alone comes where the listing was made, and
+-- leaves a beginning of it with a writer that takes no byte in a write that fails
 abbrev pub HasCause : MachineType → Flavor → Devices → Devices → RunError → Type 0
 HasCause machine flavor before after (Refused fault) =
     NothingWritten before after × IfSome before.remaining IsUtf8
@@ -126,7 +138,7 @@ HasCause machine flavor before after Write =
     (after.reader_failed ≡ false) × (after.writer_failed ≡ true) × IfSome before.remaining IsUtf8
     × IfSome before.remaining (λ text.
     (listing : List ℕ) × Lists text machine flavor listing
-    × AppendsBeginning before.contents after.contents listing)
+    × (before.writer_keeps ≡ true → AppendsBeginning before.contents after.contents listing))
 HasCause machine flavor before after OutOfMemory = NothingWritten before after
 
 -- what a run answers, and what it does

@@ -34,13 +34,13 @@ pub record Buffered : Type 0 where
 abbrev pub buffered : Option (List ℕ) → Bool → List ℕ → Buffered
 buffered contents failed waiting = record { contents = contents; failed = failed; waiting = waiting }
 
--- bytes follow those that waited: the writer takes a beginning of both, and unless it has failed the
--- rest waits; a writer that had failed takes none
-pub record Passes (old new : Buffered) (bytes : List ℕ) : Type 0 where
+-- bytes follow those that waited: unless it fails the writer takes a beginning of both, and the rest waits; one
+-- that keeps what it has in a write that fails has such a beginning in any case; a writer that had failed takes none
+pub record Passes (keeps : Bool) (old new : Buffered) (bytes : List ℕ) : Type 0 where
   pub taken : List ℕ
   pub left : List ℕ
   pub whole : old.waiting ++ bytes ≡ taken ++ left
-  pub written : Appends old.contents new.contents taken
+  pub written : (new.failed ≡ false) ⊎ (keeps ≡ true) → Appends old.contents new.contents taken
   pub waits : new.failed ≡ false → left ≡ new.waiting
   pub sound : new.failed ≡ false → old.failed ≡ false
   pub stopped : old.failed ≡ true → Keeps old.contents new.contents
@@ -91,13 +91,15 @@ OnInputFault remaining failed machine flavor Read = failed ≡ true
 OnInputFault remaining failed machine flavor Write = ⊥
 OnInputFault remaining failed machine flavor OutOfMemory = failed ≡ false
 
--- the writer failed and has a beginning of the listing, or memory was refused before it was used
-abbrev pub OnWriteFault : Option (List ℕ) → Option (List ℕ) → Bool → List ℕ → RunError → Type 0
-OnWriteFault before after failed listing (Refused fault) = ⊥
-OnWriteFault before after failed listing NotUtf8 = ⊥
-OnWriteFault before after failed listing Read = ⊥
-OnWriteFault before after failed listing Write = (failed ≡ true) × AppendsBeginning before after listing
-OnWriteFault before after failed listing OutOfMemory = (failed ≡ false) × Keeps before after
+-- the writer failed, and has a beginning of the listing if it keeps what it has in a write that fails; or memory
+-- was refused before it was used
+abbrev pub OnWriteFault : Bool → Option (List ℕ) → Option (List ℕ) → Bool → List ℕ → RunError → Type 0
+OnWriteFault keeps before after failed listing (Refused fault) = ⊥
+OnWriteFault keeps before after failed listing NotUtf8 = ⊥
+OnWriteFault keeps before after failed listing Read = ⊥
+OnWriteFault keeps before after failed listing Write =
+    (failed ≡ true) × (keeps ≡ true → AppendsBeginning before after listing)
+OnWriteFault keeps before after failed listing OutOfMemory = (failed ≡ false) × Keeps before after
 
 -- the members of what is left of a text, if anything is
 abbrev pub MadeLeft : Option (Bor (List ℕ)) → MachineType → Flavor → List (List MemberView) → Type 0

@@ -1,6 +1,7 @@
 //! The program, over any devices: its arguments, its run, and its exit status.
 
-ghost use Rattle.implib_tool.specs.Arguments.{Answers, target_named, status_of};
+ghost use Rattle.implib_tool.specs.Arguments.{Answers, status_of, target_named};
+ghost use Rattle.implib_tool.specs.Run.{devices};
 ghost use Rattle.std.specs.Prelude.{◌≡◌, ◌↔◌, IfSome, IsNone, OnOk, false, map};
 ghost use Rattle.std.specs.String.{string_bytes};
 
@@ -48,7 +49,7 @@ fn status(error: &RunError) -> u8
     }
 }
 
-/// Writes the line of an error, and gives its exit status. A failure of `faults` is not reported.
+/// Writes the line of an error, and gives its exit status. A failure of `faults` is ignored.
 pub fn fault<E: Sink>(faults: &mut E, error: &RunError) -> u8
     ensures { result ≡ status_of (Err error.now) }
 {
@@ -57,7 +58,7 @@ pub fn fault<E: Sink>(faults: &mut E, error: &RunError) -> u8
     status(error)
 }
 
-/// Writes the usage line, and gives its exit status. A failure of `faults` is not reported.
+/// Writes the usage line, and gives its exit status. A failure of `faults` is ignored.
 pub fn usage<E: Sink>(faults: &mut E) -> u8
     ensures { result ≡ 2 }
 {
@@ -66,12 +67,12 @@ pub fn usage<E: Sink>(faults: &mut E) -> u8
     2
 }
 
-/// Runs the program with these arguments: none, or a machine and a flavour. Neither the reader nor the writer
-/// has failed before.
+/// Runs the program with these arguments: none, or a machine and a flavour. Requires that neither
+/// the reader nor the writer has failed.
 ///
-/// What is wrong goes as a line to `faults`; a failure of `faults` is not reported. The exit status is 0 where
-/// the listing is written, 1 where the input is refused, 2 for other arguments, and 3 where a device or an
-/// allocation failed.
+/// An error is reported as a line to `faults`; a failure of `faults` is ignored. The exit status is
+/// 0 if the listing is written, 1 if the input is refused, 2 for other arguments, and 3 if a device
+/// or an allocation failed.
 pub fn command<R: Source, W: Sink, E: Sink>(
     alloc: Global,
     arguments: &[String],
@@ -82,10 +83,14 @@ pub fn command<R: Source, W: Sink, E: Sink>(
     requires reader { R.failed reader.old ≡ false }
     requires writer { W.failed writer.old ≡ false }
     ensures arguments { (result ≡ 2) ↔ IsNone (target_named (map string_bytes arguments.now)) }
-    ensures untouched { IsNone (target_named (map string_bytes arguments.now)) → (reader.new ≡ reader.old) × (writer.new ≡ writer.old) }
-    ensures run { IfSome (target_named (map string_bytes arguments.now)) (λ wanted. Answers wanted.0 wanted.1
-        (record { remaining = R.remaining reader.old; contents = W.contents writer.old; reader_failed = R.failed reader.old; writer_failed = W.failed writer.old })
-        (record { remaining = R.remaining reader.new; contents = W.contents writer.new; reader_failed = R.failed reader.new; writer_failed = W.failed writer.new })
+    ensures untouched { IsNone (target_named (map string_bytes arguments.now)) →
+        (reader.new ≡ reader.old) × (writer.new ≡ writer.old) }
+    ensures run { IfSome (target_named (map string_bytes arguments.now))
+        (λ wanted. Answers wanted.0 wanted.1
+        (devices (R.remaining reader.old) (R.failed reader.old)
+        (W.contents writer.old) (W.failed writer.old) W.keeps)
+        (devices (R.remaining reader.new) (R.failed reader.new)
+        (W.contents writer.new) (W.failed writer.new) W.keeps)
         result) }
 {
     let Some((machine, flavor)) = target_in(arguments) else {

@@ -22,10 +22,12 @@ pub trait Source {
 
     /// Moves bytes to the front of `buf` and answers how many.
     ///
-    /// No bytes for a `buf` that is not empty mean the end. Where it fails, nothing is said of the bytes in `buf`.
+    /// No bytes for a `buf` that is not empty mean the end. If it fails, the bytes in `buf` are
+    /// unspecified.
     fn read(&mut self, buf: &mut [u8]) -> Result<usize, DeviceFault>
         ensures bound { IfOk result (λ n. n ≤ length buf.new) }
-        ensures moved { IfOk result (λ n. Consumes (remaining self.old) (remaining self.new) (take n buf.new)) }
+        ensures moved { IfOk result
+            (λ n. Consumes (remaining self.old) (remaining self.new) (take n buf.new)) }
         ensures end { result ≡ Ok 0 → 0 < length buf.new → IsAtEnd (remaining self.new) }
         ensures sound { OnOk result (failed self.new ≡ failed self.old) }
         ensures fault { OnErr result (failed self.new ≡ true) };
@@ -39,27 +41,35 @@ pub trait Sink {
     // Whether a write has failed.
     ghost failed: { Self → Bool };
 
+    // Whether a write that answers `Err` takes no byte: then the device keeps what it has.
+    ghost keeps: { Bool };
+
     /// Whether a write has failed.
     fn has_failed(&self) -> bool
         ensures { result ≡ failed self.now };
 
     /// Takes bytes from the front of `buf` and answers how many.
     ///
-    /// To take none of a `buf` that is not empty is a failure too. A write that fails takes none.
+    /// To take none of a `buf` that is not empty is a failure too. A write that answers `Err` may
+    /// have taken some, unless the device keeps what it has.
     fn write(&mut self, buf: &[u8]) -> Result<usize, DeviceFault>
         ensures bound { IfOk result (λ n. n ≤ length buf.now) }
-        ensures moved { IfOk result (λ n. Appends (contents self.old) (contents self.new) (take n buf.now)) }
-        ensures sound { IfOk result (λ n. (0 < n) ⊎ (length buf.now ≡ 0) → failed self.new ≡ failed self.old) }
+        ensures moved { IfOk result
+            (λ n. Appends (contents self.old) (contents self.new) (take n buf.now)) }
+        ensures sound { IfOk result
+            (λ n. (0 < n) ⊎ (length buf.now ≡ 0) → failed self.new ≡ failed self.old) }
         ensures none { result ≡ Ok 0 → 0 < length buf.now → failed self.new ≡ true }
-        ensures kept { OnErr result (Keeps (contents self.old) (contents self.new)) }
+        ensures kept { keeps ≡ true → OnErr result (Keeps (contents self.old) (contents self.new)) }
         ensures fault { OnErr result (failed self.new ≡ true) };
 }
 
-/// Writes all bytes. Where it fails, a beginning of them is written.
+/// Writes all bytes. If it fails, a device that keeps what it has at an `Err` has a beginning of them.
 pub fn write_all<W: Sink>(writer: &mut W, bytes: &[u8]) -> Result<(), DeviceFault>
-    ensures moved { OnOk result (Appends (W.contents writer.old) (W.contents writer.new) bytes.now) }
+    ensures moved { OnOk result
+        (Appends (W.contents writer.old) (W.contents writer.new) bytes.now) }
     ensures sound { OnOk result (W.failed writer.new ≡ W.failed writer.old) }
-    ensures beginning { OnErr result (AppendsBeginning (W.contents writer.old) (W.contents writer.new) bytes.now) }
+    ensures beginning { W.keeps ≡ true → OnErr result
+        (AppendsBeginning (W.contents writer.old) (W.contents writer.new) bytes.now) }
     ensures fault { OnErr result (W.failed writer.new ≡ true) }
 {
     let mut rest = bytes;

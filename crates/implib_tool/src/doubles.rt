@@ -1,6 +1,6 @@
 //! Devices over memory, for tests.
 
-ghost use Rattle.std.specs.Prelude.{◌≡◌, IfOk, Some, false};
+ghost use Rattle.std.specs.Prelude.{◌≡◌, IfOk, Some, false, true};
 
 use crate::device::{DeviceFault, Sink, Source};
 use std::alloc::{AllocError, Global};
@@ -103,6 +103,8 @@ impl Sink for MemorySink {
 
     ghost failed = { λ sink. sink.has_failed };
 
+    ghost keeps = { true };
+
     fn has_failed(&self) -> bool {
         self.has_failed
     }
@@ -125,5 +127,67 @@ impl Sink for MemorySink {
             self.has_failed = true;
         }
         Ok(count)
+    }
+}
+
+/// A writer to memory that, when it fails, has taken half of what it was given.
+#[derive(Drop)]
+pub struct TornSink {
+    bytes: Vec<u8>,
+    calls: usize,
+    has_failed: bool,
+    late_calls: usize,
+}
+
+impl TornSink {
+    /// It fails after `calls` calls.
+    pub fn new(alloc: Global, calls: usize) -> Self
+        ensures sound { result.has_failed ≡ false }
+    {
+        TornSink {
+            bytes: Vec::new(alloc),
+            calls,
+            has_failed: false,
+            late_calls: 0,
+        }
+    }
+
+    /// What it took.
+    pub fn bytes(&self) -> &[u8] {
+        self.bytes.as_slice()
+    }
+
+    /// How many calls came after one that failed.
+    pub fn late_calls(&self) -> usize {
+        self.late_calls
+    }
+}
+
+impl Sink for TornSink {
+    ghost contents = { λ sink. Some sink.bytes.items };
+
+    ghost failed = { λ sink. sink.has_failed };
+
+    ghost keeps = { false };
+
+    fn has_failed(&self) -> bool {
+        self.has_failed
+    }
+
+    fn write(&mut self, buf: &[u8]) -> Result<usize, DeviceFault> {
+        if self.has_failed {
+            self.late_calls = self.late_calls.saturating_add(1);
+        }
+        if self.calls == 0 {
+            self.has_failed = true;
+            let _ = self.bytes.extend_from_slice(&buf[..buf.len() / 2]);
+            return Err(DeviceFault);
+        }
+        self.calls -= 1;
+        if self.bytes.extend_from_slice(buf).is_err() {
+            self.has_failed = true;
+            return Err(DeviceFault);
+        }
+        Ok(buf.len())
     }
 }

@@ -5,7 +5,7 @@ use std::io;
 
 /// A reader or a writer of std's, with a flag that says whether a call has failed.
 ///
-/// It tells the bytes that the reader or the writer in it tells, and tries nothing a second time.
+/// Its bytes are those of the reader or the writer in it. It repeats no call.
 #[derive(Drop)]
 pub struct Host<T> {
     inner: T,
@@ -52,10 +52,13 @@ impl<T: io::Read> Source for Host<T> {
 
 impl<T: io::Write> Sink for Host<T> {
     ghost use Rattle.implib_tool.specs.Device.{host_failed, host_inner};
+    ghost use Rattle.std.specs.Prelude.{true};
 
     ghost contents = { λ host. T.contents (host_inner host) };
 
     ghost failed = { host_failed };
+
+    ghost keeps = { true };
 
     fn has_failed(&self) -> bool {
         self.has_failed

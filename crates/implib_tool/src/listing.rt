@@ -46,7 +46,7 @@ fn are_plain(name: &[u8]) -> bool
 
 // Lists a byte of a name.
 fn list_name_byte<W: Sink>(buffer: &mut Buffer, writer: &mut W, byte: u8)
-    ensures { Passes
+    ensures { Passes W.keeps
         (buffered (W.contents writer.old) (W.failed writer.old) buffer.old)
         (buffered (W.contents writer.new) (W.failed writer.new) buffer.new)
         (escaped_byte byte) }
@@ -65,7 +65,7 @@ fn list_name_byte<W: Sink>(buffer: &mut Buffer, writer: &mut W, byte: u8)
 
 // Lists a name.
 fn list_name<W: Sink>(buffer: &mut Buffer, writer: &mut W, name: &str)
-    ensures { Passes
+    ensures { Passes W.keeps
         (buffered (W.contents writer.old) (W.failed writer.old) buffer.old)
         (buffered (W.contents writer.new) (W.failed writer.new) buffer.new)
         (escaped name.now) }
@@ -80,7 +80,7 @@ fn list_name<W: Sink>(buffer: &mut Buffer, writer: &mut W, name: &str)
 
 // Lists the line of a listed symbol.
 fn list_symbol<W: Sink>(buffer: &mut Buffer, writer: &mut W, symbol: &str)
-    ensures { Passes
+    ensures { Passes W.keeps
         (buffered (W.contents writer.old) (W.failed writer.old) buffer.old)
         (buffered (W.contents writer.new) (W.failed writer.new) buffer.new)
         (symbol_listing symbol.now) }
@@ -92,7 +92,7 @@ fn list_symbol<W: Sink>(buffer: &mut Buffer, writer: &mut W, symbol: &str)
 
 // Lists the lines of listed symbols.
 fn list_symbols<W: Sink>(buffer: &mut Buffer, writer: &mut W, symbols: &[String])
-    ensures { Passes
+    ensures { Passes W.keeps
         (buffered (W.contents writer.old) (W.failed writer.old) buffer.old)
         (buffered (W.contents writer.new) (W.failed writer.new) buffer.new)
         (flat_map symbol_listing (map string_bytes symbols.now)) }
@@ -107,7 +107,7 @@ fn list_line<W: Sink>(buffer: &mut Buffer, writer: &mut W, bytes: &[u8], start: 
     requires some { start < end }
     requires whole { end ≡ min (start + 16) (length bytes.now) }
     requires first { start % 16 ≡ 0 }
-    ensures { Passes
+    ensures { Passes W.keeps
         (buffered (W.contents writer.old) (W.failed writer.old) buffer.old)
         (buffered (W.contents writer.new) (W.failed writer.new) buffer.new)
         (flat_map (byte_listing (length bytes.now)) (enumerate_from start (slice_range bytes.now start end))) }
@@ -126,7 +126,7 @@ fn list_line<W: Sink>(buffer: &mut Buffer, writer: &mut W, bytes: &[u8], start: 
 // Lists 16 bytes, which make a line.
 fn list_whole_line<W: Sink>(buffer: &mut Buffer, writer: &mut W, bytes: &[u8])
     requires { length bytes.now ≡ 16 }
-    ensures { Passes
+    ensures { Passes W.keeps
         (buffered (W.contents writer.old) (W.failed writer.old) buffer.old)
         (buffered (W.contents writer.new) (W.failed writer.new) buffer.new)
         (bytes_listing bytes.now) }
@@ -139,7 +139,7 @@ fn list_whole_line<W: Sink>(buffer: &mut Buffer, writer: &mut W, bytes: &[u8])
 
 // Lists bytes, a line for each 16 and one for those left over.
 fn list_bytes<W: Sink>(buffer: &mut Buffer, writer: &mut W, bytes: &[u8])
-    ensures { Passes
+    ensures { Passes W.keeps
         (buffered (W.contents writer.old) (W.failed writer.old) buffer.old)
         (buffered (W.contents writer.new) (W.failed writer.new) buffer.new)
         (bytes_listing bytes.now) }
@@ -156,7 +156,7 @@ fn list_bytes<W: Sink>(buffer: &mut Buffer, writer: &mut W, bytes: &[u8])
 
 // Lists the first line of a member: its name, and its length in bytes.
 fn list_head<W: Sink>(buffer: &mut Buffer, writer: &mut W, name: &str, length: usize)
-    ensures { Passes
+    ensures { Passes W.keeps
         (buffered (W.contents writer.old) (W.failed writer.old) buffer.old)
         (buffered (W.contents writer.new) (W.failed writer.new) buffer.new)
         (codes "member " ++ (escaped name.now ++ (32 ∷ (decimal length ++ 10 ∷ [])))) }
@@ -171,7 +171,7 @@ fn list_head<W: Sink>(buffer: &mut Buffer, writer: &mut W, name: &str, length: u
 
 // Lists a member.
 fn list_member<W: Sink>(buffer: &mut Buffer, writer: &mut W, member: &Member)
-    ensures { Passes
+    ensures { Passes W.keeps
         (buffered (W.contents writer.old) (W.failed writer.old) buffer.old)
         (buffered (W.contents writer.new) (W.failed writer.new) buffer.new)
         (member_listing (member_view member.now)) }
@@ -183,7 +183,7 @@ fn list_member<W: Sink>(buffer: &mut Buffer, writer: &mut W, member: &Member)
 
 /// Lists members, in order. It ends with the member at which the writer fails.
 pub fn list_members<W: Sink>(buffer: &mut Buffer, writer: &mut W, members: &[Member])
-    ensures { Passes
+    ensures { Passes W.keeps
         (buffered (W.contents writer.old) (W.failed writer.old) buffer.old)
         (buffered (W.contents writer.new) (W.failed writer.new) buffer.new)
         (listing_of (map member_view members.now)) }

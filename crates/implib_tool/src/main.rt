@@ -16,7 +16,7 @@ pub mod run;
 mod run_tests;
 
 use crate::host::Host;
-use crate::program::perform_on_system;
+use crate::program::perform;
 use std::env;
 use std::process::ExitCode;
 
@@ -24,7 +24,7 @@ fn main(rt: HostRuntime) -> ExitCode {
     let mut reader = Host::new(rt.stdin());
     let mut writer = Host::new(rt.stdout());
     let mut faults = Host::new(rt.stderr());
-    perform_on_system(
+    perform(
         rt.alloc(),
         env::args(&rt),
         &mut reader,

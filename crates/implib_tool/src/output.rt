@@ -39,7 +39,7 @@ impl Buffer {
     /// Puts bytes behind those that wait. Where there is no room for them, those that wait are
     /// written first.
     pub fn put<W: Sink>(&mut self, writer: &mut W, bytes: &[u8])
-        ensures { Passes (buffered (W.contents writer.old) (W.failed writer.old) self.old)
+        ensures { Passes W.keeps (buffered (W.contents writer.old) (W.failed writer.old) self.old)
             (buffered (W.contents writer.new) (W.failed writer.new) self.new) bytes.now }
     {
         if self.bytes.capacity() - self.bytes.len() < bytes.len() {
@@ -53,7 +53,7 @@ impl Buffer {
     #[cold]
     #[inline(never)]
     fn put_after_flush<W: Sink>(&mut self, writer: &mut W, bytes: &[u8])
-        ensures { Passes (buffered (W.contents writer.old) (W.failed writer.old) self.old)
+        ensures { Passes W.keeps (buffered (W.contents writer.old) (W.failed writer.old) self.old)
             (buffered (W.contents writer.new) (W.failed writer.new) self.new) bytes.now }
     {
         self.flush(writer);
@@ -65,7 +65,8 @@ impl Buffer {
 
     /// Writes the bytes that wait.
     pub fn flush<W: Sink>(&mut self, writer: &mut W)
-        ensures passes { Passes (buffered (W.contents writer.old) (W.failed writer.old) self.old)
+        ensures passes { Passes W.keeps
+            (buffered (W.contents writer.old) (W.failed writer.old) self.old)
             (buffered (W.contents writer.new) (W.failed writer.new) self.new) [] }
         ensures empty { self.new ≡ [] }
     {
@@ -76,7 +77,7 @@ impl Buffer {
 
 // Writes bytes, unless the writer has failed.
 fn write_unless_failed<W: Sink>(writer: &mut W, bytes: &[u8])
-    ensures { Passes (buffered (W.contents writer.old) (W.failed writer.old) [])
+    ensures { Passes W.keeps (buffered (W.contents writer.old) (W.failed writer.old) [])
         (buffered (W.contents writer.new) (W.failed writer.new) []) bytes.now }
 {
     if writer.has_failed() {

@@ -2,7 +2,7 @@
 
 ghost use Rattle.implib.specs.Library.{member_view};
 ghost use Rattle.implib_tool.specs.Listing.{listing_of};
-ghost use Rattle.implib_tool.specs.Run.{MembersOfDocument, Runs};
+ghost use Rattle.implib_tool.specs.Run.{MembersOfDocument, Runs, devices};
 ghost use Rattle.implib_tool.specs.Views.{MembersOfDocuments, OnInputFault, OnDocumentFault, OnReadFault, OnTextFault, OnWriteFault, Passes, buffered, member_views};
 ghost use Rattle.implib_tool.specs.declared.run.RunError.TheVariants.{OutOfMemory};
 ghost use Rattle.std.specs.Io.KnownBytes.{Appends, Consumes, IsAtEnd};
@@ -16,7 +16,7 @@ use crate::output::Buffer;
 use implib::{Error, Fault, Flavor, ImportLibrary, MachineType, Member};
 use std::alloc::{AllocError, AllocFailed, Global};
 
-/// Why a run ended with nothing done.
+/// Why a run failed. Only [`RunError::Write`] may leave a beginning of the listing.
 #[derive(Debug, Drop, thiserror::Error)]
 pub enum RunError {
     /// A definition is refused.
@@ -28,10 +28,10 @@ pub enum RunError {
     /// The reader failed.
     #[error("read failed")]
     Read,
-    /// The writer failed. It took a beginning of the listing before.
+    /// The writer failed. It may have taken a beginning of the listing.
     #[error("write failed")]
     Write,
-    /// Memory was asked for and not given.
+    /// An allocation failed.
     #[error("out of memory")]
     OutOfMemory,
 }
@@ -67,7 +67,8 @@ impl From<Error> for RunError {
 
 // Reads all that a reader has left.
 fn read_all<R: Source>(alloc: Global, reader: &mut R) -> Result<Vec<u8>, RunError>
-    ensures bytes { IfOk result (λ input. Consumes (R.remaining reader.old) (R.remaining reader.new) input.items) }
+    ensures bytes { IfOk result
+        (λ input. Consumes (R.remaining reader.old) (R.remaining reader.new) input.items) }
     ensures end { OnOk result (IsAtEnd (R.remaining reader.new)) }
     ensures sound { OnOk result (R.failed reader.new ≡ R.failed reader.old) }
     ensures fault { IfErr result (OnReadFault (R.failed reader.old) (R.failed reader.new)) }
@@ -93,7 +94,8 @@ fn members_of(
     machine: MachineType,
     flavor: Flavor,
 ) -> Result<Vec<Member>, RunError>
-    ensures ok { IfOk result (λ members. MembersOfDocument document.now machine flavor (map member_view members.items)) }
+    ensures ok { IfOk result
+        (λ members. MembersOfDocument document.now machine flavor (map member_view members.items)) }
     ensures fault { IfErr result (OnDocumentFault document.now machine flavor) }
 {
     let library = ImportLibrary::new(alloc, document, machine, flavor)?;
@@ -108,7 +110,8 @@ fn members_of_documents(
     machine: MachineType,
     flavor: Flavor,
 ) -> Result<Vec<Vec<Member>>, RunError>
-    ensures ok { IfOk result (λ lists. MembersOfDocuments text.now machine flavor (member_views lists.items)) }
+    ensures ok { IfOk result
+        (λ lists. MembersOfDocuments text.now machine flavor (member_views lists.items)) }
     ensures fault { IfErr result (OnTextFault text.now machine flavor) }
 {
     let mut lists = Vec::new(alloc);
@@ -134,7 +137,8 @@ fn read_members<R: Source>(
     ensures utf8 { OnOk result (IfSome (R.remaining reader.old) IsUtf8) }
     ensures members { IfOk result (λ lists. IfSome (R.remaining reader.old)
         (λ text. MembersOfDocuments text machine flavor (member_views lists.items))) }
-    ensures fault { IfErr result (OnInputFault (R.remaining reader.old) (R.failed reader.new) machine flavor) }
+    ensures fault { IfErr result
+        (OnInputFault (R.remaining reader.old) (R.failed reader.new) machine flavor) }
 {
     let input = read_all(alloc, reader)?;
     let text = match str::from_utf8(input.as_slice()) {
@@ -146,7 +150,7 @@ fn read_members<R: Source>(
 
 // Lists the members of each document, document after document.
 fn list_documents<W: Sink>(buffer: &mut Buffer, writer: &mut W, lists: &[Vec<Member>])
-    ensures { Passes
+    ensures { Passes W.keeps
         (buffered (W.contents writer.old) (W.failed writer.old) buffer.old)
         (buffered (W.contents writer.new) (W.failed writer.new) buffer.new)
         (flat_map listing_of (member_views lists.now)) }
@@ -166,8 +170,9 @@ fn write_listing<W: Sink>(
     ensures moved { OnOk result (Appends (W.contents writer.old) (W.contents writer.new)
         (flat_map listing_of (member_views lists.now))) }
     ensures sound { OnOk result (W.failed writer.new ≡ false) }
-    ensures fault { IfErr result (OnWriteFault (W.contents writer.old) (W.contents writer.new)
-        (W.failed writer.new) (flat_map listing_of (member_views lists.now))) }
+    ensures fault { IfErr result
+        (OnWriteFault W.keeps (W.contents writer.old) (W.contents writer.new) (W.failed writer.new)
+        (flat_map listing_of (member_views lists.now))) }
 {
     let mut buffer = Buffer::reserve(alloc)?;
     list_documents(&mut buffer, writer, lists);
@@ -178,10 +183,10 @@ fn write_listing<W: Sink>(
     Ok(())
 }
 
-/// Reads all of the reader, and writes the listing of its definitions once it is whole.
+/// Reads the whole input, makes the members of its definitions, and then writes their listing.
 ///
-/// Neither device has failed before. No fault is retried. The input is tested for UTF-8 before
-/// anything of it is refused.
+/// Nothing is written unless all members were made. Requires that neither device has failed. No
+/// failed call is repeated. The input is tested for UTF-8 before any definition is refused.
 pub fn run<R: Source, W: Sink>(
     alloc: Global,
     reader: &mut R,
@@ -192,8 +197,10 @@ pub fn run<R: Source, W: Sink>(
     requires reader { R.failed reader.old ≡ false }
     requires writer { W.failed writer.old ≡ false }
     ensures { Runs machine flavor
-        (record { remaining = R.remaining reader.old; contents = W.contents writer.old; reader_failed = R.failed reader.old; writer_failed = W.failed writer.old })
-        (record { remaining = R.remaining reader.new; contents = W.contents writer.new; reader_failed = R.failed reader.new; writer_failed = W.failed writer.new })
+        (devices (R.remaining reader.old) (R.failed reader.old)
+        (W.contents writer.old) (W.failed writer.old) W.keeps)
+        (devices (R.remaining reader.new) (R.failed reader.new)
+        (W.contents writer.new) (W.failed writer.new) W.keeps)
         result }
 {
     let lists = read_members(alloc, reader, machine, flavor)?;

@@ -1,10 +1,13 @@
-use Rattle.std.proofs.Common.{arith, rules, ◌+◌, ◌++◌, ◌∙◌, ap, flat_map, length, take}
+use Rattle.std.proofs.Common.{arith, refl, rules, ◌+◌, ◌++◌, ◌∙◌, ap, flat_map, length, take}
 use Rattle.std.proofs.lemmas.List.{take_all}
 use Rattle.std.specs.List.{enumerate_from}
 use Rattle.implib_tool.specs.Listing.{byte_listing}
-use Rattle.implib_tool.proofs.Running.{passes_as, passes_more}
+use Rattle.implib_tool.proofs.Running.{passes_as, passes_more, passes_nothing}
 use Rattle.implib_tool.proofs.Shown.{lines_more, whole_line}
 use Rattle.implib_tool.proofs.listing.list_bytes.Goals as goal
+
+pub loop-start-init : goal.loop-start-init
+loop-start-init g c = record { within = search rules; first = refl; listed = passes_nothing _ }
 
 pub loop-start-preserved : goal.loop-start-preserved
 loop-start-preserved g c = record {

@@ -9,7 +9,7 @@ abbrev pub invariant-loop-start : goal.invariant-loop-start
 invariant-loop-start g l = record {
   within : l.start ≤ length l.bytes;
   first : l.start % 16 ≡ 0;
-  listed : Passes
+  listed : Passes g.W.Sink.keeps
       (buffered (g.W.Sink.contents l.fn.writer) (g.W.Sink.failed l.fn.writer) l.fn.buffer)
       (buffered (g.W.Sink.contents l.writer) (g.W.Sink.failed l.writer) l.buffer)
       (flat_map (byte_listing (length l.bytes)) (enumerate_from 0 (take l.start l.bytes)));

@@ -6,7 +6,7 @@ use Rattle.implib_tool.proofs.listing.list_members.Given as goal
 
 -- the members are listed up to here
 abbrev pub invariant-loop-member : goal.invariant-loop-member
-invariant-loop-member g l = Passes
+invariant-loop-member g l = Passes g.W.Sink.keeps
     (buffered (g.W.Sink.contents l.fn.writer) (g.W.Sink.failed l.fn.writer) l.fn.buffer)
     (buffered (g.W.Sink.contents l.writer) (g.W.Sink.failed l.writer) l.buffer)
     (listing_of (map member_view (take l.member-index l.members)))

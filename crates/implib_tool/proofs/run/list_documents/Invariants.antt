@@ -5,7 +5,7 @@ use Rattle.implib_tool.proofs.run.list_documents.Given as goal
 
 -- the documents are listed up to here
 abbrev pub invariant-loop-members : goal.invariant-loop-members
-invariant-loop-members g l = Passes
+invariant-loop-members g l = Passes g.W.Sink.keeps
     (buffered (g.W.Sink.contents l.fn.writer) (g.W.Sink.failed l.fn.writer) l.fn.buffer)
     (buffered (g.W.Sink.contents l.writer) (g.W.Sink.failed l.writer) l.buffer)
     (flat_map listing_of (member_views (take l.members-index l.lists)))
