@@ -1,5 +1,5 @@
 -- The programs of both flavours by hand, loaded and called, by computing and by the laws.
-use Rattle.std.proofs.Common.{◌≡◌, ℕ, ◌^◌, ◌<◌, List, [], ◌∷◌, codes, map, refl, arith}
+use Rattle.std.proofs.Common.{◌^◌, ◌<◌, [], ◌∷◌, codes, map, refl, arith}
 use Rattle.implib.specs.declared.machine.MachineType.TheVariants.{I386, ARMNT, AMD64, ARM64}
 use Rattle.implib.specs.Formats.Layout.{encoded_size}
 use Rattle.implib.specs.Formats.ShortImport.{short_import_in}

@@ -1,5 +1,5 @@
 -- Images whose texts have no NUL, by computing.
-use Rattle.std.proofs.Common.{◌≡◌, ℕ, ◌+◌, ◌<◌, ◌^◌, List, [], ◌∷◌, ◌++◌, codes, Option, None, Some, refl, sym, ◌∙◌, arith, subst}
+use Rattle.std.proofs.Common.{◌≡◌, ℕ, ◌<◌, [], ◌∷◌, ◌++◌, codes, Option, None, Some, refl, sym, ◌∙◌, arith, subst}
 use Rattle.implib.specs.Formats.Bytes.{u32_bytes}
 use Rattle.implib.specs.Import.{Name}
 use Rattle.implib.specs.Link.Image.{byte_at}

@@ -1,13 +1,12 @@
 -- Programs of what was taken by hand, by computing and by the laws.
-use Rattle.std.proofs.Common.{◌≡◌, ℕ, ◌^◌, ◌<◌, Bool, true, false, List, [], ◌∷◌, ◌++◌, map, refl, ap, sym, ◌∙◌, subst, inl, inr, arith, codes}
+use Rattle.std.proofs.Common.{◌≡◌, ℕ, ◌^◌, ◌<◌, true, false, List, [], ◌∷◌, ◌++◌, map, refl, ap, sym, ◌∙◌, inl, inr, arith, codes}
 use Rattle.std.specs.Prelude.{bytes_eq, nat_lt}
-use Rattle.std.specs.List.{Contains, IsDistinct, flat_map}
+use Rattle.std.specs.List.{IsDistinct, flat_map}
 use Rattle.std.proofs.lemmas.Bool.{ltb-true, true≢false}
 use Rattle.implib.specs.declared.machine.MachineType.TheVariants.{AMD64}
 use Rattle.implib.specs.Formats.Constants.{class_external}
 use Rattle.implib.specs.Formats.Layout.{encoded_size}
 use Rattle.implib.specs.Members.GnuMembers.{alias_specs}
-use Rattle.implib.specs.Members.Members.{refusal, renamed_refusal}
 use Rattle.implib.specs.Members.MemberSpec.{MemberView}
 use Rattle.implib.specs.Members.WeakExternal.{weak_object}
 use Rattle.implib.specs.Link.LinkedMembers.{IsAscending, LinkInput}

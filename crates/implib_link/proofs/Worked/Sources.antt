@@ -1,5 +1,5 @@
 -- Programs of texts by hand, by computing and by the laws.
-use Rattle.std.proofs.Common.{◌≡◌, ℕ, ◌^◌, ◌<◌, List, [], ◌∷◌, codes, map, refl, arith}
+use Rattle.std.proofs.Common.{[], ◌∷◌, map, refl, arith}
 use Rattle.std.specs.List.{AllByRecursion}
 use Rattle.implib.specs.declared.flavor.Flavor.TheVariants.{Msvc}
 use Rattle.implib.specs.declared.machine.MachineType.TheVariants.{I386, AMD64}
@@ -13,9 +13,9 @@ use Rattle.implib.specs.Members.WeakExternal.{weak_object}
 use Rattle.implib.specs.Text.Parses.{Parses}
 use Rattle.implib.proofs.Worked.Statements.{opened as text_opened, parses}
 use Rattle.implib_link.specs.Flavors.Expansion.{import_object, descriptor_symbol_by_name, expanded_in}
-use Rattle.implib_link.specs.Flavors.Program.{AreFlavorObjects, IsFlavorProgram, IsMadeFor, all_members, symbols_listed}
+use Rattle.implib_link.specs.Flavors.Program.{AreFlavorObjects, IsFlavorProgram, all_members, symbols_listed}
 use Rattle.implib_link.specs.Flavors.SectionSymbols.{with_section_symbols}
-use Rattle.implib_link.specs.Flavors.Texts.{FlavorSource, IsFlavorSource, input_of}
+use Rattle.implib_link.specs.Flavors.Texts.{IsFlavorSource, input_of}
 use Rattle.implib_link.specs.Gnu.Packed.{group_end, packed, packed_end, sections_end}
 use Rattle.implib_link.specs.Gnu.Program.{IsProgram, has_tables, linked_symbols}
 use Rattle.implib_link.specs.Gnu.Texts.{IsSource, link_input_of}

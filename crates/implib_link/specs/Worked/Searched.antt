@@ -1,5 +1,5 @@
 -- Programs of what was taken by hand of archives, and what the laws of the search say of them.
-use Rattle.std.specs.Prelude.{◌≡◌, ℕ, ◌+◌, ◌<◌, ◌^◌, ◌≤◌, List, [], ◌∷◌, ◌++◌, codes, length, map, true}
+use Rattle.std.specs.Prelude.{◌≤◌, List, [], ◌∷◌, ◌++◌, codes, length, map, true}
 use Rattle.std.specs.List.{Contains}
 use Rattle.implib.specs.declared.machine.MachineType.TheVariants.{AMD64}
 use Rattle.implib.specs.Definition.{ExportView, empty_export}
