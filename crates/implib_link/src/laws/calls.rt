@@ -14,7 +14,7 @@ ghost use Rattle.implib_link.specs.Gnu.Calls.{AreBeside, CallArrives, Defines, D
 ghost use Rattle.implib_link.specs.Gnu.Loaded.{Writes};
 ghost use Rattle.implib_link.specs.Gnu.Program.{IsProgram};
 ghost use Rattle.implib_link.specs.Stub.{CanJump};
-ghost use Rattle.implib_link.specs.Worked.Calls.{WorkedCalls, WorkedFlavorCall, WorkedReading};
+ghost use Rattle.implib_link.specs.Worked.Calls.{WorkedCalls, WorkedDirectCall, WorkedFlavorCall, WorkedReading};
 ghost use Rattle.std.specs.List.{AllByRecursion, Contains};
 ghost use Rattle.std.specs.Prelude.{◌≡◌, ◌+◌, ◌++◌, ℕ, List, Some, false, length, map, slice_get};
 
@@ -95,5 +95,6 @@ pub fn direct_calls_reach()
 pub fn worked_calls()
     ensures calls { WorkedCalls }
     ensures flavors { WorkedFlavorCall }
+    ensures direct { WorkedDirectCall }
     ensures reading { WorkedReading }
 {}
