@@ -17,3 +17,5 @@ pub mod Packed
 pub mod Jumps
 pub mod Stubs
 pub mod Calls
+pub mod Definers
+pub mod DirectCalls

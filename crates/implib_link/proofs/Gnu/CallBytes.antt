@@ -8,8 +8,8 @@ use Rattle.implib.specs.declared.machine.MachineType.{MachineType}
 use Rattle.implib.specs.Formats.Bytes.{u32_bytes}
 use Rattle.implib.specs.Link.Load.{number_in}
 use Rattle.implib.proofs.Formats.Bytes.{length-u32_bytes}
-use Rattle.implib_link.specs.Gnu.Calls.{IsAside, code_relocated_by, moved_by}
-use Rattle.implib_link.specs.Stub.{code_word, with_word, word_at}
+use Rattle.implib_link.specs.Gnu.Calls.{IsAside, code_relocated_by, moved_by, word_in_code}
+use Rattle.implib_link.specs.Stub.{with_word, word_at}
 
 -- bytes hold a window at an offset
 pub record Split (bytes : List ℕ) (offset : ℕ) (window : List ℕ) : Type 0 where
@@ -84,25 +84,25 @@ module _ (machine : MachineType) (image_base : ℕ) (targets : ℕ → ℕ) wher
       ≡ code_relocated_by machine image_base targets position ys (code_relocated_by machine image_base targets position xs bytes)
   code_appended position [] ys bytes = refl
   code_appended position (r ∷ xs) ys bytes =
-      code_appended position xs ys (with_word bytes r.offset (code_word machine r.kind image_base (position + r.offset) (targets r.symbol) (word_at bytes r.offset)))
+      code_appended position xs ys (with_word bytes r.offset (word_in_code machine r.kind image_base (position + r.offset) (targets r.symbol) (word_at bytes r.offset)))
 
   pub all_aside : (position : ℕ) (rs : List Relocation) (bytes : List ℕ) (offset : ℕ) (window : List ℕ) → AllByRecursion (IsAside offset (length window)) rs → Split bytes offset window →
       Split (code_relocated_by machine image_base targets position rs bytes) offset window
   all_aside position [] bytes offset window aside split = split
   all_aside position (r ∷ rs) bytes offset window aside split =
-      let word : ℕ = code_word machine r.kind image_base (position + r.offset) (targets r.symbol) (word_at bytes r.offset) in
+      let word : ℕ = word_in_code machine r.kind image_base (position + r.offset) (targets r.symbol) (word_at bytes r.offset) in
       all_aside position rs (with_word bytes r.offset word) offset window aside.1 (kept bytes offset window r.offset word aside.0 split)
 
   pub all_within : (position : ℕ) (rs : List Relocation) (bytes : List ℕ) (offset : ℕ) (window : List ℕ) → AllByRecursion (λ r. r.offset + 4 ≤ length window) rs → Split bytes offset window →
       Split (code_relocated_by machine image_base targets position (map (moved_by offset) rs) bytes) offset (code_relocated_by machine image_base targets (position + offset) rs window)
   all_within position [] bytes offset window within split = split
   all_within position (r ∷ rs) bytes offset window within split =
-      let near : ℕ = code_word machine r.kind image_base (position + offset + r.offset) (targets r.symbol) (word_at window r.offset) in
-      let far : ℕ = code_word machine r.kind image_base (position + (offset + r.offset)) (targets r.symbol) (word_at bytes (offset + r.offset)) in
+      let near : ℕ = word_in_code machine r.kind image_base (position + offset + r.offset) (targets r.symbol) (word_at window r.offset) in
+      let far : ℕ = word_in_code machine r.kind image_base (position + (offset + r.offset)) (targets r.symbol) (word_at bytes (offset + r.offset)) in
       let places : position + offset + r.offset ≡ position + (offset + r.offset) = omega arith in
       let same : far ≡ near =
-      ap (λ w. code_word machine r.kind image_base (position + (offset + r.offset)) (targets r.symbol) w) (read bytes offset window r.offset within.0 split)
-      ∙ ap (λ n. code_word machine r.kind image_base n (targets r.symbol) (word_at window r.offset)) (sym places) in
+      ap (λ w. word_in_code machine r.kind image_base (position + (offset + r.offset)) (targets r.symbol) w) (read bytes offset window r.offset within.0 split)
+      ∙ ap (λ n. word_in_code machine r.kind image_base n (targets r.symbol) (word_at window r.offset)) (sym places) in
       let long : length (with_word window r.offset near) ≡ length window = length_word window r.offset near within.0 in
       all_within position rs (with_word bytes (offset + r.offset) far) offset (with_word window r.offset near)
       (subst (λ n. AllByRecursion (λ (x : Relocation). x.offset + 4 ≤ n) rs) (sym long) within.1)
@@ -112,6 +112,6 @@ module _ (machine : MachineType) (image_base : ℕ) (targets : ℕ → ℕ) wher
       length (code_relocated_by machine image_base targets position rs bytes) ≡ length bytes
   length_within position [] bytes within = refl
   length_within position (r ∷ rs) bytes within =
-      let word : ℕ = code_word machine r.kind image_base (position + r.offset) (targets r.symbol) (word_at bytes r.offset) in
+      let word : ℕ = word_in_code machine r.kind image_base (position + r.offset) (targets r.symbol) (word_at bytes r.offset) in
       let long : length (with_word bytes r.offset word) ≡ length bytes = length_word bytes r.offset word within.0 in
       length_within position rs (with_word bytes r.offset word) (subst (λ n. AllByRecursion (λ (x : Relocation). x.offset + 4 ≤ n) rs) (sym long) within.1) ∙ long

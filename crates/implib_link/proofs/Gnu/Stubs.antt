@@ -75,7 +75,7 @@ first_sum c a w m is = is ∙ ap (λ k. k + w * m) (times_none a w)
 pub later_sum : (c a b w m : ℕ) → c ≡ a + w * m → a ≡ b → c ≡ b + w * m
 later_sum c a b w m is same = is ∙ ap (λ n. n + w * m) same
 
-block_placed : (machine : MachineType) (inputs : List LinkInput) (b : Bases) (rest : List Object) → AreAligned b → (i j : ℕ) (p : LinkInput) (e : ExportView) → slice_get inputs i ≡ Some p →
+pub block_placed : (machine : MachineType) (inputs : List LinkInput) (b : Bases) (rest : List Object) → AreAligned b → (i j : ℕ) (p : LinkInput) (e : ExportView) → slice_get inputs i ≡ Some p →
     slice_get (chosen_exports p.definition p.chosen) j ≡ Some e →
     (c : Bases) × (Among (placed_export machine p.definition.import_name c e) (placed_from b (blocks_objects machine (map block_of inputs) rest))
     × (c.addresses ≡ b.addresses + thunk_width machine * thunks_before i inputs + thunk_width machine * j))

@@ -1,6 +1,10 @@
 -- The calls that were relocated by hand, and the loader that reads, by computing and by the laws.
-use Rattle.std.proofs.Common.{◌≡◌, ℕ, zero, suc, ◌^◌, ◌⊎◌, true, false, List, [], ◌∷◌, ◌++◌, codes, length, Some, refl, ap, sym, ◌∙◌, subst, inl, inr, arith, true≢false}
-use Rattle.std.specs.Prelude.{slice_get}
+use Rattle.std.proofs.Common.{◌≡◌, ℕ, zero, suc, ◌+◌, ◌*◌, ◌^◌, ◌⊎◌, true, false, List, [], ◌∷◌, ◌++◌, codes, length, map, Some, None, Option, refl, ap, sym, ◌∙◌, subst, inl, inr, arith, true≢false}
+use Rattle.std.specs.Prelude.{Bool, bytes_eq, not, slice_get, ◌&&◌, ◌==◌, if◌then◌else◌}
+use Rattle.std.specs.List.{AllByRecursion, list_all}
+use Rattle.std.proofs.lemmas.Bool.{and_from, and_parts, cases_Bool, eq-eqb, eqb-true, not-true}
+use Rattle.implib.proofs.Link.Definitions.{same_text}
+use Rattle.implib_link.proofs.Gnu.DirectCalls.{direct_calls_reach}
 use Rattle.std.specs.Fmt.{digits}
 use Rattle.implib.specs.declared.machine.MachineType.{MachineType}
 use Rattle.implib.specs.declared.machine.MachineType.TheVariants.{I386, ARMNT, AMD64, ARM64}
@@ -16,13 +20,13 @@ use Rattle.implib.specs.Members.GnuMembers.{alias_specs, export_spec, head_spec,
 use Rattle.implib.specs.Members.ImportTables.{thunk_width}
 use Rattle.implib.specs.Members.Members.{refusal, renamed_refusal}
 use Rattle.implib.specs.Members.WeakExternal.{weak_object}
-use Rattle.implib.specs.Formats.Object.{ASymbol, Entry, ObjectSymbol, before_nul, bytes_at, data_at, each_at, entries_at, name_of, object_in, object_of_header, relocation_at, relocation_of, section_at, section_of, strings_at, symbol_of, u16_at, u32_at, up_to_nul}
+use Rattle.implib.specs.Formats.Object.{ASymbol, Auxiliary, Entry, ObjectSymbol, before_nul, bytes_at, data_at, each_at, entries_at, name_of, object_in, object_of_header, relocation_at, relocation_of, section_at, section_of, strings_at, symbol_of, u16_at, u32_at, up_to_nul}
 use Rattle.implib.specs.Formats.Layout.{auxiliary_bytes, auxiliary_count, contents, contents_offset, contents_size, header_bytes, encoded, encoded_size, name_field, offsets_from, pointer_or_zero, record_count, records, relocation_bytes, section_header, section_headers, string_bytes_of, string_offsets, string_size, string_table, strings_size, symbol_bytes, symbol_table_offset}
 use Rattle.implib.specs.Link.Placement.{Placed, next_multiple}
-use Rattle.implib.specs.Link.Resolution.{address_or_zero, definitions_of, is_undefined_external, target_address}
+use Rattle.implib.specs.Link.Resolution.{address_or_zero, definitions_of, is_undefined_external, symbol_address, target_address}
 use Rattle.implib.specs.Formats.Writer.{long_names, name_location, layout_of, symbol_written, with_long_name, with_name}
 use Rattle.implib.proofs.Link.Loading.{number_once}
-use Rattle.implib.proofs.Link.Ranges.{Among, apart_as_they_rise, ends_below}
+use Rattle.implib.proofs.Link.Ranges.{Among, all_among, among_back, among_front, apart_as_they_rise, ends_below}
 use Rattle.implib.specs.Worked.Statements.{plain_export}
 use Rattle.implib.specs.Members.MsvcMembers.{descriptor_spec, header_specs, null_descriptor_spec, null_thunk_spec, weak_specs}
 use Rattle.implib.specs.Members.MsvcObjects.{base_name, descriptor, descriptor_symbol, null_descriptor, null_descriptor_symbol, null_thunk, null_thunk_symbol}
@@ -36,16 +40,16 @@ use Rattle.implib_link.specs.Worked.Flavors.{both_inputs as flavor_inputs, flavo
 use Rattle.implib_link.proofs.Flavors.Calls.{flavors_calls_reach}
 use Rattle.implib_link.proofs.Flavors.Reading.{flavors_reader_loads}
 use Rattle.implib_link.proofs.Worked.Flavors.{worked_flavors}
-use Rattle.implib_link.specs.Gnu.Calls.{AreBeside, HasCall, PlacedCode, Resolves, code_range, code_ranges}
+use Rattle.implib_link.specs.Gnu.Calls.{AreBeside, Defines, HasCall, HasDirectCall, PlacedCode, Resolves, code_range, code_ranges}
 use Rattle.implib_link.specs.Gnu.Program.{IsProgram, has_tables, linked_symbols}
 use Rattle.implib_link.specs.Gnu.Reading.{ReadsAndWrites}
-use Rattle.implib_link.specs.Worked.Calls.{WorkedFlavorCall, calling_flavors, flavor_targets, flavors_placed, WorkedCall, WorkedCalls, WorkedReading, calling, calling_at, calling_memory, calling_objects, calling_placed, first_bytes, given_on, last_bytes, nameless_image, table_targets}
+use Rattle.implib_link.specs.Worked.Calls.{WorkedDirectCall, direct_at, direct_calling, direct_objects, direct_placed, direct_targets, is_open, open_or, stub_at, WorkedFlavorCall, calling_flavors, flavor_targets, flavors_placed, WorkedCall, WorkedCalls, WorkedReading, calling, calling_at, calling_memory, calling_objects, calling_placed, first_bytes, given_on, last_bytes, nameless_image, table_targets}
 use Rattle.implib_link.specs.Worked.Programs.{another, both_inputs, foo_input, program_image, program_objects, program_placed, symbol_of_class, symbol_on, touching_4, touching_8}
 use Rattle.implib_link.proofs.Gnu.Calls.{calls_reach_through_entries}
 use Rattle.implib_link.proofs.Gnu.Memory.{holder, not_in_both}
 use Rattle.implib_link.proofs.Gnu.Reading.{reader_loads}
 use Rattle.implib_link.proofs.Gnu.Stubs.{same_address}
-use Rattle.implib_link.proofs.Search.Lists.{contains_among}
+use Rattle.implib_link.proofs.Search.Lists.{among_at, contains_among}
 use Rattle.implib_link.proofs.Worked.Programs.{claims_none_by, distinct_by, worked_programs}
 use Rattle.implib_link.proofs.Worked.RefusedLinks.{differ, number}
 
@@ -403,4 +407,166 @@ worked_flavor_call = record {
   arrives = λ written writes.
       flavors_calls_reach AMD64 0x1_4000_0000 flavor_bases_8 (flavor_inputs AMD64) calling_flavors (calling_at AMD64 0x1000 ∷ []) flavor_targets (given_on AMD64) written 0 1 (msvc_input AMD64)
       (open_export AMD64) (calling_at AMD64 0x1000) 4 worked_flavors.amd64.made flavors_program tt flavors_beside (wide AMD64) writes refl refl (0, omega arith, refl) amd64_has;
+}
+
+-- The direct call, its symbols and the stub's.
+
+is_none : Option ℕ → Bool
+is_none None = true
+is_none (Some n) = false
+
+-- an entry of the name `open` has no address in the tables
+abbrev unplaced : Placed → Entry → Bool
+unplaced p x = if is_open x then is_none (symbol_address direct_placed p x) else true
+
+no_address : (p : Placed) (x : Entry) (address : ℕ) → unplaced p x ≡ true → is_open x ≡ true → symbol_address direct_placed p x ≡ Some address → ⊥
+unfolding is_none
+no_address p x address check named is =
+    let none : is_none (symbol_address direct_placed p x) ≡ true = rw named at check in
+    let some : is_none (symbol_address direct_placed p x) ≡ false = ap is_none is in
+    true≢false (sym none ∙ some)
+
+-- whether an entry is an undefined symbol of this name
+abbrev is_wanted : List ℕ → Entry → Bool
+is_wanted name (Auxiliary bytes) = false
+is_wanted name (ASymbol s) = is_undefined_external s && bytes_eq s.name name
+
+-- a symbol that code defines is `open` at 0x1010, or no entry wants it
+abbrev fits : List Entry → PlacedCode → Entry → Bool
+fits wanted d (Auxiliary bytes) = true
+fits wanted d (ASymbol t) =
+    if is_defined_external t && (t.section == d.number)
+    then (if is_open (ASymbol t) then d.position + t.value == 0x1010 else list_all (λ x. not (is_wanted t.name x)) wanted)
+    else true
+
+each_of : {X : Type 0} (test : X → Bool) (x : X) (xs : List X) → list_all test xs ≡ true → Among x xs → test x ≡ true
+unfolding Among
+each_of test x [] all m = absurd m
+each_of test x (y ∷ xs) all (inl same) = ap test same ∙ (and_parts (test y) (list_all test xs) all).0
+each_of test x (y ∷ xs) all (inr m) = each_of test x xs (and_parts (test y) (list_all test xs) all).1 m
+
+defined_fits : (wanted : List Entry) (d : PlacedCode) (t : ObjectSymbol) → fits wanted d (ASymbol t) ≡ true → is_defined_external t ≡ true → t.section ≡ d.number →
+    (if is_open (ASymbol t) then d.position + t.value == 0x1010 else list_all (λ x. not (is_wanted t.name x)) wanted) ≡ true
+defined_fits wanted d t check external here =
+    let same : (t.section == d.number) ≡ true = eq-eqb t.section d.number here in
+    rw (external, same) at check
+
+open_resolves : (wanted : List Entry) (d : PlacedCode) (s t : ObjectSymbol) (address : ℕ) → fits wanted d (ASymbol t) ≡ true → is_defined_external t ≡ true → t.section ≡ d.number → Among (ASymbol s) wanted →
+    is_undefined_external s ≡ true → t.name ≡ s.name → open_or (Some (ASymbol s)) address ≡ d.position + t.value
+open_resolves wanted d s t address check external here m undefined named =
+    elim (cases_Bool (bytes_eq t.name (codes "open"))) [
+      | inl called ↦
+          let value : (d.position + t.value == 0x1010) ≡ true = rw called at (defined_fits wanted d t check external here) in
+          let is_s : bytes_eq s.name (codes "open") ≡ true = subst (λ n. bytes_eq n (codes "open") ≡ true) named called in
+          rw is_s (sym (eqb-true (d.position + t.value) 0x1010 value))
+      | inr other ↦
+          let none : list_all (λ x. not (is_wanted t.name x)) wanted ≡ true = rw other at (defined_fits wanted d t check external here) in
+          let one : not (is_wanted t.name (ASymbol s)) ≡ true = each_of (λ x. not (is_wanted t.name x)) (ASymbol s) wanted none m in
+          let same : bytes_eq s.name t.name ≡ true = subst (λ n. bytes_eq s.name n ≡ true) (sym named) (same_text s.name) in
+          let wanted_is : is_wanted t.name (ASymbol s) ≡ true = and_from (is_undefined_external s) (bytes_eq s.name t.name) undefined same in
+          absurd (true≢false (sym wanted_is ∙ not-true (is_wanted t.name (ASymbol s)) one))
+    ]
+
+tables_resolve : (c : PlacedCode) (index address : ℕ) (entry : Entry) → unplaced c.from entry ≡ true → slice_get c.from.object.entries index ≡ Some entry → symbol_address direct_placed c.from entry ≡ Some address →
+    direct_targets c index ≡ address
+tables_resolve c index address entry check at is =
+    elim (cases_Bool (is_open entry)) [
+      | inl called ↦ absurd (no_address c.from entry address check called is)
+      | inr other ↦ rw at (rw other (ap address_or_zero is))
+    ]
+
+abbrev all_wanted : List Entry
+all_wanted = direct_at.from.object.entries ++ stub_at.from.object.entries
+
+wanted_held : (c : PlacedCode) (x : Entry) → Among c (direct_at ∷ stub_at ∷ []) → Among x c.from.object.entries → Among x all_wanted
+wanted_held c x m there =
+    all_among (λ (k : PlacedCode). Among x k.from.object.entries → Among x all_wanted) c (direct_at ∷ stub_at ∷ []) m
+    (among_front x direct_at.from.object.entries stub_at.from.object.entries, (among_back x direct_at.from.object.entries stub_at.from.object.entries, tt)) there
+
+codes_unplaced : AllByRecursion (λ (k : PlacedCode). list_all (unplaced k.from) k.from.object.entries ≡ true) (direct_at ∷ stub_at ∷ [])
+unfolding opened refusal renamed_refusal alias_specs encoded_size weak_object has_tables is_none
+codes_unplaced = (refl, (refl, tt))
+
+codes_fit : AllByRecursion (λ (k : PlacedCode). list_all (fits all_wanted k) k.from.object.entries ≡ true) (direct_at ∷ stub_at ∷ [])
+unfolding opened refusal renamed_refusal alias_specs encoded_size weak_object has_tables
+codes_fit = (refl, (refl, tt))
+
+direct_resolved : Resolves direct_placed (direct_at ∷ stub_at ∷ []) direct_targets
+direct_resolved = record {
+  tables = λ c index address entry held at is.
+      tables_resolve c index address entry (each_of (unplaced c.from) entry c.from.object.entries
+      (all_among (λ (k : PlacedCode). list_all (unplaced k.from) k.from.object.entries ≡ true) c (direct_at ∷ stub_at ∷ []) (contains_among c (direct_at ∷ stub_at ∷ []) held) codes_unplaced)
+      (among_at entry c.from.object.entries index at)) at is;
+  code = λ c d index s t c_held d_held at undefined defines named.
+      let check : fits all_wanted d (ASymbol t) ≡ true = each_of (fits all_wanted d) (ASymbol t) d.from.object.entries
+      (all_among (λ (k : PlacedCode). list_all (fits all_wanted k) k.from.object.entries ≡ true) d (direct_at ∷ stub_at ∷ []) (contains_among d (direct_at ∷ stub_at ∷ []) d_held) codes_fit)
+      (contains_among (ASymbol t) d.from.object.entries defines.held) in
+      let there : Among (ASymbol s) all_wanted = wanted_held c (ASymbol s) (contains_among c (direct_at ∷ stub_at ∷ []) c_held) (among_at (ASymbol s) c.from.object.entries index at) in
+      ap (λ o. open_or o (target_address direct_placed c.from index)) at ∙ open_resolves all_wanted d s t (target_address direct_placed c.from index) check defines.external defines.here there undefined named;
+}
+
+direct_program : IsProgram AMD64 touching_8 (both_inputs AMD64) direct_objects
+unfolding opened refusal renamed_refusal alias_specs encoded_size weak_object has_tables
+direct_program = record {
+  distinct = distinct_by (linked_symbols AMD64 (both_inputs AMD64)) refl;
+  tables = refl;
+  others = (claims_none_by (linked_symbols AMD64 (both_inputs AMD64)) direct_calling refl, tt);
+  admissible = record {
+    descriptors = (omega arith, refl);
+    directory_ends = (omega arith, refl);
+    lookups = (omega arith, refl);
+    addresses = (omega arith, refl);
+    hint_names = (omega arith, refl);
+    dll_names = (omega arith, refl);
+    ends = ends_below (2 ^ 31) (image_of AMD64 touching_8 direct_placed) refl;
+    apart = apart_as_they_rise (2 ^ 31) (image_of AMD64 touching_8 direct_placed) refl;
+  };
+}
+
+direct_beside : AreBeside AMD64 0x1_4000_0000 touching_8 direct_objects (direct_at ∷ stub_at ∷ []) direct_targets
+unfolding opened refusal renamed_refusal alias_specs encoded_size weak_object has_tables
+direct_beside = record {
+  held = ((0, omega arith, refl), ((3, omega arith, refl), tt));
+  sections = (refl, (refl, tt));
+  ends = (omega arith, (omega arith, tt));
+  apart = apart_as_they_rise (2 ^ 31) (image_of AMD64 touching_8 direct_placed ++ code_ranges AMD64 0x1_4000_0000 direct_targets (direct_at ∷ stub_at ∷ [])) refl;
+  resolved = direct_resolved;
+}
+
+direct_defines : Defines stub_at (symbol_of_class (codes "open") 1 class_external)
+unfolding opened refusal renamed_refusal alias_specs encoded_size weak_object has_tables
+direct_defines = record { held = (1, omega arith, refl); external = refl; here = refl }
+
+direct_has : HasDirectCall AMD64 direct_at 4 (codes "open")
+direct_has = record {
+  front = first_bytes AMD64;
+  back = last_bytes AMD64;
+  instructions = refl;
+  here = refl;
+  index = 1;
+  before = [];
+  behind = [];
+  relocated = refl;
+  aside_before = tt;
+  aside_behind = tt;
+  symbol = symbol_of_class (codes "open") 0 class_external;
+  target = refl;
+  undefined = refl;
+  named = refl;
+}
+
+pub worked_direct_call : WorkedDirectCall
+unfolding opened refusal renamed_refusal alias_specs encoded_size weak_object has_tables
+worked_direct_call = record {
+  program = direct_program;
+  beside = direct_beside;
+  defines = direct_defines;
+  calls = direct_has;
+  bytes = refl;
+  leads = refl;
+  stub = refl;
+  reads = refl;
+  arrives = λ written writes.
+      direct_calls_reach AMD64 0x1_4000_0000 touching_8 (both_inputs AMD64) direct_objects (direct_at ∷ stub_at ∷ []) direct_targets (given_on AMD64) written 0 1 (foo_input AMD64) (open_export AMD64) direct_at stub_at 4
+      (symbol_of_class (codes "open") 1 class_external) worked_programs.amd64.made direct_program tt tt direct_beside (wide AMD64) writes refl refl refl (1, omega arith, refl) direct_defines refl (0, omega arith, refl) direct_has;
 }

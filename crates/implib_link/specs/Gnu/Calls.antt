@@ -1,6 +1,6 @@
 -- Calls of imports in the code of any object that is linked: by the import's entry of the address table, or by
 -- its stub. Addresses of code count from the image's base.
-use Rattle.std.specs.Prelude.{◌≡◌, ℕ, ◌+◌, ◌*◌, ◌^◌, ◌≤◌, ◌⊎◌, ◌&&◌, ◌==◌, true, List, [], ◌∷◌, ◌++◌, bytes_eq, length, map, slice_get, take, Option, Some, None, if◌then◌else◌}
+use Rattle.std.specs.Prelude.{◌≡◌, ℕ, ◌+◌, ◌-◌, ◌*◌, ◌%◌, ◌^◌, ◌≤◌, ◌⊎◌, ◌&&◌, ◌==◌, true, List, [], ◌∷◌, ◌++◌, bytes_eq, length, map, slice_get, take, Option, Some, None, if◌then◌else◌}
 use Rattle.std.specs.List.{AllByRecursion, Contains}
 use Rattle.implib.specs.declared.coff.object.Relocation.{Relocation}
 use Rattle.implib.specs.declared.machine.MachineType.{MachineType}
@@ -8,11 +8,12 @@ use Rattle.implib.specs.declared.machine.MachineType.TheVariants.{I386, ARMNT, A
 use Rattle.implib.specs.Formats.Constants.{amd64_rel32, arm64_pagebase_rel21, arm64_pageoffset_12l, i386_dir32}
 use Rattle.implib.specs.Formats.File.{is_defined_external}
 use Rattle.implib.specs.Formats.Object.{ASymbol, Entry, Object, ObjectSection, ObjectSymbol, section_numbered}
+use Rattle.implib.specs.Members.Gnu.{stub_bytes}
 use Rattle.implib.specs.Link.Image.{AllApart, Range, image_of}
 use Rattle.implib.specs.Link.Load.{BytesAt}
 use Rattle.implib.specs.Link.Placement.{Bases, Placed, placed_from}
 use Rattle.implib.specs.Link.Resolution.{is_undefined_external, symbol_address}
-use Rattle.implib_link.specs.Stub.{adrp_immediate, code_word, ldr_immediate, page, plus_signed, with_adrp, with_bits, with_word, word_at}
+use Rattle.implib_link.specs.Stub.{adrp_immediate, code_word, jump_reads, ldr_immediate, page, plus_signed, with_adrp, with_bits, with_word, word_at}
 
 -- a section of a placed object, by its number, which counts from 1, with the address of its code
 pub record PlacedCode : Type 0 where
@@ -21,6 +22,23 @@ pub record PlacedCode : Type 0 where
   pub code : ObjectSection
   pub position : ℕ
 
+-- I386's relocation by 32 bits relative to the byte behind the field (PE/COFF specification, "Type Indicators":
+-- IMAGE_REL_I386_REL32)
+abbrev pub i386_rel32 : ℕ
+i386_rel32 = 0x14
+
+-- a word that a relocation changes in code: as in a stub's, and on I386 relative to the byte behind the field
+abbrev pub word_in_code : MachineType → ℕ → ℕ → ℕ → ℕ → ℕ → ℕ
+word_in_code I386 type image_base position target word =
+    if type == i386_rel32 then (word + target + (2 ^ 32 - (position + 4) % 2 ^ 32)) % 2 ^ 32
+    else code_word I386 type image_base position target word
+word_in_code ARMNT type image_base position target word =
+    code_word ARMNT type image_base position target word
+word_in_code AMD64 type image_base position target word =
+    code_word AMD64 type image_base position target word
+word_in_code ARM64 type image_base position target word =
+    code_word ARM64 type image_base position target word
+
 -- The bytes of code at an address, relocated by the addresses that a linker takes for the symbols of its
 -- object, by their indices (PE/COFF specification, "COFF Relocations").
 abbrev pub code_relocated_by : MachineType → ℕ → (ℕ → ℕ) → ℕ → List Relocation → List ℕ → List ℕ
@@ -28,7 +46,7 @@ code_relocated_by machine image_base targets position [] bytes = bytes
 code_relocated_by machine image_base targets position (r ∷ relocations) bytes =
     code_relocated_by machine image_base targets position relocations
     (with_word bytes r.offset
-    (code_word machine r.kind image_base (position + r.offset) (targets r.symbol) (word_at bytes r.offset)))
+    (word_in_code machine r.kind image_base (position + r.offset) (targets r.symbol) (word_at bytes r.offset)))
 
 -- the range of the code, relocated
 abbrev pub code_range : MachineType → ℕ → (PlacedCode → ℕ → ℕ) → PlacedCode → Range
@@ -147,4 +165,47 @@ pub record CallArrives (machine : MachineType) (image_base : ℕ) (memory : List
   pub whole : length instructions ≡ length (call_bytes machine)
   pub entry : ℕ
   pub reads : call_reads machine (image_base + address) instructions ≡ Some (image_base + entry)
+  pub located : BytesAt memory entry bytes
+
+-- `call rel32` of I386 and AMD64, with an empty field
+abbrev pub direct_bytes : List ℕ
+direct_bytes = 0xE8 ∷ 0 ∷ 0 ∷ 0 ∷ 0 ∷ []
+
+-- its relocation against the symbol of an index
+abbrev pub direct_relocations : MachineType → ℕ → List Relocation
+direct_relocations I386 index = record { offset = 1; symbol = index; kind = i386_rel32 } ∷ []
+direct_relocations ARMNT index = []
+direct_relocations AMD64 index = record { offset = 1; symbol = index; kind = amd64_rel32 } ∷ []
+direct_relocations ARM64 index = []
+
+-- code has such a call of a name at an offset
+abbrev pub HasDirectCall : MachineType → PlacedCode → ℕ → List ℕ → Type 0
+HasDirectCall machine c offset name = HasInstructions c offset name direct_bytes (direct_relocations machine)
+
+-- a machine has this call: I386 and AMD64
+abbrev pub HasRel32 : MachineType → Type 0
+HasRel32 I386 = Unit {0}
+HasRel32 ARMNT = ⊥
+HasRel32 AMD64 = Unit {0}
+HasRel32 ARM64 = ⊥
+
+-- where it leads, at an address: so far behind the call
+abbrev pub direct_leads : ℕ → List ℕ → Option ℕ
+direct_leads address bytes =
+    if bytes_eq (take 1 bytes) (0xE8 ∷ []) then Some (plus_signed 32 1 (word_at bytes 1) (address + 5)) else None
+
+-- At an address of memory is a direct call, by the bytes that are there; where it leads is a stub, by the bytes
+-- that are there; and where this reads its target are these bytes.
+pub record DirectCallArrives (machine : MachineType) (image_base : ℕ) (memory : List Range) (address : ℕ)
+    (bytes : List ℕ) : Type 0 where
+  pub instruction : List ℕ
+  pub here : BytesAt memory address instruction
+  pub whole : length instruction ≡ length direct_bytes
+  pub stub : ℕ
+  pub leads : direct_leads (image_base + address) instruction ≡ Some (image_base + stub)
+  pub code : List ℕ
+  pub there : BytesAt memory stub code
+  pub whole_stub : length code ≡ length (stub_bytes machine)
+  pub entry : ℕ
+  pub reads : jump_reads machine (image_base + stub) code ≡ Some (image_base + entry)
   pub located : BytesAt memory entry bytes

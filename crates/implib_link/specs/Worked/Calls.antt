@@ -1,27 +1,27 @@
 -- Calls that were relocated by hand: a program as in Worked/Programs, whose own code calls `open` of foo.dll
 -- through its entry, on three machines; and a loader that reads the program's image.
-use Rattle.std.specs.Prelude.{◌≡◌, ℕ, ◌+◌, ◌*◌, List, [], ◌∷◌, ◌++◌, codes, length, map, Some}
+use Rattle.std.specs.Prelude.{◌≡◌, ℕ, ◌+◌, ◌*◌, Bool, false, List, [], ◌∷◌, ◌++◌, bytes_eq, codes, length, map, slice_get, Option, None, Some, if◌then◌else◌}
 use Rattle.std.specs.List.{AllByRecursion}
 use Rattle.implib.specs.declared.machine.MachineType.{MachineType}
 use Rattle.implib.specs.declared.machine.MachineType.TheVariants.{I386, ARMNT, AMD64, ARM64}
 use Rattle.implib.specs.Formats.Bytes.{u32_bytes}
-use Rattle.implib.specs.Formats.Constants.{align_16bytes, cnt_code, mem_execute_read, class_external}
-use Rattle.implib.specs.Formats.Object.{ASymbol, Object, ObjectSection}
+use Rattle.implib.specs.Formats.Constants.{align_16bytes, align_4bytes, cnt_code, mem_execute_read, class_external}
+use Rattle.implib.specs.Formats.Object.{ASymbol, Auxiliary, Entry, Object, ObjectSection}
 use Rattle.implib.specs.Import.{Ask, Name, Ordinal, imp_symbol}
 use Rattle.implib.specs.Link.Image.{Range, image_of}
 use Rattle.implib.specs.Link.LinkedMembers.{IsMade}
 use Rattle.implib.specs.Link.Load.{BytesAt}
 use Rattle.implib.specs.Link.Placement.{Bases, Placed, Unplaced, placed_from}
 use Rattle.implib.specs.Link.Resolution.{target_address}
-use Rattle.implib.specs.Members.Gnu.{section, text_name}
+use Rattle.implib.specs.Members.Gnu.{section, stub_bytes, stub_relocations, text_name}
 use Rattle.implib.specs.Members.ImportTables.{thunk_width, zeros}
 use Rattle.implib_link.specs.Directory.{imported}
 use Rattle.implib_link.specs.Flavors.Program.{IsFlavorProgram, IsMadeFor, imported_in, objects_taken}
-use Rattle.implib_link.specs.Gnu.Calls.{AreBeside, CallArrives, HasCall, PlacedCode, call_bytes, call_reads, call_relocations, code_range, code_ranges, moved_by}
+use Rattle.implib_link.specs.Gnu.Calls.{AreBeside, CallArrives, Defines, DirectCallArrives, HasCall, HasDirectCall, PlacedCode, call_bytes, call_reads, call_relocations, code_range, code_ranges, direct_bytes, direct_leads, direct_relocations, moved_by}
 use Rattle.implib_link.specs.Gnu.Loaded.{Writes}
 use Rattle.implib_link.specs.Gnu.Program.{IsProgram, null_descriptor}
 use Rattle.implib_link.specs.Gnu.Reading.{ReadsAndWrites}
-use Rattle.implib_link.specs.Stub.{CanJump}
+use Rattle.implib_link.specs.Stub.{CanJump, jump_reads}
 use Rattle.implib_link.specs.Worked.Flavors.{both_inputs as flavor_inputs, flavor_bases_8, flavor_image, members_with_null}
 use Rattle.implib_link.specs.Worked.Programs.{another, both_inputs, foo_input, input_objects, program_image, symbol_of_class, symbol_on, touching_4, touching_8, zed_input}
 
@@ -164,6 +164,87 @@ pub record WorkedFlavorCall : Type 0 where
       (map (imported_in AMD64) (flavor_inputs AMD64)) written →
       CallArrives AMD64 0x1_4000_0000 (written ++ (image_of AMD64 flavor_bases_8 flavors_placed
       ++ code_ranges AMD64 0x1_4000_0000 flavor_targets (calling_at AMD64 0x1000 ∷ []))) 0x1004
+      (0x40 ∷ 0 ∷ 0 ∷ 0x10 ∷ 0 ∷ 0 ∷ 0 ∷ 0 ∷ [])
+
+-- code that calls `open` by its name, at offset 4: `sub rsp, 40`, `call open`, `add rsp, 40`, `ret`
+abbrev pub direct_code : ObjectSection
+direct_code = section text_name (cnt_code + align_16bytes + mem_execute_read)
+    (first_bytes AMD64 ++ (direct_bytes ++ last_bytes AMD64)) (map (moved_by 4) (direct_relocations AMD64 1))
+
+-- an object with this code, whose symbol 1 is `open`
+abbrev pub direct_calling : Object
+direct_calling = record (calling AMD64) {
+  sections = direct_code ∷ [];
+  entries = ASymbol (symbol_of_class (codes "main") 1 class_external)
+      ∷ ASymbol (symbol_of_class (codes "open") 0 class_external)
+      ∷ [];
+}
+
+-- what is linked: this object, foo.dll's members, zed.dll's members, the null descriptor
+abbrev pub direct_objects : List Object
+direct_objects =
+    direct_calling
+    ∷ (input_objects AMD64 (foo_input AMD64) ++ (input_objects AMD64 (zed_input AMD64) ++ null_descriptor ∷ []))
+
+abbrev pub direct_placed : List Placed
+direct_placed = placed_from touching_8 direct_objects
+
+-- what is placed at an index
+abbrev pub placed_or_empty : Option Placed → Placed
+placed_or_empty None = record { object = direct_calling; section_addresses = [] }
+placed_or_empty (Some p) = p
+
+-- the calling code at 0x1000, and the stub of `open`, which is the fourth object's, at 0x1010
+abbrev pub direct_at : PlacedCode
+direct_at = record {
+  from = record { object = direct_calling; section_addresses = Unplaced ∷ [] };
+  number = 1;
+  code = direct_code;
+  position = 0x1000;
+}
+
+abbrev pub stub_at : PlacedCode
+stub_at = record {
+  from = placed_or_empty (slice_get direct_placed 3);
+  number = 1;
+  code = section text_name (cnt_code + align_4bytes + mem_execute_read) (stub_bytes AMD64) (stub_relocations AMD64 2);
+  position = 0x1010;
+}
+
+-- whether an entry is a symbol of the name `open`
+abbrev pub is_open : Entry → Bool
+is_open (Auxiliary bytes) = false
+is_open (ASymbol s) = bytes_eq s.name (codes "open")
+
+-- the address of an entry in code: that of the stub for `open`, or else that in the tables
+abbrev pub open_or : Option Entry → ℕ → ℕ
+open_or None address = address
+open_or (Some x) address = if is_open x then 0x1010 else address
+
+-- what the symbols of code are taken to be
+abbrev pub direct_targets : PlacedCode → ℕ → ℕ
+direct_targets c index = open_or (slice_get c.from.object.entries index) (target_address direct_placed c.from index)
+
+-- The program, the code and the stub meet all that the law of direct calls asks for; they are relocated to these
+-- bytes; the call leads to 0x1010, the jump there reads 0x80, and the call arrives at what foo.dll gives for `open`.
+pub record WorkedDirectCall : Type 0 where
+  pub program : IsProgram AMD64 touching_8 (both_inputs AMD64) direct_objects
+  pub beside : AreBeside AMD64 0x1_4000_0000 touching_8 direct_objects (direct_at ∷ stub_at ∷ []) direct_targets
+  pub defines : Defines stub_at (symbol_of_class (codes "open") 1 class_external)
+  pub calls : HasDirectCall AMD64 direct_at 4 (codes "open")
+  -- call +7
+  pub bytes : (code_range AMD64 0x1_4000_0000 direct_targets direct_at).bytes
+      ≡ first_bytes AMD64 ++ (0xE8 ∷ 7 ∷ 0 ∷ 0 ∷ 0 ∷ last_bytes AMD64)
+  pub leads : direct_leads 0x1_4000_1004 (0xE8 ∷ 7 ∷ 0 ∷ 0 ∷ 0 ∷ []) ≡ Some 0x1_4000_1010
+  -- jmp [rip - 0xF96]
+  pub stub : (code_range AMD64 0x1_4000_0000 direct_targets stub_at).bytes
+      ≡ 0xFF ∷ 0x25 ∷ 0x6A ∷ 0xF0 ∷ 0xFF ∷ 0xFF ∷ 0x90 ∷ 0x90 ∷ []
+  pub reads : jump_reads AMD64 0x1_4000_1010 (0xFF ∷ 0x25 ∷ 0x6A ∷ 0xF0 ∷ 0xFF ∷ 0xFF ∷ 0x90 ∷ 0x90 ∷ []) ≡ Some 0x1_4000_0080
+  pub arrives : (written : List Range) →
+      Writes (image_of AMD64 touching_8 direct_placed) 8 (given_on AMD64) 4
+      (map (imported AMD64) (both_inputs AMD64)) written →
+      DirectCallArrives AMD64 0x1_4000_0000 (written ++ (image_of AMD64 touching_8 direct_placed
+      ++ code_ranges AMD64 0x1_4000_0000 direct_targets (direct_at ∷ stub_at ∷ []))) 0x1004
       (0x40 ∷ 0 ∷ 0 ∷ 0x10 ∷ 0 ∷ 0 ∷ 0 ∷ 0 ∷ [])
 
 -- the image of the worked program with zeros where the first descriptor has the address of the DLL's name

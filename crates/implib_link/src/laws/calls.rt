@@ -5,18 +5,18 @@ ghost use Rattle.implib.specs.Link.Image.{Range, image_of};
 ghost use Rattle.implib.specs.Import.{Ask, expected_ask, imp_symbol};
 ghost use Rattle.implib.specs.Link.LinkedMembers.{IsMade, LinkInput, chosen_exports};
 ghost use Rattle.implib.specs.Members.ImportTables.{thunk_width};
-ghost use Rattle.implib.specs.Formats.Object.{Object};
+ghost use Rattle.implib.specs.Formats.Object.{Object, ObjectSymbol};
 ghost use Rattle.implib.specs.Link.Placement.{Bases, placed_from};
 ghost use Rattle.implib.specs.declared.machine.MachineType.{MachineType};
 ghost use Rattle.implib_link.specs.Directory.{imported};
 ghost use Rattle.implib_link.specs.Flavors.Program.{FlavorInput, IsFlavorProgram, IsMadeFor, ask_in, dll_of, exports_chosen, imported_in, symbol_in};
-ghost use Rattle.implib_link.specs.Gnu.Calls.{AreBeside, CallArrives, HasCall, PlacedCode, code_ranges};
+ghost use Rattle.implib_link.specs.Gnu.Calls.{AreBeside, CallArrives, Defines, DirectCallArrives, HasCall, HasDirectCall, HasRel32, PlacedCode, code_ranges};
 ghost use Rattle.implib_link.specs.Gnu.Loaded.{Writes};
 ghost use Rattle.implib_link.specs.Gnu.Program.{IsProgram};
 ghost use Rattle.implib_link.specs.Stub.{CanJump};
-ghost use Rattle.implib_link.specs.Worked.Calls.{WorkedCalls, WorkedFlavorCall, WorkedReading};
+ghost use Rattle.implib_link.specs.Worked.Calls.{WorkedCalls, WorkedDirectCall, WorkedFlavorCall, WorkedReading};
 ghost use Rattle.std.specs.List.{AllByRecursion, Contains};
-ghost use Rattle.std.specs.Prelude.{◌≡◌, ◌+◌, ◌++◌, ℕ, List, Some, length, map, slice_get};
+ghost use Rattle.std.specs.Prelude.{◌≡◌, ◌+◌, ◌++◌, ℕ, List, Some, false, length, map, slice_get};
 
 /// In a loaded program, a call through an export's `__imp_` symbol, in the code of any object at any place,
 /// reads the address that the DLL gives for the export.
@@ -61,10 +61,40 @@ pub fn calls_of_flavors_reach_through_entries()
         (c.position + offset) (gives (dll_of p) (ask_in p.flavor machine e)) }
 {}
 
+/// In a loaded program of I386 or AMD64, a direct call of an export of code by its name, in the code of any
+/// object at any place, leads to the export's stub, which reads the address that the DLL gives for the export.
+///
+/// The stub is whatever placed code defines the name.
+pub fn direct_calls_reach()
+    ensures reaches { (machine : MachineType) (image_base : ℕ) (bases : Bases) (inputs : List LinkInput) (objects : List Object)
+        (codes : List PlacedCode) (targets : PlacedCode → ℕ → ℕ) (gives : List ℕ → Ask → List ℕ) (written : List Range)
+        (i j : ℕ) (p : LinkInput) (e : ExportView) (c d : PlacedCode) (offset : ℕ) (t : ObjectSymbol) →
+        AllByRecursion (IsMade machine) inputs →
+        IsProgram machine bases inputs objects →
+        CanJump machine image_base bases →
+        HasRel32 machine →
+        AreBeside machine image_base bases objects codes targets →
+        ((dll : List ℕ) (ask : Ask) → length (gives dll ask) ≡ thunk_width machine) →
+        Writes (image_of machine bases (placed_from bases objects)) (thunk_width machine) gives bases.descriptors
+        (map (imported machine) inputs) written →
+        slice_get inputs i ≡ Some p →
+        slice_get (chosen_exports p.definition p.chosen) j ≡ Some e →
+        e.is_data ≡ false →
+        Contains codes d →
+        Defines d t →
+        t.name ≡ e.name →
+        Contains codes c →
+        HasDirectCall machine c offset e.name →
+        DirectCallArrives machine image_base (written ++ (image_of machine bases (placed_from bases objects)
+        ++ code_ranges machine image_base targets codes))
+        (c.position + offset) (gives p.definition.import_name (expected_ask machine e)) }
+{}
+
 /// Calls that were relocated by hand arrive, on three machines; a loader that reads the image of a program that
 /// was linked by hand loads it, and one that reads an image without the DLL's name does not.
 pub fn worked_calls()
     ensures calls { WorkedCalls }
     ensures flavors { WorkedFlavorCall }
+    ensures direct { WorkedDirectCall }
     ensures reading { WorkedReading }
 {}
