@@ -45,7 +45,6 @@ fn mangled_name_with(alloc: Global, dll: &str, end: &str) -> Result<String, Allo
     Ok(name)
 }
 
-/// The name of the head.
 #[tactic(auto, unfolding(crate::specs::Members::Gnu::head_name))]
 pub(crate) fn head_name(alloc: Global, dll: &str) -> Result<String, AllocError>
     ensures { IfOk result (λ name. string_bytes name ≡ head_name dll.now) }
@@ -53,7 +52,6 @@ pub(crate) fn head_name(alloc: Global, dll: &str) -> Result<String, AllocError>
     mangled_name_with(alloc, dll, "_a_h.o")
 }
 
-/// The name of the tail.
 #[tactic(auto, unfolding(crate::specs::Members::Gnu::tail_name))]
 pub(crate) fn tail_name(alloc: Global, dll: &str) -> Result<String, AllocError>
     ensures { IfOk result (λ name. string_bytes name ≡ tail_name dll.now) }

@@ -1,4 +1,4 @@
-use Rattle.std.proofs.Common.{◌≡◌, refl, ap, sym, subst, [], ◌∷◌}
+use Rattle.std.proofs.Common.{refl, ap, sym, subst, [], ◌∷◌}
 use Rattle.implib.specs.Views.Making.{EncodesObject}
 use Rattle.implib.specs.Members.MsvcObjects.{null_descriptor, null_descriptor_symbol}
 use Rattle.implib.specs.Formats.Layout.{Fits}
