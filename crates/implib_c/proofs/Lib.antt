@@ -3,4 +3,5 @@ pub mod Fill
 pub mod Lengths
 pub mod ReadBack
 pub mod WorkedEncoding
+pub mod WorkedStatus
 pub mod Answer

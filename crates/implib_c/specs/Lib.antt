@@ -4,3 +4,4 @@ pub mod Fill
 pub mod Answer
 pub mod Given
 pub mod WorkedEncoding
+pub mod WorkedStatus

@@ -5,6 +5,7 @@ ghost use Rattle.implib.specs.Members.MemberSpec.{MemberView};
 ghost use Rattle.implib_c.specs.Encoding.{ReadsBack};
 ghost use Rattle.implib_c.specs.Status.{NumbersReturn};
 ghost use Rattle.implib_c.specs.WorkedEncoding.{WorkedEncodings};
+ghost use Rattle.implib_c.specs.WorkedStatus.{WorkedStatuses};
 ghost use Rattle.std.specs.Prelude.{List, ℕ};
 
 /// An encoding of fewer than 2^64 bytes is read as its members, whatever follows it.
@@ -20,4 +21,9 @@ pub fn worked_encodings()
 /// Each number of a status leads back to it.
 pub fn numbers_return()
     ensures { NumbersReturn }
+{}
+
+/// Statuses, their texts, machines and flavours have these numbers, each written out.
+pub fn worked_statuses()
+    ensures { WorkedStatuses }
 {}

@@ -1,6 +1,5 @@
 -- What the callers conclude.
-use Rattle.std.specs.Prelude.{◌≡◌, ℕ, List, [], ◌∷◌, ◌++◌, map, Option, None, Some, codes}
-use Rattle.std.specs.List.{Contains}
+use Rattle.std.specs.Prelude.{◌≡◌, ◌≢◌, ℕ, List, [], ◌∷◌, ◌++◌, map, All, Option, None, Some, codes}
 use Rattle.implib.specs.declared.coff.object.Place.TheVariants.{Section}
 use Rattle.implib.specs.declared.def.lexer.TokenKind.TheVariants.{KwExports}
 use Rattle.implib.specs.declared.def.position.Position.{Position}
@@ -38,14 +37,24 @@ data_object machine name bytes = record {
   symbols = record { name = name; value = 0; place = Section 1; class = 2; aux = None } ∷ [];
 }
 
--- one of the text's tokens is `EXPORTS`, at this offset
-pub record HasExportsAt (text : List ℕ) (at : ℕ) : Type 0 where
-  pub tokens : List TokenView
-  pub lexed : Lexed text tokens
+-- the token is no `EXPORTS`
+abbrev pub IsOther : TokenView → Type 0
+IsOther token = token.kind ≢ KwExports
+
+-- the first of the text's tokens that is `EXPORTS` is at this offset
+pub record HasFirstExportsAt (text : List ℕ) (at : ℕ) : Type 0 where
+  pub before : List TokenView
   pub token : TokenView
-  pub among : Contains tokens token
+  pub after : List TokenView
+  pub lexed : Lexed text (before ++ token ∷ after)
+  pub others_before : All IsOther before
   pub kind : token.kind ≡ KwExports
   pub here : token.at ≡ at
+
+-- None where no token of the text is `EXPORTS`; otherwise the offset of the first that is
+abbrev pub IsFirstExports : List ℕ → Option ℕ → Type 0
+IsFirstExports text None = (tokens : List TokenView) × Lexed text tokens × All IsOther tokens
+IsFirstExports text (Some at) = HasFirstExportsAt text at
 
 -- None where the text means a definition; otherwise the position of the token that its refusal names
 abbrev pub IsErrorIn : List ℕ → MachineType → Option Position → Type 0

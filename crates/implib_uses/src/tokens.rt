@@ -1,14 +1,13 @@
 //! Tokens with their offsets.
 
-ghost use Rattle.implib.specs.Text.Token.{Lexed, TokenView};
-ghost use Rattle.implib_uses.specs.Uses.{HasExportsAt};
-ghost use Rattle.std.specs.Prelude.{IfSome};
+ghost use Rattle.implib_uses.specs.Uses.{IsFirstExports};
 
 use implib::def::lexer::{Lexer, TokenKind};
 
-/// The offset in bytes of the first `EXPORTS` of a text, if there is one: where an editor would go.
+/// The offset in bytes of the first token `EXPORTS` of a text, or None where there is none: where an editor
+/// would go.
 pub fn first_exports(text: &str) -> Option<usize>
-    ensures { IfSome result (HasExportsAt text.now) }
+    ensures { IsFirstExports text.now result }
 {
     for token in Lexer::new(text) {
         if token.kind == TokenKind::KwExports {

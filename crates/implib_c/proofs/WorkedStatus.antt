@@ -1,0 +1,60 @@
+-- The worked statuses, by computing.
+use Rattle.std.proofs.Common.{refl}
+use Rattle.implib_c.specs.WorkedStatus.{WorkedStatuses}
+
+pub worked_statuses : WorkedStatuses
+worked_statuses = record {
+  numbers = record {
+    success = λ members. refl;
+    buffer_too_small = λ members. refl;
+    out_of_memory = refl;
+    not_utf8 = refl;
+    unknown_machine = refl;
+    unknown_flavor = refl;
+    unknown_directive = λ value offset. refl;
+    expected_identifier = λ kind offset. refl;
+    expected_equal = λ kind offset. refl;
+    expected_integer = λ offset. refl;
+    invalid_ordinal = λ value offset. refl;
+    lone_at = λ offset. refl;
+    empty_import_name = refl;
+    nul_in_import_name = refl;
+    empty_name = λ index. refl;
+    nul_in_export = λ index. refl;
+    empty_asked_name = λ index. refl;
+    member_too_long = refl;
+  };
+  texts = record {
+    text_0 = refl;
+    text_1 = refl;
+    text_2 = refl;
+    text_3 = refl;
+    text_4 = refl;
+    text_5 = refl;
+    text_16 = refl;
+    text_17 = refl;
+    text_18 = refl;
+    text_19 = refl;
+    text_20 = refl;
+    text_21 = refl;
+    text_22 = refl;
+    text_23 = refl;
+    text_24 = refl;
+    text_25 = refl;
+    text_26 = refl;
+    text_27 = refl;
+    text_6 = refl;
+    text_15 = refl;
+    text_28 = refl;
+  };
+  arguments = record {
+    i386 = refl;
+    armnt = refl;
+    amd64 = refl;
+    arm64 = refl;
+    no_machine = refl;
+    msvc = refl;
+    gnu = refl;
+    no_flavor = refl;
+  };
+}

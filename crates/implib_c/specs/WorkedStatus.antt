@@ -1,0 +1,79 @@
+-- Statuses, machines and flavours by their numbers, worked by hand: the numbers and texts are those of
+-- include/implib.h, written out once more (this project's choice; machines: PE/COFF specification, "Machine
+-- Types").
+use Rattle.std.specs.Prelude.{◌≡◌, ℕ, List, None, Some, codes}
+use Rattle.implib.specs.declared.flavor.Flavor.TheVariants.{Msvc, Gnu}
+use Rattle.implib.specs.declared.machine.MachineType.TheVariants.{I386, ARMNT, AMD64, ARM64}
+use Rattle.implib.specs.declared.def.lexer.TokenKind.{TokenKind}
+use Rattle.implib.specs.Conversions.{machine_numbered}
+use Rattle.implib.specs.Fault as cause
+use Rattle.implib.specs.Members.MemberSpec.{MemberView}
+use Rattle.implib_c.specs.Answer.{Outcome, Success, BufferTooSmall, OutOfMemory, NotUtf8, UnknownMachine}
+use Rattle.implib_c.specs.Answer.{UnknownFlavor, SyntaxError, Refused, flavor_numbered, status_of}
+use Rattle.implib_c.specs.Status.{status_number, text_for}
+
+-- the number with which a call ends so
+abbrev pub number_of : Outcome → ℕ
+number_of outcome = status_number (status_of outcome)
+
+-- what the numbers of calls are
+pub record WorkedNumbers : Type 0 where
+  pub success : (members : List MemberView) → number_of (Success members) ≡ 0
+  pub buffer_too_small : (members : List MemberView) → number_of (BufferTooSmall members) ≡ 1
+  pub out_of_memory : number_of OutOfMemory ≡ 2
+  pub not_utf8 : number_of NotUtf8 ≡ 3
+  pub unknown_machine : number_of UnknownMachine ≡ 4
+  pub unknown_flavor : number_of UnknownFlavor ≡ 5
+  pub unknown_directive : (value : List ℕ) (offset : ℕ) → number_of (SyntaxError (cause.UnknownDirective value) offset) ≡ 16
+  pub expected_identifier : (kind : TokenKind) (offset : ℕ) → number_of (SyntaxError (cause.ExpectedIdentifier kind) offset) ≡ 17
+  pub expected_equal : (kind : TokenKind) (offset : ℕ) → number_of (SyntaxError (cause.ExpectedEqual kind) offset) ≡ 18
+  pub expected_integer : (offset : ℕ) → number_of (SyntaxError cause.ExpectedInteger offset) ≡ 19
+  pub invalid_ordinal : (value : List ℕ) (offset : ℕ) → number_of (SyntaxError (cause.InvalidOrdinal value) offset) ≡ 20
+  pub lone_at : (offset : ℕ) → number_of (SyntaxError cause.LoneAt offset) ≡ 21
+  pub empty_import_name : number_of (Refused cause.EmptyImportName) ≡ 22
+  pub nul_in_import_name : number_of (Refused cause.NulInImportName) ≡ 23
+  pub empty_name : (index : ℕ) → number_of (Refused (cause.EmptyName index)) ≡ 24
+  pub nul_in_export : (index : ℕ) → number_of (Refused (cause.NulInExport index)) ≡ 25
+  pub empty_asked_name : (index : ℕ) → number_of (Refused (cause.EmptyAskedName index)) ≡ 26
+  pub member_too_long : number_of (Refused cause.MemberTooLong) ≡ 27
+
+-- what the texts of numbers are; the last three numbers are no statuses
+pub record WorkedTexts : Type 0 where
+  pub text_0 : text_for 0 ≡ codes "success"
+  pub text_1 : text_for 1 ≡ codes "buffer too small"
+  pub text_2 : text_for 2 ≡ codes "out of memory"
+  pub text_3 : text_for 3 ≡ codes "input is not UTF-8"
+  pub text_4 : text_for 4 ≡ codes "unknown machine"
+  pub text_5 : text_for 5 ≡ codes "unknown flavour"
+  pub text_16 : text_for 16 ≡ codes "unknown directive"
+  pub text_17 : text_for 17 ≡ codes "expected identifier"
+  pub text_18 : text_for 18 ≡ codes "expected equal"
+  pub text_19 : text_for 19 ≡ codes "expected integer"
+  pub text_20 : text_for 20 ≡ codes "invalid ordinal"
+  pub text_21 : text_for 21 ≡ codes "lone @ after ="
+  pub text_22 : text_for 22 ≡ codes "import name is empty"
+  pub text_23 : text_for 23 ≡ codes "import name contains null byte"
+  pub text_24 : text_for 24 ≡ codes "export name is empty"
+  pub text_25 : text_for 25 ≡ codes "export name contains null byte"
+  pub text_26 : text_for 26 ≡ codes "asked name is empty"
+  pub text_27 : text_for 27 ≡ codes "member too long"
+  pub text_6 : text_for 6 ≡ codes "unknown status"
+  pub text_15 : text_for 15 ≡ codes "unknown status"
+  pub text_28 : text_for 28 ≡ codes "unknown status"
+
+-- what the numbers of arguments are
+pub record WorkedArguments : Type 0 where
+  pub i386 : machine_numbered 0x14C ≡ Some I386
+  pub armnt : machine_numbered 0x1C4 ≡ Some ARMNT
+  pub amd64 : machine_numbered 0x8664 ≡ Some AMD64
+  pub arm64 : machine_numbered 0xAA64 ≡ Some ARM64
+  pub no_machine : machine_numbered 0 ≡ None
+  pub msvc : flavor_numbered 0 ≡ Some Msvc
+  pub gnu : flavor_numbered 1 ≡ Some Gnu
+  pub no_flavor : flavor_numbered 2 ≡ None
+
+-- all of them
+pub record WorkedStatuses : Type 0 where
+  pub numbers : WorkedNumbers
+  pub texts : WorkedTexts
+  pub arguments : WorkedArguments
