@@ -20,7 +20,8 @@ fn text_length(text: &[u8]) -> Option<usize>
 
 // The length of the encoding of a list of symbols, if it fits.
 fn symbols_length(symbols: &[String]) -> Option<usize>
-    ensures { IfSome result (λ n. n ≡ length (encoded_list encoded_text (map string_bytes symbols.now))) }
+    ensures { IfSome result (λ n. n ≡ length
+        (encoded_list encoded_text (map string_bytes symbols.now))) }
 {
     let mut sum = NUMBER_LENGTH;
     for symbol in symbols {
@@ -80,7 +81,8 @@ fn put_text(buffer: &mut [u8], start: usize, text: &[u8]) -> usize
 
 // Puts a list of symbols into the buffer.
 fn put_symbols(buffer: &mut [u8], start: usize, symbols: &[String]) -> usize
-    requires { start + length (encoded_list encoded_text (map string_bytes symbols.now)) ≤ length buffer.old }
+    requires { start + length (encoded_list encoded_text
+        (map string_bytes symbols.now)) ≤ length buffer.old }
     ensures { Fills buffer.old buffer.new start result
         (encoded_list encoded_text (map string_bytes symbols.now)) }
 {
@@ -101,8 +103,8 @@ fn put_member(buffer: &mut [u8], start: usize, member: &Member) -> usize
     put_text(buffer, at, member.bytes.as_slice())
 }
 
-/// Puts the members into the buffer, from its beginning on. There is room for their encoding. Gives its
-/// length.
+/// Puts the members into the buffer, from its beginning on. There is room for their encoding. Gives
+/// its length.
 pub fn put_members(buffer: &mut [u8], members: &[Member]) -> usize
     requires { length (encoded_members (map member_view members.now)) ≤ length buffer.old }
     ensures { Fills buffer.old buffer.new 0 result (encoded_members (map member_view members.now)) }

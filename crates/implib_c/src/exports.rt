@@ -10,15 +10,16 @@ use crate::outcome::{length_of, members_into, place_of, status_of};
 use crate::status::status_text;
 use std::alloc::Global;
 
-/// Puts the members of the import library that a text describes at the beginning of `buffer`, encoded as
-/// `specs/Encoding.antt` says, and gives a status: 0 where it is done.
+/// Puts the members of the import library that a text describes at the beginning of `buffer`,
+/// encoded as `specs/Encoding.antt` says, and gives a status: 0 where it is done.
 ///
-/// `machine` is a number of the PE/COFF specification, "Machine Types"; `flavor` is 0 for Microsoft's linker
-/// and 1 for GNU's. `length` gets the length of the encoding in bytes, where the status is 0 or 1 (the buffer
-/// is too small), and otherwise 0. `place` gets the length of the longest beginning that is UTF-8, where the
-/// text is not; the offset in bytes of the token at which a text is refused; the index of the export, from 0,
-/// where one is at fault; and otherwise 0. Where the status is not 0 the buffer is as it was, and where it is
-/// 0, what follows the encoding.
+/// `machine` is a number of the PE/COFF specification, "Machine Types"; `flavor` is 0 for
+/// Microsoft's linker and 1 for GNU's. `length` gets the length of the encoding in bytes, where the
+/// status is 0 or 1 (the buffer is too small), and otherwise 0. `place` gets the length of the
+/// longest beginning that is UTF-8, where the text is not; the offset in bytes of the token at
+/// which a text is refused; the index of the export, from 0, where one is at fault; and otherwise
+/// 0. Where the status is not 0 the buffer is as it was, and where it is 0, what follows the
+/// encoding.
 #[unsafe(no_mangle)]
 pub extern "C" fn implib_members(
     alloc: Global,
@@ -37,9 +38,9 @@ pub extern "C" fn implib_members(
     status_of(&answer).number()
 }
 
-/// Puts the text of a status and a NUL at the beginning of `buffer`, where it has room for both; otherwise
-/// the buffer is as it was. Gives the length of the text without the NUL, less than 32. A number that is no
-/// status has a text, too.
+/// Puts the text of a status and a NUL at the beginning of `buffer`, where it has room for both;
+/// otherwise the buffer is as it was. Gives the length of the text without the NUL, less than 32. A
+/// number that is no status has a text, too.
 #[unsafe(no_mangle)]
 pub extern "C" fn implib_status_text(status: u32, buffer: &mut [u8]) -> usize
     ensures text { buffer.new ≡ with_text buffer.old (text_for status) }

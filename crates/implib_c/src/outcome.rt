@@ -131,7 +131,8 @@ fn members_of(
     machine: MachineType,
     flavor: Flavor,
 ) -> Result<Vec<Member>, Failure>
-    ensures ok { IfOk result (λ members. MembersOf text.now machine flavor (map member_view members.items)) }
+    ensures ok { IfOk result (λ members. MembersOf text.now machine flavor
+        (map member_view members.items)) }
     ensures fault { IfErr result (OnTextFault text.now machine flavor) }
 {
     let def = ModuleDef::parse_with_position(alloc, text, machine)?;
@@ -153,8 +154,8 @@ fn put_into(buffer: &mut [u8], members: &[Member]) -> Result<usize, Failure>
     Ok(put_members(buffer, members))
 }
 
-/// Puts the members of the library that a text means at the beginning of the buffer. Gives the length of
-/// their encoding. An error leaves the buffer as it was.
+/// Puts the members of the library that a text means at the beginning of the buffer. Gives the
+/// length of their encoding. An error leaves the buffer as it was.
 ///
 /// # Errors
 ///

@@ -1,4 +1,5 @@
-//! Laws: what a caller may conclude from the definitions, each as the contract of an empty function.
+//! Laws: what a caller may conclude from the definitions, each as the contract of an empty
+//! function.
 
 pub mod calls;
 pub mod flavors;

@@ -1,5 +1,5 @@
-//! Programs that members are linked into, for GNU's linker and for Microsoft's: laws of linking, loading and
-//! calling.
+//! Programs that members are linked into, for GNU's linker and for Microsoft's: laws of linking,
+//! loading and calling.
 #![tactic(auto)]
 
 pub mod laws;

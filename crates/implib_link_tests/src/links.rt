@@ -1,5 +1,5 @@
-//! Members, linked and loaded by rules that know nothing of how they are made: those for GNU's linker, and in
-//! `msvc` those for Microsoft's.
+//! Members, linked and loaded by rules that know nothing of how they are made: those for GNU's
+//! linker, and in `msvc` those for Microsoft's.
 
 mod bound;
 mod loaded;
@@ -20,7 +20,8 @@ type Files<'a> = Vec<(&'a str, &'a [u8])>;
 // Groups that lie apart.
 const WIDE: Bases = [0x1000, 0x1040, 0x1060, 0x1080, 0x10A0, 0x2000];
 
-// Groups that lie as close as two exports let them, one by name and one by number, where thunks have 4 bytes.
+// Groups that lie as close as two exports let them, one by name and one by number, where thunks
+// have 4 bytes.
 const CLOSE: Bases = [0x1000, 0x1028, 0x1034, 0x1040, 0x1048, 0x1060];
 
 const HEAD: &str = "foo_dll_a_h.o";

@@ -1,5 +1,5 @@
-//! Members of definitions: what they are called, how long they are, which symbols they are listed for
-//! and what they ask for.
+//! Members of definitions: what they are called, how long they are, which symbols they are listed
+//! for and what they ask for.
 
 mod fronts;
 mod hand_made;
@@ -259,7 +259,8 @@ const EXPORTS: [Row; 18] = [
     ),
 ];
 
-/// Holds the members of texts, from these indexes on: that for Microsoft's linker, and that for GNU's.
+/// Holds the members of texts, from these indexes on: that for Microsoft's linker, and that for
+/// GNU's.
 fn expect_members(
     rt: &impl Abort,
     alloc: Global,
@@ -287,8 +288,8 @@ fn exports_are_listed_and_asked_for(rt: HostRuntime) -> Result<(), Fail> {
     expect_members(&rt, rt.alloc(), &EXPORTS, [3, 2])
 }
 
-/// Bytes in members: a text, its machine and its flavour, the index of a member, an offset in its file, and
-/// the bytes there.
+/// Bytes in members: a text, its machine and its flavour, the index of a member, an offset in its
+/// file, and the bytes there.
 const EXCERPTS: [(&str, MachineType, Flavor, usize, usize, &[u8]); 20] = [
     // The descriptor: its header, the offsets of its names, and the size of its string table.
     (

@@ -6,8 +6,9 @@ use super::short_import::Ask;
 use std::alloc::Global;
 use std::test::Fail;
 
-/// What a DLL gives for what it is asked for, here a number made of both: texts byte by byte, and the hint or
-/// the ordinal. A loader writes as many bytes of it as an entry has, and none of them is 0.
+/// What a DLL gives for what it is asked for, here a number made of both: texts byte by byte, and
+/// the hint or the ordinal. A loader writes as many bytes of it as an entry has, and none of them
+/// is 0.
 pub fn given(dll: &str, ask: Ask) -> [u8; 8] {
     let (name, number) = match ask {
         Ask::Name(name, hint) => (name, u64::from(hint)),

@@ -1,5 +1,5 @@
-//! Relocation by the PE/COFF specification, "Type Indicators", and what a jump reads by the rules of the
-//! processors.
+//! Relocation by the PE/COFF specification, "Type Indicators", and what a jump reads by the rules
+//! of the processors.
 
 use super::object::{Flaw, u32_at};
 
@@ -39,7 +39,8 @@ pub fn relocated(
     }
 }
 
-/// An `adrp` of the target's page: 21 bits, the low two from bit 29 on and the others from bit 5 on.
+/// An `adrp` of the target's page: 21 bits, the low two from bit 29 on and the others from bit 5
+/// on.
 fn with_page(word: u32, address: u32, target: u32) -> Result<u32, Flaw> {
     if word & 0x60FF_FFE0 != 0 {
         return Err("a page is relocated twice");
@@ -48,8 +49,8 @@ fn with_page(word: u32, address: u32, target: u32) -> Result<u32, Flaw> {
     Ok(word | (pages % 4) << 29 | (pages / 4) << 5)
 }
 
-/// An `ldr` from the target's offset in its page: 12 bits from bit 10 on, which count in what it loads,
-/// by its top two bits.
+/// An `ldr` from the target's offset in its page: 12 bits from bit 10 on, which count in what it
+/// loads, by its top two bits.
 fn with_page_offset(word: u32, target: u32) -> Result<u32, Flaw> {
     if word & 0x003F_FC00 != 0 {
         return Err("an offset is relocated twice");

@@ -1,5 +1,5 @@
-//! The import directory of an image, as a strict loader reads it: by the PE/COFF specification, "The .idata
-//! Section". The tables of each DLL are walked in the image to their ends.
+//! The import directory of an image, as a strict loader reads it: by the PE/COFF specification,
+//! "The .idata Section". The tables of each DLL are walked in the image to their ends.
 
 ghost use Rattle.std.specs.Prelude.{◌<◌};
 
@@ -18,7 +18,8 @@ pub struct Descriptor<'a> {
     pub addresses: usize,
 }
 
-/// What a DLL is asked for: its descriptor, and the thunks of its lookup table with what they ask for.
+/// What a DLL is asked for: its descriptor, and the thunks of its lookup table with what they ask
+/// for.
 #[derive(Drop)]
 pub struct Import<'a> {
     pub descriptor: Descriptor<'a>,
@@ -26,8 +27,8 @@ pub struct Import<'a> {
 }
 
 impl Image {
-    /// The DLLs that the directory at an address lists, each with what it is asked for in both tables,
-    /// up to the null descriptor.
+    /// The DLLs that the directory at an address lists, each with what it is asked for in both
+    /// tables, up to the null descriptor.
     pub fn directory(
         &self,
         alloc: Global,
@@ -58,8 +59,8 @@ impl Image {
         Err("a directory has no end")
     }
 
-    /// The descriptor in bytes, or none where it is the null descriptor. It is bound to nothing, has no
-    /// forwarder, and its three addresses are not 0.
+    /// The descriptor in bytes, or none where it is the null descriptor. It is bound to nothing,
+    /// has no forwarder, and its three addresses are not 0.
     fn descriptor(&self, bytes: &[u8]) -> Result<Option<Descriptor<'_>>, Flaw> {
         if bytes.iter().all(|byte| *byte == 0) {
             return Ok(None);
@@ -120,8 +121,8 @@ impl Image {
         Ok(thunks)
     }
 
-    /// What a thunk asks for, or none where it is the null thunk: by its top bit an ordinal in its low 16
-    /// bits, and else the hint and the name at an address of 31 bits. The other bits are 0.
+    /// What a thunk asks for, or none where it is the null thunk: by its top bit an ordinal in its
+    /// low 16 bits, and else the hint and the name at an address of 31 bits. The other bits are 0.
     fn ask(&self, bytes: &[u8]) -> Result<Option<Ask<'_>>, Flaw> {
         let (is_ordinal, rest) = split(bytes)?;
         if is_ordinal {

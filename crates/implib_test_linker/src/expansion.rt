@@ -20,8 +20,8 @@ pub struct Expansion {
     hint_name: Option<Vec<u8>>,
 }
 
-/// What a linker for a machine takes a file for, if that is a short import which it takes: one for the
-/// machine, with an import type and a name type that the specification has.
+/// What a linker for a machine takes a file for, if that is a short import which it takes: one for
+/// the machine, with an import type and a name type that the specification has.
 pub fn expanded(alloc: Global, file: &[u8], machine: u16) -> Result<Option<Expansion>, Fail> {
     if !is_short_import(file) {
         return Ok(None);

@@ -1,4 +1,5 @@
-//! An image: the groups of sections, and the bytes at addresses. Addresses count from the image's base.
+//! An image: the groups of sections, and the bytes at addresses. Addresses count from the image's
+//! base.
 
 use super::object::{Flaw, Section, bytes_from};
 use std::alloc::{AllocError, Global};

@@ -1,7 +1,8 @@
-//! A linker and a loader for tests: of objects they know the names and the bytes alone. The linker reads the
-//! objects, places their sections, resolves their symbols and relocates them; the loader reads the image.
-//! The rules are those of the PE/COFF specification and, for the placement, of `docs/FORMATS.md`.
-//! They are test equipment: proved safe and total, like all code here, and held to no further contract.
+//! A linker and a loader for tests: of objects they know the names and the bytes alone. The linker
+//! reads the objects, places their sections, resolves their symbols and relocates them; the loader
+//! reads the image. The rules are those of the PE/COFF specification and, for the placement, of
+//! `docs/FORMATS.md`. They are test equipment: proved safe and total, like all code here, and held
+//! to no further contract.
 #![tactic(auto)]
 
 mod bound;
@@ -65,8 +66,8 @@ pub enum Unlinked<'a> {
     Misplaced(Misplaced),
 }
 
-/// Links the objects in files of these names and bytes, in this order. The bases are those of `.idata$2`,
-/// `$4`, `$5`, `$6`, `$7` and `.text`.
+/// Links the objects in files of these names and bytes, in this order. The bases are those of
+/// `.idata$2`, `$4`, `$5`, `$6`, `$7` and `.text`.
 pub fn link<'a>(
     alloc: Global,
     files: &[(&'a str, &'a [u8])],
@@ -167,8 +168,8 @@ fn place_objects<'a>(
     })
 }
 
-/// Ends the import directory: by the section `.idata$3` of an object, or else by the null descriptor that
-/// linkers bring.
+/// Ends the import directory: by the section `.idata$3` of an object, or else by the null
+/// descriptor that linkers bring.
 fn end_directory(image: &mut Image, objects: &mut Vec<Placed>) -> Result<(), Fail> {
     let mut is_ended = false;
     for placed in objects.iter_mut() {
@@ -245,7 +246,8 @@ fn defined_address<'a>(objects: &[Placed], name: &'a str) -> Result<Option<usize
 }
 
 impl<'a> Linked<'a> {
-    /// Why the objects do not link: bases do not serve, or a symbol stays undefined or is defined twice.
+    /// Why the objects do not link: bases do not serve, or a symbol stays undefined or is defined
+    /// twice.
     fn refusal(&self) -> Option<Unlinked<'a>> {
         if let Some(misplaced) = self.image.misplaced() {
             return Some(Unlinked::Misplaced(misplaced));

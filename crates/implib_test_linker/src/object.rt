@@ -1,4 +1,5 @@
-//! Reads COFF objects, by the PE/COFF specification alone: it follows the offsets and counts in the bytes.
+//! Reads COFF objects, by the PE/COFF specification alone: it follows the offsets and counts in the
+//! bytes.
 
 ghost use Rattle.std.specs.Prelude.{◌<◌, ◌^◌, IfOk};
 
@@ -100,8 +101,8 @@ impl<'a> Object<'a> {
         }
     }
 
-    /// Puts each undefined symbol of class section into the section of its name; where there is none, into
-    /// one without bytes, aligned to 4.
+    /// Puts each undefined symbol of class section into the section of its name; where there is
+    /// none, into one without bytes, aligned to 4.
     pub fn settle(&mut self, alloc: Global) -> Result<(), Fail> {
         for symbol in self.symbols.iter_mut().flatten() {
             if symbol.is_of_section() {
@@ -125,8 +126,8 @@ impl<'a> Object<'a> {
         section.ok_or("a symbol has a section that is not there")
     }
 
-    /// The symbol that it makes weak, if there is one, and the symbol for which. An auxiliary record
-    /// says that it is an alias.
+    /// The symbol that it makes weak, if there is one, and the symbol for which. An auxiliary
+    /// record says that it is an alias.
     pub fn weak(&self) -> Result<Option<(Symbol<'a>, Symbol<'a>)>, Flaw> {
         for (index, symbol) in self.symbols.iter().enumerate() {
             if let Some(symbol) = symbol

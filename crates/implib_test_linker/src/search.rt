@@ -1,5 +1,5 @@
-//! Archive search: which members of an archive a linker takes. The archive lists symbols for its members;
-//! what they leave to others is read in their bytes.
+//! Archive search: which members of an archive a linker takes. The archive lists symbols for its
+//! members; what they leave to others is read in their bytes.
 
 use super::object::{Object, object_in};
 use implib::Member;
@@ -23,8 +23,8 @@ impl<'a> Archive<'a> {
         Ok(Archive { members, objects })
     }
 
-    /// The members that are taken for wanted names, in the order of the archive: as long as a name is
-    /// undefined, the first member that it is listed for.
+    /// The members that are taken for wanted names, in the order of the archive: as long as a name
+    /// is undefined, the first member that it is listed for.
     pub fn search(&self, alloc: Global, wanted: &[&str]) -> Result<Vec<&'a Member>, Fail> {
         let mut taken = vec![in alloc; false; self.members.len()]?;
         for _ in self.members {
@@ -69,8 +69,8 @@ impl<'a> Archive<'a> {
         None
     }
 
-    /// The member to take for a name: none where a member that is taken defines it, and none where the first
-    /// that it is listed for is taken.
+    /// The member to take for a name: none where a member that is taken defines it, and none where
+    /// the first that it is listed for is taken.
     fn member_for(&self, taken: &[bool], name: &str) -> Option<usize> {
         for (object, is_taken) in self.objects.iter().zip(taken.iter()) {
             if *is_taken && defines(object, name) {

@@ -1,5 +1,5 @@
-//! The calls of the library: they succeed where there is memory. With each allocation failed in turn
-//! (`checks/memory`) the tests of refused memory still pass.
+//! The calls of the library: they succeed where there is memory. With each allocation failed in
+//! turn (`checks/memory`) the tests of refused memory still pass.
 
 use implib::def::{ModuleDef, ShortExport};
 use implib::gnu::GnuImportLibrary;
@@ -143,8 +143,8 @@ fn copied(library: &ImportLibrary) -> Result<ImportLibrary, Error> {
     }
 }
 
-// Whether a library gives members of these lengths. Where memory is refused, it then gives those that
-// another library of the text gives.
+// Whether a library gives members of these lengths. Where memory is refused, it then gives those
+// that another library of the text gives.
 fn gives(
     alloc: Global,
     library: &ImportLibrary,

@@ -1,5 +1,5 @@
-//! Tests of the library `implib` by its public calls. The library has no tests of its own, since a crate with
-//! tests is proved twice.
+//! Tests of the library `implib` by its public calls. The library has no tests of its own, since a
+//! crate with tests is proved twice.
 #![tactic(auto)]
 
 #[cfg(test)]

@@ -1,5 +1,5 @@
-//! A writer whose allocations fail. With each allocation of a test failed in turn (`checks/memory`) the
-//! first test still passes, and the other two fail equally often.
+//! A writer whose allocations fail. With each allocation of a test failed in turn (`checks/memory`)
+//! the first test still passes, and the other two fail equally often.
 
 ghost use Rattle.implib.specs.Formats.Writer.{with_section, with_symbol};
 ghost use Rattle.std.specs.Prelude.{◌≡◌, None, [], OnErr, OnOk, codes};

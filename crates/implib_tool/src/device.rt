@@ -63,7 +63,8 @@ pub trait Sink {
         ensures fault { OnErr result (failed self.new ≡ true) };
 }
 
-/// Writes all bytes. If it fails, a device that keeps what it has at an `Err` has a beginning of them.
+/// Writes all bytes. If it fails, a device that keeps what it has at an `Err` has a beginning of
+/// them.
 pub fn write_all<W: Sink>(writer: &mut W, bytes: &[u8]) -> Result<(), DeviceFault>
     ensures moved { OnOk result
         (Appends (W.contents writer.old) (W.contents writer.new) bytes.now) }

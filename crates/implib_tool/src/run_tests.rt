@@ -1,5 +1,5 @@
-//! Whole runs over devices in memory: what a run lists, read back, are the members that the library has
-//! of each document, and what it refuses, the library refuses.
+//! Whole runs over devices in memory: what a run lists, read back, are the members that the library
+//! has of each document, and what it refuses, the library refuses.
 
 use crate::doubles::{MemorySink, MemorySource};
 use crate::run::run;
@@ -73,7 +73,8 @@ fn append_members(
     Ok(())
 }
 
-/// The members that the library has of documents, or why it refuses the first that it does not take.
+/// The members that the library has of documents, or why it refuses the first that it does not
+/// take.
 fn expected(
     alloc: Global,
     documents: &[&str],
@@ -116,8 +117,8 @@ const MACHINES: [MachineType; 4] = [
     MachineType::ARM64,
 ];
 
-/// Holds that runs of an input, for each machine and flavour, list the members of its documents, if it
-/// has any, and else answer as the library does.
+/// Holds that runs of an input, for each machine and flavour, list the members of its documents, if
+/// it has any, and else answer as the library does.
 fn expect_run(
     rt: &impl Abort,
     alloc: Global,

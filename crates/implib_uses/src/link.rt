@@ -8,8 +8,8 @@ use crate::linked::gnu_members_of_text;
 use implib::{Error, MachineType, Member};
 use std::alloc::Global;
 
-/// The members of a text for GNU's linker. Linked at any admissible bases, any exports chosen, they make
-/// the loader ask the text's DLL for just the words by which the text names these exports.
+/// The members of a text for GNU's linker. Linked at any admissible bases, any exports chosen, they
+/// make the loader ask the text's DLL for just the words by which the text names these exports.
 pub fn members_to_link(
     alloc: Global,
     text: &str,

@@ -17,7 +17,8 @@ pub fn gnu_members_of_text(
     text: &str,
     machine: MachineType,
 ) -> Result<Vec<Member>, Error>
-    ensures links { IfOk result (λ members. LinkAsStated text.now machine (map member_view members.items)) }
+    ensures links { IfOk result (λ members. LinkAsStated text.now machine
+        (map member_view members.items)) }
 {
     let library = ImportLibrary::new(alloc, text, machine, Flavor::Gnu)?;
     let members = library.members()?;
@@ -31,7 +32,8 @@ pub fn msvc_members_of_text(
     text: &str,
     machine: MachineType,
 ) -> Result<Vec<Member>, Error>
-    ensures links { IfOk result (λ members. LinkInFlavor text.now machine Msvc (map member_view members.items)) }
+    ensures links { IfOk result (λ members. LinkInFlavor text.now machine Msvc
+        (map member_view members.items)) }
 {
     let library = ImportLibrary::new(alloc, text, machine, Flavor::Msvc)?;
     let members = library.members()?;

@@ -4,8 +4,8 @@ ghost use Rattle.implib_uses.specs.Uses.{IsFirstExports};
 
 use implib::def::lexer::{Lexer, TokenKind};
 
-/// The offset in bytes of the first token `EXPORTS` of a text, or None where there is none: where an editor
-/// would go.
+/// The offset in bytes of the first token `EXPORTS` of a text, or None where there is none: where
+/// an editor would go.
 pub fn first_exports(text: &str) -> Option<usize>
     ensures { IsFirstExports text.now result }
 {

@@ -14,7 +14,8 @@ ghost use Rattle.std.specs.Prelude.{◌≡◌, ◌≤◌, ◌⊎◌, ℕ, length
 /// Tokens that end in `Eof` are statements or have a syntax error, never both; they are one list of
 /// statements, or have a syntax error of one cause.
 pub fn sentence_or_broken()
-    ensures either { (tokens : List TokenView) → EndsInEof tokens → IsSentence tokens ⊎ HasSyntaxError tokens }
+    ensures either { (tokens : List TokenView) → EndsInEof tokens →
+        IsSentence tokens ⊎ HasSyntaxError tokens }
     ensures never_both { (tokens : List TokenView) (statements : List Statement) (cause : Cause) →
         Sentence tokens statements → ¬ (IsSyntaxError tokens cause) }
     ensures one_list { (tokens : List TokenView) (statements others : List Statement) →
@@ -23,8 +24,8 @@ pub fn sentence_or_broken()
         IsSyntaxError tokens cause → IsSyntaxError tokens other → cause ≡ other }
 {}
 
-/// Every text either is in the grammar, and then means one definition on each machine, or is refused, and
-/// then for one cause.
+/// Every text either is in the grammar, and then means one definition on each machine, or is
+/// refused, and then for one cause.
 pub fn grammar_or_broken(text: &str)
     ensures either { InGrammar text.now ⊎ IsIllFormed text.now }
     ensures never_both { (machine : MachineType) (definition : DefinitionView) (cause : Cause) →
@@ -39,7 +40,8 @@ pub fn grammar_or_broken(text: &str)
 pub fn refused_at_one_token(text: &str)
     ensures somewhere { (cause : Cause) →
         Refuses text.now cause → (offset : ℕ) × RefusesAt text.now cause offset }
-    ensures refused { (cause : Cause) (offset : ℕ) → RefusesAt text.now cause offset → Refuses text.now cause }
+    ensures refused { (cause : Cause) (offset : ℕ) → RefusesAt text.now cause offset →
+        Refuses text.now cause }
     ensures one_offset { (cause other : Cause) (offset at : ℕ) →
         RefusesAt text.now cause offset → RefusesAt text.now other at → offset ≡ at }
     ensures within { (cause : Cause) (offset : ℕ) →

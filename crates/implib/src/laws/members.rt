@@ -16,8 +16,8 @@ pub fn worked_members()
     ensures fields { WorkedFields }
 {}
 
-/// Definitions that were worked by hand have these members for GNU's linker, or are refused for these
-/// causes.
+/// Definitions that were worked by hand have these members for GNU's linker, or are refused for
+/// these causes.
 pub fn worked_gnu_members()
     ensures outlines { WorkedGnuOutlines }
     ensures refusals { WorkedGnuRefusals }

@@ -11,23 +11,28 @@ ghost use Rattle.std.specs.Prelude.{◌<◌, ◌^◌, ◌≡◌, ℕ, List, Some
 
 use crate::machine::MachineType;
 
-/// A layout whose fields have their ranges and whose encoding has fewer than 2^32 bytes reads back from its
-/// bytes as the object that it describes.
+/// A layout whose fields have their ranges and whose encoding has fewer than 2^32 bytes reads back
+/// from its bytes as the object that it describes.
 pub fn layout_reads_back()
-    ensures { (p : ObjectLayout) → Fits p → encoded_size p < 2 ^ 32 → object_in (encoded p) ≡ Some (object_of p) }
+    ensures { (p : ObjectLayout) → Fits p → encoded_size p < 2 ^ 32 →
+        object_in (encoded p) ≡ Some (object_of p) }
 {}
 
-/// The encoding of such a layout has the size in bytes that `encoded_size` computes from the layout.
+/// The encoding of such a layout has the size in bytes that `encoded_size` computes from the
+/// layout.
 pub fn layout_has_its_size()
-    ensures { (p : ObjectLayout) → Fits p → encoded_size p < 2 ^ 32 → length (encoded p) ≡ encoded_size p }
+    ensures { (p : ObjectLayout) → Fits p → encoded_size p < 2 ^ 32 →
+        length (encoded p) ≡ encoded_size p }
 {}
 
 /// Bytes are read as one object at most.
 pub fn object_is_one()
-    ensures { (bytes : List ℕ) (a b : Object) → object_in bytes ≡ Some a → object_in bytes ≡ Some b → a ≡ b }
+    ensures { (bytes : List ℕ) (a b : Object) → object_in bytes ≡ Some a →
+        object_in bytes ≡ Some b → a ≡ b }
 {}
 
-/// Objects that were worked by hand have these sizes, offsets and bytes, and their records these fields.
+/// Objects that were worked by hand have these sizes, offsets and bytes, and their records these
+/// fields.
 pub fn worked_objects()
     ensures sizes { WorkedObjects }
     ensures bytes { WorkedLayouts }
@@ -49,7 +54,8 @@ pub fn worked_records()
     ensures asked { WorkedAskedNames }
 {}
 
-/// From bytes, names and numbers that were made by hand nothing is read, or nothing that has a meaning.
+/// From bytes, names and numbers that were made by hand nothing is read, or nothing that has a
+/// meaning.
 pub fn refused_readings()
     ensures objects { RefusedObjects }
     ensures short_imports { RefusedShortImports }

@@ -27,7 +27,8 @@ pub fn kinds_are_known(text: &str)
 
 /// A token's value is cut from the text, from the token's offset on.
 pub fn values_are_slices(text: &str)
-    ensures { (tokens : List TokenView) → Lexed text.now tokens → AllByRecursion (IsSliceOf text.now) tokens }
+    ensures { (tokens : List TokenView) → Lexed text.now tokens →
+        AllByRecursion (IsSliceOf text.now) tokens }
 {}
 
 /// Texts that were worked by hand have these tokens.

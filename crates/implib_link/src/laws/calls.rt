@@ -18,64 +18,77 @@ ghost use Rattle.implib_link.specs.Worked.Calls.{WorkedCalls, WorkedDirectCall, 
 ghost use Rattle.std.specs.List.{AllByRecursion, Contains};
 ghost use Rattle.std.specs.Prelude.{◌≡◌, ◌+◌, ◌++◌, ℕ, List, Some, false, length, map, slice_get};
 
-/// In a loaded program, a call through an export's `__imp_` symbol, in the code of any object at any place,
-/// reads the address that the DLL gives for the export.
+/// In a loaded program, a call through an export's `__imp_` symbol, in the code of any object at
+/// any place, reads the address that the DLL gives for the export.
 pub fn calls_reach_through_entries()
-    ensures reaches { (machine : MachineType) (image_base : ℕ) (bases : Bases) (inputs : List LinkInput) (objects : List Object)
-        (codes : List PlacedCode) (targets : PlacedCode → ℕ → ℕ) (gives : List ℕ → Ask → List ℕ) (written : List Range)
+    ensures reaches { (machine : MachineType) (image_base : ℕ) (bases : Bases)
+        (inputs : List LinkInput) (objects : List Object)
+        (codes : List PlacedCode) (targets : PlacedCode → ℕ → ℕ) (gives : List ℕ → Ask →
+        List ℕ) (written : List Range)
         (i j : ℕ) (p : LinkInput) (e : ExportView) (c : PlacedCode) (offset : ℕ) →
         AllByRecursion (IsMade machine) inputs →
         IsProgram machine bases inputs objects →
         CanJump machine image_base bases →
         AreBeside machine image_base bases objects codes targets →
         ((dll : List ℕ) (ask : Ask) → length (gives dll ask) ≡ thunk_width machine) →
-        Writes (image_of machine bases (placed_from bases objects)) (thunk_width machine) gives bases.descriptors
+        Writes (image_of machine bases (placed_from bases objects))
+        (thunk_width machine) gives bases.descriptors
         (map (imported machine) inputs) written →
         slice_get inputs i ≡ Some p →
         slice_get (chosen_exports p.definition p.chosen) j ≡ Some e →
         Contains codes c →
         HasCall machine c offset (imp_symbol e.name) →
-        CallArrives machine image_base (written ++ (image_of machine bases (placed_from bases objects)
+        CallArrives machine image_base
+        (written ++ (image_of machine bases (placed_from bases objects)
         ++ code_ranges machine image_base targets codes))
         (c.position + offset) (gives p.definition.import_name (expected_ask machine e)) }
 {}
 
 /// The same of a program of both flavours.
 pub fn calls_of_flavors_reach_through_entries()
-    ensures reaches { (machine : MachineType) (image_base : ℕ) (bases : Bases) (inputs : List FlavorInput) (objects : List Object)
-        (codes : List PlacedCode) (targets : PlacedCode → ℕ → ℕ) (gives : List ℕ → Ask → List ℕ) (written : List Range)
+    ensures reaches { (machine : MachineType) (image_base : ℕ) (bases : Bases)
+        (inputs : List FlavorInput) (objects : List Object)
+        (codes : List PlacedCode) (targets : PlacedCode → ℕ → ℕ) (gives : List ℕ → Ask →
+        List ℕ) (written : List Range)
         (i j : ℕ) (p : FlavorInput) (e : ExportView) (c : PlacedCode) (offset : ℕ) →
         AllByRecursion (IsMadeFor machine) inputs →
         IsFlavorProgram machine bases inputs objects →
         CanJump machine image_base bases →
         AreBeside machine image_base bases objects codes targets →
         ((dll : List ℕ) (ask : Ask) → length (gives dll ask) ≡ thunk_width machine) →
-        Writes (image_of machine bases (placed_from bases objects)) (thunk_width machine) gives bases.descriptors
+        Writes (image_of machine bases (placed_from bases objects))
+        (thunk_width machine) gives bases.descriptors
         (map (imported_in machine) inputs) written →
         slice_get inputs i ≡ Some p →
         slice_get (exports_chosen p) j ≡ Some e →
         Contains codes c →
         HasCall machine c offset (imp_symbol (symbol_in p.flavor e)) →
-        CallArrives machine image_base (written ++ (image_of machine bases (placed_from bases objects)
+        CallArrives machine image_base
+        (written ++ (image_of machine bases (placed_from bases objects)
         ++ code_ranges machine image_base targets codes))
         (c.position + offset) (gives (dll_of p) (ask_in p.flavor machine e)) }
 {}
 
-/// In a loaded program of I386 or AMD64, a direct call of an export of code by its name, in the code of any
-/// object at any place, leads to the export's stub, which reads the address that the DLL gives for the export.
+/// In a loaded program of I386 or AMD64, a direct call of an export of code by its name, in the
+/// code of any object at any place, leads to the export's stub, which reads the address that the
+/// DLL gives for the export.
 ///
 /// The stub is whatever placed code defines the name.
 pub fn direct_calls_reach()
-    ensures reaches { (machine : MachineType) (image_base : ℕ) (bases : Bases) (inputs : List LinkInput) (objects : List Object)
-        (codes : List PlacedCode) (targets : PlacedCode → ℕ → ℕ) (gives : List ℕ → Ask → List ℕ) (written : List Range)
-        (i j : ℕ) (p : LinkInput) (e : ExportView) (c d : PlacedCode) (offset : ℕ) (t : ObjectSymbol) →
+    ensures reaches { (machine : MachineType) (image_base : ℕ) (bases : Bases)
+        (inputs : List LinkInput) (objects : List Object)
+        (codes : List PlacedCode) (targets : PlacedCode → ℕ → ℕ) (gives : List ℕ → Ask →
+        List ℕ) (written : List Range)
+        (i j : ℕ) (p : LinkInput) (e : ExportView) (c d : PlacedCode) (offset : ℕ)
+        (t : ObjectSymbol) →
         AllByRecursion (IsMade machine) inputs →
         IsProgram machine bases inputs objects →
         CanJump machine image_base bases →
         HasRel32 machine →
         AreBeside machine image_base bases objects codes targets →
         ((dll : List ℕ) (ask : Ask) → length (gives dll ask) ≡ thunk_width machine) →
-        Writes (image_of machine bases (placed_from bases objects)) (thunk_width machine) gives bases.descriptors
+        Writes (image_of machine bases (placed_from bases objects))
+        (thunk_width machine) gives bases.descriptors
         (map (imported machine) inputs) written →
         slice_get inputs i ≡ Some p →
         slice_get (chosen_exports p.definition p.chosen) j ≡ Some e →
@@ -85,13 +98,15 @@ pub fn direct_calls_reach()
         t.name ≡ e.name →
         Contains codes c →
         HasDirectCall machine c offset e.name →
-        DirectCallArrives machine image_base (written ++ (image_of machine bases (placed_from bases objects)
+        DirectCallArrives machine image_base
+        (written ++ (image_of machine bases (placed_from bases objects)
         ++ code_ranges machine image_base targets codes))
         (c.position + offset) (gives p.definition.import_name (expected_ask machine e)) }
 {}
 
-/// Calls that were relocated by hand arrive, on three machines; a loader that reads the image of a program that
-/// was linked by hand loads it, and one that reads an image without the DLL's name does not.
+/// Calls that were relocated by hand arrive, on three machines; a loader that reads the image of a
+/// program that was linked by hand loads it, and one that reads an image without the DLL's name
+/// does not.
 pub fn worked_calls()
     ensures calls { WorkedCalls }
     ensures flavors { WorkedFlavorCall }

@@ -12,11 +12,12 @@ ghost use Rattle.implib_link.specs.Search.Search.{HaveSame};
 ghost use Rattle.std.specs.List.{IsDistinct, flat_map};
 ghost use Rattle.std.specs.Prelude.{◌≡◌, ◌≤◌, ℕ, List, bytes_eq, length};
 
-/// A linker takes of an archive of the members for Microsoft's linker just the short imports that are wanted,
-/// the import descriptor, the null descriptor and the null thunk, which are found by the symbols that they
-/// are listed for; nothing, where no export is wanted.
+/// A linker takes of an archive of the members for Microsoft's linker just the short imports that
+/// are wanted, the import descriptor, the null descriptor and the null thunk, which are found by
+/// the symbols that they are listed for; nothing, where no export is wanted.
 ///
-/// All listed symbols differ, so no export has an alias. The DLL's name leads linkers to its descriptor.
+/// All listed symbols differ, so no export has an alias. The DLL's name leads linkers to its
+/// descriptor.
 pub fn search_takes_short_imports()
     ensures takes { (machine : MachineType) (d : DefinitionView) (members taken : List MemberView)
         (wanted : List (List ℕ)) →
@@ -28,12 +29,13 @@ pub fn search_takes_short_imports()
         HaveSame taken (msvc_if_any d machine (shorts_wanted d wanted)) }
 {}
 
-/// Such a search of any archive for any names comes to an end, whichever undefined name the linker takes up
-/// first: it can go on until no undefined name pulls in a member, and never takes more members than the
-/// archive has.
+/// Such a search of any archive for any names comes to an end, whichever undefined name the linker
+/// takes up first: it can go on until no undefined name pulls in a member, and never takes more
+/// members than the archive has.
 pub fn search_of_short_imports_ends()
     ensures found { (machine : MachineType) (archive : List MemberView) (wanted : List (List ℕ)) →
         (taken : List MemberView) × TakesFor machine archive wanted taken }
-    ensures bounded { (machine : MachineType) (archive taken : List MemberView) (wanted : List (List ℕ)) →
+    ensures bounded { (machine : MachineType) (archive taken : List MemberView)
+        (wanted : List (List ℕ)) →
         AreTakenInTurn machine archive wanted taken → length taken ≤ length archive }
 {}

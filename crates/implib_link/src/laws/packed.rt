@@ -9,11 +9,12 @@ ghost use Rattle.implib_link.specs.Gnu.Program.{IsProgram, has_tables, linked_sy
 ghost use Rattle.std.specs.List.{AllByRecursion, IsDistinct, filter};
 ghost use Rattle.std.specs.Prelude.{◌≡◌, ◌<◌, ◌%◌, ◌^◌, ◌++◌, ◌∷◌, ℕ, List, [], bytes_eq};
 
-/// Packed placement from any address on is admissible for members and the null descriptor, other objects
-/// beside or not, where it ends below 2^31: so there is a program of all members whose symbols are distinct.
-/// The address tables begin at a multiple of 8.
+/// Packed placement from any address on is admissible for members and the null descriptor, other
+/// objects beside or not, where it ends below 2^31: so there is a program of all members whose
+/// symbols are distinct. The address tables begin at a multiple of 8.
 pub fn packed_is_program()
-    ensures admissible { (machine : MachineType) (first : ℕ) (inputs : List LinkInput) (objects : List Object) →
+    ensures admissible { (machine : MachineType) (first : ℕ) (inputs : List LinkInput)
+        (objects : List Object) →
         AllByRecursion (IsMade machine) inputs →
         filter has_tables objects ≡ objects_in (all_linked machine inputs) ++ null_descriptor ∷ [] →
         0 < first →
@@ -26,5 +27,6 @@ pub fn packed_is_program()
         packed_end first (objects_in (all_linked machine inputs) ++ null_descriptor ∷ []) < 2 ^ 31 →
         IsProgram machine (packed first (objects_in (all_linked machine inputs) ++ null_descriptor ∷ [])) inputs
         (objects_in (all_linked machine inputs) ++ null_descriptor ∷ []) }
-    ensures eights { (first : ℕ) (objects : List Object) → (packed first objects).addresses % 8 ≡ 0 }
+    ensures eights { (first : ℕ) (objects : List Object) →
+        (packed first objects).addresses % 8 ≡ 0 }
 {}

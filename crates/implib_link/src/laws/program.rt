@@ -12,8 +12,8 @@ ghost use Rattle.implib_link.specs.Gnu.Program.{IsProgram, LinksAmong, linked_sy
 ghost use Rattle.std.specs.List.{AllByRecursion, IsDistinct};
 ghost use Rattle.std.specs.Prelude.{◌≡◌, ◌++◌, ◌∷◌, ℕ, List, Some, [], bytes_eq, map};
 
-/// The head, the chosen exports' members and the tail of each DLL, DLLs and exports in any order, link at
-/// any admissible bases, for each DLL to an import of just the chosen exports from it.
+/// The head, the chosen exports' members and the tail of each DLL, DLLs and exports in any order,
+/// link at any admissible bases, for each DLL to an import of just the chosen exports from it.
 pub fn links_in_any_order()
     ensures links { (machine : MachineType) (bases : Bases) (inputs : List LinkInput) →
         AllByRecursion (IsMade machine) inputs →
@@ -22,11 +22,12 @@ pub fn links_in_any_order()
         AllLink machine bases inputs (objects_in (all_linked machine inputs)) }
 {}
 
-/// Members and the null descriptor link among any other objects that hold no import tables and claim no
-/// symbol of theirs: the import directory lists just these DLLs with just the chosen exports, and each
-/// `__imp_` symbol is its export's own entry, from whichever object it is named.
+/// Members and the null descriptor link among any other objects that hold no import tables and
+/// claim no symbol of theirs: the import directory lists just these DLLs with just the chosen
+/// exports, and each `__imp_` symbol is its export's own entry, from whichever object it is named.
 pub fn links_among_others()
-    ensures links { (machine : MachineType) (bases : Bases) (inputs : List LinkInput) (objects : List Object) →
+    ensures links { (machine : MachineType) (bases : Bases) (inputs : List LinkInput)
+        (objects : List Object) →
         AllByRecursion (IsMade machine) inputs →
         IsProgram machine bases inputs objects →
         LinksAmong machine bases inputs objects }
@@ -37,7 +38,8 @@ pub fn members_are_program()
     ensures program { (machine : MachineType) (bases : Bases) (inputs : List LinkInput) →
         AllByRecursion (IsMade machine) inputs →
         IsDistinct bytes_eq (linked_symbols machine inputs) →
-        IsAdmissible machine bases (objects_in (all_linked machine inputs) ++ null_descriptor ∷ []) →
+        IsAdmissible machine bases
+        (objects_in (all_linked machine inputs) ++ null_descriptor ∷ []) →
         IsProgram machine bases inputs (objects_in (all_linked machine inputs) ++ null_descriptor ∷ []) }
 {}
 
@@ -47,11 +49,12 @@ pub fn directory_once()
     ensures walk { (image : List Range) (width address : ℕ) (imports : List Imported) →
         DirectoryAt image width address imports → WalkFinds image width address imports }
     ensures once { (image : List Range) (width address : ℕ) (imports others : List Imported) →
-        DirectoryAt image width address imports → WalkFinds image width address others → imports ≡ others }
+        DirectoryAt image width address imports → WalkFinds image width address others →
+        imports ≡ others }
 {}
 
-/// The members read the same with the full names of their sections, by which other objects are to be read:
-/// a section with a name of more than 8 bytes may belong to the import tables, too.
+/// The members read the same with the full names of their sections, by which other objects are to
+/// be read: a section with a name of more than 8 bytes may belong to the import tables, too.
 pub fn members_have_full_names()
     ensures members { (machine : MachineType) (inputs : List LinkInput) →
         AllByRecursion (IsMade machine) inputs →

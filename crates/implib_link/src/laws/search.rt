@@ -16,24 +16,27 @@ ghost use Rattle.implib_link.specs.Search.Search.{HaveSame, ImportsWanted, IsArr
 ghost use Rattle.std.specs.List.{Contains, IsDistinct, flat_map};
 ghost use Rattle.std.specs.Prelude.{◌≤◌, ℕ, List, bytes_eq, length, map};
 
-/// A linker takes of an archive of the members just the head, the members of the exports that are wanted and
-/// the tail, whichever undefined name it takes up first; nothing, where no export is wanted.
+/// A linker takes of an archive of the members just the head, the members of the exports that are
+/// wanted and the tail, whichever undefined name it takes up first; nothing, where no export is
+/// wanted.
 ///
-/// Names that no member is listed for may be wanted, too. All listed symbols differ, so no export has an
-/// alias.
+/// Names that no member is listed for may be wanted, too. All listed symbols differ, so no export
+/// has an alias.
 pub fn search_takes_wanted()
     ensures takes { (machine : MachineType) (d : DefinitionView) (members taken : List MemberView)
         (wanted : List (List ℕ)) →
-        AreMembersOf d machine Gnu members → IsDistinct bytes_eq (flat_map (λ m. m.symbols) members) →
+        AreMembersOf d machine Gnu members → IsDistinct bytes_eq
+        (flat_map (λ m. m.symbols) members) →
         NamesNoHeadOrTail machine d.import_name wanted → Takes members wanted taken →
         HaveSame taken (linked_if_any d machine (exports_wanted d wanted)) }
 {}
 
-/// What a linker takes of the archive for wanted names is, in its order, what is linked of just the wanted
-/// exports; a program of it and of any other objects imports just these exports. The order of the members'
-/// names is such an order.
+/// What a linker takes of the archive for wanted names is, in its order, what is linked of just the
+/// wanted exports; a program of it and of any other objects imports just these exports. The order
+/// of the members' names is such an order.
 pub fn searched_program_links()
-    ensures chosen { (machine : MachineType) (d : DefinitionView) (members taken arranged : List MemberView)
+    ensures chosen { (machine : MachineType) (d : DefinitionView)
+        (members taken arranged : List MemberView)
         (wanted : List (List ℕ)) →
         AreMembersOf d machine Gnu members →
         IsDistinct bytes_eq (flat_map (λ m. m.symbols) members) →
@@ -41,7 +44,8 @@ pub fn searched_program_links()
         Takes members wanted taken →
         IsArranged machine d.import_name taken arranged →
         IsLinkedOfWanted machine d wanted arranged }
-    ensures sorted { (machine : MachineType) (d : DefinitionView) (members taken arranged : List MemberView)
+    ensures sorted { (machine : MachineType) (d : DefinitionView)
+        (members taken arranged : List MemberView)
         (wanted : List (List ℕ)) (number : ℕ) →
         AreMembersOf d machine Gnu members →
         IsDistinct bytes_eq (flat_map (λ m. m.symbols) members) →
@@ -61,13 +65,13 @@ pub fn searched_program_links()
         ImportsWanted machine d members wanted bases objects }
 {}
 
-/// Of an archive of several libraries, whose exports may have aliases, a linker takes just what is linked of
-/// the wanted exports of each library, and weak externals, whose targets are then wanted, too; and a program
-/// of what the wanted exports link, in the libraries' order, and of any other objects imports just these
-/// exports from these DLLs.
+/// Of an archive of several libraries, whose exports may have aliases, a linker takes just what is
+/// linked of the wanted exports of each library, and weak externals, whose targets are then wanted,
+/// too; and a program of what the wanted exports link, in the libraries' order, and of any other
+/// objects imports just these exports from these DLLs.
 ///
-/// The weak externals are those of data whose bare name is undefined. In a program they are among the other
-/// objects.
+/// The weak externals are those of data whose bare name is undefined. In a program they are among
+/// the other objects.
 pub fn libraries_are_searched()
     ensures takes { (machine : MachineType) (libraries : List Library) (taken : List MemberView)
         (wanted : List (List ℕ)) →
@@ -82,9 +86,9 @@ pub fn libraries_are_searched()
         LinksAmong machine bases (inputs_wanted libraries wanted) objects }
 {}
 
-/// A search of any archive, whose members are read as objects, for any names ends, whichever undefined name the
-/// linker takes up first: it can go on until no undefined name pulls in a member, and never takes more members
-/// than the archive has.
+/// A search of any archive, whose members are read as objects, for any names ends, whichever
+/// undefined name the linker takes up first: it can go on until no undefined name pulls in a
+/// member, and never takes more members than the archive has.
 pub fn search_ends()
     ensures found { (archive : List MemberView) (wanted : List (List ℕ)) →
         (taken : List MemberView) × Takes archive wanted taken }

@@ -15,9 +15,11 @@ ghost use Rattle.implib_link.specs.Stub.{CallReaches, CanJump, JumpsThrough};
 ghost use Rattle.std.specs.List.{AllByRecursion};
 ghost use Rattle.std.specs.Prelude.{◌≡◌, ◌+◌, ◌*◌, ◌++◌, ℕ, List, Some, false, length, map, slice_get};
 
-/// The stub of each chosen export of code jumps through the export's own entry, wherever its code is placed.
+/// The stub of each chosen export of code jumps through the export's own entry, wherever its code
+/// is placed.
 pub fn stubs_jump()
-    ensures jumps { (machine : MachineType) (image_base : ℕ) (bases : Bases) (inputs : List LinkInput) (objects : List Object)
+    ensures jumps { (machine : MachineType) (image_base : ℕ) (bases : Bases)
+        (inputs : List LinkInput) (objects : List Object)
         (i j : ℕ) (p : LinkInput) (e : ExportView) →
         AllByRecursion (IsMade machine) inputs →
         IsProgram machine bases inputs objects →
@@ -29,19 +31,25 @@ pub fn stubs_jump()
         (bases.addresses + thunk_width machine * thunks_before i inputs + thunk_width machine * j) }
 {}
 
-/// In a loaded program, the stub of an export, wherever it is placed, jumps to what the DLL gives for the export.
+/// In a loaded program, the stub of an export, wherever it is placed, jumps to what the DLL gives
+/// for the export.
 pub fn calls_reach_their_imports()
-    ensures reaches { (machine : MachineType) (image_base : ℕ) (bases : Bases) (inputs : List LinkInput) (objects : List Object)
-        (gives : List ℕ → Ask → List ℕ) (written : List Range) (i j : ℕ) (p : LinkInput) (e : ExportView) →
+    ensures reaches { (machine : MachineType) (image_base : ℕ) (bases : Bases)
+        (inputs : List LinkInput) (objects : List Object)
+        (gives : List ℕ → Ask → List ℕ) (written : List Range) (i j : ℕ) (p : LinkInput)
+        (e : ExportView) →
         AllByRecursion (IsMade machine) inputs →
         IsProgram machine bases inputs objects →
         CanJump machine image_base bases →
         ((dll : List ℕ) (ask : Ask) → length (gives dll ask) ≡ thunk_width machine) →
-        Writes (image_of machine bases (placed_from bases objects)) (thunk_width machine) gives bases.descriptors
+        Writes (image_of machine bases (placed_from bases objects))
+        (thunk_width machine) gives bases.descriptors
         (map (imported machine) inputs) written →
         slice_get inputs i ≡ Some p →
         slice_get (chosen_exports p.definition p.chosen) j ≡ Some e →
         e.is_data ≡ false →
-        CallReaches machine image_base (written ++ image_of machine bases (placed_from bases objects))
-        (placed_from bases objects) e.name (gives p.definition.import_name (expected_ask machine e)) }
+        CallReaches machine image_base
+        (written ++ image_of machine bases (placed_from bases objects))
+        (placed_from bases objects) e.name
+        (gives p.definition.import_name (expected_ask machine e)) }
 {}

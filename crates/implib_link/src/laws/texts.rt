@@ -8,10 +8,12 @@ ghost use Rattle.implib_link.specs.Gnu.Texts.{IsSource, Source, TextsLink, link_
 ghost use Rattle.std.specs.List.{AllByRecursion};
 ghost use Rattle.std.specs.Prelude.{List, map};
 
-/// The members of texts, one or several, link among any other objects to a program whose import directory
-/// lists just their DLLs, each with just its chosen exports, each by the word of its own statement.
+/// The members of texts, one or several, link among any other objects to a program whose import
+/// directory lists just their DLLs, each with just its chosen exports, each by the word of its own
+/// statement.
 pub fn texts_link()
-    ensures links { (machine : MachineType) (bases : Bases) (sources : List Source) (objects : List Object) →
+    ensures links { (machine : MachineType) (bases : Bases) (sources : List Source)
+        (objects : List Object) →
         AllByRecursion (IsSource machine) sources →
         IsProgram machine bases (map link_input_of sources) objects →
         TextsLink machine bases sources objects }

@@ -14,8 +14,8 @@ ghost use Rattle.implib_link.specs.Worked.RefusedTexts.{RefusedTexts};
 ghost use Rattle.implib_link.specs.Worked.Searched.{WorkedLibraries, WorkedSearched};
 ghost use Rattle.implib_link.specs.Worked.Sources.{WorkedSources};
 
-/// Programs that were linked by hand, on each machine, meet what the laws ask for and have these tables,
-/// and but for ARMNT these stubs.
+/// Programs that were linked by hand, on each machine, meet what the laws ask for and have these
+/// tables, and but for ARMNT these stubs.
 pub fn worked_programs()
     ensures programs { WorkedPrograms }
     ensures stubs { WorkedStubs }
@@ -26,8 +26,8 @@ pub fn worked_expansion()
     ensures { WorkedExpansion }
 {}
 
-/// Programs of DLLs in both flavours that were linked by hand meet what the law asks for and have these
-/// tables; tables at multiples of 4 alone do not load, where thunks have 8 bytes.
+/// Programs of DLLs in both flavours that were linked by hand meet what the law asks for and have
+/// these tables; tables at multiples of 4 alone do not load, where thunks have 8 bytes.
 pub fn worked_flavors()
     ensures programs { WorkedFlavors }
     ensures refused { RefusedTables }
@@ -38,8 +38,8 @@ pub fn refused_links()
     ensures { RefusedLinks }
 {}
 
-/// Stubs in front of the tables jump to their entries; code with another instruction is no such jump; a
-/// stub's target is in the address table.
+/// Stubs in front of the tables jump to their entries; code with another instruction is no such
+/// jump; a stub's target is in the address table.
 pub fn worked_jumps()
     ensures stubs { FarStubs }
     ensures jumps { WorkedJumps }
@@ -51,32 +51,35 @@ pub fn worked_long_names()
     ensures { WorkedLongNames }
 {}
 
-/// On each machine, a search by hand of the members for Microsoft's linker takes just what the law says.
+/// On each machine, a search by hand of the members for Microsoft's linker takes just what the law
+/// says.
 pub fn worked_msvc_searches()
     ensures { WorkedMsvcSearches }
 {}
 
-/// The programs that were linked by hand link as the laws say, on each machine; loaded by hand, they hold what
-/// the DLLs give, and calls of their stubs reach it.
+/// The programs that were linked by hand link as the laws say, on each machine; loaded by hand,
+/// they hold what the DLLs give, and calls of their stubs reach it.
 pub fn worked_loads()
     ensures loads { WorkedLoads }
     ensures calls { WorkedCalls }
 {}
 
-/// Programs of what was taken by hand of an archive, and of two libraries, are as the laws of the search say.
+/// Programs of what was taken by hand of an archive, and of two libraries, are as the laws of the
+/// search say.
 pub fn worked_searched_programs()
     ensures one { WorkedSearched }
     ensures two { WorkedLibraries }
 {}
 
-/// The programs of both flavours that were linked by hand link, load and are called as the laws say, on each
-/// machine.
+/// The programs of both flavours that were linked by hand link, load and are called as the laws
+/// say, on each machine.
 pub fn worked_flavor_loads()
     ensures loads { WorkedFlavorLoads }
     ensures calls { WorkedFlavorCalls }
 {}
 
-/// The programs that were linked by hand, packed, are as the law says; too far behind they are none.
+/// The programs that were linked by hand, packed, are as the law says; too far behind they are
+/// none.
 pub fn worked_packings()
     ensures { WorkedPackings }
 {}

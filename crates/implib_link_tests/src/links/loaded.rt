@@ -171,7 +171,8 @@ fn two_libraries_are_loaded(rt: HostRuntime) -> Result<(), Fail> {
     expect_loaded(&rt, rt.alloc(), &TWO_DLLS)
 }
 
-// The members of two DLLs and their exports, not by their names, but each head first and each tail last.
+// The members of two DLLs and their exports, not by their names, but each head first and each tail
+// last.
 const IN_ANY_ORDER: &[&str] = &[
     "zed_dll_a_h.o",
     "zed_dll_a_s00000.o",

@@ -20,8 +20,8 @@ fn taken(alloc: Global, machine: MachineType, text: &str) -> Result<Taken, Fail>
     Ok(files)
 }
 
-// Links some of these members, by their indexes and in this order: 0 is the import descriptor, 1 the null
-// descriptor, 2 the null thunk, and from 3 on are the exports.
+// Links some of these members, by their indexes and in this order: 0 is the import descriptor, 1
+// the null descriptor, 2 the null thunk, and from 3 on are the exports.
 fn linked<'a>(
     alloc: Global,
     files: &'a [(Member, Option<Expansion>)],

@@ -1,5 +1,5 @@
-//! Members among other objects, which the writer of objects makes: code with fields for the symbols of an
-//! export.
+//! Members among other objects, which the writer of objects makes: code with fields for the symbols
+//! of an export.
 
 ghost use Rattle.implib.specs.Formats.Layout.{HasNoNul};
 ghost use Rattle.std.specs.Prelude.{◌<◌, length};
@@ -159,7 +159,8 @@ fn object_with_table(alloc: Global) -> Result<Vec<u8>, Error> {
     writer.write()
 }
 
-// Between the entries of the lookup table it ends this table early; behind the last it does no harm.
+// Between the entries of the lookup table it ends this table early; behind the last it does no
+// harm.
 #[test]
 fn a_table_among_those_of_members_is_found(rt: HostRuntime) -> Result<(), Fail> {
     let libraries = members_of(rt.alloc(), MachineType::AMD64, &[TWO])?;

@@ -1,5 +1,5 @@
-//! What the linker and the strict loader refuse: bases that do not serve, symbols that are not defined
-//! once, and images that are wrong in one way.
+//! What the linker and the strict loader refuse: bases that do not serve, symbols that are not
+//! defined once, and images that are wrong in one way.
 
 use super::{CLOSE, FIRST, HEAD, SECOND, TAIL, TWO, WIDE, chosen, members_of};
 use implib::MachineType;
@@ -125,8 +125,9 @@ fn bases_that_do_not_serve_are_refused(rt: HostRuntime) -> Result<(), Fail> {
 // Bytes that are written over an image, each with its address, and what a strict loader says of it.
 type Wrong = (&'static [(usize, &'static [u8])], Result<usize, Flaw>);
 
-// A descriptor at 0x1000 and the null descriptor behind it; a lookup table at 0x1040 and an address table at
-// 0x1060, each of a thunk by name, one by number and the null thunk; a hint and a name at 0x1080.
+// A descriptor at 0x1000 and the null descriptor behind it; a lookup table at 0x1040 and an address
+// table at 0x1060, each of a thunk by name, one by number and the null thunk; a hint and a name at
+// 0x1080.
 const WRONG_ON_AMD64: [Wrong; 17] = [
     (&[], Ok(1)),
     // The null descriptor alone is a directory, too.

@@ -1,4 +1,5 @@
-//! Archive search: a program that names exports takes them, the head and the tail, and nothing else.
+//! Archive search: a program that names exports takes them, the head and the tail, and nothing
+//! else.
 
 use super::others::caller;
 use super::{Files, MACHINES, WIDE, members_of};
@@ -93,7 +94,8 @@ fn a_search_on_i386_takes_names_with_an_underscore(rt: HostRuntime) -> Result<()
     expect_taken(&rt, rt.alloc(), MachineType::I386, FOUR, &WANTED_ON_I386)
 }
 
-// Of two members that list one symbol the first in the archive is taken, which is that of the last export.
+// Of two members that list one symbol the first in the archive is taken, which is that of the last
+// export.
 const FIRST_LISTED: [(&[&str], &str); 1] = [(
     &["bar", "__imp_bar"],
     "foo_dll_a_t.o foo_dll_a_h.o foo_dll_a_s00001.o ",
@@ -143,7 +145,8 @@ fn a_program_imports_what_it_names_and_nothing_else(rt: HostRuntime) -> Result<(
     Ok(())
 }
 
-// An archive whose member is listed for nothing gives nothing for it, and the program does not link.
+// An archive whose member is listed for nothing gives nothing for it, and the program does not
+// link.
 #[test]
 fn a_program_without_a_listed_member_is_refused(rt: HostRuntime) -> Result<(), Fail> {
     let caller = caller(rt.alloc(), MachineType::AMD64)?;

@@ -66,7 +66,8 @@ fn each_stub_jumps_by_its_own_entry(rt: HostRuntime) -> Result<(), Fail> {
     expect_all_jumps(&rt, rt.alloc(), &STUBS)
 }
 
-// A machine, bytes that are written over the stub of `baz`, the first one, and where its jump reads then.
+// A machine, bytes that are written over the stub of `baz`, the first one, and where its jump reads
+// then.
 const CHANGED: [(MachineType, usize, &[u8], Result<usize, Flaw>); 11] = [
     (MachineType::AMD64, 0x2000, &[], Ok(0x1060)),
     (MachineType::AMD64, 0x2002, &[0x62], Ok(0x1068)),

@@ -1,5 +1,6 @@
-//! All members of one definition, byte for byte, for the machines of which no run is stored. Two other
-//! programs work out the same bytes, and llvm-dlltool writes most of those for Microsoft's linker.
+//! All members of one definition, byte for byte, for the machines of which no run is stored. Two
+//! other programs work out the same bytes, and llvm-dlltool writes most of those for Microsoft's
+//! linker.
 
 mod arm64;
 mod armnt;
@@ -10,8 +11,8 @@ use std::alloc::{AllocError, Global};
 use std::process::Abort;
 use std::test::Fail;
 
-/// A member's name, the symbols that it is listed for, and its bytes: numbers in hexadecimal digits,
-/// texts between quotes, and a line for each record or text.
+/// A member's name, the symbols that it is listed for, and its bytes: numbers in hexadecimal
+/// digits, texts between quotes, and a line for each record or text.
 type Stored<'a> = (&'a str, &'a str, &'a str);
 
 const TEXT: &str = "LIBRARY foo.dll\nEXPORTS\nbar == baz\nqux @7 NONAME\nzip DATA";

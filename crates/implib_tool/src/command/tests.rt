@@ -266,7 +266,8 @@ fn one_function_is_listed_for_gnu(rt: HostRuntime) -> Result<(), Fail> {
     Ok(())
 }
 
-/// Arguments, a text, the lines that name its members and their symbols, and the end of its listing.
+/// Arguments, a text, the lines that name its members and their symbols, and the end of its
+/// listing.
 type Listing = (&'static str, &'static str, [&'static str; 4], &'static str);
 
 /// The lines that are expected to name a listing's members and their symbols.
@@ -278,7 +279,8 @@ fn expected_heads(alloc: Global, listing: &Listing) -> Result<String, AllocError
     Ok(heads)
 }
 
-/// Holds what a command lists over devices of a pace: its lines that name members and symbols, and its end.
+/// Holds what a command lists over devices of a pace: its lines that name members and symbols, and
+/// its end.
 fn expect_listing(rt: &impl Abort, got: &Answer, got_heads: &str, want_heads: &str, end: &str) {
     assert_eq!(rt; got.status, 0, "{want_heads:?}");
     assert_eq!(rt; got_heads, want_heads);
