@@ -1,7 +1,7 @@
 -- A name that is defined once is defined by one entry of one object.
-use Rattle.std.proofs.Common.{◌≡◌, ℕ, ◌+◌, ◌≤◌, Bool, true, List, [], ◌∷◌, ◌++◌, length, Some, refl, ap, sym, ◌∙◌, subst, inl, inr, arith}
+use Rattle.std.proofs.Common.{◌≡◌, ℕ, ◌+◌, ◌≤◌, Bool, true, List, [], ◌∷◌, length, ap, sym, ◌∙◌, subst, inl, inr, arith}
 use Rattle.std.specs.Prelude.{bytes_eq}
-use Rattle.std.specs.List.{filter, filter_map, flat_map}
+use Rattle.std.specs.List.{filter, filter_map}
 use Rattle.std.proofs.Math.Nat.{le_trans}
 use Rattle.std.proofs.lemmas.List.{length-append}
 use Rattle.std.proofs.lemmas.List.Elements.{filter-append, filter_map-append}
@@ -70,9 +70,8 @@ module _ (name : List ℕ) where
       let same : p ≡ q =
       one_holder (λ (x : Placed). length (filter is_named (defined_by x))) (λ xs. length (definitions_of name xs)) placed_next p q linked most m n own other in
       let within : length (filter is_named (defined_by p)) ≤ 1 =
-      le_trans (counted (λ (x : Placed). length (filter is_named (defined_by x))) (λ xs. length (definitions_of name xs)) placed_next p linked m) most in
-      (
+      le_trans (counted (λ (x : Placed). length (filter is_named (defined_by x))) (λ xs. length (definitions_of name xs)) placed_next p linked m) most in (
         same,
         one_holder (λ x. entry_count p.section_addresses (x ∷ [])) (entry_count p.section_addresses) (entry_next p.section_addresses) (ASymbol t) (ASymbol u) p.object.entries within first
-        (subst (λ (x : Placed). Among (ASymbol u) x.object.entries) (sym same) second) (entry_counts p.section_addresses t external named) (entry_counts p.section_addresses u other_external other_named),
+            (subst (λ (x : Placed). Among (ASymbol u) x.object.entries) (sym same) second) (entry_counts p.section_addresses t external named) (entry_counts p.section_addresses u other_external other_named),
       )
