@@ -1,5 +1,5 @@
 -- Direct calls arrive through stubs.
-use Rattle.std.proofs.Common.{◌≡◌, ℕ, ◌+◌, ◌-◌, ◌*◌, ◌%◌, ◌^◌, ◌<◌, ◌≤◌, false, true, List, ◌∷◌, [], ◌++◌, length, map, Option, None, Some, refl, ap, sym, ◌∙◌, subst, inl, inr, arith}
+use Rattle.std.proofs.Common.{◌≡◌, ℕ, ◌+◌, ◌-◌, ◌*◌, ◌%◌, ◌^◌, ◌<◌, ◌≤◌, false, List, ◌∷◌, [], ◌++◌, length, map, Option, None, Some, refl, ap, sym, ◌∙◌, subst, inl, inr, arith}
 use Rattle.std.specs.Prelude.{nat_lt, slice_get}
 use Rattle.std.specs.List.{AllByRecursion, Contains, filter}
 use Rattle.std.specs.Option.{option_and_then}
@@ -13,7 +13,7 @@ use Rattle.implib.specs.Formats.Bytes.{u32_bytes}
 use Rattle.implib.specs.Formats.Constants.{align_4bytes, class_external, cnt_code, mem_execute_read}
 use Rattle.implib.specs.Formats.Object.{ASymbol, Entry, Object, ObjectSection, ObjectSymbol, section_numbered}
 use Rattle.implib.specs.Import.{Ask, expected_ask, imp_symbol}
-use Rattle.implib.specs.Link.Image.{Range, image_of, range_end}
+use Rattle.implib.specs.Link.Image.{Range, image_of}
 use Rattle.implib.specs.Link.Linked.{EntriesAt}
 use Rattle.implib.specs.Link.LinkedMembers.{IsMade, LinkInput, chosen_exports}
 use Rattle.implib.specs.Link.Load.{BytesAt}
@@ -39,7 +39,7 @@ use Rattle.implib_link.proofs.Gnu.Loaded.{entry_once}
 use Rattle.implib_link.proofs.Gnu.Memory.{byte_first, loaded_below, located_in_memory, untouched, written_covers}
 use Rattle.implib_link.proofs.Gnu.Program.{kept_placed, program_links}
 use Rattle.implib_link.proofs.Gnu.Stubs.{among_filter, block_placed, calls_reach, code_bytes, code_defined, code_here, code_relocations, jump_by, same_address, stubs_jump, target_is, wide_thunk}
-use Rattle.implib_link.proofs.Search.Lists.{among_at, contains_among}
+use Rattle.implib_link.proofs.Search.Lists.{contains_among}
 
 direct_field : (image_base position target : ℕ) → position + 16 ≤ 2 ^ 31 → target < 2 ^ 31 →
     plus_signed 32 1 ((0 + target + (2 ^ 32 - (position + 1 + 4) % 2 ^ 32)) % 2 ^ 32 % 2 ^ 32) (image_base + position + 5) ≡ image_base + target
