@@ -73,21 +73,31 @@ pub fn link<'a>(
     files: &[(&'a str, &'a [u8])],
     bases: Bases,
 ) -> Result<Linked<'a>, Fail> {
-    let mut linked = place(alloc, files, bases)?;
-    if let Some(unlinked) = linked.refusal() {
-        return Err(Fail::from(unlinked));
-    }
-    linked.relocate()?;
-    Ok(linked)
+    relocated_objects(place(alloc, files, bases)?)
 }
 
-/// The same of objects, each with its file's name.
+/// The same without the null descriptor: in `.idata$2` are the descriptors of the objects alone. No
+/// `.idata$3` is placed.
+pub fn link_without_null_descriptor<'a>(
+    alloc: Global,
+    files: &[(&'a str, &'a [u8])],
+    bases: Bases,
+) -> Result<Linked<'a>, Fail> {
+    let objects = objects_in(alloc, files)?;
+    relocated_objects(place_descriptors(alloc, objects, bases)?)
+}
+
+/// The same as `link` of objects, each with its file's name.
 pub fn link_objects<'a>(
     alloc: Global,
     objects: Vec<(&'a str, Object<'a>)>,
     bases: Bases,
 ) -> Result<Linked<'a>, Fail> {
-    let mut linked = place_objects(alloc, objects, bases)?;
+    relocated_objects(place_objects(alloc, objects, bases)?)
+}
+
+/// Resolves and relocates objects whose sections are placed.
+fn relocated_objects(mut linked: Linked) -> Result<Linked, Fail> {
     if let Some(unlinked) = linked.refusal() {
         return Err(Fail::from(unlinked));
     }
@@ -127,15 +137,45 @@ fn place<'a>(
     files: &[(&'a str, &'a [u8])],
     bases: Bases,
 ) -> Result<Linked<'a>, Fail> {
+    place_objects(alloc, objects_in(alloc, files)?, bases)
+}
+
+/// The objects in such files.
+fn objects_in<'a>(
+    alloc: Global,
+    files: &[(&'a str, &'a [u8])],
+) -> Result<Vec<(&'a str, Object<'a>)>, Fail> {
     let mut objects = Vec::new(alloc);
     for (name, bytes) in files {
         objects.push((*name, object_in(alloc, *bytes)?))?;
     }
-    place_objects(alloc, objects, bases)
+    Ok(objects)
 }
 
-/// The same of objects. What ends the import directory comes last.
+/// Places the sections of objects. What ends the import directory comes last.
 fn place_objects<'a>(
+    alloc: Global,
+    files: Vec<(&'a str, Object<'a>)>,
+    bases: Bases,
+) -> Result<Linked<'a>, Fail> {
+    let linked = place_descriptors(alloc, files, bases)?;
+    let Linked {
+        machine,
+        directory,
+        mut objects,
+        mut image,
+    } = linked;
+    end_directory(&mut image, &mut objects)?;
+    Ok(Linked {
+        machine,
+        directory,
+        objects,
+        image,
+    })
+}
+
+/// Places the sections of objects, and nothing that ends the import directory.
+fn place_descriptors<'a>(
     alloc: Global,
     files: Vec<(&'a str, Object<'a>)>,
     bases: Bases,
@@ -159,7 +199,6 @@ fn place_objects<'a>(
             addresses,
         })?;
     }
-    end_directory(&mut image, &mut objects)?;
     Ok(Linked {
         machine,
         directory: bases[0],
