@@ -8,3 +8,5 @@ mod exports;
 mod laws;
 mod outcome;
 mod status;
+#[cfg(test)]
+mod tests;

@@ -8,6 +8,8 @@ mod link;
 mod linked;
 mod members;
 mod objects;
+#[cfg(test)]
+mod tests;
 mod tokens;
 
 pub use errors::error_in;

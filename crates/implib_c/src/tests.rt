@@ -1,0 +1,255 @@
+//! The exports as C calls them: buffers of several lengths, and each status by its number in
+//! `include/implib.h`.
+
+use crate::exports::{implib_members, implib_status_text};
+use implib::{Flavor, ImportLibrary, MachineType};
+use std::alloc::{AllocError, Global};
+use std::process::Abort;
+use std::test::Fail;
+
+// What a buffer holds before a call.
+const PATTERN: u8 = 0xA5;
+
+// A DLL that one export is imported from by name and one by number.
+const TWO: &str = "LIBRARY foo.dll\nEXPORTS\nbar\nbaz @5 NONAME";
+
+// The machines, with their numbers.
+const MACHINES: [(MachineType, u16); 4] = [
+    (MachineType::I386, 0x014C),
+    (MachineType::ARMNT, 0x01C4),
+    (MachineType::AMD64, 0x8664),
+    (MachineType::ARM64, 0xAA64),
+];
+
+// The flavours, with their numbers and with how many members the two exports have.
+const FLAVORS: [(Flavor, u32, u8); 2] = [(Flavor::Msvc, 0, 5), (Flavor::Gnu, 1, 4)];
+
+// A buffer of this length.
+fn room(alloc: Global, length: usize) -> Result<Vec<u8>, AllocError> {
+    let mut buffer = Vec::new(alloc);
+    buffer.resize(length, PATTERN)?;
+    Ok(buffer)
+}
+
+// The status, the length and the place of a call.
+fn called(
+    alloc: Global,
+    text: &[u8],
+    machine: u16,
+    flavor: u32,
+    buffer: &mut [u8],
+) -> (u32, usize, usize) {
+    let mut length = 12_345;
+    let mut place = 67_890;
+    let status = implib_members(
+        alloc,
+        text,
+        machine,
+        flavor,
+        buffer,
+        &mut length,
+        &mut place,
+    );
+    (status, length, place)
+}
+
+// Whether no byte is changed.
+fn is_untouched(bytes: &[u8]) -> bool {
+    bytes.iter().all(|byte| *byte == PATTERN)
+}
+
+// Appends a length in 8 bytes, the low one first, and the bytes.
+fn push_text(encoding: &mut Vec<u8>, text: &[u8]) -> Result<(), AllocError> {
+    encoding.extend_from_slice(&text.len().to_le_bytes())?;
+    encoding.extend_from_slice(text)
+}
+
+// The members of a text as include/implib.h encodes them.
+fn encoding_of(
+    alloc: Global,
+    text: &str,
+    machine: MachineType,
+    flavor: Flavor,
+) -> Result<Vec<u8>, Fail> {
+    let members = ImportLibrary::new(alloc, text, machine, flavor)?.members()?;
+    let mut encoding = Vec::new(alloc);
+    encoding.extend_from_slice(&members.len().to_le_bytes())?;
+    for member in members.iter() {
+        push_text(&mut encoding, member.name.as_bytes())?;
+        encoding.extend_from_slice(&member.symbols.len().to_le_bytes())?;
+        for symbol in member.symbols.iter() {
+            push_text(&mut encoding, symbol.as_bytes())?;
+        }
+        push_text(&mut encoding, member.bytes.as_slice())?;
+    }
+    Ok(encoding)
+}
+
+// Holds calls with buffers of length 0, of a byte less than the encoding, just as long, and longer.
+fn expect_buffers(
+    rt: &impl Abort,
+    alloc: Global,
+    text: &str,
+    machine: (MachineType, u16),
+    flavor: (Flavor, u32),
+) -> Result<(), Fail> {
+    let want = encoding_of(alloc, text, machine.0, flavor.0)?;
+    let length = want.len();
+    for short in [0, 1, length / 2, length.saturating_sub(1)] {
+        let mut buffer = room(alloc, short)?;
+        let got = called(
+            alloc,
+            text.as_bytes(),
+            machine.1,
+            flavor.1,
+            buffer.as_mut_slice(),
+        );
+        assert_eq!(rt; got, (1, length, 0));
+        assert!(rt; is_untouched(buffer.as_slice()));
+    }
+    for more in [0, 1, 64] {
+        let mut buffer = room(alloc, length.saturating_add(more))?;
+        let got = called(
+            alloc,
+            text.as_bytes(),
+            machine.1,
+            flavor.1,
+            buffer.as_mut_slice(),
+        );
+        assert_eq!(rt; got, (0, length, 0));
+        assert!(rt; buffer.starts_with(want.as_slice()));
+        let rest = buffer.get(length..).ok_or("the buffer is shorter")?;
+        assert_eq!(rt; rest.len(), more);
+        assert!(rt; is_untouched(rest));
+    }
+    Ok(())
+}
+
+#[test]
+fn members_of_both_flavours_fill_a_buffer_on_four_machines(rt: HostRuntime) -> Result<(), Fail> {
+    for machine in MACHINES {
+        for (flavor, number, count) in FLAVORS {
+            expect_buffers(&rt, rt.alloc(), TWO, machine, (flavor, number))?;
+            let mut buffer = room(rt.alloc(), 4096)?;
+            called(
+                rt.alloc(),
+                TWO.as_bytes(),
+                machine.1,
+                number,
+                buffer.as_mut_slice(),
+            );
+            assert!(rt; buffer.starts_with(&[count, 0, 0, 0, 0, 0, 0, 0]));
+        }
+    }
+    Ok(())
+}
+
+// A text that begins with a comment of 70,001 bytes and its line feed.
+fn long_text(alloc: Global, rest: &str) -> Result<String, AllocError> {
+    let mut text = String::from_str(alloc, ";")?;
+    for _ in 0..7000 {
+        text.push_str("0123456789")?;
+    }
+    text.push_str("\n")?;
+    text.push_str(rest)?;
+    Ok(text)
+}
+
+#[test]
+fn a_text_above_64_kib_has_members_and_places(rt: HostRuntime) -> Result<(), Fail> {
+    let text = long_text(rt.alloc(), TWO)?;
+    for (flavor, number, _) in FLAVORS {
+        let machine = (MachineType::AMD64, 0x8664);
+        expect_buffers(&rt, rt.alloc(), text.as_str(), machine, (flavor, number))?;
+    }
+    let text = long_text(rt.alloc(), "OTHER")?;
+    let got = called(rt.alloc(), text.as_bytes(), 0x8664, 0, &mut []);
+    assert_eq!(rt; got, (16, 0, 70_002));
+    Ok(())
+}
+
+// Texts with a machine and a flavour, and the status and the place that they have.
+const FAULTS: [(&[u8], u16, u32, u32, usize); 18] = [
+    (b"LIBRARY zoo.dll\n\xFF", 0x8664, 0, 3, 16),
+    (b"LIBRARY z\xC3", 0x8664, 1, 3, 9),
+    (b"\xFF", 0, 0, 4, 0),
+    (b"", 0x8665, 9, 4, 0),
+    (b"\xFF", 0x8664, 2, 5, 0),
+    (b"LIBRARY zoo.dll\nOTHER", 0x8664, 0, 16, 16),
+    (b"LIBRARY zoo.dll\nEXPORTS\nfeed ==", 0x8664, 1, 17, 31),
+    (b"LIBRARY zoo.dll BASE 5", 0x14C, 0, 18, 21),
+    (b"HEAPSIZE x", 0x1C4, 1, 19, 9),
+    (b"LIBRARY zoo.dll\nEXPORTS\nfeed @ x", 0xAA64, 0, 20, 31),
+    (b"LIBRARY zoo.dll\nEXPORTS\nfeed = @", 0x8664, 0, 21, 31),
+    (b"", 0x8664, 1, 22, 0),
+    (b"EXPORTS feed", 0x8664, 0, 22, 0),
+    (b"LIBRARY \"z\0o.dll\"", 0x8664, 0, 23, 0),
+    (b"LIBRARY zoo.dll\nEXPORTS\nfeed\n\"\"", 0x8664, 0, 24, 1),
+    (
+        b"LIBRARY zoo.dll\nEXPORTS\na PRIVATE\nb\n\"c\0\"",
+        0x8664,
+        0,
+        25,
+        2,
+    ),
+    (b"LIBRARY zoo.dll\nEXPORTS\na\nb\nc\n\"\"", 0x14C, 0, 26, 3),
+    (b"LIBRARY zoo.dll\nEXPORTS\na\n\"\"", 0x8664, 1, 24, 1),
+];
+
+#[test]
+fn faults_have_their_statuses_and_places(rt: HostRuntime) -> Result<(), Fail> {
+    for (text, machine, flavor, status, place) in FAULTS {
+        for length in [0, 64] {
+            let mut buffer = room(rt.alloc(), length)?;
+            let got = called(rt.alloc(), text, machine, flavor, buffer.as_mut_slice());
+            assert_eq!(rt; got, (status, 0, place));
+            assert!(rt; is_untouched(buffer.as_slice()));
+        }
+    }
+    Ok(())
+}
+
+// The statuses with their texts, and numbers that are none.
+const TEXTS: [(u32, &str); 22] = [
+    (0, "success"),
+    (1, "buffer too small"),
+    (2, "out of memory"),
+    (3, "input is not UTF-8"),
+    (4, "unknown machine"),
+    (5, "unknown flavour"),
+    (6, "unknown status"),
+    (15, "unknown status"),
+    (16, "unknown directive"),
+    (17, "expected identifier"),
+    (18, "expected equal"),
+    (19, "expected integer"),
+    (20, "invalid ordinal"),
+    (21, "lone @ after ="),
+    (22, "import name is empty"),
+    (23, "import name contains null byte"),
+    (24, "export name is empty"),
+    (25, "export name contains null byte"),
+    (26, "asked name is empty"),
+    (27, "member too long"),
+    (28, "unknown status"),
+    (0xFFFF_FFFF, "unknown status"),
+];
+
+#[test]
+fn statuses_have_their_texts_in_buffers_with_room_for_them(rt: HostRuntime) -> Result<(), Fail> {
+    for (status, want) in TEXTS {
+        let length = want.len();
+        for short in [0, 1, length] {
+            let mut buffer = room(rt.alloc(), short)?;
+            assert_eq!(rt; implib_status_text(status, buffer.as_mut_slice()), length);
+            assert!(rt; is_untouched(buffer.as_slice()));
+        }
+        let mut buffer = room(rt.alloc(), 32)?;
+        assert_eq!(rt; implib_status_text(status, buffer.as_mut_slice()), length);
+        let (text, rest) = buffer.split_at(length);
+        assert_eq!(rt; text, want.as_bytes(), "{status}");
+        assert_eq!(rt; rest.first().copied(), Some(0));
+        assert!(rt; is_untouched(rest.get(1..).unwrap_or(&[])));
+    }
+    Ok(())
+}
