@@ -319,3 +319,38 @@ fn an_export_of_equal_names_is_copied(rt: HostRuntime) -> Result<(), Fail> {
     assert_eq!(rt; copy.alias_target.as_str(), "foo");
     Ok(())
 }
+
+#[test]
+fn a_private_export_is_copied(rt: HostRuntime) -> Result<(), Fail> {
+    let alloc = rt.alloc();
+    let export = ShortExport {
+        private: true,
+        ordinal: 65535,
+        ..ShortExport::named(alloc, "foo")?
+    };
+    let copy = export.clone()?;
+    assert!(rt; copy.private);
+    assert_eq!(rt; copy.ordinal, 65535);
+    assert_eq!(rt; copy.name.as_str(), "foo");
+    let flags = (copy.no_name, copy.is_data, copy.constant);
+    assert_eq!(rt; flags, (false, false, false));
+    Ok(())
+}
+
+#[test]
+fn a_named_export_has_its_name_alone(rt: HostRuntime) -> Result<(), Fail> {
+    let export = ShortExport::named(rt.alloc(), "foo@8")?;
+    assert_eq!(rt; export.name.as_str(), "foo@8");
+    assert!(rt; export.ext_name.is_none());
+    assert_eq!(rt; export.symbol_name.as_str(), "");
+    assert_eq!(rt; export.alias_target.as_str(), "");
+    assert_eq!(rt; export.ordinal, 0);
+    let flags = (
+        export.no_name,
+        export.is_data,
+        export.private,
+        export.constant,
+    );
+    assert_eq!(rt; flags, (false, false, false, false));
+    Ok(())
+}

@@ -144,3 +144,56 @@ fn an_object_of_three_sections_has_its_bytes(rt: HostRuntime) -> Result<(), Fail
     assert_eq!(rt; bytes.as_slice(), THREE_SECTIONS);
     Ok(())
 }
+
+// An object of 258 sections of 4 bytes, the first with 257 relocations, and one symbol in the last section, whose
+// value needs 32 bits.
+fn object_of_many(alloc: Global) -> Result<Vec<u8>, Error> {
+    let mut writer = ObjectWriter::new(alloc, MachineType::AMD64);
+    for _ in 0u32..258 {
+        writer.add_section(Section::new(alloc, *b".idata$4", 0x8765_4321, &[0; 4])?)?;
+    }
+    let mut symbol = Symbol::new(alloc, "x", Place::Section(258), class::EXTERNAL)?;
+    symbol.value = 0x1234_5678;
+    writer.add_symbol(symbol)?;
+    for _ in 0u32..257 {
+        let relocation = Relocation {
+            offset: 0,
+            symbol: 0,
+            kind: relocation::AMD64_ADDR32NB,
+        };
+        writer.add_relocation(1, relocation)?;
+    }
+    writer.write()
+}
+
+// Headers of 20 and 258 * 40 bytes, contents of 258 * 4 + 257 * 10, a record of 18 and a string table of 4.
+#[test]
+fn an_object_of_many_sections_and_relocations_has_its_bytes(rt: HostRuntime) -> Result<(), Fail> {
+    let bytes = object_of_many(rt.alloc())?;
+    assert_eq!(rt; bytes.len(), 13_964);
+    let excerpts: [(usize, &[u8]); 6] = [
+        (0, b"\x64\x86\x02\x01\0\0\0\0\x76\x36\0\0\x01\0\0\0\0\0\0\0"),
+        // The first section: data at 10,340, relocations behind it.
+        (
+            20,
+            b".idata$4\0\0\0\0\0\0\0\0\x04\0\0\0\x64\x28\0\0\x68\x28\0\0\0\0\0\0\x01\x01\0\0\x21\x43\x65\x87",
+        ),
+        // The last one: data at 13,938.
+        (
+            10_300,
+            b".idata$4\0\0\0\0\0\0\0\0\x04\0\0\0\x72\x36\0\0\0\0\0\0\0\0\0\0\0\0\0\0\x21\x43\x65\x87",
+        ),
+        // The last relocation, and the data of the second section.
+        (12_904, b"\0\0\0\0\0\0\0\0\x03\0\0\0\0\0"),
+        (
+            13_938,
+            b"\0\0\0\0x\0\0\0\0\0\0\0\x78\x56\x34\x12\x02\x01\0\0\x02\0",
+        ),
+        (13_960, b"\x04\0\0\0"),
+    ];
+    for (offset, want) in excerpts {
+        let rest = bytes.as_slice().get(offset..).ok_or("an object is short")?;
+        assert!(rt; rest.starts_with(want), "at {offset}");
+    }
+    Ok(())
+}

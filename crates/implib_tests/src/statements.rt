@@ -9,7 +9,7 @@ use std::process::Abort;
 use std::test::Fail;
 
 /// Texts for AMD64, each with what it means or why it is refused, in the words of `outcome`.
-const OUTCOMES: [(&str, &str); 51] = [
+const OUTCOMES: [(&str, &str); 64] = [
     ("", ""),
     ("EXPORTS\nfoo @10 NONAME", "; foo @10 noname"),
     ("EXPORTS\nfoo @70000", "; foo; @70000"),
@@ -75,6 +75,34 @@ const OUTCOMES: [(&str, &str); 51] = [
     (
         "EXPORTS f CONSTANT PRIVATE DATA",
         "; f data private constant",
+    ),
+    ("LIBRARY foo.dll\nEXPORTS\n\"abc", "foo.dll; "),
+    ("LIBRARY foo.dll\nEXPORTS\n\"\"", "foo.dll; "),
+    ("VERSION 1.70000", " version 1.70000"),
+    ("VERSION 1.4294967295", " version 1.4294967295"),
+    ("VERSION 1.4294967296", "expected integer"),
+    ("NAME a.exe BASE=5368709120", "a.exe base 5368709120"),
+    (
+        "LIBRARY a.dll BASE=18446744073709551615",
+        "a.dll base 18446744073709551615",
+    ),
+    (
+        "LIBRARY a.dll BASE=18446744073709551616",
+        "expected integer",
+    ),
+    (
+        "STACKSIZE 4294967296,8589934592",
+        " stack 4294967296 8589934592",
+    ),
+    (
+        "EXPORTS\nCONST\nSECTIONS\nDESCRIPTION\nEXPORT DATA",
+        "; CONST; SECTIONS; DESCRIPTION; EXPORT data",
+    ),
+    ("DESCRIPTION \"x\"", "unknown directive: DESCRIPTION"),
+    ("SECTIONS", "unknown directive: SECTIONS"),
+    (
+        "LIBRARY a+b.drv\nEXPORTS\nc @65535 NONAME CONSTANT == t\nd == t DATA",
+        "a+b.drv; c for t @65535 noname constant; d for t data",
     ),
 ];
 
@@ -167,6 +195,40 @@ fn texts_for_i386_have_names_with_an_underscore(rt: HostRuntime) -> Result<(), F
     for (text, expected) in OUTCOMES_I386 {
         let answer = outcome(alloc, Parser::new(text, MachineType::I386).parse(alloc))?;
         assert_eq!(rt; answer.as_str(), expected, "{text}");
+        let answer = outcome(alloc, ModuleDef::parse(alloc, text, MachineType::I386))?;
+        assert_eq!(rt; answer.as_str(), expected, "{text}");
+    }
+    Ok(())
+}
+
+/// A text of this front, with a name of 300 bytes behind it.
+fn with_long_name(alloc: Global, front: &str) -> Result<String, AllocError> {
+    let mut text = String::from_str(alloc, front)?;
+    for _ in 0u32..30 {
+        text.push_str("abcdefghij")?;
+    }
+    Ok(text)
+}
+
+#[test]
+fn names_of_300_bytes_are_read(rt: HostRuntime) -> Result<(), Fail> {
+    let alloc = rt.alloc();
+    for (front, shown) in [
+        ("LIBRARY ", ""),
+        ("EXPORTS ", "; "),
+        ("EXPORTS f = ", "; "),
+        ("EXPORTS f == ", "; f for "),
+    ] {
+        let text = with_long_name(alloc, front)?;
+        let answer = outcome(
+            alloc,
+            ModuleDef::parse(alloc, text.as_str(), MachineType::AMD64),
+        )?;
+        let mut expected = with_long_name(alloc, shown)?;
+        if front == "EXPORTS f = " {
+            expected.push_str(" outside f")?;
+        }
+        assert_eq!(rt; answer.as_str(), expected.as_str(), "{front}");
     }
     Ok(())
 }

@@ -5,6 +5,7 @@
 mod arm64;
 mod armnt;
 mod i386;
+mod signs;
 
 use implib::{Flavor, ImportLibrary, MachineType, Member};
 use std::alloc::{AllocError, Global};
@@ -65,15 +66,16 @@ fn expect_stored(
     Ok(())
 }
 
-/// Holds that the members of a machine are what is stored.
+/// Holds that the members of a text for a machine are what is stored.
 fn expect_all_stored(
     rt: &impl Abort,
     alloc: Global,
+    text: &str,
     machine: MachineType,
     flavor: Flavor,
     all: &[Stored],
 ) -> Result<(), Fail> {
-    let members = ImportLibrary::new(alloc, TEXT, machine, flavor)?.members()?;
+    let members = ImportLibrary::new(alloc, text, machine, flavor)?.members()?;
     assert_eq!(rt; members.len(), all.len());
     for (member, stored) in members.iter().zip(all.iter()) {
         expect_stored(rt, alloc, member, *stored)?;
@@ -84,8 +86,15 @@ fn expect_all_stored(
 #[test]
 fn members_of_i386_are_as_stored(rt: HostRuntime) -> Result<(), Fail> {
     let machine = MachineType::I386;
-    expect_all_stored(&rt, rt.alloc(), machine, Flavor::Msvc, &i386::FOR_MICROSOFT)?;
-    expect_all_stored(&rt, rt.alloc(), machine, Flavor::Gnu, &i386::FOR_GNU)
+    expect_all_stored(
+        &rt,
+        rt.alloc(),
+        TEXT,
+        machine,
+        Flavor::Msvc,
+        &i386::FOR_MICROSOFT,
+    )?;
+    expect_all_stored(&rt, rt.alloc(), TEXT, machine, Flavor::Gnu, &i386::FOR_GNU)
 }
 
 #[test]
@@ -94,11 +103,12 @@ fn members_of_armnt_are_as_stored(rt: HostRuntime) -> Result<(), Fail> {
     expect_all_stored(
         &rt,
         rt.alloc(),
+        TEXT,
         machine,
         Flavor::Msvc,
         &armnt::FOR_MICROSOFT,
     )?;
-    expect_all_stored(&rt, rt.alloc(), machine, Flavor::Gnu, &armnt::FOR_GNU)
+    expect_all_stored(&rt, rt.alloc(), TEXT, machine, Flavor::Gnu, &armnt::FOR_GNU)
 }
 
 #[test]
@@ -107,9 +117,10 @@ fn members_of_arm64_are_as_stored(rt: HostRuntime) -> Result<(), Fail> {
     expect_all_stored(
         &rt,
         rt.alloc(),
+        TEXT,
         machine,
         Flavor::Msvc,
         &arm64::FOR_MICROSOFT,
     )?;
-    expect_all_stored(&rt, rt.alloc(), machine, Flavor::Gnu, &arm64::FOR_GNU)
+    expect_all_stored(&rt, rt.alloc(), TEXT, machine, Flavor::Gnu, &arm64::FOR_GNU)
 }
