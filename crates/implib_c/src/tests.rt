@@ -246,8 +246,12 @@ fn statuses_have_their_texts_in_buffers_with_room_for_them(rt: HostRuntime) -> R
         }
         let mut buffer = room(rt.alloc(), 32)?;
         assert_eq!(rt; implib_status_text(status, buffer.as_mut_slice()), length);
-        let text = buffer.get(..length).ok_or("the text is longer than the buffer")?;
-        let rest = buffer.get(length..).ok_or("the text is longer than the buffer")?;
+        let text = buffer
+            .get(..length)
+            .ok_or("the text is longer than the buffer")?;
+        let rest = buffer
+            .get(length..)
+            .ok_or("the text is longer than the buffer")?;
         assert_eq!(rt; text, want.as_bytes(), "{status}");
         assert_eq!(rt; rest.first().copied(), Some(0));
         assert!(rt; is_untouched(rest.get(1..).unwrap_or(&[])));
