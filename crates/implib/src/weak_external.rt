@@ -22,7 +22,7 @@ use std::alloc::Global;
 /// The number of members that make an alias: one for the symbol, one for its `__imp_` symbol.
 pub(crate) const MEMBERS_OF_ALIAS: usize = 2;
 
-// The characteristics of a weak external: an alias.
+// The characteristics of a weak external: 3, an alias.
 const ALIAS: u8 = weak::SEARCH_ALIAS as u8;
 
 // The auxiliary record of a weak external: the index of the symbol that replaces it, 2, and the
