@@ -1,0 +1,13 @@
+//! Archives of the members of import libraries, in two kinds: their tables, a reader of them, and whole archives that
+//! were worked by hand.
+//!
+//! [`laws`] has what is proved of the tables and of the reader.
+#![tactic(auto)]
+
+mod bytes;
+mod error;
+mod kind;
+pub mod laws;
+
+pub use error::Fault;
+pub use kind::Kind;
