@@ -1,6 +1,7 @@
 -- Archives of members in two kinds: COFF (Microsoft's; the PE/COFF specification, "Archive (Library) File Format") and
 -- GNU (System V's).
-use Rattle.std.specs.Prelude.{ℕ, ◌+◌, ◌-◌, ◌*◌, Bool, List, [], ◌∷◌, ◌++◌, Option, None, Some, ◌||◌, bytes_eq, codes, decimal, flat_map, fold, if◌then◌else◌, length, get_or, map, nat_eq, nat_lt, unwrap_or, is_some}
+use Rattle.std.specs.Prelude.{ℕ, ◌+◌, ◌-◌, ◌*◌, Bool, List, [], ◌∷◌, ◌++◌, Option, None, Some, ◌||◌}
+use Rattle.std.specs.Prelude.{bytes_eq, codes, decimal, flat_map, fold, if◌then◌else◌, length, get_or, map, nat_eq, nat_lt, unwrap_or, is_some}
 use Rattle.std.specs.List.{list_any}
 use Rattle.std.specs.Cmp.Lexicographic.{slice_cmp}
 use Rattle.std.specs.Ordering.{nat_cmp}

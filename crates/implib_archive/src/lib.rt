@@ -8,6 +8,8 @@ mod bytes;
 mod error;
 mod kind;
 pub mod laws;
+mod refusal;
 
 pub use error::Fault;
 pub use kind::Kind;
+pub use refusal::members_refusal;
