@@ -1,3 +1,4 @@
 pub mod Appended
 pub mod Chosen
+pub mod Listed
 pub mod WorkedBytes

@@ -5,6 +5,7 @@
 #![tactic(auto)]
 
 mod bytes;
+mod entries;
 mod error;
 mod kind;
 pub mod laws;
