@@ -1,5 +1,5 @@
 -- Bytes that are appended, one after another.
-use Rattle.std.proofs.Common.{◌≡◌, ℕ, ◌+◌, ◌<◌, ◌≤◌, ◌-◌, List, [], ◌∷◌, ◌++◌, Result, Ok, Err, OnOk, is_ok, if◌then◌else◌, take, replicate, length, suc, zero, refl, sym, ap, ◌∙◌, append_assoc, append-nil, arith}
+use Rattle.std.proofs.Common.{◌≡◌, ℕ, ◌≤◌, List, [], ◌∷◌, ◌++◌, Result, Ok, Err, OnOk, is_ok, if◌then◌else◌, take, replicate, suc, zero, refl, sym, ap, ◌∙◌, append_assoc, append-nil, arith}
 use Rattle.implib_archive.specs.Pushed.{Pushes}
 
 -- bytes behind bytes

@@ -1,12 +1,9 @@
 -- The entries of the index, in the maps and lists of the code.
-use Rattle.std.proofs.Common.{◌≡◌, ℕ, ◌+◌, ◌<◌, ◌≤◌, Bool, true, false, ◌||◌, List, [], ◌∷◌, ◌++◌, Option, None, Some, bytes_eq, drop, fold, get_or, if◌then◌else◌, is_some, length, map, refl, sym, ap, take, ◌∙◌, inl, inr, append_assoc, append-nil}
+use Rattle.std.proofs.Common.{◌≡◌, ℕ, ◌+◌, ◌<◌, ◌≤◌, Bool, true, false, ◌||◌, List, [], ◌∷◌, ◌++◌, Option, Some, bytes_eq, drop, fold, get_or, if◌then◌else◌, is_some, length, map, refl, sym, ap, take, ◌∙◌, append_assoc, append-nil}
 use Rattle.std.specs.Borrow.{Bor}
-
-use Rattle.std.specs.List.{list_any}
 use Rattle.std.specs.Map.{lookup}
 use Rattle.indexmap.specs.IndexMap.{insert_entry}
-
-use Rattle.std.proofs.lemmas.Bool.{cases_Bool, true≢false}
+use Rattle.std.proofs.lemmas.Bool.{true≢false}
 use Rattle.std.proofs.lemmas.List.{drop_all, drop_more, map-append, take_more}
 use Rattle.std.proofs.lemmas.List.Sums.{fold_push}
 use Rattle.implib.specs.Members.MemberSpec.{MemberView}
@@ -66,4 +63,3 @@ entries_more found pushed number view xs i d within e = ap (λ t. t ++ entries_f
 pub entries_all : (found : List (List ℕ × ℕ)) (number : ℕ) {X : Type 0} (view : X → MemberView) (xs : List X) (i : ℕ) → length xs ≤ i → found ++ entries_from number (map view (drop i xs)) ≡ found
 unfolding entries_from
 entries_all found number view xs i past = ap (λ t. found ++ entries_from number (map view t)) (drop_all i xs past) ∙ append-nil found
-

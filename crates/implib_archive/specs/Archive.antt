@@ -7,7 +7,7 @@ use Rattle.std.specs.Cmp.Lexicographic.{slice_cmp}
 use Rattle.std.specs.Ordering.{nat_cmp}
 use Rattle.std.specs.BTreeMap.{insert_entry}
 use Rattle.implib.specs.Members.MemberSpec.{MemberView}
-use Rattle.implib_archive.specs.Parts.{Label, header_bytes, padded_part_bytes, part_bytes, part_size, signature, u16_le, u32_be, u32_le}
+use Rattle.implib_archive.specs.Parts.{Label, padded_part_bytes, part_bytes, part_size, signature, u16_le, u32_be, u32_le}
 use Rattle.implib_archive.specs.declared.kind.Kind.{Kind}
 use Rattle.implib_archive.specs.declared.kind.Kind.TheVariants.{Coff, Gnu}
 

@@ -1,7 +1,7 @@
 -- A reader of archives, which follows what it finds and knows nothing of how they are written (the common archive format;
 -- the PE/COFF specification, "Archive (Library) File Format").
 use Rattle.std.specs.Prelude.{ℕ, zero, suc, ◌+◌, ◌-◌, ◌*◌, ◌%◌, Bool, List, [], ◌∷◌, ◌++◌, Option, None, Some}
-use Rattle.std.specs.Prelude.{not, ◌&&◌, bytes_eq, codes, drop, fold, if◌then◌else◌, length, map, nat_eq, nat_le, option_and_then, take, take_while, slice_get}
+use Rattle.std.specs.Prelude.{not, ◌&&◌, bytes_eq, codes, drop, fold, if◌then◌else◌, length, nat_eq, nat_le, option_and_then, take, take_while, slice_get}
 use Rattle.std.specs.List.{list_all}
 use Rattle.std.specs.Option.{option_map}
 use Rattle.std.specs.Int.{from_be_bytes, from_le_bytes, w16, w32}
@@ -36,10 +36,10 @@ data_at bytes offset size =
 unfoldable pub stored_at : List ℕ → ℕ → Option Stored
 stored_at bytes place = option_and_then
     (λ header. if bytes_eq (drop 58 header) (96 ∷ 10 ∷ [])
-        then option_and_then
-            (λ size. option_map (λ found. record { field = take 16 header; contents = found }) (data_at bytes (place + 60) size))
-            (number_in (take 10 (drop 48 header)))
-        else None)
+    then option_and_then
+    (λ size. option_map (λ found. record { field = take 16 header; contents = found }) (data_at bytes (place + 60) size))
+    (number_in (take 10 (drop 48 header)))
+    else None)
     (data_at bytes place 60)
 
 -- the parts from here on, behind so many bytes that belong to the one before
@@ -170,15 +170,16 @@ paired (x ∷ xs) (y ∷ ys) = (x, y) ∷ paired xs ys
 unfoldable pub first_in : List ℕ → Option (List (List ℕ × ℕ))
 first_in bytes = option_map
     (λ data'. let count = from_be_bytes w32 (take 4 data') in
-        paired (texts_in count (drop (4 + 4 * count) data')) (numbers_in (from_be_bytes w32) 4 count (drop 4 data')))
+    paired (texts_in count (drop (4 + 4 * count) data')) (numbers_in (from_be_bytes w32) 4 count (drop 4 data')))
     (linker_in 0 bytes)
 
 -- the second linker member: the offsets of the members' headers, and symbols with the numbers of their members
 unfoldable pub second_in : List ℕ → Option (List ℕ × List (List ℕ × ℕ))
 second_in bytes = option_map
     (λ data'. let members = from_le_bytes w32 (take 4 data') in
-        let rest = drop (4 + 4 * members) data' in
-        let count = from_le_bytes w32 (take 4 rest) in
-        (numbers_in (from_le_bytes w32) 4 members (drop 4 data'),
-        paired (texts_in count (drop (4 + 2 * count) rest)) (numbers_in (from_le_bytes w16) 2 count (drop 4 rest))))
+    let rest = drop (4 + 4 * members) data' in
+    let count = from_le_bytes w32 (take 4 rest) in (
+      numbers_in (from_le_bytes w32) 4 members (drop 4 data'),
+      paired (texts_in count (drop (4 + 2 * count) rest)) (numbers_in (from_le_bytes w16) 2 count (drop 4 rest)),
+    ))
     (linker_in 1 bytes)

@@ -27,7 +27,10 @@ pub(crate) fn entries_of<'a>(
 }
 
 // All entries, in the order of the members.
-fn all_entries<'a>(alloc: Global, members: &'a [Member]) -> Result<Vec<(&'a str, usize)>, AllocError>
+fn all_entries<'a>(
+    alloc: Global,
+    members: &'a [Member],
+) -> Result<Vec<(&'a str, usize)>, AllocError>
     ensures { IfOk result (λ entries. shown entries.items ≡ entries_from 1 (map member_view members.now)) }
 {
     let mut entries = Vec::new(alloc);

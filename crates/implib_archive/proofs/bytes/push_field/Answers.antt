@@ -1,4 +1,4 @@
-use Rattle.std.proofs.Common.{◌≡◌, ◌++◌, ◌-◌, ◌≤◌, ◌+◌, ◌∙◌, ap, arith, length, replicate, length-append}
+use Rattle.std.proofs.Common.{◌≡◌, ◌++◌, ◌-◌, ◌≤◌, ◌∙◌, ap, arith, length, replicate, length-append}
 use Rattle.implib_archive.specs.Parts.{field}
 use Rattle.implib_archive.specs.Pushed.{Pushes}
 use Rattle.implib_archive.proofs.Appended.{on_as, on_slice, on_then, pushes_then, take_replicate}

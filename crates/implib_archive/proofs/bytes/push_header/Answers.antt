@@ -1,6 +1,5 @@
-use Rattle.std.proofs.Common.{◌≡◌, ◌++◌, ap, append-nil, decimal, ◌∙◌}
+use Rattle.std.proofs.Common.{ap, append-nil, ◌∙◌}
 use Rattle.implib_archive.specs.Parts.{field, header_bytes}
-use Rattle.implib_archive.specs.Pushed.{Pushes}
 use Rattle.implib_archive.proofs.Appended.{on_slice, on_then, pushes_as, pushes_then}
 use Rattle.implib_archive.proofs.bytes.push_header.Goals as goal
 

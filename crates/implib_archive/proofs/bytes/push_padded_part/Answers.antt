@@ -1,4 +1,4 @@
-use Rattle.std.proofs.Common.{◌≡◌, ◌++◌, ◌∙◌, ap, length, sym}
+use Rattle.std.proofs.Common.{◌++◌, ◌∙◌, ap, length}
 use Rattle.implib_archive.specs.Parts.{header_bytes, padded_part_bytes, padding}
 use Rattle.implib_archive.specs.Pushed.{label_view}
 use Rattle.implib_archive.proofs.Appended.{on_as, on_slice, on_then, pushes_as}

@@ -1,4 +1,4 @@
-use Rattle.std.proofs.Common.{◌≡◌, ◌%◌, ◌≤◌, arith}
+use Rattle.std.proofs.Common.{◌%◌, ◌≤◌, arith}
 use Rattle.implib_archive.specs.Parts.{padding}
 use Rattle.implib_archive.proofs.Appended.{on_as, on_slice, take_replicate}
 use Rattle.implib_archive.proofs.bytes.push_padding.Goals as goal

@@ -1,4 +1,4 @@
-use Rattle.std.proofs.Common.{◌≡◌, ◌∙◌, ap, get_or, sym}
+use Rattle.std.proofs.Common.{◌∙◌, ap, get_or, sym}
 use Rattle.implib.proofs.Formats.Defaults.{no_text}
 use Rattle.implib_archive.specs.Archive.{with_first}
 use Rattle.implib_archive.proofs.Listed.{firsts_more}

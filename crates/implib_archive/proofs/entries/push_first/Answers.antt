@@ -1,4 +1,4 @@
-use Rattle.std.proofs.Common.{◌≡◌, ◌++◌, ◌∷◌, [], ◌∙◌, ap, refl, sym}
+use Rattle.std.proofs.Common.{◌++◌, ◌∷◌, [], ◌∙◌, ap, refl, sym}
 use Rattle.std.proofs.lemmas.List.{map-append}
 use Rattle.implib_archive.specs.Pushed.{shown}
 use Rattle.implib_archive.proofs.Listed.{inserted_new, listed_key, with_first-listed, with_first-new}

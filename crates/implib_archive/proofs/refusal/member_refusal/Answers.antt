@@ -1,7 +1,6 @@
-use Rattle.std.proofs.Common.{◌≡◌, ◌≤◌, ◌<◌, ◌^◌, ◌∙◌, ap, arith, false, is_some, length, map, nat_lt, refl, sym, true}
+use Rattle.std.proofs.Common.{◌≡◌, ◌^◌, ◌∙◌, ap, arith, false, is_some, length, map, nat_lt, refl, sym, true}
 use Rattle.std.specs.String.{string_bytes}
 use Rattle.std.proofs.lemmas.Bool.{le-ltb, lt-ltb}
-use Rattle.implib.specs.Library.{member_view}
 use Rattle.implib_archive.specs.Refusal.{member_refusal, name_refusal, symbols_refusal}
 use Rattle.implib_archive.proofs.refusal.member_refusal.Goals as goal
 

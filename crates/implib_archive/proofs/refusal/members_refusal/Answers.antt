@@ -1,4 +1,4 @@
-use Rattle.std.proofs.Common.{◌≡◌, ◌∙◌, ap, false, is_some, refl, sym, true}
+use Rattle.std.proofs.Common.{◌∙◌, ap, is_some, refl, sym}
 use Rattle.implib.specs.Library.{member_view}
 use Rattle.implib_archive.specs.Refusal.{member_refusal, members_refusal}
 use Rattle.implib_archive.proofs.Chosen.{first_here, first_later, first_none}

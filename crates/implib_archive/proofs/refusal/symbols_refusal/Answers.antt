@@ -1,4 +1,4 @@
-use Rattle.std.proofs.Common.{◌≡◌, ◌∙◌, ap, false, is_some, refl, sym, true}
+use Rattle.std.proofs.Common.{◌∙◌, ap, is_some, refl, sym}
 use Rattle.std.specs.String.{string_bytes}
 use Rattle.implib_archive.specs.Refusal.{symbol_refusal, symbols_refusal}
 use Rattle.implib_archive.proofs.Chosen.{first_here, first_later, first_none}
