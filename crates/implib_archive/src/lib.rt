@@ -1,7 +1,7 @@
-//! Archives of the members of import libraries, in two kinds: their tables, a reader of them, and whole archives that
-//! were worked by hand.
+//! Archives of the members of import libraries, in two kinds: their tables, a reader of them, whole archives that were
+//! worked by hand, and which members have no archive. No archive is written yet.
 //!
-//! [`laws`] has what is proved of the tables and of the reader.
+//! [`laws`] has what is proved of the tables and of the reader, [`members_refusal`] says what is wrong with members.
 #![tactic(auto)]
 
 mod bytes;
