@@ -1,7 +1,7 @@
 //! The entries of the index.
 
 ghost use Rattle.implib.specs.Library.{member_view};
-ghost use Rattle.implib_archive.specs.Archive.{entries_from, entries_of, with_first};
+ghost use Rattle.implib_archive.specs.Archive.{entries_from, entries_of, sorted_entries, with_first};
 ghost use Rattle.implib_archive.specs.Pushed.{shown};
 ghost use Rattle.std.specs.Prelude.{◌≡◌, ◌++◌, [], IfOk, OnOk, fold, map};
 ghost use Rattle.std.specs.String.{string_bytes};
@@ -10,6 +10,7 @@ use crate::kind::Kind;
 use implib::Member;
 use indexmap::IndexMap;
 use std::alloc::{AllocError, Global};
+use std::collections::BTreeMap;
 
 /// The entries of the index: symbols, and the numbers of their members from 1.
 pub(crate) fn entries_of<'a>(
@@ -91,4 +92,17 @@ fn push_first<'a>(
     listed.insert(symbol, number)?;
     firsts.push((symbol, number))?;
     Ok(())
+}
+/// The entries in the order of their symbols' bytes.
+pub(crate) fn sorted<'a>(
+    alloc: Global,
+    entries: &[(&'a str, usize)],
+) -> Result<BTreeMap<&'a str, usize>, AllocError>
+    ensures { IfOk result (λ sorted. shown sorted.entries ≡ sorted_entries (shown entries.now)) }
+{
+    let mut sorted = BTreeMap::new(alloc);
+    for entry in entries {
+        sorted.insert(entry.0, entry.1)?;
+    }
+    Ok(sorted)
 }
