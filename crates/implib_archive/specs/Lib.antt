@@ -1,0 +1,6 @@
+pub mod Archive
+pub mod Parts
+pub mod Pushed
+pub mod Reader
+pub mod Refusal
+pub mod Worked

@@ -1,0 +1,86 @@
+-- Whole archives of both kinds with every byte written out, worked by
+-- hand: a second statement of the tables and of the reader.
+use Rattle.std.specs.Prelude.{◌≡◌, ℕ, List, [], ◌∷◌, ◌++◌, None, Some, codes, replicate}
+use Rattle.implib.specs.Members.MemberSpec.{MemberView}
+use Rattle.implib.specs.Worked.Digits.{hex}
+use Rattle.implib_archive.specs.Archive.{archive_of}
+use Rattle.implib_archive.specs.Reader.{Read, first_in, member_at, members_in, second_in}
+use Rattle.implib_archive.specs.Refusal.{member_refusal, refusal_of}
+use Rattle.implib_archive.specs.declared.kind.Kind.TheVariants.{Coff, Gnu}
+use Rattle.implib_archive.specs.declared.error.Fault.TheVariants.{EmptyName, EmptySymbol, LineEndInName, NulInName, NulInSymbol}
+
+-- a member
+abbrev pub member : List ℕ → List ℕ → List (List ℕ) → MemberView
+member name bytes symbols = record { name = name; bytes = bytes; symbols = symbols }
+
+-- a member that is read
+abbrev pub read : List ℕ → List ℕ → Read
+read name bytes = record { name = name; bytes = bytes }
+
+-- two members: one of an odd size, one with a long name, and a symbol that both list
+abbrev pub worked_members : List MemberView
+worked_members =
+    member (codes "a.o") (1 ∷ 2 ∷ 3 ∷ []) (codes "f" ∷ codes "__imp_f" ∷ [])
+    ∷ member (codes "long_member_name.o") (4 ∷ 5 ∷ []) (codes "f" ∷ codes "g" ∷ []) ∷ []
+
+-- what is read of them
+abbrev pub worked_reads : List Read
+worked_reads = read (codes "a.o") (1 ∷ 2 ∷ 3 ∷ []) ∷ read (codes "long_member_name.o") (4 ∷ 5 ∷ []) ∷ []
+
+-- the archive of the COFF kind, 396 bytes
+unfoldable pub worked_coff : List ℕ
+worked_coff =
+    hex "21 3c 61 72 63 68 3e 0a 2f 20 20 20 20 20 20 20 20 20 20 20 20 20 20 20 30 20 20 20 20 20 20 20 20 20 20 20 30 20 20 20 20 20 30 20 20 20 20 20"
+    ++ hex "30 20 20 20 20 20 20 20 32 38 20 20 20 20 20 20 20 20 60 0a 00 00 00 03 00 00 01 0e 00 00 01 0e 00 00 01 4e 66 00 5f 5f 69 6d 70 5f 66 00 67 00"
+    ++ hex "2f 20 20 20 20 20 20 20 20 20 20 20 20 20 20 20 30 20 20 20 20 20 20 20 20 20 20 20 30 20 20 20 20 20 30 20 20 20 20 20 30 20 20 20 20 20 20 20"
+    ++ hex "33 34 20 20 20 20 20 20 20 20 60 0a 02 00 00 00 0e 01 00 00 4e 01 00 00 03 00 00 00 01 00 01 00 02 00 5f 5f 69 6d 70 5f 66 00 66 00 67 00 2f 2f"
+    ++ hex "20 20 20 20 20 20 20 20 20 20 20 20 20 20 20 20 20 20 20 20 20 20 20 20 20 20 20 20 20 20 20 20 20 20 20 20 20 20 20 20 20 20 20 20 20 20 32 30"
+    ++ hex "20 20 20 20 20 20 20 20 60 0a 6c 6f 6e 67 5f 6d 65 6d 62 65 72 5f 6e 61 6d 65 2e 6f 00 0a 61 2e 6f 2f 20 20 20 20 20 20 20 20 20 20 20 20 30 20"
+    ++ hex "20 20 20 20 20 20 20 20 20 20 30 20 20 20 20 20 30 20 20 20 20 20 36 34 34 20 20 20 20 20 33 20 20 20 20 20 20 20 20 20 60 0a 01 02 03 0a 2f 30"
+    ++ hex "20 20 20 20 20 20 20 20 20 20 20 20 20 20 30 20 20 20 20 20 20 20 20 20 20 20 30 20 20 20 20 20 30 20 20 20 20 20 36 34 34 20 20 20 20 20 32 20"
+    ++ hex "20 20 20 20 20 20 20 20 60 0a 04 05"
+
+-- the archive of the GNU kind, 308 bytes
+unfoldable pub worked_gnu : List ℕ
+worked_gnu =
+    hex "21 3c 61 72 63 68 3e 0a 2f 20 20 20 20 20 20 20 20 20 20 20 20 20 20 20 30 20 20 20 20 20 20 20 20 20 20 20 30 20 20 20 20 20 30 20 20 20 20 20"
+    ++ hex "30 20 20 20 20 20 20 20 33 34 20 20 20 20 20 20 20 20 60 0a 00 00 00 04 00 00 00 b6 00 00 00 b6 00 00 00 f6 00 00 00 f6 66 00 5f 5f 69 6d 70 5f"
+    ++ hex "66 00 66 00 67 00 2f 2f 20 20 20 20 20 20 20 20 20 20 20 20 20 20 20 20 20 20 20 20 20 20 20 20 20 20 20 20 20 20 20 20 20 20 20 20 20 20 20 20"
+    ++ hex "20 20 20 20 20 20 32 30 20 20 20 20 20 20 20 20 60 0a 6c 6f 6e 67 5f 6d 65 6d 62 65 72 5f 6e 61 6d 65 2e 6f 2f 0a 61 2e 6f 2f 20 20 20 20 20 20"
+    ++ hex "20 20 20 20 20 20 30 20 20 20 20 20 20 20 20 20 20 20 30 20 20 20 20 20 30 20 20 20 20 20 36 34 34 20 20 20 20 20 33 20 20 20 20 20 20 20 20 20"
+    ++ hex "60 0a 01 02 03 0a 2f 30 20 20 20 20 20 20 20 20 20 20 20 20 20 20 30 20 20 20 20 20 20 20 20 20 20 20 30 20 20 20 20 20 30 20 20 20 20 20 36 34"
+    ++ hex "34 20 20 20 20 20 32 20 20 20 20 20 20 20 20 20 60 0a 04 05"
+
+-- The archives of the worked members, and of no members, have these bytes.
+pub record WorkedArchives : Type 0 where
+  pub coff : archive_of Coff worked_members ≡ worked_coff
+  pub gnu : archive_of Gnu worked_members ≡ worked_gnu
+  pub no_gnu_members : archive_of Gnu [] ≡ codes "!<arch>\n"
+  pub no_coff_members : archive_of Coff []
+      ≡ codes "!<arch>\n/               0           0     0     0       4         `\n" ++ replicate 4 0
+      ++ codes "/               0           0     0     0       8         `\n" ++ replicate 8 0
+
+-- The bytes are read as the members, with these indexes, whose offsets lead to the members.
+pub record WorkedReadings : Type 0 where
+  pub coff : members_in Coff worked_coff ≡ Some worked_reads
+  pub coff_index : first_in worked_coff ≡ Some ((codes "f", 270) ∷ (codes "__imp_f", 270) ∷ (codes "g", 334) ∷ [])
+  pub coff_second : second_in worked_coff
+      ≡ Some (270 ∷ 334 ∷ [], (codes "__imp_f", 1) ∷ (codes "f", 1) ∷ (codes "g", 2) ∷ [])
+  pub coff_first_member : member_at Coff worked_coff 270 ≡ Some (read (codes "a.o") (1 ∷ 2 ∷ 3 ∷ []))
+  pub coff_last_member : member_at Coff worked_coff 334 ≡ Some (read (codes "long_member_name.o") (4 ∷ 5 ∷ []))
+  pub gnu : members_in Gnu worked_gnu ≡ Some worked_reads
+  pub gnu_index : first_in worked_gnu
+      ≡ Some ((codes "f", 182) ∷ (codes "__imp_f", 182) ∷ (codes "f", 246) ∷ (codes "g", 246) ∷ [])
+  pub gnu_first_member : member_at Gnu worked_gnu 182 ≡ Some (read (codes "a.o") (1 ∷ 2 ∷ 3 ∷ []))
+  pub gnu_last_member : member_at Gnu worked_gnu 246 ≡ Some (read (codes "long_member_name.o") (4 ∷ 5 ∷ []))
+
+-- Members that are refused, and why; a line end in a name only in the GNU kind.
+pub record WorkedRefusals : Type 0 where
+  pub none_of_gnu : refusal_of Gnu worked_members ≡ None
+  pub none_of_coff : refusal_of Coff worked_members ≡ None
+  pub empty_name : refusal_of Coff (member [] [] [] ∷ []) ≡ Some EmptyName
+  pub nul_in_name : refusal_of Gnu (member (97 ∷ 0 ∷ []) [] [] ∷ []) ≡ Some NulInName
+  pub line_end_in_name : refusal_of Gnu (member (97 ∷ 10 ∷ []) [] [] ∷ []) ≡ Some LineEndInName
+  pub line_end_in_coff : member_refusal Coff (member (97 ∷ 10 ∷ []) [] []) ≡ None
+  pub empty_symbol : refusal_of Coff (member (codes "a") [] ([] ∷ []) ∷ []) ≡ Some EmptySymbol
+  pub nul_in_symbol : refusal_of Coff (member (codes "a") [] (codes "f" ∷ (102 ∷ 0 ∷ []) ∷ []) ∷ []) ≡ Some NulInSymbol

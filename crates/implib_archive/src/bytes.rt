@@ -1,0 +1,94 @@
+//! Headers, numbers and padding, appended.
+
+ghost use Rattle.implib_archive.specs.Parts.{field, header_bytes, padded_part_bytes, padding, u16_le, u32_be, u32_le};
+ghost use Rattle.implib_archive.specs.Pushed.{Pushes, label_view};
+ghost use Rattle.std.specs.Prelude.{◌≡◌, ◌≤◌, ◌++◌, OnOk, length};
+
+use itoa::Buffer;
+use std::alloc::{AllocError, Global};
+
+// The texts of a header; the name is in two pieces.
+#[derive(Clone, Copy)]
+pub(crate) struct Label<'a> {
+    pub(crate) name: &'a [u8],
+    pub(crate) name_end: &'a [u8],
+    pub(crate) date: &'a [u8],
+    pub(crate) owner: &'a [u8],
+    pub(crate) mode: &'a [u8],
+}
+
+// The width of the widest field.
+const WIDEST: usize = 16;
+
+// Appends a text in two pieces, filled up with spaces to a width.
+fn push_field(out: &mut Vec<u8>, width: usize, text: &[u8], end: &[u8]) -> Result<(), AllocError>
+    requires { width ≤ 16 }
+    ensures { OnOk result (Pushes out.old.items out.new.items (field width (text.now ++ end.now))) }
+{
+    out.extend_from_slice(text)?;
+    out.extend_from_slice(end)?;
+    let spaces = [b' '; WIDEST];
+    let left = width.saturating_sub(text.len() + end.len());
+    out.extend_from_slice(&spaces[..left])
+}
+
+// Appends a header whose data has this size.
+pub(crate) fn push_header(out: &mut Vec<u8>, label: &Label, size: usize) -> Result<(), AllocError>
+    ensures { OnOk result (Pushes out.old.items out.new.items (header_bytes (label_view label.now) size)) }
+{
+    let mut digits = Buffer::new();
+    push_field(out, 16, label.name, label.name_end)?;
+    push_field(out, 12, label.date, b"")?;
+    push_field(out, 6, label.owner, b"")?;
+    push_field(out, 6, label.owner, b"")?;
+    push_field(out, 8, label.mode, b"")?;
+    push_field(out, 10, digits.format(size).as_bytes(), b"")?;
+    out.extend_from_slice(b"`\n")
+}
+
+// Appends the padding byte behind data of an odd size.
+pub(crate) fn push_padding(out: &mut Vec<u8>, byte: u8, size: usize) -> Result<(), AllocError>
+    ensures { OnOk result (Pushes out.old.items out.new.items (padding byte size)) }
+{
+    let bytes = [byte; 1];
+    out.extend_from_slice(&bytes[..size % 2])
+}
+
+// Appends a part whose padding is within its data, to which it is added here.
+pub(crate) fn push_padded_part(
+    out: &mut Vec<u8>,
+    label: &Label,
+    byte: u8,
+    contents: &mut Vec<u8>,
+) -> Result<(), AllocError>
+    ensures { OnOk result (Pushes out.old.items out.new.items
+        (padded_part_bytes (label_view label.now) byte contents.old.items)) }
+{
+    push_padding(contents, byte, contents.len())?;
+    push_header(out, label, contents.len())?;
+    out.extend_from_slice(contents.as_slice())
+}
+
+// Appends a number in 4 bytes, the high one first.
+#[tactic(auto, unfolding(crate::specs::Parts::u32_be))]
+pub(crate) fn push_u32_be(out: &mut Vec<u8>, value: u32) -> Result<(), AllocError>
+    ensures { OnOk result (Pushes out.old.items out.new.items (u32_be value)) }
+{
+    out.extend_from_slice(&value.to_be_bytes())
+}
+
+// Appends a number in 4 bytes, the low one first.
+#[tactic(auto, unfolding(crate::specs::Parts::u32_le))]
+pub(crate) fn push_u32_le(out: &mut Vec<u8>, value: u32) -> Result<(), AllocError>
+    ensures { OnOk result (Pushes out.old.items out.new.items (u32_le value)) }
+{
+    out.extend_from_slice(&value.to_le_bytes())
+}
+
+// Appends a number in 2 bytes, the low one first.
+#[tactic(auto, unfolding(crate::specs::Parts::u16_le))]
+pub(crate) fn push_u16_le(out: &mut Vec<u8>, value: u16) -> Result<(), AllocError>
+    ensures { OnOk result (Pushes out.old.items out.new.items (u16_le value)) }
+{
+    out.extend_from_slice(&value.to_le_bytes())
+}

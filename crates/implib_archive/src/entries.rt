@@ -1,0 +1,108 @@
+//! The entries of the index.
+
+ghost use Rattle.implib.specs.Library.{member_view};
+ghost use Rattle.implib_archive.specs.Archive.{entries_from, entries_of, sorted_entries, with_first};
+ghost use Rattle.implib_archive.specs.Pushed.{shown};
+ghost use Rattle.std.specs.Prelude.{◌≡◌, ◌++◌, [], IfOk, OnOk, fold, map};
+ghost use Rattle.std.specs.String.{string_bytes};
+
+use crate::kind::Kind;
+use implib::Member;
+use indexmap::IndexMap;
+use std::alloc::{AllocError, Global};
+use std::collections::BTreeMap;
+
+/// The entries of the index: symbols, and the numbers of their members from 1.
+pub(crate) fn entries_of<'a>(
+    alloc: Global,
+    members: &'a [Member],
+    kind: Kind,
+) -> Result<Vec<(&'a str, usize)>, AllocError>
+    ensures { IfOk result (λ entries. shown entries.items ≡ entries_of kind (map member_view members.now)) }
+{
+    let entries = all_entries(alloc, members)?;
+    match kind {
+        Kind::Gnu => Ok(entries),
+        Kind::Coff => first_entries(alloc, &entries),
+    }
+}
+
+// All entries, in the order of the members.
+fn all_entries<'a>(
+    alloc: Global,
+    members: &'a [Member],
+) -> Result<Vec<(&'a str, usize)>, AllocError>
+    ensures { IfOk result (λ entries. shown entries.items ≡ entries_from 1 (map member_view members.now)) }
+{
+    let mut entries = Vec::new(alloc);
+    let mut number = 0;
+    for member in members {
+        number += 1;
+        push_entries(&mut entries, member.symbols.as_slice(), number)?;
+    }
+    Ok(entries)
+}
+
+// Appends the entries of a member.
+fn push_entries<'a>(
+    entries: &mut Vec<(&'a str, usize)>,
+    symbols: &'a [String],
+    number: usize,
+) -> Result<(), AllocError>
+    ensures { OnOk result (shown entries.new.items
+        ≡ shown entries.old.items ++ map (λ symbol. (symbol, number)) (map string_bytes symbols.now)) }
+{
+    for symbol in symbols {
+        entries.push((symbol.as_str(), number))?;
+    }
+    Ok(())
+}
+
+// The first entry of each symbol.
+fn first_entries<'a>(
+    alloc: Global,
+    entries: &[(&'a str, usize)],
+) -> Result<Vec<(&'a str, usize)>, AllocError>
+    ensures { IfOk result (λ firsts. shown firsts.items ≡ fold with_first [] (shown entries.now)) }
+{
+    let mut listed = IndexMap::new(alloc);
+    let mut firsts = Vec::new(alloc);
+    for entry in entries {
+        push_first(&mut listed, &mut firsts, entry.0, entry.1)?;
+    }
+    Ok(firsts)
+}
+
+// Adds an entry to both, unless its symbol is listed.
+fn push_first<'a>(
+    listed: &mut IndexMap<&'a str, usize>,
+    firsts: &mut Vec<(&'a str, usize)>,
+    symbol: &'a str,
+    number: usize,
+) -> Result<(), AllocError>
+    requires { shown firsts.old.items ≡ shown listed.old.entries }
+    ensures listed { OnOk result (shown listed.new.entries
+        ≡ with_first (shown listed.old.entries) (symbol.now, number)) }
+    ensures firsts { OnOk result (shown firsts.new.items
+        ≡ with_first (shown listed.old.entries) (symbol.now, number)) }
+{
+    if listed.contains_key(symbol) {
+        return Ok(());
+    }
+    listed.insert(symbol, number)?;
+    firsts.push((symbol, number))?;
+    Ok(())
+}
+/// The entries in the order of their symbols' bytes.
+pub(crate) fn sorted<'a>(
+    alloc: Global,
+    entries: &[(&'a str, usize)],
+) -> Result<BTreeMap<&'a str, usize>, AllocError>
+    ensures { IfOk result (λ sorted. shown sorted.entries ≡ sorted_entries (shown entries.now)) }
+{
+    let mut sorted = BTreeMap::new(alloc);
+    for entry in entries {
+        sorted.insert(entry.0, entry.1)?;
+    }
+    Ok(sorted)
+}
