@@ -1,4 +1,5 @@
--- The parts of an archive as bytes: headers, data and padding (the common archive format; the PE/COFF specification, "Archive (Library) File Format").
+-- The parts of an archive as bytes: headers, data and padding (the common archive format; the PE/COFF
+-- specification, "Archive (Library) File Format").
 use Rattle.std.specs.Prelude.{ℕ, ◌+◌, ◌-◌, ◌%◌, List, [], ◌∷◌, ◌++◌, codes, decimal, length, replicate}
 use Rattle.std.specs.Int.{w16, w32, to_be_bytes, to_le_bytes}
 
@@ -26,7 +27,8 @@ header_bytes l size =
 unfoldable pub padding : ℕ → ℕ → List ℕ
 padding byte size = replicate (size % 2) byte
 
--- a part: header, data, and a line end behind data of an odd size, which the size in the header does not count
+-- a part: header, data, and a line end behind data of an odd size, which the size in the header does not
+-- count
 unfoldable pub part_bytes : Label → List ℕ → List ℕ
 part_bytes l contents = header_bytes l (length contents) ++ contents ++ padding 10 (length contents)
 

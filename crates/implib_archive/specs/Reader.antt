@@ -1,4 +1,5 @@
--- A reader of archives, which follows what it finds and knows nothing of how they are written (the common archive format;
+-- A reader of archives, which follows what it finds and knows nothing of how they are written (the common
+-- archive format;
 -- the PE/COFF specification, "Archive (Library) File Format").
 use Rattle.std.specs.Prelude.{ℕ, zero, suc, ◌+◌, ◌-◌, ◌*◌, ◌%◌, Bool, List, [], ◌∷◌, ◌++◌, Option, None, Some}
 use Rattle.std.specs.Prelude.{not, ◌&&◌, bytes_eq, codes, drop, fold, if◌then◌else◌, length, nat_eq, nat_le, option_and_then, take, take_while, slice_get}
@@ -173,7 +174,8 @@ first_in bytes = option_map
     paired (texts_in count (drop (4 + 4 * count) data')) (numbers_in (from_be_bytes w32) 4 count (drop 4 data')))
     (linker_in 0 bytes)
 
--- the second linker member: the offsets of the members' headers, and symbols with the numbers of their members
+-- the second linker member: the offsets of the members' headers, and symbols with the numbers of their
+-- members
 unfoldable pub second_in : List ℕ → Option (List ℕ × List (List ℕ × ℕ))
 second_in bytes = option_map
     (λ data'. let members = from_le_bytes w32 (take 4 data') in

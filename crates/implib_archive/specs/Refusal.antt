@@ -1,4 +1,5 @@
--- Which lists of members have no archive, and why: what the formats cannot carry (the PE/COFF specification, "Archive (Library) File Format"; this project's refusals).
+-- Which lists of members have no archive, and why: what the formats cannot carry (the PE/COFF
+-- specification, "Archive (Library) File Format"; this project's refusals).
 use Rattle.std.specs.Prelude.{ℕ, ◌^◌, Bool, List, [], ◌∷◌, Option, None, Some, ◌&&◌, false, true, if◌then◌else◌, is_some, length, nat_eq, nat_le, nat_lt}
 use Rattle.std.specs.List.{list_all, list_any}
 use Rattle.implib.specs.Members.MemberSpec.{MemberView}
@@ -56,7 +57,8 @@ has_too_many Gnu members = false
 unfoldable pub has_short_places : ℕ → List MemberView → Bool
 has_short_places place members = nat_lt place (2 ^ 32) && list_all (λ p. nat_lt p (2 ^ 32)) (places_from place members)
 
--- The one cause for which there is no archive of the members, if any: the first member that is refused, then their
+-- The one cause for which there is no archive of the members, if any: the first member that is refused,
+-- then their
 -- number, then the length of the archive.
 unfoldable pub refusal_of : Kind → List MemberView → Option Fault
 refusal_of kind members =
