@@ -177,7 +177,7 @@ object_of_header bytes header =
     let entries = option_and_then (λ table. entries_at bytes table symbol_table_offset 0 records) strings in
     option_and_then (λ ss. option_map (λ es. object_with header ss es) entries) sections
 
--- The object in a file's bytes. For example, the 70 bytes of `two_names_bytes` (WorkedLayouts) are an object
+-- The object in a file's bytes. For example, the 70 bytes of `two_names_bytes` (Worked/Layouts) are an object
 -- without sections whose two symbols are `abcdefgh` and `abcdefghi`.
 unfoldable pub object_in : List ℕ → Option Object
 object_in bytes = option_and_then (object_of_header bytes) (bytes_at bytes 0 20)

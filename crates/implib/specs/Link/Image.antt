@@ -74,7 +74,7 @@ range_of base [] = []
 range_of base (p ∷ others) = record { start = base; bytes = filled base (p ∷ others) } ∷ []
 
 -- What objects are linked to: a range for each group that has contributions. For example, of foo.dll with two
--- exports on AMD64, at the bases of WorkedLinks, the range of descriptors is 20 bytes from 0x1000 on, which
+-- exports on AMD64, at the bases of Worked/Links, the range of descriptors is 20 bytes from 0x1000 on, which
 -- begin with `20 10 00 00`, the address of the lookup table.
 abbrev pub image_of : MachineType → Bases → List Placed → List Range
 image_of machine bases linked =
@@ -109,7 +109,7 @@ IsBase base = (0 < base) × (base % 4 ≡ 0)
 
 -- Where objects may be placed: at nonzero multiples of 4, with every end below 2^31 and no address in two
 -- ranges. A group without contributions has no range. For example, the groups of foo.dll with two exports on
--- AMD64 at 0x1000, 0x1020, 0x1040, 0x1060 and 0x1080 (WorkedLinks).
+-- AMD64 at 0x1000, 0x1020, 0x1040, 0x1060 and 0x1080 (Worked/Links).
 pub record IsAdmissible (machine : MachineType) (bases : Bases) (objects : List Object) : Type 0 where
   pub descriptors : IsBase bases.descriptors
   pub directory_ends : IsBase bases.directory_ends

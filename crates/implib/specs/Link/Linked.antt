@@ -57,7 +57,7 @@ AllFind linked p = AllByRecursion (λ s. AllByRecursion (FindsTarget linked p) s
 -- symbol is a descriptor, by which a loader finds the DLL's name and, in both tables, what the exports ask
 -- for, in their order; each export's `__imp_` symbol is its own entry of the address table. For example, with
 -- the address table of foo.dll at 0x1040 on AMD64, `__imp_bar` is 0x1040 and `__imp_baz` 0x1048
--- (WorkedLinks).
+-- (Worked/Links).
 pub record LinksAt (machine : MachineType) (image : List Range) (linked : List Placed) (dll : List ℕ)
     (exports : List ExportView)
     : Type 0 where

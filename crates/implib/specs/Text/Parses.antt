@@ -9,7 +9,7 @@ use Rattle.implib.specs.Text.SyntaxError.{IsSyntaxError, IsSyntaxErrorAt}
 use Rattle.implib.specs.Text.Token.{Lexed, TokenView}
 
 -- The text's tokens are statements, which mean this definition on this machine. For example, `HEAPSIZE 1,2`
--- means a definition with 1 byte of heap to reserve and 2 to commit, and nothing else (WorkedStatements).
+-- means a definition with 1 byte of heap to reserve and 2 to commit, and nothing else (Worked/Statements).
 pub record Parses (text : List ℕ) (machine : MachineType) (definition : DefinitionView) : Type 0 where
   pub tokens : List TokenView
   pub statements : List Statement

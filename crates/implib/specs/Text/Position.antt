@@ -14,7 +14,7 @@ abbrev pub line_and_column : List ℕ → ℕ × ℕ
 line_and_column text = fold after_byte (1, 1) text
 
 -- The position of an offset in a text: the line and the column behind what comes before it. For example, in
--- `NAME a` and a line feed and `foo` the offset 8 is at 2:2 (WorkedPositions).
+-- `NAME a` and a line feed and `foo` the offset 8 is at 2:2 (Worked/Positions).
 abbrev pub position_at : List ℕ → ℕ → Position
 position_at text offset = record {
   offset = offset;

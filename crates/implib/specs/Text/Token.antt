@@ -189,7 +189,7 @@ tokens_of offset (lexeme ∷ lexemes) =
     tokens_of_lexeme offset lexeme ++ tokens_of (offset + length (lexeme_text lexeme)) lexemes
 
 -- The tokens of a text. For example, `NAME foo.dll` has KwName at 0, the identifier `foo.dll` at 5 and Eof
--- at 12 (WorkedTokens).
+-- at 12 (Worked/Tokens).
 pub record Lexed (text : List ℕ) (tokens : List TokenView) : Type 0 where
   pub lexemes : List Lexeme
   pub end : List ℕ
