@@ -1,6 +1,5 @@
 -- Archives of members in two kinds: COFF (Microsoft's; the PE/COFF specification, "Archive (Library) File
--- Format") and
--- GNU (System V's).
+-- Format") and GNU (System V's).
 use Rattle.std.specs.Prelude.{ℕ, ◌+◌, ◌-◌, ◌*◌, Bool, List, [], ◌∷◌, ◌++◌, Option, None, Some, ◌||◌}
 use Rattle.std.specs.Prelude.{bytes_eq, codes, decimal, flat_map, fold, if◌then◌else◌, length, get_or, map, nat_eq, nat_lt, unwrap_or, is_some}
 use Rattle.std.specs.List.{list_any}

@@ -1,6 +1,5 @@
 -- A reader of archives, which follows what it finds and knows nothing of how they are written (the common
--- archive format;
--- the PE/COFF specification, "Archive (Library) File Format").
+-- archive format; the PE/COFF specification, "Archive (Library) File Format").
 use Rattle.std.specs.Prelude.{ℕ, zero, suc, ◌+◌, ◌-◌, ◌*◌, ◌%◌, Bool, List, [], ◌∷◌, ◌++◌, Option, None, Some}
 use Rattle.std.specs.Prelude.{not, ◌&&◌, bytes_eq, codes, drop, fold, if◌then◌else◌, length, nat_eq, nat_le, option_and_then, take, take_while, slice_get}
 use Rattle.std.specs.List.{list_all}

@@ -1,5 +1,5 @@
--- Which lists of members have no archive, and why: what the formats cannot carry (the PE/COFF
--- specification, "Archive (Library) File Format"; this project's refusals).
+-- Which lists of members have no archive, and why: what the formats cannot carry (the PE/COFF specification,
+-- "Archive (Library) File Format"; this project's refusals).
 use Rattle.std.specs.Prelude.{ℕ, ◌^◌, Bool, List, [], ◌∷◌, Option, None, Some, ◌&&◌, false, true, if◌then◌else◌, is_some, length, nat_eq, nat_le, nat_lt}
 use Rattle.std.specs.List.{list_all, list_any}
 use Rattle.implib.specs.Members.MemberSpec.{MemberView}

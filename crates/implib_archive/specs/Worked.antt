@@ -1,5 +1,5 @@
--- Whole archives of both kinds with every byte written out, worked by
--- hand: a second statement of the tables and of the reader.
+-- Whole archives of both kinds with every byte written out, worked by hand: a second statement of the tables
+-- and of the reader.
 use Rattle.std.specs.Prelude.{◌≡◌, ℕ, List, [], ◌∷◌, ◌++◌, None, Some, codes, replicate}
 use Rattle.implib.specs.Members.MemberSpec.{MemberView}
 use Rattle.implib.specs.Worked.Digits.{hex}
