@@ -228,7 +228,7 @@ fn names_of_300_bytes_are_read(rt: HostRuntime) -> Result<(), Fail> {
         if front == "EXPORTS f = " {
             expected.push_str(" outside f")?;
         }
-        assert_eq!(rt; answer.as_str(), expected.as_str(), "{front}");
+        assert_eq!(rt; answer.as_str(), expected.as_str());
     }
     Ok(())
 }
