@@ -8,7 +8,6 @@ mod others;
 mod refused;
 mod search;
 mod stubs;
-mod tables;
 
 use implib::{Flavor, ImportLibrary, MachineType, Member};
 use implib_test_linker::Bases;
