@@ -8,6 +8,7 @@ mod others;
 mod refused;
 mod search;
 mod stubs;
+mod tables;
 
 use implib::{Flavor, ImportLibrary, MachineType, Member};
 use implib_test_linker::Bases;

@@ -1,5 +1,5 @@
-//! Tests of the members of import libraries by their bytes, and by what a reader of objects and short imports
-//! (`implib_test_linker`) finds in them.
+//! Tests of the members of import libraries by their bytes, and by what a reader of objects and
+//! short imports (`implib_test_linker`) finds in them.
 #![tactic(auto)]
 
 #[cfg(test)]

@@ -1,5 +1,5 @@
-//! Members of definitions: what they are called, how long they are, which symbols they are listed for
-//! and what they ask for.
+//! Members of definitions: what they are called, how long they are, which symbols they are listed
+//! for and what they ask for.
 
 mod fronts;
 mod hand_made;
@@ -39,7 +39,7 @@ fn answer(
 }
 
 /// The members that every library has.
-const FIXED: [Row; 9] = [
+const FIXED: [Row; 16] = [
     (
         "LIBRARY foo.dll",
         MachineType::AMD64,
@@ -120,6 +120,69 @@ const FIXED: [Row; 9] = [
             a.b.dll.dll 163 \x7fa.b.dll_NULL_THUNK_DATA\n",
         "a_b_dll_dll_a_t.o 364 a_b_dll_dll_iname\n\
             a_b_dll_dll_a_h.o 458 _head_a_b_dll_dll\n",
+    ),
+    (
+        "LIBRARY a+b.drv",
+        MachineType::AMD64,
+        "a+b.drv 366 __IMPORT_DESCRIPTOR_a+b.drv\n\
+            a+b.drv 127 __NULL_IMPORT_DESCRIPTOR\n\
+            a+b.drv 163 \x7fa+b.drv_NULL_THUNK_DATA\n",
+        "a+b_drv_a_t.o 356 a+b_drv_iname\n\
+            a+b_drv_a_h.o 450 _head_a+b_drv\n",
+    ),
+    (
+        "LIBRARY a+b.drv",
+        MachineType::I386,
+        "a+b.drv 366 __IMPORT_DESCRIPTOR_a+b.drv\n\
+            a+b.drv 127 __NULL_IMPORT_DESCRIPTOR\n\
+            a+b.drv 155 \x7fa+b.drv_NULL_THUNK_DATA\n",
+        "a+b_drv_a_t.o 349 _a+b_drv_iname\n\
+            a+b_drv_a_h.o 452 __head_a+b_drv\n",
+    ),
+    (
+        "LIBRARY a.ocx",
+        MachineType::ARMNT,
+        "a.ocx 360 __IMPORT_DESCRIPTOR_a.ocx\n\
+            a.ocx 127 __NULL_IMPORT_DESCRIPTOR\n\
+            a.ocx 153 \x7fa.ocx_NULL_THUNK_DATA\n",
+        "a_ocx_a_t.o 344 a_ocx_iname\n\
+            a_ocx_a_h.o 446 _head_a_ocx\n",
+    ),
+    (
+        "LIBRARY a.cpl",
+        MachineType::ARM64,
+        "a.cpl 360 __IMPORT_DESCRIPTOR_a.cpl\n\
+            a.cpl 127 __NULL_IMPORT_DESCRIPTOR\n\
+            a.cpl 161 \x7fa.cpl_NULL_THUNK_DATA\n",
+        "a_cpl_a_t.o 352 a_cpl_iname\n\
+            a_cpl_a_h.o 446 _head_a_cpl\n",
+    ),
+    (
+        "NAME a.EXE",
+        MachineType::AMD64,
+        "a.EXE 360 __IMPORT_DESCRIPTOR_a.EXE\n\
+            a.EXE 127 __NULL_IMPORT_DESCRIPTOR\n\
+            a.EXE 161 \x7fa.EXE_NULL_THUNK_DATA\n",
+        "a_EXE_a_t.o 352 a_EXE_iname\n\
+            a_EXE_a_h.o 446 _head_a_EXE\n",
+    ),
+    (
+        "LIBRARY a$b",
+        MachineType::AMD64,
+        "a$b 354 __IMPORT_DESCRIPTOR_a$b\n\
+            a$b 127 __NULL_IMPORT_DESCRIPTOR\n\
+            a$b 159 \x7fa$b_NULL_THUNK_DATA\n",
+        "a$b_a_t.o 348 a$b_iname\n\
+            a$b_a_h.o 442 _head_a$b\n",
+    ),
+    (
+        "LIBRARY \"a b.dll\"",
+        MachineType::I386,
+        "a b.dll 358 __IMPORT_DESCRIPTOR_a b\n\
+            a b.dll 127 __NULL_IMPORT_DESCRIPTOR\n\
+            a b.dll 151 \x7fa b_NULL_THUNK_DATA\n",
+        "a b_dll_a_t.o 349 _a b_dll_iname\n\
+            a b_dll_a_h.o 452 __head_a b_dll\n",
     ),
 ];
 
@@ -259,7 +322,8 @@ const EXPORTS: [Row; 18] = [
     ),
 ];
 
-/// Holds the members of texts, from these indexes on: that for Microsoft's linker, and that for GNU's.
+/// Holds the members of texts, from these indexes on: that for Microsoft's linker, and that for
+/// GNU's.
 fn expect_members(
     rt: &impl Abort,
     alloc: Global,
@@ -287,9 +351,9 @@ fn exports_are_listed_and_asked_for(rt: HostRuntime) -> Result<(), Fail> {
     expect_members(&rt, rt.alloc(), &EXPORTS, [3, 2])
 }
 
-/// Bytes in members: a text, its machine and its flavour, the index of a member, an offset in its file, and
-/// the bytes there.
-const EXCERPTS: [(&str, MachineType, Flavor, usize, usize, &[u8]); 20] = [
+/// Bytes in members: a text, its machine and its flavour, the index of a member, an offset in its
+/// file, and the bytes there.
+const EXCERPTS: [(&str, MachineType, Flavor, usize, usize, &[u8]); 21] = [
     // The descriptor: its header, the offsets of its names, and the size of its string table.
     (
         "LIBRARY foo.dll\nEXPORTS\nbar",
@@ -397,6 +461,14 @@ const EXCERPTS: [(&str, MachineType, Flavor, usize, usize, &[u8]); 20] = [
         "LIBRARY a.dll\nEXPORTS\nf\n_g@8\n@h@4 @ 7 NONAME",
         MachineType::I386,
         Flavor::Msvc,
+        4,
+        16,
+        b"\0\0\x04\0",
+    ),
+    (
+        "LIBRARY a.dll\nEXPORTS\nf\n_g@8\n@h@4 @ 7 NONAME",
+        MachineType::I386,
+        Flavor::Msvc,
         5,
         16,
         b"\x07\0\0\0",
@@ -481,6 +553,98 @@ fn expect_excerpts(
         );
     }
     Ok(())
+}
+
+/// Texts whose members are refused in both flavours, each with its machine and its fault.
+const REFUSED: [(&str, MachineType, &str); 9] = [
+    ("", MachineType::AMD64, "import name is empty"),
+    (
+        "LIBRARY \"a.dll",
+        MachineType::AMD64,
+        "import name is empty",
+    ),
+    (
+        "LIBRARY a\0b",
+        MachineType::AMD64,
+        "import name contains null byte",
+    ),
+    (
+        "LIBRARY \"a\0b\"",
+        MachineType::I386,
+        "import name contains null byte",
+    ),
+    (
+        "LIBRARY foo.dll\nEXPORTS\n\"\"",
+        MachineType::AMD64,
+        "export name is empty: export 0",
+    ),
+    (
+        "LIBRARY foo.dll\nEXPORTS\n\"\"",
+        MachineType::I386,
+        "asked name is empty: export 0",
+    ),
+    (
+        "LIBRARY foo.dll\nEXPORTS\n\"abc",
+        MachineType::AMD64,
+        "export name is empty: export 0",
+    ),
+    (
+        "LIBRARY foo.dll\nEXPORTS\n\"abc",
+        MachineType::I386,
+        "asked name is empty: export 0",
+    ),
+    (
+        "LIBRARY foo.dll\nEXPORTS\nbar\na\0b",
+        MachineType::ARM64,
+        "export name contains null byte: export 1",
+    ),
+];
+
+/// Holds that members of texts are refused in both flavours.
+fn expect_refused(
+    rt: &impl Abort,
+    alloc: Global,
+    rows: &[(&str, MachineType, &str)],
+) -> Result<(), Fail> {
+    for row in rows {
+        let (text, machine, fault) = *row;
+        for flavor in [Flavor::Msvc, Flavor::Gnu] {
+            let library = ImportLibrary::new(alloc, text, machine, flavor)?;
+            let got = answer(alloc, &library, machine, 0)?;
+            assert_eq!(rt; got.as_str(), fault, "{text:?}, {machine:?}, {flavor:?}");
+        }
+    }
+    Ok(())
+}
+
+#[test]
+fn names_without_meaning_are_refused_for_both_linkers(rt: HostRuntime) -> Result<(), Fail> {
+    expect_refused(&rt, rt.alloc(), &REFUSED)
+}
+
+/// The lengths of a text's members.
+fn expect_lengths(
+    rt: &impl Abort,
+    alloc: Global,
+    text: &str,
+    machine: MachineType,
+    lengths: &[usize],
+) -> Result<(), Fail> {
+    let members = ImportLibrary::new(alloc, text, machine, Flavor::Msvc)?.members()?;
+    assert_eq!(rt; members.len(), lengths.len(), "{text:?}");
+    for (member, length) in members.iter().zip(lengths.iter()) {
+        assert_eq!(rt; member.bytes.len(), *length, "{text:?}");
+    }
+    Ok(())
+}
+
+#[test]
+fn members_have_their_lengths(rt: HostRuntime) -> Result<(), Fail> {
+    let text = "LIBRARY a.dll\nEXPORTS\nf\n_g@8\n@h@4 @ 7 NONAME";
+    let lengths = [352, 127, 149, 29, 31, 31];
+    expect_lengths(&rt, rt.alloc(), text, MachineType::I386, &lengths)?;
+    let text = "LIBRARY a.dll \0EXPORTS x";
+    expect_lengths(&rt, rt.alloc(), text, MachineType::AMD64, &[352, 127, 157])
 }
 
 #[test]

@@ -6,8 +6,8 @@ use implib_test_linker::{Ask, Purpose, file_in};
 use std::alloc::{AllocError, Global};
 use std::test::Fail;
 
-/// A line for each member from the one of this index on: its name, its length and the symbols that it
-/// is listed for, which it declares; then what it asks for, or what it makes weak.
+/// A line for each member from the one of this index on: its name, its length and the symbols that
+/// it is listed for, which it declares; then what it asks for, or what it makes weak.
 pub fn lines(
     alloc: Global,
     members: &[Member],

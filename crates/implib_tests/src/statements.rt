@@ -201,6 +201,38 @@ fn texts_for_i386_have_names_with_an_underscore(rt: HostRuntime) -> Result<(), F
     Ok(())
 }
 
+/// A text of this front, with a name of 300 bytes behind it.
+fn with_long_name(alloc: Global, front: &str) -> Result<String, AllocError> {
+    let mut text = String::from_str(alloc, front)?;
+    for _ in 0u32..30 {
+        text.push_str("abcdefghij")?;
+    }
+    Ok(text)
+}
+
+#[test]
+fn names_of_300_bytes_are_read(rt: HostRuntime) -> Result<(), Fail> {
+    let alloc = rt.alloc();
+    for (front, shown) in [
+        ("LIBRARY ", ""),
+        ("EXPORTS ", "; "),
+        ("EXPORTS f = ", "; "),
+        ("EXPORTS f == ", "; f for "),
+    ] {
+        let text = with_long_name(alloc, front)?;
+        let answer = outcome(
+            alloc,
+            ModuleDef::parse(alloc, text.as_str(), MachineType::AMD64),
+        )?;
+        let mut expected = with_long_name(alloc, shown)?;
+        if front == "EXPORTS f = " {
+            expected.push_str(" outside f")?;
+        }
+        assert_eq!(rt; answer.as_str(), expected.as_str());
+    }
+    Ok(())
+}
+
 /// What each front of a text means, by the front's length.
 const FRONTS: [&str; 36] = [
     "",

@@ -103,6 +103,10 @@ pub fn command<R: Source, W: Sink, E: Sink>(
 }
 
 #[cfg(test)]
+mod ample;
+#[cfg(test)]
 mod tests;
 #[cfg(test)]
 mod texts;
+#[cfg(test)]
+mod two_documents;

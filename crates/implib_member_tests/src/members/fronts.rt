@@ -1,4 +1,5 @@
-//! Fronts of a text, statements and whole texts, and what their members are for or why they are refused.
+//! Fronts of a text, statements and whole texts, and what their members are for or why they are
+//! refused.
 
 use crate::readings::lines;
 use implib::{Error, Flavor, ImportLibrary, MachineType};
@@ -57,7 +58,8 @@ fn expect_refused(
 /// Statements whose fronts are tried.
 const STATEMENTS: &str = "EXPORTS\nfoo = bar == baz @ 1 NONAME";
 
-/// The fronts of it that are read: the lengths of the first and the last of them, and what their exports are for.
+/// The fronts of it that are read: the lengths of the first and the last of them, and what their
+/// exports are for.
 const FRONTS_READ: [(usize, usize, &str, &str); 16] = [
     (0, 0, "", ""),
     (7, 8, "", ""),

@@ -31,7 +31,8 @@ const PLAIN: Export = Export {
     private: false,
 };
 
-/// An import name, a machine, exports, and what their members are for Microsoft's linker and for GNU's.
+/// An import name, a machine, exports, and what their members are for Microsoft's linker and for
+/// GNU's.
 type Row<'a> = (&'a str, MachineType, &'a [Export], &'a str, &'a str);
 
 /// Definitions, and what their exports are for, or why they are refused.

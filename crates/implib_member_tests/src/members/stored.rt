@@ -1,17 +1,19 @@
-//! All members of one definition, byte for byte, for the machines of which no run is stored. Two other
-//! programs work out the same bytes, and llvm-dlltool writes most of those for Microsoft's linker.
+//! All members of one definition, byte for byte, for the machines of which no run is stored. Two
+//! other programs work out the same bytes, and llvm-dlltool writes most of those for Microsoft's
+//! linker.
 
 mod arm64;
 mod armnt;
 mod i386;
+mod signs;
 
 use implib::{Flavor, ImportLibrary, MachineType, Member};
 use std::alloc::{AllocError, Global};
 use std::process::Abort;
 use std::test::Fail;
 
-/// A member's name, the symbols that it is listed for, and its bytes: numbers in hexadecimal digits,
-/// texts between quotes, and a line for each record or text.
+/// A member's name, the symbols that it is listed for, and its bytes: numbers in hexadecimal
+/// digits, texts between quotes, and a line for each record or text.
 type Stored<'a> = (&'a str, &'a str, &'a str);
 
 const TEXT: &str = "LIBRARY foo.dll\nEXPORTS\nbar == baz\nqux @7 NONAME\nzip DATA";
@@ -64,15 +66,16 @@ fn expect_stored(
     Ok(())
 }
 
-/// Holds that the members of a machine are what is stored.
+/// Holds that the members of a text for a machine are what is stored.
 fn expect_all_stored(
     rt: &impl Abort,
     alloc: Global,
+    text: &str,
     machine: MachineType,
     flavor: Flavor,
     all: &[Stored],
 ) -> Result<(), Fail> {
-    let members = ImportLibrary::new(alloc, TEXT, machine, flavor)?.members()?;
+    let members = ImportLibrary::new(alloc, text, machine, flavor)?.members()?;
     assert_eq!(rt; members.len(), all.len());
     for (member, stored) in members.iter().zip(all.iter()) {
         expect_stored(rt, alloc, member, *stored)?;
@@ -83,8 +86,15 @@ fn expect_all_stored(
 #[test]
 fn members_of_i386_are_as_stored(rt: HostRuntime) -> Result<(), Fail> {
     let machine = MachineType::I386;
-    expect_all_stored(&rt, rt.alloc(), machine, Flavor::Msvc, &i386::FOR_MICROSOFT)?;
-    expect_all_stored(&rt, rt.alloc(), machine, Flavor::Gnu, &i386::FOR_GNU)
+    expect_all_stored(
+        &rt,
+        rt.alloc(),
+        TEXT,
+        machine,
+        Flavor::Msvc,
+        &i386::FOR_MICROSOFT,
+    )?;
+    expect_all_stored(&rt, rt.alloc(), TEXT, machine, Flavor::Gnu, &i386::FOR_GNU)
 }
 
 #[test]
@@ -93,11 +103,12 @@ fn members_of_armnt_are_as_stored(rt: HostRuntime) -> Result<(), Fail> {
     expect_all_stored(
         &rt,
         rt.alloc(),
+        TEXT,
         machine,
         Flavor::Msvc,
         &armnt::FOR_MICROSOFT,
     )?;
-    expect_all_stored(&rt, rt.alloc(), machine, Flavor::Gnu, &armnt::FOR_GNU)
+    expect_all_stored(&rt, rt.alloc(), TEXT, machine, Flavor::Gnu, &armnt::FOR_GNU)
 }
 
 #[test]
@@ -106,9 +117,10 @@ fn members_of_arm64_are_as_stored(rt: HostRuntime) -> Result<(), Fail> {
     expect_all_stored(
         &rt,
         rt.alloc(),
+        TEXT,
         machine,
         Flavor::Msvc,
         &arm64::FOR_MICROSOFT,
     )?;
-    expect_all_stored(&rt, rt.alloc(), machine, Flavor::Gnu, &arm64::FOR_GNU)
+    expect_all_stored(&rt, rt.alloc(), TEXT, machine, Flavor::Gnu, &arm64::FOR_GNU)
 }

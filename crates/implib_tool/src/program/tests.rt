@@ -39,6 +39,41 @@ fn arguments_but_the_first_are_taken(rt: HostRuntime) -> Result<(), Fail> {
     Ok(())
 }
 
+// Memory for the arguments is there, so the status of others is 2, however many they are.
+#[test]
+fn other_arguments_are_status_2(rt: HostRuntime) -> Result<(), Fail> {
+    let many = ["AMD64"; 100];
+    for arguments in [
+        ["implib_tool", ""].as_slice(),
+        ["implib_tool", "", ""].as_slice(),
+        ["implib_tool", "AMD64", ""].as_slice(),
+        ["implib_tool", "AMD64", "msvc", ""].as_slice(),
+        ["", "AMD64", "msvc", "AMD64", "msvc"].as_slice(),
+        many.as_slice(),
+    ] {
+        let mut list = Vec::new(rt.alloc());
+        for argument in arguments {
+            list.push(String::from_str(rt.alloc(), *argument)?)?;
+        }
+        let mut reader = MemorySource::new(TEXT.as_bytes(), ANY, 0);
+        let mut writer = MemorySink::new(rt.alloc(), ANY, 0)?;
+        let mut faults = MemorySink::new(rt.alloc(), ANY, ANY)?;
+        let got = perform(
+            rt.alloc(),
+            Ok(list.into_iter()),
+            &mut reader,
+            &mut writer,
+            &mut faults,
+        );
+        assert!(rt; got == ExitCode::from(2));
+        assert_eq!(rt;
+            faults.bytes(),
+            b"usage: implib_tool MACHINE FLAVOUR\n".as_slice()
+        );
+    }
+    Ok(())
+}
+
 #[test]
 fn missing_arguments_are_answered(rt: HostRuntime) -> Result<(), Fail> {
     for (kind, status, line) in [
