@@ -1,6 +1,6 @@
 -- What a program imports by a definition: of which DLL, under which symbols, asking for what.
 -- Nothing here knows a byte of a file, nor for whose linker the files are.
-use Rattle.std.specs.Prelude.{ℕ, Bool, true, false, ◌&&◌, ◌==◌, not, List, [], ◌∷◌, ◌++◌, map, if◌then◌else◌}
+use Rattle.std.specs.Prelude.{ℕ, Bool, true, false, ◌&&◌, not, List, [], ◌∷◌, ◌++◌, map, if◌then◌else◌}
 use Rattle.std.specs.Prelude.{codes, bytes_eq}
 use Rattle.std.specs.List.{filter, flat_map}
 use Rattle.implib.specs.declared.machine.MachineType.{MachineType}

@@ -1,12 +1,12 @@
 -- What statements mean: the definition that they make (docs/GRAMMAR.md, "Statements").
-use Rattle.std.specs.Prelude.{ℕ, Bool, true, false, ◌||◌, ◌==◌, List, [], ◌∷◌, map, Option, Some, None}
-use Rattle.std.specs.Prelude.{unwrap_or, option_map, if◌then◌else◌, slice_index}
-use Rattle.std.specs.List.{flat_map, list_any}
+use Rattle.std.specs.Prelude.{ℕ, Bool, true, false, List, [], ◌∷◌, map, Option, Some, None}
+use Rattle.std.specs.Prelude.{unwrap_or, option_map}
+use Rattle.std.specs.List.{flat_map}
 use Rattle.implib.specs.declared.machine.MachineType.{MachineType}
 use Rattle.implib.specs.Underscore.{decorated}
 use Rattle.implib.specs.Definition.{DefinitionView, ExportView}
 use Rattle.implib.specs.Text.Grammar.{Attribute, Joined, Apart, Data, Constant, Private, Alias, Export, Heap}
-use Rattle.implib.specs.Text.Grammar.{Stack, Statement, Exports, Sizes, Nameless, Named, Version, at_sign}
+use Rattle.implib.specs.Text.Grammar.{Stack, Statement, Exports, Sizes, Nameless, Named, Version}
 
 -- What the last of the items that set it sets, and old where none does. For example, of `@5 NONAME @6` the
 -- ordinal is 6, and `NONAME` stays.

@@ -6,9 +6,9 @@ use Rattle.implib.specs.declared.coff.object.Place.TheVariants.{Undefined, Secti
 use Rattle.implib.specs.declared.coff.object.Relocation.{Relocation}
 use Rattle.implib.specs.Formats.Layout.{InRecord, InStringTable, LayoutSymbol, ObjectLayout, header_bytes}
 use Rattle.implib.specs.Formats.Layout.{relocation_bytes, section_header, symbol_bytes}
-use Rattle.implib.specs.Formats.Object.{ObjectSection, ObjectSymbol, name_of, relocation_of, symbol_of, u16_at, u32_at}
+use Rattle.implib.specs.Formats.Object.{ObjectSymbol, name_of, relocation_of, symbol_of, u16_at, u32_at}
 use Rattle.implib.specs.Formats.Writer.{AddedSymbol, entries_added, symbol_written}
-use Rattle.implib.specs.Formats.Object.{ASymbol, Auxiliary}
+use Rattle.implib.specs.Formats.Object.{ASymbol}
 use Rattle.implib.specs.Worked.Digits.{hex}
 use Rattle.implib.specs.Worked.Objects.{section}
 

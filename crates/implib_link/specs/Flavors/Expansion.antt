@@ -8,12 +8,12 @@ use Rattle.implib.specs.declared.coff.object.Relocation.{Relocation}
 use Rattle.implib.specs.declared.machine.MachineType.{MachineType}
 use Rattle.implib.specs.Ascii.{full_stop, holds}
 use Rattle.implib.specs.Formats.Bytes.{u16_bytes}
-use Rattle.implib.specs.Formats.Constants.{align_2bytes, align_4bytes, align_8bytes, class_external, class_static, cnt_code, cnt_initialized_data, mem_execute_read, mem_read_write, section_undefined}
+use Rattle.implib.specs.Formats.Constants.{align_2bytes, align_4bytes, class_external, class_static, cnt_code, cnt_initialized_data, mem_execute_read, mem_read_write, section_undefined}
 use Rattle.implib.specs.Formats.File.{File, ObjectFile, ShortImportFile, file_in}
 use Rattle.implib.specs.Members.Gnu.{section, stub_bytes, stub_relocations, text_name}
 use Rattle.implib.specs.Import.{Ask, Name, Ordinal, imp_symbol}
 use Rattle.implib.specs.Members.ImportTables.{relocation, thunk_flags, thunk_width, zeros}
-use Rattle.implib.specs.Machine.{is_32bit, machine_number}
+use Rattle.implib.specs.Machine.{machine_number}
 use Rattle.implib.specs.Formats.Object.{ASymbol, Entry, Object, ObjectSection}
 use Rattle.implib.specs.Formats.ShortImport.{ShortImport, ask_of_short_import, import_code, import_const, import_data, import_name_undecorate}
 use Rattle.implib_link.specs.Flavors.SectionSymbols.{with_section_symbols}
