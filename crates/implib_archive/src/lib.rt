@@ -9,8 +9,10 @@ mod entries;
 mod error;
 mod kind;
 pub mod laws;
+mod long_names;
+mod places;
 mod refusal;
 
-pub use error::Fault;
+pub use error::{Error, Fault};
 pub use kind::Kind;
 pub use refusal::members_refusal;
