@@ -4,4 +4,5 @@ pub mod Listed
 pub mod Named
 pub mod Ordered
 pub mod Placed
+pub mod Sized
 pub mod WorkedBytes

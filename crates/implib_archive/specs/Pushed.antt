@@ -1,11 +1,13 @@
 -- View: what the code's functions have appended and measured.
-use Rattle.std.specs.Prelude.{◌≡◌, ℕ, ◌^◌, ◌<◌, ◌≤◌, List, ◌++◌, Option, Some, length, map}
+use Rattle.std.specs.Prelude.{◌≡◌, ℕ, ◌+◌, ◌*◌, ◌^◌, ◌<◌, ◌≤◌, List, ◌++◌, Option, Some, length, map}
 use Rattle.std.specs.Borrow.{Bor}
-use Rattle.implib_archive.specs.Archive.{names_bytes}
+use Rattle.std.specs.List.{All}
+use Rattle.implib_archive.specs.Archive.{names_bytes, sorted_entries, strings_of}
 use Rattle.implib_archive.specs.declared.error.Error.{Error}
 use Rattle.implib_archive.specs.declared.error.Error.TheVariants.{Invalid, OutOfMemory}
 use Rattle.implib_archive.specs.declared.error.Fault.{Fault}
 use Rattle.implib_archive.specs.declared.kind.Kind.{Kind}
+use Rattle.implib_archive.specs.declared.kind.Kind.TheVariants.{Coff}
 use Rattle.implib_archive.specs.Parts.{Label as LabelSpec}
 use Rattle.implib_archive.specs.declared.bytes.Label.{Label}
 
@@ -31,3 +33,11 @@ pub record AreMeasured (kind : Kind) (names found : List (List ℕ × ℕ)) (siz
 abbrev pub IsRefusal : Option Fault → Error → Type 0
 IsRefusal refusal (Invalid fault) = refusal ≡ Some fault
 IsRefusal refusal (OutOfMemory failed) = Unit {0}
+
+-- entries and offsets fit the fields of the linker members
+pub record FrontFits (kind : Kind) (places : List ℕ) (entries : List (List ℕ × ℕ)) : Type 0 where
+  pub numbered : All (λ e. (0 < e.1) × (e.1 ≤ length places)) entries
+  pub short : 4 + 4 * length entries + length (strings_of entries) < 2 ^ 32
+  pub numbers : kind ≡ Coff → All (λ e. e.1 < 2 ^ 16) (sorted_entries entries)
+  pub second_short : kind ≡ Coff
+      → 8 + 4 * length places + 2 * length (sorted_entries entries) + length (strings_of (sorted_entries entries)) < 2 ^ 32

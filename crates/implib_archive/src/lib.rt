@@ -7,6 +7,7 @@
 mod bytes;
 mod entries;
 mod error;
+mod front;
 mod kind;
 pub mod laws;
 mod long_names;

@@ -1,7 +1,7 @@
 //! The long names, and the names in headers.
 
 ghost use Rattle.implib.specs.Library.{member_view};
-ghost use Rattle.implib_archive.specs.Archive.{is_long, long_names, member_label, name_end, offset_of, with_name};
+ghost use Rattle.implib_archive.specs.Archive.{is_long, long_names, member_label, name_end, names_bytes, offset_of, with_name};
 ghost use Rattle.implib_archive.specs.Parts.{header_bytes, part_bytes};
 ghost use Rattle.implib_archive.specs.Pushed.{AreMeasured, Pushes, label_view, shown};
 ghost use Rattle.implib_archive.specs.declared.kind.Kind.{Kind};
@@ -9,6 +9,7 @@ ghost use Rattle.std.specs.Prelude.{◌≡◌, ◌++◌, ◌≤◌, ℕ, List, I
 ghost use Rattle.std.specs.String.{string_bytes};
 
 use crate::bytes::{Label, push_header, push_padding};
+use crate::front::push_ended;
 use crate::kind::Kind;
 use implib::Member;
 use indexmap::IndexMap;
@@ -61,6 +62,17 @@ impl<'a> LongNames<'a> {
         }
         self.offsets.insert(name, self.size)?;
         self.size += (name.len() + name_end(kind).len()) as u64;
+        Ok(())
+    }
+
+    // Appends the long names, each with its end.
+    pub(crate) fn push_names(&self, out: &mut Vec<u8>, kind: Kind) -> Result<(), AllocError>
+        ensures { OnOk result (Pushes out.old.items out.new.items
+            (names_bytes kind (shown self.now.offsets.entries))) }
+    {
+        for (name, _) in self.offsets.iter() {
+            push_ended(out, name, name_end(kind))?;
+        }
         Ok(())
     }
 
