@@ -1,5 +1,5 @@
 -- The long names and their offsets.
-use Rattle.std.proofs.Common.{◌≡◌, ℕ, ◌+◌, ◌^◌, ◌<◌, ◌≤◌, Bool, true, false, List, [], ◌∷◌, ◌++◌, Option, Some, None, bytes_eq, codes, decimal, fold, get_or, if◌then◌else◌, is_some, length, map, refl, sym, ap, subst, take, ◌∙◌, append-nil, length-append, arith, unwrap_or}
+use Rattle.std.proofs.Common.{◌≡◌, ℕ, ◌+◌, ◌^◌, ◌<◌, ◌≤◌, Bool, true, false, List, [], ◌∷◌, ◌++◌, Some, bytes_eq, codes, decimal, get_or, if◌then◌else◌, is_some, length, map, refl, sym, ap, subst, take, ◌∙◌, append-nil, length-append, arith, unwrap_or}
 use Rattle.std.specs.Borrow.{Bor}
 use Rattle.std.specs.Map.{lookup}
 use Rattle.std.proofs.lemmas.Grind.{flat_map-append}

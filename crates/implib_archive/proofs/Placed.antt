@@ -1,17 +1,15 @@
 -- The offsets of members, and the sizes of what stands before them.
-use Rattle.std.proofs.Common.{◌≡◌, ℕ, zero, suc, ◌+◌, ◌-◌, ◌^◌, ◌<◌, ◌≤◌, Bool, true, false, ◌&&◌, List, [], ◌∷◌, ◌++◌, Some, None, drop, get_or, if◌then◌else◌, length, map, min, nat_lt, refl, sym, ap, take, ◌∙◌, append_assoc, append-nil, length-append, arith}
+use Rattle.std.proofs.Common.{◌≡◌, ℕ, ◌+◌, ◌^◌, ◌<◌, ◌≤◌, Bool, true, false, ◌&&◌, List, [], ◌∷◌, ◌++◌, Some, None, drop, get_or, if◌then◌else◌, length, map, nat_lt, sym, ap, take, ◌∙◌, append-nil, length-append}
 use Rattle.std.specs.Borrow.{Bor}
 use Rattle.std.specs.List.{list_all}
 use Rattle.std.proofs.lemmas.Bool.{le-ltb, lt-ltb}
 use Rattle.std.proofs.lemmas.Grind.{flat_map-append}
 use Rattle.std.proofs.lemmas.List.{drop_all, drop_more, map-append, take_more}
 use Rattle.implib.specs.Members.MemberSpec.{MemberView}
-use Rattle.implib_archive.specs.Archive.{end_from, first_linker_size, front_size, names_size, places_from, second_linker_size, strings_of}
+use Rattle.implib_archive.specs.Archive.{end_from, places_from, strings_of}
 use Rattle.implib_archive.specs.Parts.{part_size}
 use Rattle.implib_archive.specs.Pushed.{shown}
 use Rattle.implib_archive.specs.Refusal.{has_short_places, places_refusal}
-use Rattle.implib_archive.specs.declared.kind.Kind.{Kind}
-use Rattle.implib_archive.specs.declared.kind.Kind.TheVariants.{Coff, Gnu}
 use Rattle.implib_archive.specs.declared.error.Fault.TheVariants.{ArchiveTooLong}
 
 -- whether offsets are below 2^32

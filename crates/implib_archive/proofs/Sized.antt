@@ -1,13 +1,13 @@
 -- The lengths of the parts of an archive.
-use Rattle.std.proofs.Common.{◌≡◌, ℕ, ◌+◌, ◌-◌, ◌*◌, ◌%◌, ◌<◌, ◌≤◌, List, [], ◌∷◌, ◌++◌, Result, Ok, Err, OnOk, flat_map, if◌then◌else◌, length, nat_lt, replicate, refl, sym, ap, ◌∙◌, append_assoc, length-append, arith}
+use Rattle.std.proofs.Common.{◌≡◌, ℕ, ◌+◌, ◌*◌, ◌%◌, ◌<◌, List, [], ◌∷◌, ◌++◌, Result, OnOk, flat_map, if◌then◌else◌, length, nat_lt, refl, sym, ap, ◌∙◌, append_assoc, length-append, arith}
 use Rattle.std.proofs.lemmas.Bool.{lt-ltb}
 use Rattle.std.proofs.lemmas.List.{length-replicate}
 use Rattle.implib_archive.specs.Archive.{first_linker, linker_label, linkers, names_label, names_part, place_of, second_linker, sorted_entries, strings_of}
-use Rattle.implib_archive.specs.Parts.{Label, field, header_bytes, padded_part_bytes, padding, part_bytes, u16_le, u32_be, u32_le}
+use Rattle.implib_archive.specs.Parts.{Label, header_bytes, padded_part_bytes, padding, u16_le, u32_be, u32_le}
 use Rattle.implib_archive.specs.Pushed.{Pushes}
 use Rattle.implib_archive.specs.declared.kind.Kind.{Kind}
 use Rattle.implib_archive.specs.declared.kind.Kind.TheVariants.{Coff, Gnu}
-use Rattle.implib_archive.proofs.Appended.{on_as, on_then, pushes_as, pushes_then}
+use Rattle.implib_archive.proofs.Appended.{on_as, on_then, pushes_then}
 
 length_fours : {X : Type 0} (f : X → List ℕ) → ((x : X) → length (f x) ≡ 4) → (xs : List X) → length (flat_map f xs) ≡ 4 * length xs
 length_fours f four [] = refl

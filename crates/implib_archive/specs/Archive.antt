@@ -172,3 +172,8 @@ member_part names m = part_bytes (member_label names m.name) m.bytes
 -- the archive of the members
 unfoldable pub archive_of : Kind → List MemberView → List ℕ
 archive_of kind members = front_of kind members ++ flat_map (member_part (long_names kind members)) members
+
+-- what an archive of the program holds
+pub record ArchiveView : Type 0 where
+  pub kind : Kind
+  pub members : List MemberView

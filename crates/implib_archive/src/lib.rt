@@ -13,7 +13,9 @@ pub mod laws;
 mod long_names;
 mod places;
 mod refusal;
+mod writer;
 
 pub use error::{Error, Fault};
 pub use kind::Kind;
 pub use refusal::members_refusal;
+pub use writer::Archive;

@@ -1,8 +1,8 @@
-use Rattle.std.proofs.Common.{◌<◌, ◌≤◌, ap, arith, length}
+use Rattle.std.proofs.Common.{◌<◌, ◌≤◌, arith, length}
 use Rattle.implib.proofs.Formats.Defaults.{no_text}
 use Rattle.implib_archive.specs.Archive.{place_of}
 use Rattle.implib_archive.specs.Parts.{u32_be}
-use Rattle.implib_archive.proofs.Appended.{number_at, pushes_as, pushes_entry, pushes_nothing}
+use Rattle.implib_archive.proofs.Appended.{number_at, pushes_entry, pushes_nothing}
 use Rattle.implib_archive.proofs.front.push_entry_places.Goals as goal
 
 pub overflow_sub-entry : goal.overflow_sub-entry

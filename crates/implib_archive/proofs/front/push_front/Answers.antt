@@ -1,8 +1,7 @@
-use Rattle.std.proofs.Common.{◌≡◌, ◌∙◌, arith}
 use Rattle.implib_archive.specs.Archive.{front}
 use Rattle.implib_archive.specs.Parts.{signature}
 use Rattle.implib_archive.specs.Pushed.{Pushes}
-use Rattle.implib_archive.proofs.Appended.{on_as, on_then, pushes_as, pushes_then}
+use Rattle.implib_archive.proofs.Appended.{on_then, pushes_then}
 use Rattle.implib_archive.proofs.front.push_front.Goals as goal
 
 pub returns : goal.returns

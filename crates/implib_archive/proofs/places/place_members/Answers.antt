@@ -1,4 +1,4 @@
-use Rattle.std.proofs.Common.{◌≡◌, ◌<◌, ◌≤◌, ◌^◌, ◌+◌, ◌++◌, ◌∷◌, [], ◌∙◌, ap, append_assoc, append-nil, arith, length, map, drop, refl, sym}
+use Rattle.std.proofs.Common.{◌+◌, ◌++◌, ◌∷◌, [], ◌∙◌, ap, append_assoc, append-nil, length, map, drop, refl, sym}
 use Rattle.implib.specs.Library.{member_view}
 use Rattle.implib_archive.specs.Archive.{places_from}
 use Rattle.implib_archive.specs.Parts.{part_size}

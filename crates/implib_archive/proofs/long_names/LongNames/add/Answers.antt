@@ -1,4 +1,4 @@
-use Rattle.std.proofs.Common.{◌≡◌, ◌∙◌, ◌+◌, ap, arith, length, refl, sym, is_some}
+use Rattle.std.proofs.Common.{◌∙◌, ◌+◌, ap, arith, length, refl, sym, is_some}
 use Rattle.implib_archive.specs.Archive.{is_long, offset_of}
 use Rattle.implib_archive.specs.Pushed.{shown}
 use Rattle.implib_archive.proofs.Listed.{inserted_new, listed_key}

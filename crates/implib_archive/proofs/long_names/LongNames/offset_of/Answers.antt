@@ -1,4 +1,4 @@
-use Rattle.std.proofs.Common.{◌≡◌, ◌∙◌, ap, refl, sym, unwrap_or}
+use Rattle.std.proofs.Common.{◌∙◌, ap, refl, unwrap_or}
 use Rattle.implib_archive.proofs.Named.{offset_found}
 use Rattle.implib_archive.proofs.long_names.LongNames.offset_of.Goals as goal
 

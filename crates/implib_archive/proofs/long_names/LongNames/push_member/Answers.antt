@@ -1,7 +1,7 @@
-use Rattle.std.proofs.Common.{◌≡◌, ◌∙◌, ap, refl, sym, length}
-use Rattle.implib_archive.specs.Parts.{header_bytes, padding, part_bytes}
+use Rattle.std.proofs.Common.{ap, length}
+use Rattle.implib_archive.specs.Parts.{padding, part_bytes}
 use Rattle.implib_archive.specs.Pushed.{Pushes}
-use Rattle.implib_archive.proofs.Appended.{on_as, on_then, on_slice, pushes_as, pushes_then}
+use Rattle.implib_archive.proofs.Appended.{on_as, on_then, pushes_as, pushes_then}
 use Rattle.implib_archive.proofs.long_names.LongNames.push_member.Goals as goal
 
 pub returns : goal.returns

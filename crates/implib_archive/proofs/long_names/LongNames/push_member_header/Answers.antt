@@ -1,8 +1,8 @@
-use Rattle.std.proofs.Common.{◌∙◌, ◌++◌, ◌∷◌, [], ap, codes, decimal, length, sym, unwrap_or}
+use Rattle.std.proofs.Common.{◌∙◌, ◌++◌, ap, codes, decimal, length, sym, unwrap_or}
 use Rattle.std.specs.String.{string_bytes}
 use Rattle.implib_archive.specs.Archive.{is_long, member_label, offset_of}
 use Rattle.implib_archive.specs.Parts.{header_bytes}
-use Rattle.implib_archive.specs.Pushed.{label_view, shown}
+use Rattle.implib_archive.specs.Pushed.{shown}
 use Rattle.implib_archive.proofs.Appended.{on_as}
 use Rattle.implib_archive.proofs.Named.{label_with, name_field-long, name_field-short}
 use Rattle.implib_archive.proofs.long_names.LongNames.push_member_header.Goals as goal
