@@ -5,6 +5,7 @@ pub mod Named
 pub mod Numbered
 pub mod Ordered
 pub mod Placed
+pub mod Puts
 pub mod Sized
 pub mod Whole
 pub mod WorkedBytes

@@ -444,13 +444,15 @@ capped_names {kind} {names} {found} {size} m = by_test (nat_lt size (2 ^ 32)) re
     by_test false far = let f = ltb-false size (2 ^ 32) far in omega (arith, f, m.long f)
 
 -- Of an archive that was made, front and members are all its bytes.
-pub archive_pieces : {kind : Kind} {members : List MemberView} {listed offsets : List (List ℕ × ℕ)} {size : ℕ} {places : List ℕ} {end' : ℕ} → IsMade kind members listed offsets size places end'
-    → front kind places listed offsets ++ flat_map (member_part offsets) members ≡ archive_of kind members
-unfolding archive_of front_of
-archive_pieces {kind} {members} {listed} {offsets} {size} {places} {end'} made =
-    ap (λ p. front kind p listed offsets ++ flat_map (member_part offsets) members) made.placed
-    ∙ (ap (λ e. front kind (places_of kind members) e offsets ++ flat_map (member_part offsets) members) made.listed
-    ∙ ap (λ n. front kind (places_of kind members) (entries_of kind members) n ++ flat_map (member_part n) members) made.named)
+module _ {kind : Kind} {members : List MemberView} {listed offsets : List (List ℕ × ℕ)} {size : ℕ} {places : List ℕ} {end' : ℕ} (made : IsMade kind members listed offsets size places end') where
+  pub front_made : front kind places listed offsets ≡ front_of kind members
+  unfolding front_of
+  front_made = ap (λ p. front kind p listed offsets) made.placed
+      ∙ (ap (λ e. front kind (places_of kind members) e offsets) made.listed ∙ ap (front kind (places_of kind members) (entries_of kind members)) made.named)
+
+  pub archive_made : front_of kind members ++ flat_map (member_part offsets) members ≡ archive_of kind members
+  unfolding archive_of
+  archive_made = ap (λ n. front_of kind members ++ flat_map (member_part n) members) made.named
 
 -- what was measured is exact where the members are not refused
 pub near_size : {kind : Kind} {names found : List (List ℕ × ℕ)} {size : ℕ} → AreMeasured kind names found size → length (names_bytes kind names) < 2 ^ 32 → size < 2 ^ 32

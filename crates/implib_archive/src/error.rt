@@ -4,6 +4,7 @@ ghost use Rattle.implib_archive.specs.declared.error.Error.TheVariants.{OutOfMem
 ghost use Rattle.std.specs.Prelude.{◌≡◌};
 
 use std::alloc::{AllocError, AllocFailed};
+use std::io;
 
 /// Why members have no archive.
 #[derive(Clone, Copy, Debug, PartialEq, Eq, thiserror::Error)]
@@ -60,5 +61,38 @@ impl<T: Drop> From<AllocFailed<T>> for Error {
 
     fn from(refused: AllocFailed<T>) -> Error {
         Error::OutOfMemory(AllocError::from(refused))
+    }
+}
+
+/// Why an archive was not written whole.
+#[derive(Debug, Drop, thiserror::Error)]
+pub enum WriteError {
+    /// The writer answered this error, or took no byte (`ErrorKind::WriteZero`).
+    #[error("{0}")]
+    Writer(io::Error),
+    /// An allocation failed.
+    #[error("out of memory")]
+    OutOfMemory(AllocError),
+}
+
+impl From<io::Error> for WriteError {
+    ghost use Rattle.implib_archive.specs.declared.error.WriteError.TheVariants.{Writer};
+    ghost use Rattle.std.specs.Prelude.{◌≡◌};
+
+    ghost from_gives = { λ cause error. error ≡ Writer cause };
+
+    fn from(cause: io::Error) -> WriteError {
+        WriteError::Writer(cause)
+    }
+}
+
+impl From<AllocError> for WriteError {
+    ghost use Rattle.implib_archive.specs.declared.error.WriteError.TheVariants.{OutOfMemory};
+    ghost use Rattle.std.specs.Prelude.{◌≡◌};
+
+    ghost from_gives = { λ refused error. error ≡ OutOfMemory refused };
+
+    fn from(refused: AllocError) -> WriteError {
+        WriteError::OutOfMemory(refused)
     }
 }

@@ -12,9 +12,11 @@ use crate::kind::Kind;
 use implib::Member;
 use std::alloc::Global;
 
-// The offsets of the members' headers, and the offset behind the last member.
+// The offsets of the members' headers, and the offset behind the last member. Where there are no
+// members, the first offset is that one too.
 #[derive(Drop)]
 pub(crate) struct Places {
+    pub(crate) first: u64,
     pub(crate) offsets: Vec<u32>,
     pub(crate) end: u64,
 }
@@ -133,6 +135,7 @@ pub(crate) fn place_members(alloc: Global, first: u64, members: &[Member]) -> Re
         place += part_size(member.bytes.as_slice().len() as u64);
     }
     Ok(Places {
+        first,
         offsets,
         end: place,
     })
