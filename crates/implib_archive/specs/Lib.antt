@@ -4,3 +4,4 @@ pub mod Pushed
 pub mod Reader
 pub mod Refusal
 pub mod Worked
+pub mod Written

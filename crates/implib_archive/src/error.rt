@@ -1,5 +1,11 @@
 //! The errors of the crate's calls.
 
+ghost use Rattle.implib_archive.specs.declared.error.Error.TheVariants.{OutOfMemory};
+ghost use Rattle.std.specs.Prelude.{◌≡◌};
+
+use std::alloc::{AllocError, AllocFailed};
+use std::io;
+
 /// Why members have no archive.
 #[derive(Clone, Copy, Debug, PartialEq, Eq, thiserror::Error)]
 pub enum Fault {
@@ -27,4 +33,66 @@ pub enum Fault {
     /// A header would be at an offset of 2^32 or more.
     #[error("archive too long")]
     ArchiveTooLong,
+}
+
+/// Why `Archive::new` gives no archive.
+#[derive(Debug, Drop, thiserror::Error)]
+pub enum Error {
+    /// The members have no archive of the kind.
+    #[error("{0}")]
+    Invalid(#[from] Fault),
+    /// An allocation failed.
+    #[error("out of memory")]
+    OutOfMemory(AllocError),
+}
+
+impl From<AllocError> for Error {
+    ghost from_gives = { λ refused error. error ≡ OutOfMemory refused };
+
+    fn from(refused: AllocError) -> Error {
+        Error::OutOfMemory(refused)
+    }
+}
+
+impl<T: Drop> From<AllocFailed<T>> for Error {
+    ghost use Rattle.std.specs.Prelude.{◌≡◌, alloc_error};
+
+    ghost from_gives = { λ _ error. error ≡ OutOfMemory alloc_error };
+
+    fn from(refused: AllocFailed<T>) -> Error {
+        Error::OutOfMemory(AllocError::from(refused))
+    }
+}
+
+/// Why an archive was not written whole.
+#[derive(Debug, Drop, thiserror::Error)]
+pub enum WriteError {
+    /// The writer answered this error, or took no byte (`ErrorKind::WriteZero`).
+    #[error("{0}")]
+    Writer(io::Error),
+    /// An allocation failed.
+    #[error("out of memory")]
+    OutOfMemory(AllocError),
+}
+
+impl From<io::Error> for WriteError {
+    ghost use Rattle.implib_archive.specs.declared.error.WriteError.TheVariants.{Writer};
+    ghost use Rattle.std.specs.Prelude.{◌≡◌};
+
+    ghost from_gives = { λ cause error. error ≡ Writer cause };
+
+    fn from(cause: io::Error) -> WriteError {
+        WriteError::Writer(cause)
+    }
+}
+
+impl From<AllocError> for WriteError {
+    ghost use Rattle.implib_archive.specs.declared.error.WriteError.TheVariants.{OutOfMemory};
+    ghost use Rattle.std.specs.Prelude.{◌≡◌};
+
+    ghost from_gives = { λ refused error. error ≡ OutOfMemory refused };
+
+    fn from(refused: AllocError) -> WriteError {
+        WriteError::OutOfMemory(refused)
+    }
 }

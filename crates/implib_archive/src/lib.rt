@@ -1,16 +1,27 @@
-//! Archives of the members of import libraries, in two kinds: their tables, a reader of them, whole archives that were
-//! worked by hand, and which members have no archive. No archive is written yet.
+//! Archives of the members of import libraries, in two kinds: COFF (Microsoft's) and GNU (System V's).
 //!
-//! [`laws`] has what is proved of the tables and of the reader, [`members_refusal`] says what is wrong with members.
+//! [`Archive::new`] gives an archive of members, or tells the first thing that the kind cannot carry. [`Archive::len`],
+//! [`Archive::to_vec`] and [`Archive::write_to`] give its length and its bytes, which are those of the tables in
+//! `specs/Archive`. A writer whose bytes are known has just these after `Ok`, and a beginning of them after an error.
+//! [`members_refusal`] says what is wrong with members alone, without their archive.
+//!
+//! [`laws`] has what was worked by hand: whole archives of both kinds, written and read, and refusals. That the reader
+//! gives back every archive's members is not proved.
 #![tactic(auto)]
 
 mod bytes;
 mod entries;
 mod error;
+mod front;
 mod kind;
 pub mod laws;
+mod long_names;
+mod output;
+mod places;
 mod refusal;
+mod writer;
 
-pub use error::Fault;
+pub use error::{Error, Fault, WriteError};
 pub use kind::Kind;
 pub use refusal::members_refusal;
+pub use writer::Archive;

@@ -1,0 +1,29 @@
+use Rattle.std.proofs.Common.{◌∙◌, ap, arith, map, subst, sym}
+use Rattle.implib.specs.Library.{member_view}
+use Rattle.implib_archive.specs.Archive.{front, front_of, places_of}
+use Rattle.implib_archive.specs.Pushed.{FrontFits, shown}
+use Rattle.implib_archive.proofs.Appended.{on_as}
+use Rattle.implib_archive.proofs.Whole.{front_fits, front_made, names_below}
+use Rattle.implib_archive.proofs.writer.Archive.push_start.Goals as goal
+
+pub push_front-requires-clause-fits : goal.push_front-requires-clause-fits
+push_front-requires-clause-fits c =
+    let a = c.self.inside in
+    let ms = map member_view a.members.now in
+    let made = c.self.invariant in
+    let places = c.as_slice-places.ensures.value ∙ made.placed in
+    let entries = ap shown c.as_slice-entries.ensures.value ∙ made.listed in
+    subst (λ p. FrontFits a.kind p (shown c.as_slice-entries.result.now)) (sym places)
+    (subst (λ e. FrontFits a.kind (places_of a.kind ms) e) (sym entries) (front_fits a.kind ms made.accepted))
+
+pub push_front-requires-clause-short : goal.push_front-requires-clause-short
+push_front-requires-clause-short c =
+    let made = c.self.invariant in omega (arith, made.sized, names_below _ _ made.accepted)
+
+pub returns : goal.returns
+returns c =
+    let a = c.self.inside in
+    let names = shown a.names.offsets.entries in
+    on_as _ _ _ (ap (λ p. front a.kind p (shown c.as_slice-entries.result.now) names) c.as_slice-places.ensures.value
+    ∙ (ap (λ e. front a.kind a.places.offsets.items (shown e) names) c.as_slice-entries.ensures.value
+    ∙ (front_made c.self.invariant ∙ ap (λ v. front_of v.kind v.members) c.self.view_is))) c.push_front.ensures

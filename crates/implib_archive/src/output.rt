@@ -1,0 +1,40 @@
+//! Writing bytes to a writer.
+
+ghost use Rattle.implib_archive.specs.Parts.{padding};
+ghost use Rattle.implib_archive.specs.Written.{Writes};
+ghost use Rattle.std.specs.Prelude.{◌++◌, length};
+
+use std::io;
+use std::io::ErrorKind;
+
+// Writes bytes. A call that fails is not repeated.
+pub(crate) fn put<W: io::Write>(writer: &mut W, bytes: &[u8]) -> io::Result<()>
+    ensures { Writes (W.contents writer.old) (W.contents writer.new) bytes.now result }
+{
+    let mut rest = bytes;
+    while !rest.is_empty() {
+        let count = writer.write(rest)?;
+        if count == 0 {
+            return Err(io::Error::from(ErrorKind::WriteZero));
+        }
+        rest = &rest[count..];
+    }
+    Ok(())
+}
+
+// Writes some bytes, and others behind them.
+fn put_both<W: io::Write>(writer: &mut W, first: &[u8], second: &[u8]) -> io::Result<()>
+    ensures { Writes (W.contents writer.old) (W.contents writer.new) (first.now ++ second.now) result }
+{
+    put(writer, first)?;
+    put(writer, second)
+}
+
+// Writes a header, data, and a line end behind data of an odd size.
+pub(crate) fn put_part<W: io::Write>(writer: &mut W, header: &[u8], bytes: &[u8]) -> io::Result<()>
+    ensures { Writes (W.contents writer.old) (W.contents writer.new) (header.now ++ bytes.now ++ padding 10 (length bytes.now)) result }
+{
+    let end = [b'\n'; 1];
+    put_both(writer, header, bytes)?;
+    put(writer, &end[..bytes.len() % 2])
+}
