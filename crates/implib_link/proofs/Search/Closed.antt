@@ -86,7 +86,7 @@ there_not : (name : List ℕ) (names : List (List ℕ)) → list_any (bytes_eq n
 there_not name names none held = true≢false (sym (among_any name names held) ∙ none)
 
 -- objects that claim none of some names
-claims_apart : (names : List (List ℕ)) (objects : List Object) → AllByRecursion (ClaimsNone names) objects → (name : List ℕ) → Among name names →
+pub claims_apart : (names : List (List ℕ)) (objects : List Object) → AllByRecursion (ClaimsNone names) objects → (name : List ℕ) → Among name names →
     Among name (flat_map claimed_names objects) → ⊥
 claims_apart names objects none name held claimed =
     let from = among_flat_map claimed_names name objects claimed in
@@ -98,14 +98,14 @@ claims_none names o none = all_each (λ name. list_any (bytes_eq name) (claimed_
 
 -- What objects leave unresolved.
 
-unresolved_parts : (objects : List Object) (name : List ℕ) → Among name (unresolved objects) →
+pub unresolved_parts : (objects : List Object) (name : List ℕ) → Among name (unresolved objects) →
     Among name (flat_map undefined_in objects) × (Among name (flat_map claimed_names objects) → ⊥)
 unfolding references_of claims_of
 unresolved_parts objects name held =
     let kept = passing (λ n. not (list_any (bytes_eq n) (claims_of objects))) name (references_of objects) held in
     (kept.0, there_not name (flat_map claimed_names objects) (from_not (list_any (bytes_eq name) (claims_of objects)) kept.1))
 
-unresolved_from : (objects : List Object) (name : List ℕ) → Among name (flat_map undefined_in objects) →
+pub unresolved_from : (objects : List Object) (name : List ℕ) → Among name (flat_map undefined_in objects) →
     (Among name (flat_map claimed_names objects) → ⊥) → Among name (unresolved objects)
 unfolding references_of claims_of
 unresolved_from objects name left none =
@@ -164,6 +164,27 @@ module _ (archive : List MemberView) (own : List Object) where
   takes_for taken apart takes = record {
     in_turn = in_turn_for taken takes.in_turn;
     ended = λ name m pulls. takes.ended name m (pulls_into taken name m (apart name) pulls);
+  }
+
+  -- the other way round, each list of members that are taken before leaves fewer names
+  in_turn_into : (taken earlier : List MemberView) → ((m : MemberView) → Among m earlier → Among m taken) →
+      ((name : List ℕ) → Among name (flat_map undefined_in (objects_in taken)) → Among name (flat_map claimed_names own) → ⊥) → IsTakenInTurn archive (unresolved own) earlier → AreTakenInto archive own earlier
+  unfolding AreTakenInto IsTakenInTurn
+  in_turn_into taken [] within apart turn = tt
+  in_turn_into taken (m ∷ earlier) within apart turn =
+      let before : (x : MemberView) → Among x earlier → Among x taken = λ x held. within x (among_later x m earlier held) in (
+        (
+          turn.0.0,
+          pulls_into earlier turn.0.0 m (λ left. apart turn.0.0 (let by = name_read undefined_in turn.0.0 earlier left in read_name undefined_in turn.0.0 taken by.0 by.1 (before by.0 by.2) by.3 by.4)) turn.0.1,
+        ),
+        in_turn_into taken earlier before apart turn.1,
+      )
+
+  pub takes_into : (taken : List MemberView) → ((name : List ℕ) → Among name (flat_map undefined_in (objects_in taken)) → Among name (flat_map claimed_names own) → ⊥) →
+      Takes archive (unresolved own) taken → TakesInto archive own taken
+  takes_into taken apart takes = record {
+    in_turn = in_turn_into taken taken (λ m held. held) apart takes.in_turn;
+    ended = λ name m pulls. takes.ended name m (pulls_for taken name m pulls);
   }
 
 -- a member that is taken is the first for some name

@@ -6,6 +6,7 @@ ghost use Rattle.implib.specs.Members.MemberSpec.{MemberView};
 ghost use Rattle.implib.specs.declared.machine.MachineType.{MachineType};
 ghost use Rattle.implib_link.specs.Search.Archives.{IsArchive, Library};
 ghost use Rattle.implib_link.specs.Search.Closed.{IsClosed, LinksClosed};
+ghost use Rattle.implib_link.specs.Worked.Closed.{WorkedClosed};
 ghost use Rattle.std.specs.Prelude.{List};
 
 /// Given objects, what a linker takes for them of an archive of several libraries, and the null
@@ -22,4 +23,10 @@ pub fn closed_program_links()
         IsArchive machine libraries →
         IsClosed machine libraries own taken arranged bases objects →
         LinksClosed machine libraries own taken arranged bases objects }
+{}
+
+/// A closed program by hand, of an object that names data by an alias, a function by its pointer
+/// and a function of another library, and has a function of its own that a library exports, too.
+pub fn worked_closed_program()
+    ensures { WorkedClosed }
 {}
