@@ -2,3 +2,4 @@
 pub mod Search
 pub mod Archives
 pub mod Msvc
+pub mod Closed

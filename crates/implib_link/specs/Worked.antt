@@ -15,3 +15,4 @@ pub mod FlavorLoads
 pub mod Packed
 pub mod RefusedTexts
 pub mod Sources
+pub mod Closed

@@ -2,6 +2,7 @@
 //! function.
 
 pub mod calls;
+pub mod closed;
 pub mod flavors;
 pub mod loaded;
 pub mod msvc_search;

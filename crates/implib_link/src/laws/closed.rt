@@ -1,0 +1,32 @@
+//! Laws of closed programs: nothing is wanted but what the given objects leave unresolved.
+
+ghost use Rattle.implib.specs.Formats.Object.{Object};
+ghost use Rattle.implib.specs.Link.Placement.{Bases};
+ghost use Rattle.implib.specs.Members.MemberSpec.{MemberView};
+ghost use Rattle.implib.specs.declared.machine.MachineType.{MachineType};
+ghost use Rattle.implib_link.specs.Search.Archives.{IsArchive, Library};
+ghost use Rattle.implib_link.specs.Search.Closed.{IsClosed, LinksClosed};
+ghost use Rattle.implib_link.specs.Worked.Closed.{WorkedClosed};
+ghost use Rattle.std.specs.Prelude.{List};
+
+/// Given objects, what a linker takes for them of an archive of several libraries, and the null
+/// descriptor are a program, which imports just the exports that are named by symbols that the
+/// given objects, or the aliases that are taken for them, leave unresolved; and no name is left
+/// unresolved that the archive lists.
+///
+/// The given objects may claim symbols of the libraries, but for those of the members that are
+/// taken. The libraries may be linked in another order than that of the archive.
+pub fn closed_program_links()
+    ensures links { (machine : MachineType) (libraries : List Library) (own : List Object)
+        (taken : List MemberView) (arranged : List Library) (bases : Bases)
+        (objects : List Object) →
+        IsArchive machine libraries →
+        IsClosed machine libraries own taken arranged bases objects →
+        LinksClosed machine libraries own taken arranged bases objects }
+{}
+
+/// A closed program by hand, of an object that names data by an alias, a function by its pointer
+/// and a function of another library, and has a function of its own that a library exports, too.
+pub fn worked_closed_program()
+    ensures { WorkedClosed }
+{}
