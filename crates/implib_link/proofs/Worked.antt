@@ -16,3 +16,4 @@ pub mod Packed
 pub mod RefusedTexts
 pub mod Sources
 pub mod Closed
+pub mod Claims

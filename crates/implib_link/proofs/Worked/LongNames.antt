@@ -8,6 +8,7 @@ use Rattle.implib_link.proofs.Worked.Programs.{opened}
 pub worked_long_names : WorkedLongNames
 unfolding opened object_by_full_names strings_of sections_by_full_names full_name decimal_in digits_behind has_tables
 worked_long_names = record {
+  digits = refl;
   first = refl;
   second = refl;
   within = refl;

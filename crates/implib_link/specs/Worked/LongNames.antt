@@ -4,7 +4,7 @@ use Rattle.std.specs.Option.{option_map}
 use Rattle.implib.specs.Formats.Bytes.{u16_bytes, u32_bytes}
 use Rattle.implib.specs.Formats.Object.{ObjectSection}
 use Rattle.implib.specs.Members.ImportTables.{zeros}
-use Rattle.implib_link.specs.FullNames.{object_by_full_names}
+use Rattle.implib_link.specs.FullNames.{decimal_in, object_by_full_names}
 use Rattle.implib_link.specs.Gnu.Program.{has_tables}
 
 -- a symbol's record of 18 bytes: the name `main`, the value 0, the section 1, the type 0, the class 2
@@ -28,10 +28,11 @@ names_in name strings =
     option_map (λ o. map (λ (s : ObjectSection). s.name) o.sections)
     (object_by_full_names (file_with_symbol name strings))
 
--- The digits are decimal, and the string table is behind the symbol's record: `/10` is the second text and
+-- The digits are decimal, all ten of them, and the string table is behind the symbol's record: `/10` is the second text and
 -- `/16` its end. Behind the last text there is no name, nor where a sign is no digit, nor where a text has no
 -- NUL.
 pub record WorkedLongNames : Type 0 where
+  pub digits : decimal_in (codes "1029384756") ≡ Some 1029384756
   pub first : names_in (codes "/4" ++ zeros 6) two_texts ≡ Some (codes "debug" ∷ [])
   pub second : names_in (codes "/10" ++ zeros 5) two_texts ≡ Some (codes ".idata$23" ∷ [])
   pub within : names_in (codes "/16" ++ zeros 5) two_texts ≡ Some (codes "$23" ∷ [])

@@ -1,5 +1,6 @@
 //! Programs that were linked by hand, and images that are wrong.
 
+ghost use Rattle.implib_link.specs.Worked.Claims.{WorkedClaims, WorkedDirectCalls};
 ghost use Rattle.implib_link.specs.Worked.RefusedLinks.{RefusedLinks};
 ghost use Rattle.implib_link.specs.Worked.Expansion.{WorkedExpansion};
 ghost use Rattle.implib_link.specs.Worked.Flavors.{RefusedTables, WorkedFlavors};
@@ -92,4 +93,11 @@ pub fn refused_texts()
 /// Programs of texts, for GNU's linker and in both flavours, link as the laws say.
 pub fn worked_sources()
     ensures { WorkedSources }
+{}
+
+/// An object claims what it defines, in a section, as an absolute value, as a common block or as a
+/// weak external; direct calls have these bytes and lead there.
+pub fn worked_claims()
+    ensures claims { WorkedClaims }
+    ensures calls { WorkedDirectCalls }
 {}
