@@ -6,6 +6,7 @@ pub mod Numbered
 pub mod Ordered
 pub mod Placed
 pub mod Puts
+pub mod Readings
 pub mod Sized
 pub mod Whole
 pub mod WorkedBytes

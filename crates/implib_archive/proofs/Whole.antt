@@ -156,11 +156,11 @@ length-padded l byte contents fits short =
     let header = length-header l (length data') fits (omega (arith, inside, short)) in
     omega (arith, length-append (header_bytes l (length data')) data', header, inside)
 
-linker_fits : LabelFits linker_label
+pub linker_fits : LabelFits linker_label
 unfolding linker_label
 linker_fits = record { name = omega arith; date = omega arith; owner = omega arith; mode = omega arith }
 
-names_fit : LabelFits names_label
+pub names_fit : LabelFits names_label
 unfolding names_label
 names_fit = record { name = omega arith; date = omega arith; owner = omega arith; mode = omega arith }
 

@@ -1,5 +1,6 @@
-//! What was worked by hand. The functions do nothing: their contracts are the laws.
+//! Laws of archives. The functions do nothing: their contracts are the laws.
 
+ghost use Rattle.implib_archive.specs.ReadBack.{PartsReadBack};
 ghost use Rattle.implib_archive.specs.Worked.{WorkedArchives, WorkedReadings, WorkedRefusals};
 
 /// Two members, and none, have these archives in both kinds.
@@ -15,4 +16,9 @@ pub fn worked_readings()
 /// Members that have no archive, and why.
 pub fn worked_refusals()
     ensures { WorkedRefusals }
+{}
+
+/// A reader finds in each archive the linker members, the long names and the members, in order, and nothing else.
+pub fn parts_read_back()
+    ensures { PartsReadBack }
 {}

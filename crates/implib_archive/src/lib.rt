@@ -5,8 +5,10 @@
 //! `specs/Archive`. A writer whose bytes are known has just these after `Ok`, and a beginning of them after an error.
 //! [`members_refusal`] says what is wrong with members alone, without their archive.
 //!
-//! [`laws`] has what was worked by hand: whole archives of both kinds, written and read, and refusals. That the reader
-//! gives back every archive's members is not proved.
+//! [`laws`] has what is proved of every archive: a reader that follows headers and sizes finds the linker members, the
+//! long names and each member with its bytes, in order, and nothing else. What is worked by hand stands there too: whole
+//! archives of both kinds, written and read, by their indexes also, and refusals. That long names and indexes of every
+//! archive are read back is not proved.
 #![tactic(auto)]
 
 mod bytes;
@@ -19,6 +21,8 @@ mod long_names;
 mod output;
 mod places;
 mod refusal;
+#[cfg(test)]
+mod tests;
 mod writer;
 
 pub use error::{Error, Fault, WriteError};
