@@ -6,6 +6,7 @@ ghost use Rattle.implib.specs.Link.Placement.{Bases};
 ghost use Rattle.implib.specs.declared.machine.MachineType.{MachineType};
 ghost use Rattle.implib_link.specs.Gnu.Bounds.{AreBounded, HaveEvenHints};
 ghost use Rattle.implib_link.specs.Gnu.Program.{IsProgram};
+ghost use Rattle.implib_link.specs.Worked.Bounds.{WorkedBounds};
 ghost use Rattle.std.specs.List.{AllByRecursion};
 ghost use Rattle.std.specs.Prelude.{◌<◌, ℕ, List, length};
 
@@ -24,4 +25,9 @@ pub fn tables_are_bounded()
         AllByRecursion (IsMade machine) inputs →
         IsProgram machine bases inputs objects →
         HaveEvenHints machine bases objects }
+{}
+
+/// The programs that were linked by hand are bounded as the law says, on each machine.
+pub fn worked_bounds()
+    ensures { WorkedBounds }
 {}
