@@ -1,7 +1,7 @@
 -- The bounds of a program's import tables.
 use Rattle.std.proofs.Common.{◌≡◌, ℕ, zero, suc, ◌+◌, ◌*◌, ◌-◌, ◌/◌, ◌%◌, ◌^◌, ◌<◌, ◌≤◌, List, [], ◌∷◌, ◌++◌, codes, length, map, Some, refl, ap, sym, ◌∙◌, subst, inl, inr, arith}
 use Rattle.std.specs.Prelude.{nat_lt, slice_get}
-use Rattle.std.specs.List.{AllByRecursion, Contains, filter}
+use Rattle.std.specs.List.{AllByRecursion, filter}
 use Rattle.std.proofs.Math.Nat.{mul-add, mul-zero}
 use Rattle.std.proofs.lemmas.Bool.{cases_Bool, ltb-false, ltb-true}
 use Rattle.std.proofs.lemmas.List.{length-append}
@@ -9,29 +9,27 @@ use Rattle.implib.specs.declared.machine.MachineType.{MachineType}
 use Rattle.implib.specs.declared.machine.MachineType.TheVariants.{I386, ARMNT, AMD64, ARM64}
 use Rattle.implib.specs.Definition.{ExportView}
 use Rattle.implib.specs.Formats.Constants.{class_static}
-use Rattle.implib.specs.Formats.Object.{ASymbol, Object, ObjectSymbol}
-use Rattle.implib.specs.Import.{imp_symbol}
+use Rattle.implib.specs.Formats.Object.{Object}
 use Rattle.implib.specs.Link.Image.{Contribution, Range, contributions, filled, image_of, range_end, range_of, relocated}
 use Rattle.implib.specs.Link.Linked.{EntriesAt}
 use Rattle.implib.specs.Link.LinkedMembers.{IsMade, LinkInput, chosen_exports}
 use Rattle.implib.specs.Link.Placement.{Addresses, Bases, Descriptors, Group, HintNames, Placed, base_of, groups, next_multiple, placed_from}
-use Rattle.implib.specs.Link.Resolution.{definitions_of, symbol_address}
 use Rattle.implib.specs.Members.Gnu.{export_object, head_object, tail_object}
 use Rattle.implib.specs.Members.ImportTables.{relocation, thunk_width, zeros}
 use Rattle.implib.proofs.Link.Linked.{aligned_block, ends_of_block}
-use Rattle.implib.proofs.Link.LinkedBlocks.{Block, blocks_objects, ends, even}
+use Rattle.implib.proofs.Link.LinkedBlocks.{blocks_objects, ends, even}
 use Rattle.implib.proofs.Link.LinkedInputs.{block_of, gnu_inputs_objects}
 use Rattle.implib.proofs.Link.LinkedMembers.{among_contains}
-use Rattle.implib.proofs.Link.Placement.{AreAligned, after_head, aligned, aligned_after, aligned_head, descriptors_end, ends_of_all, ends_of_export, ends_of_exports, ends_of_head, head, placed-export, placed-head, placed-tail, placed_head}
-use Rattle.implib.proofs.Link.Ranges.{Among, all_among, among_first, among_flat, among_later}
+use Rattle.implib.proofs.Link.Placement.{AreAligned, after_head, aligned, aligned_after, aligned_head, ends_of_all, ends_of_export, ends_of_exports, ends_of_head, placed-export, placed-head, placed-tail, placed_head}
+use Rattle.implib.proofs.Link.Ranges.{Among, all_among, among_first, among_flat}
 use Rattle.implib.proofs.Link.Tables.{addresses_end, addresses_filled, descriptors_filled, filled_first, thunk_bytes}
-use Rattle.implib_link.specs.Gnu.Bounds.{AreBounded, BeginsWith, HaveEvenHints, IsEven, IsInEntry}
-use Rattle.implib_link.specs.Gnu.Program.{IsProgram, has_tables, null_descriptor, thunks_before, with_tables}
+use Rattle.implib_link.specs.Gnu.Bounds.{AreBounded, BeginsWith, HaveEvenHints, IsEven}
+use Rattle.implib_link.specs.Gnu.Program.{IsProgram, has_tables, null_descriptor, thunks_before}
 use Rattle.implib_link.proofs.Gnu.Blocks.{addresses_after, objects_behind, table_sum}
 use Rattle.implib_link.proofs.Gnu.Loaded.{entry_once}
 use Rattle.implib_link.proofs.Gnu.Others.{contributions_kept}
 use Rattle.implib_link.proofs.Gnu.Program.{kept_placed, program_links}
-use Rattle.implib_link.proofs.Gnu.Sized.{head_sized, length-relocated}
+use Rattle.implib_link.proofs.Gnu.Sized.{length-relocated}
 
 -- Which entry an address is in.
 

@@ -1,10 +1,10 @@
 -- The bounds of the programs by hand, by the law and by computing.
-use Rattle.std.proofs.Common.{◌≡◌, ℕ, ◌+◌, ◌<◌, ◌%◌, List, [], ◌∷◌, length, refl, ◌∙◌, arith}
+use Rattle.std.proofs.Common.{◌≡◌, ℕ, ◌%◌, [], ◌∷◌, refl, arith}
 use Rattle.implib.specs.declared.machine.MachineType.TheVariants.{I386, ARMNT, AMD64, ARM64}
 use Rattle.implib.specs.Formats.Layout.{encoded_size}
 use Rattle.implib.specs.Members.GnuMembers.{alias_specs}
 use Rattle.implib.specs.Members.WeakExternal.{weak_object}
-use Rattle.implib_link.specs.Gnu.Bounds.{AreBounded, IsEven}
+use Rattle.implib_link.specs.Gnu.Bounds.{AreBounded}
 use Rattle.implib_link.specs.Gnu.Program.{has_tables}
 use Rattle.implib_link.specs.Worked.Bounds.{WorkedBound, WorkedBounds}
 use Rattle.implib_link.specs.Worked.Programs.{both_inputs, program_objects, touching_4, touching_8}
