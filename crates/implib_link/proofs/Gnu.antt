@@ -19,3 +19,4 @@ pub mod Stubs
 pub mod Calls
 pub mod Definers
 pub mod DirectCalls
+pub mod Bounds

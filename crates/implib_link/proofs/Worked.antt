@@ -13,6 +13,7 @@ pub mod Loads
 pub mod Searched
 pub mod FlavorLoads
 pub mod Packed
+pub mod Bounds
 pub mod RefusedTexts
 pub mod Sources
 pub mod Closed

@@ -5,3 +5,4 @@ pub mod Loaded
 pub mod Reading
 pub mod Calls
 pub mod Packed
+pub mod Bounds
