@@ -75,13 +75,15 @@ is_closed : IsClosed AMD64 two_libraries own closed_taken zed_first closed_bases
 unfolding opened alias_specs encoded_size weak_object is_weak names_undefined undefined_in references_of claims_of has_tables group_end sections_end
 is_closed = record {
   takes = takes;
-  order = record { moves = (0, 1) ∷ []; below = (omega arith, omega arith, tt); is = refl };
-  others = swapped _ choosing;
-  tables = refl;
+  linked = record {
+    order = record { moves = (0, 1) ∷ []; below = (omega arith, omega arith, tt); is = refl };
+    others = swapped _ choosing;
+    tables = refl;
+    admissible = packed_is_admissible AMD64 0x2000 inputs closed_objects (inputs_made AMD64 zed_first (wanted_in own closed_taken) (worked_archives.archive.made.1.0, (worked_archives.archive.made.0, tt)))
+        refl (omega arith) (below_limit (packed_end 0x2000 closed_objects) refl);
+  };
   claims = claims;
   names = plain;
-  admissible = packed_is_admissible AMD64 0x2000 inputs closed_objects (inputs_made AMD64 zed_first (wanted_in own closed_taken) (worked_archives.archive.made.1.0, (worked_archives.archive.made.0, tt)))
-      refl (omega arith) (below_limit (packed_end 0x2000 closed_objects) refl);
 }
 
 stopped : TakesInto (archive_of two_libraries) own without_last → ⊥
