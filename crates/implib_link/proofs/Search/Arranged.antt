@@ -1,13 +1,13 @@
 -- What is linked of an archive of libraries, where the libraries may be in another order.
-use Rattle.std.proofs.Common.{◌≡◌, ℕ, suc, zero, ◌+◌, ◌≤◌, Bool, true, false, List, [], ◌∷◌, ◌++◌, length, map, Option, Some, None, ◌⊎◌, refl, ap, sym, ◌∙◌, subst, inl, inr, arith}
+use Rattle.std.proofs.Common.{◌≡◌, ℕ, ◌+◌, ◌≤◌, Bool, List, [], ◌∷◌, ◌++◌, length, map, Option, Some, None, ◌⊎◌, refl, ap, sym, ◌∙◌, subst, inl, inr, arith}
 use Rattle.std.specs.Prelude.{IsPermutation, bytes_eq, reverse, slice_get}
-use Rattle.std.specs.List.{AllByRecursion, IsDistinct, cons_option, filter, filter_map, flat_map, list_any}
+use Rattle.std.specs.List.{AllByRecursion, IsDistinct, cons_option, filter, filter_map, flat_map}
 use Rattle.std.proofs.lemmas.Bool.{cases_Bool}
 use Rattle.std.proofs.lemmas.List.{append_assoc}
 use Rattle.std.proofs.lemmas.List.Sorted.{Contains-permutation, IsPermutation-reverse, IsPermutation-sym}
 use Rattle.implib.specs.declared.machine.MachineType.{MachineType}
 use Rattle.implib.specs.Definition.{ExportView}
-use Rattle.implib.specs.Import.{imp_symbol, is_alias}
+use Rattle.implib.specs.Import.{is_alias}
 use Rattle.implib.specs.Link.LinkedMembers.{LinkInput, all_linked, chosen_exports}
 use Rattle.implib.specs.Members.Gnu.{archive_symbols, head_symbol, iname_symbol}
 use Rattle.implib.specs.Members.MemberSpec.{MemberView}

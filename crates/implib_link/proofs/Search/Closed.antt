@@ -1,5 +1,5 @@
 -- A closed program links.
-use Rattle.std.proofs.Common.{◌≡◌, ℕ, suc, zero, ◌+◌, ◌*◌, ◌⊎◌, Bool, true, false, List, [], ◌∷◌, ◌++◌, map, Option, Some, None, refl, ap, sym, ◌∙◌, subst, inl, inr, arith}
+use Rattle.std.proofs.Common.{◌≡◌, ℕ, suc, ◌+◌, ◌*◌, ◌⊎◌, Bool, true, false, List, [], ◌∷◌, ◌++◌, map, Option, Some, refl, ap, sym, ◌∙◌, subst, inl, inr}
 use Rattle.std.specs.Prelude.{bytes_eq, not, slice_get}
 use Rattle.std.specs.List.{AllByRecursion, Contains, filter, flat_map, list_any}
 use Rattle.std.proofs.lemmas.Bool.{cases_Bool, false_from_ne_true, true≢false}
@@ -9,11 +9,11 @@ use Rattle.implib.specs.declared.machine.MachineType.{MachineType}
 use Rattle.implib.specs.Definition.{ExportView}
 use Rattle.implib.specs.Formats.Layout.{object_of}
 use Rattle.implib.specs.Formats.Object.{Object, object_in}
-use Rattle.implib.specs.Import.{imp_symbol, is_alias, public_exports}
+use Rattle.implib.specs.Import.{imp_symbol, public_exports}
 use Rattle.implib.specs.Renaming.{renamed}
 use Rattle.implib.specs.Link.Linked.{IsDefinedOnce}
 use Rattle.implib.specs.Link.LinkedMembers.{LinkInput, all_linked, chosen_exports, objects_in}
-use Rattle.implib.specs.Link.Placement.{Bases, Placed, placed_from}
+use Rattle.implib.specs.Link.Placement.{Bases, placed_from}
 use Rattle.implib.specs.Link.Resolution.{definitions_of}
 use Rattle.implib.specs.Members.Gnu.{archive_symbols, head_symbol, iname_symbol}
 use Rattle.implib.specs.Members.ImportTables.{thunk_width}
@@ -23,9 +23,9 @@ use Rattle.implib.proofs.Link.LinkedBlocks.{Block, linked_symbols as block_symbo
 use Rattle.implib.proofs.Link.LinkedInputs.{block_of, gnu_inputs_symbols}
 use Rattle.implib.proofs.Link.LinkedMembers.{among_contains, among_map}
 use Rattle.implib.proofs.Link.Placement.{export, head, tail}
-use Rattle.implib.proofs.Link.Ranges.{Among, all_among, among_back, among_first, among_flat, among_front, among_later}
+use Rattle.implib.proofs.Link.Ranges.{Among, all_among, among_back, among_flat, among_front, among_later}
 use Rattle.implib_link.specs.Gnu.Program.{ClaimsNone, IsProgram, LinksAmong, claimed_names, has_tables, linked_symbols, null_descriptor, thunks_before}
-use Rattle.implib_link.specs.Search.Archives.{IsArchive, IsLibrary, Library, NamesNoHeadOrTailOf, TakesOfLibraries, archive_of, exports_of, inputs_wanted, is_weak, others_among, wanted_with, weak_among}
+use Rattle.implib_link.specs.Search.Archives.{IsArchive, IsLibrary, Library, TakesOfLibraries, archive_of, exports_of, is_weak, others_among, weak_among}
 use Rattle.implib_link.specs.Search.Closed.{AreTakenInto, IsAliasTaken, IsClosed, IsImported, IsUsed, LinksClosed, PullsInto, TakesInto, claims_of, inputs_in, listed_in, references_of, unresolved, wanted_in}
 use Rattle.implib_link.specs.Search.Search.{IsTakenInTurn, NamesNoHeadOrTail, PullsIn, Takes, exports_wanted, first_listed, is_listed_for, is_wanted, names_claimed, names_undefined, undefined_in}
 use Rattle.implib_link.proofs.Gnu.Claims.{claimed_export, claimed_head, claimed_tail}
@@ -35,7 +35,7 @@ use Rattle.implib_link.proofs.Search.ArchiveGroups.{export_of, head_of, tail_of,
 use Rattle.implib_link.proofs.Search.ArchiveMembers.{Found, FoundExport, FoundHead, FoundTail, FoundWeak, claimed_weak, export_found, export_object_is, found, head_found, head_object_is, tail_found, tail_object_is, weak_found, weak_is_weak, weak_object_is}
 use Rattle.implib_link.proofs.Search.Archives.{inputs_made, libraries_taken}
 use Rattle.implib_link.proofs.Search.Arranged.{all_each, among_moved, archive_moved, chosen_are, input_for, input_held, input_is, inputs_distinct, linked_moved}
-use Rattle.implib_link.proofs.Search.Lists.{NameRead, all_listed, among_any, among_at, among_either, among_flat_map, any_among, any_member, contains_among, listed_is, name_read, none_listed, read_name}
+use Rattle.implib_link.proofs.Search.Lists.{NameRead, among_any, among_at, among_either, among_flat_map, any_among, any_member, contains_among, listed_is, name_read, none_listed, read_name}
 use Rattle.implib_link.proofs.Search.Search.{in_nothing, listed_export, listed_head, listed_tail, numbers_are_wanted, only_one, wanted_name, wants}
 
 -- Lists.

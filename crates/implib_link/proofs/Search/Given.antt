@@ -1,7 +1,7 @@
 -- What a linker takes for given objects closes the program, by what is asked of the objects alone.
-use Rattle.std.proofs.Common.{◌≡◌, ℕ, ◌⊎◌, Bool, true, false, List, [], ◌∷◌, ◌++◌, map, Option, Some, refl, ap, sym, ◌∙◌, subst, inl, inr}
-use Rattle.std.specs.Prelude.{bytes_eq, slice_get}
-use Rattle.std.specs.List.{AllByRecursion, filter, flat_map, list_any}
+use Rattle.std.proofs.Common.{◌≡◌, ℕ, ◌⊎◌, true, List, [], ◌∷◌, ◌++◌, map, Option, Some, refl, ap, sym, ◌∙◌, subst, inl, inr}
+use Rattle.std.specs.Prelude.{slice_get}
+use Rattle.std.specs.List.{AllByRecursion, filter, flat_map}
 use Rattle.std.proofs.lemmas.Bool.{true≢false}
 use Rattle.implib.specs.declared.machine.MachineType.{MachineType}
 use Rattle.implib.specs.Definition.{ExportView}
@@ -15,18 +15,18 @@ use Rattle.implib.specs.Members.MemberSpec.{MemberView}
 use Rattle.implib.specs.Members.WeakExternal.{weak_object}
 use Rattle.implib.proofs.Link.LinkedMembers.{among_map}
 use Rattle.implib.proofs.Link.Placement.{export, head, tail}
-use Rattle.implib.proofs.Link.Ranges.{Among, all_among, among_back, among_first, among_flat, among_front}
+use Rattle.implib.proofs.Link.Ranges.{Among, all_among, among_back, among_flat, among_front}
 use Rattle.implib_link.specs.Gnu.Program.{ClaimsNone, claimed_names}
 use Rattle.implib_link.specs.Search.Archives.{IsArchive, IsLibrary, Library, NamesNoHeadOrTailOf, archive_of, exports_of, is_weak, weak_among}
 use Rattle.implib_link.specs.Search.Closed.{AreLinkedFor, IsClosed, TakesInto, listed_in, unresolved, wanted_in}
 use Rattle.implib_link.specs.Search.Given.{AreGiven, alias_targets, heads_of, is_data_alias, symbols_kept, symbols_wanted, tails_of, wanted_at_most}
-use Rattle.implib_link.specs.Search.Search.{IsTakenInTurn, NamesNoHeadOrTail, Takes, first_listed, is_wanted, names_undefined, undefined_in}
+use Rattle.implib_link.specs.Search.Search.{IsTakenInTurn, NamesNoHeadOrTail, first_listed, is_wanted, names_undefined, undefined_in}
 use Rattle.implib_link.proofs.Search.ArchiveGroups.{export_of, head_of, tail_of, weak_of}
 use Rattle.implib_link.proofs.Search.ArchiveMembers.{Found, FoundExport, FoundHead, FoundTail, FoundWeak, export_not_weak, export_object_is, found, head_found, head_not_weak, head_object_is, tail_found, tail_not_weak, tail_object_is, weak_object_is}
 use Rattle.implib_link.proofs.Search.Arranged.{all_each}
 use Rattle.implib_link.proofs.Search.Closed.{claims_apart, claims_none, in_turn_for, passes, passing, takes_into, there_not, not_there, unresolved_parts}
 use Rattle.implib_link.proofs.Search.Ends.{search_ends}
-use Rattle.implib_link.proofs.Search.Lists.{NameRead, among_at, among_either, among_flat_map, contains_among, name_read}
+use Rattle.implib_link.proofs.Search.Lists.{among_at, among_either, among_flat_map, contains_among, name_read}
 use Rattle.implib_link.proofs.Search.Search.{in_nothing, left_export, left_head, left_tail, listed_export, listed_head, listed_tail, only_one, wants}
 
 -- a weak external leaves its target to others
