@@ -14,3 +14,4 @@ pub mod MsvcEnds
 pub mod Counts
 pub mod Arranged
 pub mod Closed
+pub mod Given

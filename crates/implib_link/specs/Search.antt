@@ -3,3 +3,4 @@ pub mod Search
 pub mod Archives
 pub mod Msvc
 pub mod Closed
+pub mod Given

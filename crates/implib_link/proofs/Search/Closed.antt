@@ -48,7 +48,7 @@ to_not : (b : Bool) → b ≡ false → not b ≡ true
 to_not b is = rw is refl
 
 -- what passes a test
-passing : {X : Type 0} (test : X → Bool) (x : X) (xs : List X) → Among x (filter test xs) → Among x xs × (test x ≡ true)
+pub passing : {X : Type 0} (test : X → Bool) (x : X) (xs : List X) → Among x (filter test xs) → Among x xs × (test x ≡ true)
 unfolding Among
 passing test x [] held = absurd held
 passing test x (y ∷ xs) held =
@@ -62,7 +62,7 @@ passing test x (y ∷ xs) held =
       | inr none ↦ let later = passing test x xs (rw none at held) in (inr later.0, later.1)
     ]
 
-passes : {X : Type 0} (test : X → Bool) (x : X) (xs : List X) → Among x xs → test x ≡ true → Among x (filter test xs)
+pub passes : {X : Type 0} (test : X → Bool) (x : X) (xs : List X) → Among x xs → test x ≡ true → Among x (filter test xs)
 unfolding Among
 passes test x [] held is = absurd held
 passes test x (y ∷ xs) (inl e) is = rw (subst (λ z. test z ≡ true) e is) (inl e)
@@ -79,10 +79,10 @@ at_index x (y ∷ xs) (inl e) = (0, ap Some (sym e))
 at_index x (y ∷ xs) (inr held) = let later = at_index x xs held in (suc later.0, later.1)
 
 -- a name is not among these
-not_there : (name : List ℕ) (names : List (List ℕ)) → (Among name names → ⊥) → list_any (bytes_eq name) names ≡ false
+pub not_there : (name : List ℕ) (names : List (List ℕ)) → (Among name names → ⊥) → list_any (bytes_eq name) names ≡ false
 not_there name names none = false_from_ne_true (list_any (bytes_eq name) names) (λ is. none (any_among name names is))
 
-there_not : (name : List ℕ) (names : List (List ℕ)) → list_any (bytes_eq name) names ≡ false → Among name names → ⊥
+pub there_not : (name : List ℕ) (names : List (List ℕ)) → list_any (bytes_eq name) names ≡ false → Among name names → ⊥
 there_not name names none held = true≢false (sym (among_any name names held) ∙ none)
 
 -- objects that claim none of some names
@@ -93,7 +93,7 @@ claims_apart names objects none name held claimed =
     there_not name (claimed_names from.0)
     (all_among (λ n. list_any (bytes_eq n) (claimed_names from.0) ≡ false) name names held (all_among (ClaimsNone names) from.0 objects from.1 none)) from.2
 
-claims_none : (names : List (List ℕ)) (o : Object) → ((name : List ℕ) → Among name names → Among name (claimed_names o) → ⊥) → ClaimsNone names o
+pub claims_none : (names : List (List ℕ)) (o : Object) → ((name : List ℕ) → Among name names → Among name (claimed_names o) → ⊥) → ClaimsNone names o
 claims_none names o none = all_each (λ name. list_any (bytes_eq name) (claimed_names o) ≡ false) names (λ name held. not_there name (claimed_names o) (none name held))
 
 -- What objects leave unresolved.
@@ -153,7 +153,7 @@ module _ (archive : List MemberView) (own : List Object) where
         new = pulls.new;
       }
 
-  in_turn_for : (taken : List MemberView) → AreTakenInto archive own taken → IsTakenInTurn archive (unresolved own) taken
+  pub in_turn_for : (taken : List MemberView) → AreTakenInto archive own taken → IsTakenInTurn archive (unresolved own) taken
   unfolding AreTakenInto IsTakenInTurn
   in_turn_for [] turn = tt
   in_turn_for (m ∷ earlier) turn = ((turn.0.0, pulls_for earlier turn.0.0 m turn.0.1), in_turn_for earlier turn.1)
@@ -264,17 +264,17 @@ module _ (machine : MachineType) (libraries : List Library) (archive : IsArchive
     taken_is = libraries_taken machine libraries taken (unresolved own) archive is.names takes
 
     arranged_archive : IsArchive machine arranged
-    arranged_archive = archive_moved machine libraries arranged is.order archive
+    arranged_archive = archive_moved machine libraries arranged is.linked.order archive
 
     -- what is linked is what is taken but for weak externals
     linked_other : (m : MemberView) → Among m (all_linked machine inputs) → Among m (others_among taken)
     linked_other m held =
         contains_among m (others_among taken) ((taken_is.inputs m).1 (among_contains m (all_linked machine (inputs_in libraries own taken))
-        (linked_moved machine arranged libraries wanted (IsPermutation-sym libraries arranged is.order) m held)))
+        (linked_moved machine arranged libraries wanted (IsPermutation-sym libraries arranged is.linked.order) m held)))
 
     other_linked : (m : MemberView) → Among m (others_among taken) → Among m (all_linked machine inputs)
     other_linked m held =
-        linked_moved machine libraries arranged wanted is.order m
+        linked_moved machine libraries arranged wanted is.linked.order m
         (contains_among m (all_linked machine (inputs_in libraries own taken)) ((taken_is.inputs m).0 (among_contains m (others_among taken) held)))
 
     -- a name of what is linked is listed for a member that is taken and is no weak external
@@ -318,7 +318,7 @@ module _ (machine : MachineType) (libraries : List Library) (archive : IsArchive
         all_each (ClaimsNone (linked_symbols machine inputs)) others (λ o held.
         claims_none (linked_symbols machine inputs) o (λ name linked claimed.
         let m = linked_name name linked in
-        elim (among_either o own (objects_in (weak_among taken)) (contains_among o (own ++ objects_in (weak_among taken)) ((is.others o).0 (among_contains o others held)))) [
+        elim (among_either o own (objects_in (weak_among taken)) (contains_among o (own ++ objects_in (weak_among taken)) ((is.linked.others o).0 (among_contains o others held)))) [
           | inl given ↦ listed_apart name (among_flat (λ (y : MemberView). y.symbols) m.0 taken name m.1 m.3) (among_flat claimed_names o own name given claimed)
           | inr weak ↦ weak_apart name linked (among_flat claimed_names o (objects_in (weak_among taken)) name weak claimed)
         ]))
@@ -326,9 +326,9 @@ module _ (machine : MachineType) (libraries : List Library) (archive : IsArchive
     program : IsProgram machine bases (inputs_in arranged own taken) objects
     program = record {
       distinct = inputs_distinct machine arranged wanted arranged_archive;
-      tables = is.tables;
+      tables = is.linked.tables;
       others = others_claim_none;
-      admissible = is.admissible;
+      admissible = is.linked.admissible;
     }
 
     links : LinksAmong machine bases (inputs_in arranged own taken) objects
@@ -414,7 +414,7 @@ module _ (machine : MachineType) (libraries : List Library) (archive : IsArchive
         let is_want : is_wanted wanted e ≡ true = wants wanted (archive_symbols e) name listed want in
         let k : Among n (exports_wanted l.definition wanted) = (numbers_are_wanted (exports_of l) wanted).all n e at is_want in
         let p : LinkInput = input_for l wanted in
-        let there : Among p inputs = input_held arranged wanted l n (among_moved l libraries arranged is.order held) k in
+        let there : Among p inputs = input_held arranged wanted l n (among_moved l libraries arranged is.linked.order held) k in
         let i = at_index p inputs there in
         let chosen : Among e (chosen_exports p.definition p.chosen) =
         subst (Among e) (sym (chosen_are l wanted)) (passes (is_wanted wanted) e (exports_of l) (among_at e (exports_of l) n at) is_want) in
@@ -502,7 +502,7 @@ module _ (machine : MachineType) (libraries : List Library) (archive : IsArchive
         subst (Among name) (sym (flat_map-append f own (objects_in taken)))
         (elim (cases_Bool (has_tables by.0)) [
           | inl tables ↦ among_back name (flat_map f own) (flat_map f (objects_in taken)) (
-              let kept : Among by.0 (objects_in (all_linked machine inputs) ++ null_descriptor ∷ []) = subst (Among by.0) is.tables (passes has_tables by.0 objects by.1 tables) in
+              let kept : Among by.0 (objects_in (all_linked machine inputs) ++ null_descriptor ∷ []) = subst (Among by.0) is.linked.tables (passes has_tables by.0 objects by.1 tables) in
               elim (among_either by.0 (objects_in (all_linked machine inputs)) (null_descriptor ∷ []) kept) [
                 | inl member ↦ same_names f name (all_linked machine inputs) (λ m linked. (passing (λ x. not (is_weak x)) m taken (linked_other m linked)).0)
                     (among_flat f by.0 (objects_in (all_linked machine inputs)) name member by.2)
@@ -510,7 +510,7 @@ module _ (machine : MachineType) (libraries : List Library) (archive : IsArchive
               ])
           | inr plain ↦ (
               let kept : Among by.0 others = passes (λ o. not (has_tables o)) by.0 objects by.1 (to_not (has_tables by.0) plain) in
-              elim (among_either by.0 own (objects_in (weak_among taken)) (contains_among by.0 (own ++ objects_in (weak_among taken)) ((is.others by.0).0 (among_contains by.0 others kept)))) [
+              elim (among_either by.0 own (objects_in (weak_among taken)) (contains_among by.0 (own ++ objects_in (weak_among taken)) ((is.linked.others by.0).0 (among_contains by.0 others kept)))) [
                 | inl given ↦ among_front name (flat_map f own) (flat_map f (objects_in taken)) (among_flat f by.0 own name given by.2)
                 | inr weak ↦ among_back name (flat_map f own) (flat_map f (objects_in taken))
                     (same_names f name (weak_among taken) (λ m held. (passing is_weak m taken held).0) (among_flat f by.0 (objects_in (weak_among taken)) name weak by.2))
@@ -526,7 +526,7 @@ module _ (machine : MachineType) (libraries : List Library) (archive : IsArchive
           | inl given ↦
               let by = among_flat_map f name own given in
               among_flat f by.0 objects name
-              (other_held by.0 (contains_among by.0 others ((is.others by.0).1
+              (other_held by.0 (contains_among by.0 others ((is.linked.others by.0).1
               (among_contains by.0 (own ++ objects_in (weak_among taken)) (among_front by.0 own (objects_in (weak_among taken)) by.1))))) by.2
           | inr member ↦ of_member (name_read f name taken member)
         ]
@@ -537,14 +537,14 @@ module _ (machine : MachineType) (libraries : List Library) (archive : IsArchive
               | inl weak ↦
                   let o = among_flat_map f name (objects_in (weak_among taken)) (read_name f name (weak_among taken) by.0 by.1 (passes is_weak by.0 taken by.2 weak) by.3 by.4) in
                   among_flat f o.0 objects name
-                  (other_held o.0 (contains_among o.0 others ((is.others o.0).1
+                  (other_held o.0 (contains_among o.0 others ((is.linked.others o.0).1
                   (among_contains o.0 (own ++ objects_in (weak_among taken)) (among_back o.0 own (objects_in (weak_among taken)) o.1))))) o.2
               | inr plain ↦
                   let linked : Among by.0 (all_linked machine inputs) = other_linked by.0 (passes (λ x. not (is_weak x)) by.0 taken by.2 (to_not (is_weak by.0) plain)) in
                   let o = among_flat_map f name (objects_in (all_linked machine inputs)) (read_name f name (all_linked machine inputs) by.0 by.1 linked by.3 by.4) in
                   among_flat f o.0 objects name
                   (passing has_tables o.0 objects
-                  (subst (Among o.0) (sym is.tables) (among_front o.0 (objects_in (all_linked machine inputs)) (null_descriptor ∷ []) o.1))).0 o.2
+                  (subst (Among o.0) (sym is.linked.tables) (among_front o.0 (objects_in (all_linked machine inputs)) (null_descriptor ∷ []) o.1))).0 o.2
             ]
 
     closed : (name : List ℕ) → Contains (unresolved objects) name → Contains (listed_in (archive_of libraries)) name → ⊥

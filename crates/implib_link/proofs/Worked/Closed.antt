@@ -18,12 +18,14 @@ use Rattle.implib_link.specs.Gnu.Packed.{group_end, packed_end, sections_end}
 use Rattle.implib_link.specs.Gnu.Program.{ClaimsNone, claimed_names, has_tables}
 use Rattle.implib_link.specs.Search.Archives.{Library, NamesNoHeadOrTailOf, archive_of, is_weak}
 use Rattle.implib_link.specs.Search.Closed.{IsClosed, PullsInto, TakesInto, claims_of, inputs_in, listed_in, references_of, unresolved, wanted_in}
+use Rattle.implib_link.specs.Search.Given.{AreGiven, symbols_kept}
 use Rattle.implib_link.specs.Search.Search.{HaveSame, names_undefined, undefined_in}
 use Rattle.implib_link.specs.Worked.Archives.{two_libraries}
-use Rattle.implib_link.specs.Worked.Closed.{WorkedClosed, choosing, clashing, closed_bases, closed_objects, closed_taken, without_last, zed_first}
+use Rattle.implib_link.specs.Worked.Closed.{WorkedClosed, WorkedGiven, choosing, clashing, closed_bases, closed_objects, closed_taken, without_last, zed_first}
 use Rattle.implib_link.proofs.Gnu.Packed.{packed_is_admissible}
 use Rattle.implib_link.proofs.Search.Archives.{inputs_made}
 use Rattle.implib_link.proofs.Search.Closed.{claims_apart, closed_links, takes_into, unresolved_parts}
+use Rattle.implib_link.proofs.Search.Given.{given_closes, given_ends}
 use Rattle.implib_link.proofs.Search.Lists.{among_any, any_among, contains_among}
 use Rattle.implib_link.proofs.Worked.Archives.{both_takes, tail_named, worked_archives}
 use Rattle.implib_link.proofs.Worked.Programs.{claims_none_by, opened}
@@ -75,13 +77,15 @@ is_closed : IsClosed AMD64 two_libraries own closed_taken zed_first closed_bases
 unfolding opened alias_specs encoded_size weak_object is_weak names_undefined undefined_in references_of claims_of has_tables group_end sections_end
 is_closed = record {
   takes = takes;
-  order = record { moves = (0, 1) ∷ []; below = (omega arith, omega arith, tt); is = refl };
-  others = swapped _ choosing;
-  tables = refl;
+  linked = record {
+    order = record { moves = (0, 1) ∷ []; below = (omega arith, omega arith, tt); is = refl };
+    others = swapped _ choosing;
+    tables = refl;
+    admissible = packed_is_admissible AMD64 0x2000 inputs closed_objects (inputs_made AMD64 zed_first (wanted_in own closed_taken) (worked_archives.archive.made.1.0, (worked_archives.archive.made.0, tt)))
+        refl (omega arith) (below_limit (packed_end 0x2000 closed_objects) refl);
+  };
   claims = claims;
   names = plain;
-  admissible = packed_is_admissible AMD64 0x2000 inputs closed_objects (inputs_made AMD64 zed_first (wanted_in own closed_taken) (worked_archives.archive.made.1.0, (worked_archives.archive.made.0, tt)))
-      refl (omega arith) (below_limit (packed_end 0x2000 closed_objects) refl);
 }
 
 stopped : TakesInto (archive_of two_libraries) own without_last → ⊥
@@ -125,4 +129,27 @@ worked_closed = record {
   stopped = stopped;
   claimed = claimed;
   clashes = clashes;
+}
+
+given : AreGiven AMD64 two_libraries own
+unfolding opened alias_specs encoded_size references_of claims_of undefined_in
+given = record {
+  claims = (claims_none_by (symbols_kept AMD64 two_libraries own) choosing refl, tt);
+  names = (record { head = refl; name = refl }, (record { head = refl; name = refl }, tt));
+}
+
+refused : AreGiven AMD64 two_libraries (clashing ∷ []) → ⊥
+unfolding opened alias_specs encoded_size references_of claims_of undefined_in
+refused is =
+    let names : List (List ℕ) = symbols_kept AMD64 two_libraries (clashing ∷ []) in
+    true≢false (all_among (λ name. list_any (bytes_eq name) (claimed_names clashing) ≡ false) (codes "queue") names (any_among (codes "queue") names refl) is.claims.0)
+
+pub worked_given : WorkedGiven
+unfolding opened alias_specs encoded_size references_of claims_of undefined_in
+worked_given = record {
+  given = given;
+  kept = refl;
+  ends = given_ends AMD64 two_libraries own worked_archives.archive given;
+  closed = given_closes AMD64 two_libraries own closed_taken zed_first closed_bases closed_objects worked_archives.archive given takes is_closed.linked;
+  refused = refused;
 }

@@ -65,26 +65,33 @@ wanted_in own taken = wanted_with (unresolved own) taken
 abbrev pub inputs_in : List Library → List Object → List MemberView → List LinkInput
 inputs_in arranged own taken = inputs_wanted arranged (wanted_in own taken)
 
--- A closed program of given objects and what is taken of libraries:
--- `takes`: a linker takes these members for the given objects;
+-- What is linked for given objects and members that are taken of libraries:
 -- `order`: the libraries are linked in this order, which may be another than that of the archive;
 -- `others`: the objects without import tables are those that are given and the weak externals that are taken;
 -- `tables`: those with import tables are the other members that are taken and, behind them, the null descriptor;
--- `claims`: the given objects claim no name that members which are taken are listed for or leave to others; of
--- the libraries' other symbols they may;
--- `names`: no head's or tail's symbol is wanted;
 -- `admissible`: the bases are.
-pub record IsClosed (machine : MachineType) (libraries : List Library) (own : List Object)
+pub record AreLinkedFor (machine : MachineType) (libraries : List Library) (own : List Object)
     (taken : List MemberView) (arranged : List Library) (bases : Bases) (objects : List Object)
     : Type 0 where
-  pub takes : TakesInto (archive_of libraries) own taken
   pub order : IsPermutation libraries arranged
   pub others : HaveSame (filter (λ o. not (has_tables o)) objects) (own ++ objects_in (weak_among taken))
   pub tables : filter has_tables objects
       ≡ objects_in (all_linked machine (inputs_in arranged own taken)) ++ null_descriptor ∷ []
+  pub admissible : IsAdmissible machine bases objects
+
+-- A closed program of given objects and what is taken of libraries:
+-- `takes`: a linker takes these members for the given objects;
+-- `linked`: both are linked, and the null descriptor;
+-- `claims`: the given objects claim no name that members which are taken are listed for or leave to others; of
+-- the libraries' other symbols they may;
+-- `names`: no head's or tail's symbol is wanted.
+pub record IsClosed (machine : MachineType) (libraries : List Library) (own : List Object)
+    (taken : List MemberView) (arranged : List Library) (bases : Bases) (objects : List Object)
+    : Type 0 where
+  pub takes : TakesInto (archive_of libraries) own taken
+  pub linked : AreLinkedFor machine libraries own taken arranged bases objects
   pub claims : AllByRecursion (ClaimsNone (listed_in taken ++ names_undefined taken)) own
   pub names : NamesNoHeadOrTailOf machine libraries (wanted_in own taken)
-  pub admissible : IsAdmissible machine bases objects
 
 -- A name is that of an import of a linked program: `__imp_T`, which is defined once, at T's own entry of its
 -- DLL's address table; or T itself, which is no data, and is defined once.

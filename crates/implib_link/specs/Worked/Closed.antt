@@ -16,6 +16,7 @@ use Rattle.implib_link.specs.Gnu.Packed.{packed}
 use Rattle.implib_link.specs.Gnu.Program.{null_descriptor}
 use Rattle.implib_link.specs.Search.Archives.{IsArchive, Library, archive_of}
 use Rattle.implib_link.specs.Search.Closed.{IsClosed, LinksClosed, PullsInto, TakesInto, inputs_in, unresolved, wanted_in}
+use Rattle.implib_link.specs.Search.Given.{AreGiven, symbols_kept}
 use Rattle.implib_link.specs.Worked.Archives.{library_of, two_libraries}
 use Rattle.implib_link.specs.Worked.Programs.{code_object, symbol_of_class}
 use Rattle.implib_link.specs.Worked.Search.{aliased}
@@ -122,3 +123,14 @@ pub record WorkedClosed : Type 0 where
       PullsInto (archive_of two_libraries) (choosing ∷ []) taken (codes "stack") m → ⊥
   pub clashes : (arranged : List Library) (bases : Bases) (objects : List Object) →
       IsClosed AMD64 two_libraries (clashing ∷ []) closed_taken arranged bases objects → ⊥
+
+-- The first object may be given: so the search for it ends, and what was taken closes the program. What members
+-- alone may claim are these names, `queue` among them: so the object that has one of its own may not.
+pub record WorkedGiven : Type 0 where
+  pub given : AreGiven AMD64 two_libraries (choosing ∷ [])
+  pub kept : symbols_kept AMD64 two_libraries (choosing ∷ [])
+      ≡ codes "_head_foo_dll" ∷ codes "_head_zed_dll" ∷ codes "foo_dll_iname" ∷ codes "zed_dll_iname"
+      ∷ codes "baz" ∷ codes "baz" ∷ codes "__imp_baz" ∷ codes "queue" ∷ codes "__imp_queue" ∷ []
+  pub ends : (taken : List MemberView) × TakesInto (archive_of two_libraries) (choosing ∷ []) taken
+  pub closed : IsClosed AMD64 two_libraries (choosing ∷ []) closed_taken zed_first closed_bases closed_objects
+  pub refused : AreGiven AMD64 two_libraries (clashing ∷ []) → ⊥

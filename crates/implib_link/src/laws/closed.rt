@@ -4,9 +4,10 @@ ghost use Rattle.implib.specs.Formats.Object.{Object};
 ghost use Rattle.implib.specs.Link.Placement.{Bases};
 ghost use Rattle.implib.specs.Members.MemberSpec.{MemberView};
 ghost use Rattle.implib.specs.declared.machine.MachineType.{MachineType};
-ghost use Rattle.implib_link.specs.Search.Archives.{IsArchive, Library};
-ghost use Rattle.implib_link.specs.Search.Closed.{IsClosed, LinksClosed};
-ghost use Rattle.implib_link.specs.Worked.Closed.{WorkedClosed};
+ghost use Rattle.implib_link.specs.Search.Archives.{IsArchive, Library, archive_of};
+ghost use Rattle.implib_link.specs.Search.Closed.{AreLinkedFor, IsClosed, LinksClosed, TakesInto};
+ghost use Rattle.implib_link.specs.Search.Given.{AreGiven};
+ghost use Rattle.implib_link.specs.Worked.Closed.{WorkedClosed, WorkedGiven};
 ghost use Rattle.std.specs.Prelude.{List};
 
 /// Given objects, what a linker takes for them of an archive of several libraries, and the null
@@ -25,8 +26,26 @@ pub fn closed_program_links()
         LinksClosed machine libraries own taken arranged bases objects }
 {}
 
+/// For objects that may be given to a linker with libraries, its search ends; and whatever it takes
+/// closes the program, as what is linked. Nothing is asked of the search.
+pub fn given_objects_are_closed()
+    ensures ends { (machine : MachineType) (libraries : List Library) (own : List Object) →
+        IsArchive machine libraries →
+        AreGiven machine libraries own →
+        (taken : List MemberView) × TakesInto (archive_of libraries) own taken }
+    ensures closes { (machine : MachineType) (libraries : List Library) (own : List Object)
+        (taken : List MemberView) (arranged : List Library) (bases : Bases)
+        (objects : List Object) →
+        IsArchive machine libraries →
+        AreGiven machine libraries own →
+        TakesInto (archive_of libraries) own taken →
+        AreLinkedFor machine libraries own taken arranged bases objects →
+        IsClosed machine libraries own taken arranged bases objects }
+{}
+
 /// A closed program by hand, of an object that names data by an alias, a function by its pointer
 /// and a function of another library, and has a function of its own that a library exports, too.
 pub fn worked_closed_program()
-    ensures { WorkedClosed }
+    ensures closed { WorkedClosed }
+    ensures given { WorkedGiven }
 {}

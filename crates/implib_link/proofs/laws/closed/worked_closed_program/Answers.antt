@@ -1,5 +1,5 @@
-use Rattle.implib_link.proofs.Worked.Closed.{worked_closed}
+use Rattle.implib_link.proofs.Worked.Closed.{worked_closed, worked_given}
 use Rattle.implib_link.proofs.laws.closed.worked_closed_program.Goals as goal
 
 pub returns : goal.returns
-returns c = worked_closed
+returns c = record { closed = worked_closed; given = worked_given }

@@ -1,0 +1,256 @@
+-- What a linker takes for given objects closes the program, by what is asked of the objects alone.
+use Rattle.std.proofs.Common.{◌≡◌, ℕ, ◌⊎◌, true, List, [], ◌∷◌, ◌++◌, map, Option, Some, refl, ap, sym, ◌∙◌, subst, inl, inr}
+use Rattle.std.specs.Prelude.{slice_get}
+use Rattle.std.specs.List.{AllByRecursion, filter, flat_map}
+use Rattle.std.proofs.lemmas.Bool.{true≢false}
+use Rattle.implib.specs.declared.machine.MachineType.{MachineType}
+use Rattle.implib.specs.Definition.{ExportView}
+use Rattle.implib.specs.Formats.Layout.{entries_of, name_text, object_of}
+use Rattle.implib.specs.Formats.Object.{Object, object_in}
+use Rattle.implib.specs.Import.{is_alias}
+use Rattle.implib.specs.Link.LinkedMembers.{objects_in}
+use Rattle.implib.specs.Link.Placement.{Bases}
+use Rattle.implib.specs.Members.Gnu.{archive_symbols, head_symbol, iname_symbol}
+use Rattle.implib.specs.Members.MemberSpec.{MemberView}
+use Rattle.implib.specs.Members.WeakExternal.{weak_object}
+use Rattle.implib.proofs.Link.LinkedMembers.{among_map}
+use Rattle.implib.proofs.Link.Placement.{export, head, tail}
+use Rattle.implib.proofs.Link.Ranges.{Among, all_among, among_back, among_flat, among_front}
+use Rattle.implib_link.specs.Gnu.Program.{ClaimsNone, claimed_names}
+use Rattle.implib_link.specs.Search.Archives.{IsArchive, IsLibrary, Library, NamesNoHeadOrTailOf, archive_of, exports_of, is_weak, weak_among}
+use Rattle.implib_link.specs.Search.Closed.{AreLinkedFor, IsClosed, TakesInto, listed_in, unresolved, wanted_in}
+use Rattle.implib_link.specs.Search.Given.{AreGiven, alias_targets, heads_of, is_data_alias, symbols_kept, symbols_wanted, tails_of, wanted_at_most}
+use Rattle.implib_link.specs.Search.Search.{IsTakenInTurn, NamesNoHeadOrTail, first_listed, is_wanted, names_undefined, undefined_in}
+use Rattle.implib_link.proofs.Search.ArchiveGroups.{export_of, head_of, tail_of, weak_of}
+use Rattle.implib_link.proofs.Search.ArchiveMembers.{Found, FoundExport, FoundHead, FoundTail, FoundWeak, export_not_weak, export_object_is, found, head_found, head_not_weak, head_object_is, tail_found, tail_not_weak, tail_object_is, weak_object_is}
+use Rattle.implib_link.proofs.Search.Arranged.{all_each}
+use Rattle.implib_link.proofs.Search.Closed.{claims_apart, claims_none, in_turn_for, passes, passing, takes_into, there_not, not_there, unresolved_parts}
+use Rattle.implib_link.proofs.Search.Ends.{search_ends}
+use Rattle.implib_link.proofs.Search.Lists.{among_at, among_either, among_flat_map, contains_among, name_read}
+use Rattle.implib_link.proofs.Search.Search.{in_nothing, left_export, left_head, left_tail, listed_export, listed_head, listed_tail, only_one, wants}
+
+-- a weak external leaves its target to others
+left_weak : (machine : MachineType) (weak target : List ℕ) → undefined_in (object_of (weak_object machine weak target)) ≡ target ∷ []
+unfolding undefined_in weak_object object_of entries_of name_text
+left_weak machine weak target = refl
+
+module _ (machine : MachineType) (libraries : List Library) (archive : IsArchive machine libraries) (own : List Object) (given : AreGiven machine libraries own) where
+  abbrev kept : List (List ℕ)
+  kept = symbols_kept machine libraries own
+
+  abbrev most : List (List ℕ)
+  most = wanted_at_most libraries own
+
+  made_of : (l : Library) → Among l libraries → IsLibrary machine l
+  made_of l held = all_among (IsLibrary machine) l libraries held archive.made
+
+  -- Symbols that members alone may claim.
+
+  head_kept : (l : Library) → Among l libraries → Among (head_symbol machine l.definition.import_name) kept
+  head_kept l held =
+      among_front _ (heads_of machine libraries) (tails_of machine libraries ++ (alias_targets libraries ++ symbols_wanted libraries most))
+      (among_map (λ (x : Library). head_symbol machine x.definition.import_name) l libraries held)
+
+  tail_kept : (l : Library) → Among l libraries → Among (iname_symbol machine l.definition.import_name) kept
+  tail_kept l held =
+      among_back _ (heads_of machine libraries) (tails_of machine libraries ++ (alias_targets libraries ++ symbols_wanted libraries most))
+      (among_front _ (tails_of machine libraries) (alias_targets libraries ++ symbols_wanted libraries most)
+      (among_map (λ (x : Library). iname_symbol machine x.definition.import_name) l libraries held))
+
+  target_kept : (name : List ℕ) → Among name (alias_targets libraries) → Among name kept
+  target_kept name held =
+      among_back name (heads_of machine libraries) (tails_of machine libraries ++ (alias_targets libraries ++ symbols_wanted libraries most))
+      (among_back name (tails_of machine libraries) (alias_targets libraries ++ symbols_wanted libraries most)
+      (among_front name (alias_targets libraries) (symbols_wanted libraries most) held))
+
+  wanted_kept : (name : List ℕ) → Among name (symbols_wanted libraries most) → Among name kept
+  wanted_kept name held =
+      among_back name (heads_of machine libraries) (tails_of machine libraries ++ (alias_targets libraries ++ symbols_wanted libraries most))
+      (among_back name (tails_of machine libraries) (alias_targets libraries ++ symbols_wanted libraries most)
+      (among_back name (alias_targets libraries) (symbols_wanted libraries most) held))
+
+  target_is : (l : Library) (n : ℕ) (e : ExportView) → Among l libraries → slice_get (exports_of l) n ≡ Some e → is_alias e.alias_target e.name ≡ true → e.is_data ≡ true →
+      Among e.alias_target (alias_targets libraries)
+  target_is l n e held at alias is_data =
+      let both : is_data_alias e ≡ true = rw (is_data, alias) refl in
+      among_flat (λ (x : Library). map (λ (y : ExportView). y.alias_target) (filter is_data_alias (exports_of x))) l libraries e.alias_target held
+      (among_map (λ (y : ExportView). y.alias_target) e (filter is_data_alias (exports_of l)) (passes is_data_alias e (exports_of l) (among_at e (exports_of l) n at) both))
+
+  -- What a member that a name finds leaves to others.
+
+  data Left (name : List ℕ) (m : MemberView) : Type 0 where
+    LeftByHead : (l : Library) → Among l libraries → name ≡ iname_symbol machine l.definition.import_name → Left name m
+    LeftByExport : (l : Library) → Among l libraries → name ≡ head_symbol machine l.definition.import_name → Left name m
+    LeftByWeak : Among name (alias_targets libraries) → Left name m
+
+  names_of : (names : List (List ℕ)) (name : List ℕ) (m x : MemberView) (o one : Object) → m ≡ x → object_in x.bytes ≡ Some one → object_in m.bytes ≡ Some o →
+      undefined_in one ≡ names → Among name (undefined_in o) → Among name names
+  names_of names name m x o one same is read are held =
+      let objects : o ≡ one = (let e : Some o ≡ Some one = sym read ∙ ap (λ (y : MemberView). object_in y.bytes) same ∙ is in cc) in
+      subst (Among name) are (subst (λ t. Among name (undefined_in t)) objects held)
+
+  left_by : (by name : List ℕ) (m : MemberView) (o : Object) → Found machine libraries archive by m → object_in m.bytes ≡ Some o → Among name (undefined_in o) → Left name m
+  left_by by name m o (FoundTail l held same is) read left =
+      let dll : List ℕ = l.definition.import_name in
+      absurd (in_nothing name (names_of [] name m (tail_of machine l) o (tail machine dll) same (tail_object_is machine l (made_of l held)) read (left_tail machine dll) left))
+  left_by by name m o (FoundHead l held same is) read left =
+      let dll : List ℕ = l.definition.import_name in
+      LeftByHead l held (only_one name (iname_symbol machine dll)
+      (names_of (iname_symbol machine dll ∷ []) name m (head_of machine l) o (head machine dll) same (head_object_is machine l (made_of l held)) read (left_head machine dll) left))
+  left_by by name m o (FoundExport l held n e is same listed) read left =
+      let dll : List ℕ = l.definition.import_name in
+      LeftByExport l held (only_one name (head_symbol machine dll)
+      (names_of (head_symbol machine dll ∷ []) name m (export_of machine l n e) o (export machine dll e) same (export_object_is machine l (made_of l held) n e is) read (left_export machine dll e) left))
+  left_by by name m o (FoundWeak l held n e is alias is_data same named) read left =
+      let target : name ≡ e.alias_target = only_one name e.alias_target
+      (names_of (e.alias_target ∷ []) name m (weak_of machine l n e) o (object_of (weak_object machine e.name e.alias_target)) same (weak_object_is machine l (made_of l held) n e is alias) read
+      (left_weak machine e.name e.alias_target) left) in
+      LeftByWeak (subst (λ x. Among x (alias_targets libraries)) (sym target) (target_is l n e held is alias is_data))
+
+  left_kept : (name : List ℕ) (m : MemberView) → Left name m → Among name kept
+  left_kept name m (LeftByHead l held is) = subst (λ n. Among n kept) (sym is) (tail_kept l held)
+  left_kept name m (LeftByExport l held is) = subst (λ n. Among n kept) (sym is) (head_kept l held)
+  left_kept name m (LeftByWeak held) = target_kept name held
+
+  -- What a member is listed for that is taken: members alone may claim it, or the objects leave it unresolved.
+
+  abbrev IsKept : List ℕ → Type 0
+  IsKept name = Among name kept ⊎ Among name (unresolved own)
+
+  tail_listed : (l : Library) (m : MemberView) (name : List ℕ) → Among l libraries → m ≡ tail_of machine l → Among name m.symbols → IsKept name
+  tail_listed l m name held same listed =
+      let dll : List ℕ = l.definition.import_name in
+      inl (subst (λ n. Among n kept) (sym (only_one name (iname_symbol machine dll) (subst (Among name) (listed_tail machine dll) (subst (λ (y : MemberView). Among name y.symbols) same listed)))) (tail_kept l held))
+
+  head_listed : (l : Library) (m : MemberView) (name : List ℕ) → Among l libraries → m ≡ head_of machine l → Among name m.symbols → IsKept name
+  head_listed l m name held same listed =
+      let dll : List ℕ = l.definition.import_name in
+      inl (subst (λ n. Among n kept) (sym (only_one name (head_symbol machine dll) (subst (Among name) (listed_head machine dll) (subst (λ (y : MemberView). Among name y.symbols) same listed)))) (head_kept l held))
+
+  -- of a member that a wanted name finds
+  wanted_listed : (by name : List ℕ) (m : MemberView) → Among by most → Found machine libraries archive by m → Among name m.symbols → IsKept name
+  wanted_listed by name m want (FoundTail l held same is) listed = tail_listed l m name held same listed
+  wanted_listed by name m want (FoundHead l held same is) listed = head_listed l m name held same listed
+  wanted_listed by name m want (FoundExport l held n e is same own_name) listed =
+      let symbols : Among name (archive_symbols e) = subst (Among name) (listed_export machine l.definition.import_name n e) (subst (λ (y : MemberView). Among name y.symbols) same listed) in
+      let there : Among e (filter (is_wanted most) (exports_of l)) = passes (is_wanted most) e (exports_of l) (among_at e (exports_of l) n is) (wants most (archive_symbols e) by own_name want) in
+      inl (wanted_kept name (among_flat (λ (x : Library). flat_map archive_symbols (filter (is_wanted most) (exports_of x))) l libraries name held
+      (among_flat archive_symbols e (filter (is_wanted most) (exports_of l)) name there symbols)))
+  wanted_listed by name m want (FoundWeak l held n e is alias is_data same named) listed =
+      let bare : name ≡ e.name = only_one name e.name (subst (λ (y : MemberView). Among name y.symbols) same listed) in
+      elim (among_either name (unresolved own) (alias_targets libraries) (subst (λ x. Among x most) (named ∙ sym bare) want)) [
+        | inl left ↦ inr left
+        | inr target ↦ inl (target_kept name target)
+      ]
+
+  same_first : (m x : MemberView) (found : Option MemberView) → found ≡ Some m → found ≡ Some x → m ≡ x
+  same_first m x found one other = (let e : Some m ≡ Some x = sym one ∙ other in cc)
+
+  -- of a member that a name finds which another one left
+  left_listed : (by name : List ℕ) (m x : MemberView) → Left by x → first_listed (archive_of libraries) by ≡ Some m → Among name m.symbols → IsKept name
+  left_listed by name m x (LeftByHead l held is) at listed =
+      tail_listed l m name held (same_first m (tail_of machine l) (first_listed (archive_of libraries) by) at (ap (first_listed (archive_of libraries)) is ∙ tail_found machine libraries archive l held)) listed
+  left_listed by name m x (LeftByExport l held is) at listed =
+      head_listed l m name held (same_first m (head_of machine l) (first_listed (archive_of libraries) by) at (ap (first_listed (archive_of libraries)) is ∙ head_found machine libraries archive l held)) listed
+  left_listed by name m x (LeftByWeak target) at listed =
+      wanted_listed by name m (among_back by (unresolved own) (alias_targets libraries) target) (found machine libraries archive by m at) listed
+
+  -- Members that are taken in turn for what the objects leave unresolved.
+
+  pulled_by : (taken : List MemberView) → IsTakenInTurn (archive_of libraries) (unresolved own) taken → (m : MemberView) → Among m taken →
+      (by : List ℕ) × Found machine libraries archive by m
+  unfolding Among IsTakenInTurn
+  pulled_by [] turn m held = absurd held
+  pulled_by (t ∷ earlier) turn m (inl e) = (turn.0.0, subst (Found machine libraries archive turn.0.0) (sym e) (found machine libraries archive turn.0.0 t turn.0.1.listed))
+  pulled_by (t ∷ earlier) turn m (inr held) = pulled_by earlier turn.1 m held
+
+  listed_by : (taken : List MemberView) → IsTakenInTurn (archive_of libraries) (unresolved own) taken → (m : MemberView) (name : List ℕ) → Among m taken → Among name m.symbols → IsKept name
+  unfolding Among IsTakenInTurn names_undefined
+  listed_by [] turn m name held listed = absurd held
+  listed_by (t ∷ earlier) turn m name (inr held) listed = listed_by earlier turn.1 m name held listed
+  listed_by (t ∷ earlier) turn m name (inl e) listed =
+      let by : List ℕ = turn.0.0 in
+      let own_name : Among name t.symbols = subst (λ (y : MemberView). Among name y.symbols) e listed in
+      elim (among_either by (unresolved own) (flat_map undefined_in (objects_in earlier)) (contains_among by (unresolved own ++ flat_map undefined_in (objects_in earlier)) turn.0.1.named)) [
+        | inl given_name ↦ wanted_listed by name t (among_front by (unresolved own) (alias_targets libraries) given_name) (found machine libraries archive by t turn.0.1.listed) own_name
+        | inr left ↦
+            let from = name_read undefined_in by earlier left in
+            let x = pulled_by earlier turn.1 from.0 from.2 in
+            left_listed by name t from.0 (left_by x.0 by from.0 from.1 x.1 from.3 from.4) turn.0.1.listed own_name
+      ]
+
+  module _ (taken : List MemberView) (turn : IsTakenInTurn (archive_of libraries) (unresolved own) taken) where
+    left_of : (name : List ℕ) → Among name (flat_map undefined_in (objects_in taken)) → Among name kept
+    left_of name left =
+        let from = name_read undefined_in name taken left in
+        let x = pulled_by taken turn from.0 from.2 in
+        left_kept name from.0 (left_by x.0 name from.0 from.1 x.1 from.3 from.4)
+
+    -- the objects claim nothing of it
+    none_kept : (name : List ℕ) → IsKept name → Among name (flat_map claimed_names own) → ⊥
+    none_kept name (inl held) claimed = claims_apart kept own given.claims name held claimed
+    none_kept name (inr left) claimed = (unresolved_parts own name left).1 claimed
+
+    left_apart : (name : List ℕ) → Among name (flat_map undefined_in (objects_in taken)) → Among name (flat_map claimed_names own) → ⊥
+    left_apart name left = none_kept name (inl (left_of name left))
+
+    claims : AllByRecursion (ClaimsNone (listed_in taken ++ names_undefined taken)) own
+    unfolding names_undefined
+    claims =
+        all_each (ClaimsNone (listed_in taken ++ flat_map undefined_in (objects_in taken))) own (λ o held.
+        claims_none (listed_in taken ++ flat_map undefined_in (objects_in taken)) o (λ name is claimed.
+        none_kept name (elim (among_either name (listed_in taken) (flat_map undefined_in (objects_in taken)) is) [
+          | inl listed ↦ let from = among_flat_map (λ (m : MemberView). m.symbols) name taken listed in listed_by taken turn from.0 name from.1 from.2
+          | inr left ↦ inl (left_of name left)
+        ]) (among_flat claimed_names o own name held claimed)))
+
+    -- a weak external that is taken leaves the target of an alias
+    weak_left : (by name : List ℕ) (m : MemberView) (o : Object) → is_weak m ≡ true → Found machine libraries archive by m → object_in m.bytes ≡ Some o → Among name (undefined_in o) →
+        Among name (alias_targets libraries)
+    weak_left by name m o weak (FoundTail l held same is) read left =
+        absurd (true≢false (sym weak ∙ tail_not_weak machine m l.definition.import_name (ap (λ (y : MemberView). object_in y.bytes) same ∙ tail_object_is machine l (made_of l held))))
+    weak_left by name m o weak (FoundHead l held same is) read left =
+        absurd (true≢false (sym weak ∙ head_not_weak machine m l.definition.import_name (ap (λ (y : MemberView). object_in y.bytes) same ∙ head_object_is machine l (made_of l held))))
+    weak_left by name m o weak (FoundExport l held n e is same listed) read left =
+        absurd (true≢false (sym weak ∙ export_not_weak machine m l.definition.import_name e (ap (λ (y : MemberView). object_in y.bytes) same ∙ export_object_is machine l (made_of l held) n e is)))
+    weak_left by name m o weak (FoundWeak l held n e is alias is_data same named) read left =
+        subst (λ x. Among x (alias_targets libraries)) (sym (only_one name e.alias_target
+        (names_of (e.alias_target ∷ []) name m (weak_of machine l n e) o (object_of (weak_object machine e.name e.alias_target)) same (weak_object_is machine l (made_of l held) n e is alias) read
+        (left_weak machine e.name e.alias_target) left)))
+        (target_is l n e held is alias is_data)
+
+    wanted_most : (name : List ℕ) → Among name (wanted_in own taken) → Among name most
+    unfolding names_undefined
+    wanted_most name want =
+        elim (among_either name (unresolved own) (flat_map undefined_in (objects_in (weak_among taken))) want) [
+          | inl left ↦ among_front name (unresolved own) (alias_targets libraries) left
+          | inr target ↦
+              let from = name_read undefined_in name (weak_among taken) target in
+              let there = passing is_weak from.0 taken from.2 in
+              let x = pulled_by taken turn from.0 there.0 in
+              among_back name (unresolved own) (alias_targets libraries) (weak_left x.0 name from.0 from.1 there.1 x.1 from.3 from.4)
+        ]
+
+    names : NamesNoHeadOrTailOf machine libraries (wanted_in own taken)
+    names =
+        all_each (λ (l : Library). NamesNoHeadOrTail machine l.definition.import_name (wanted_in own taken)) libraries (λ l held.
+        let none : NamesNoHeadOrTail machine l.definition.import_name most = all_among (λ (x : Library). NamesNoHeadOrTail machine x.definition.import_name (wanted_at_most libraries own)) l libraries held given.names in
+        record {
+          head = not_there (head_symbol machine l.definition.import_name) (wanted_in own taken)
+              (λ want. there_not (head_symbol machine l.definition.import_name) most none.head (wanted_most (head_symbol machine l.definition.import_name) want));
+          name = not_there (iname_symbol machine l.definition.import_name) (wanted_in own taken)
+              (λ want. there_not (iname_symbol machine l.definition.import_name) most none.name (wanted_most (iname_symbol machine l.definition.import_name) want));
+        })
+
+pub given_ends : (machine : MachineType) (libraries : List Library) (own : List Object) → IsArchive machine libraries → AreGiven machine libraries own →
+    (taken : List MemberView) × TakesInto (archive_of libraries) own taken
+given_ends machine libraries own archive given =
+    let found = search_ends (archive_of libraries) (unresolved own) in
+    (found.0, takes_into (archive_of libraries) own found.0 (left_apart machine libraries archive own given found.0 found.1.in_turn) found.1)
+
+pub given_closes : (machine : MachineType) (libraries : List Library) (own : List Object) (taken : List MemberView) (arranged : List Library) (bases : Bases) (objects : List Object) →
+    IsArchive machine libraries → AreGiven machine libraries own → TakesInto (archive_of libraries) own taken → AreLinkedFor machine libraries own taken arranged bases objects →
+    IsClosed machine libraries own taken arranged bases objects
+given_closes machine libraries own taken arranged bases objects archive given takes linked =
+    let turn : IsTakenInTurn (archive_of libraries) (unresolved own) taken = in_turn_for (archive_of libraries) own taken takes.in_turn in
+    record { takes = takes; linked = linked; claims = claims machine libraries archive own given taken turn; names = names machine libraries archive own given taken turn }
