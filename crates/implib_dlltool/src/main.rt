@@ -1,0 +1,8 @@
+//! Makes the import library of a module definition, as a file.
+#![tactic(auto)]
+
+pub mod options;
+
+fn main(rt: HostRuntime) {
+    let _ = println!(rt; "nothing yet");
+}
