@@ -1,6 +1,11 @@
 -- Bytes that are appended, one after another.
-use Rattle.std.proofs.Common.{◌≡◌, ℕ, ◌≤◌, List, [], ◌∷◌, ◌++◌, Result, Ok, Err, OnOk, is_ok, if◌then◌else◌, take, replicate, suc, zero, refl, sym, ap, ◌∙◌, append_assoc, append-nil, arith}
-use Rattle.implib_archive.specs.Pushed.{Pushes}
+use Rattle.std.proofs.Common.{◌≡◌, ℕ, ◌+◌, ◌<◌, ◌≤◌, List, [], ◌∷◌, ◌++◌, Result, Ok, Err, OnOk, is_ok, if◌then◌else◌, take, replicate, flat_map, get_or, length, suc, zero, refl, sym, ap, ◌∙◌, append_assoc, append-nil, arith}
+use Rattle.std.specs.Borrow.{Bor}
+use Rattle.std.specs.List.{All}
+use Rattle.std.proofs.lemmas.Grind.{flat_map-append}
+use Rattle.std.proofs.lemmas.List.{take_more}
+use Rattle.std.proofs.lemmas.List.Folds.{flat_map-map}
+use Rattle.implib_archive.specs.Pushed.{Pushes, shown}
 
 -- bytes behind bytes
 pub pushes_then : {a b c x y : List ℕ} → Pushes a b x → Pushes b c y → Pushes a c (x ++ y)
@@ -34,3 +39,22 @@ pub take_replicate : (n m b : ℕ) → n ≤ m → take n (replicate m b) ≡ re
 take_replicate zero m b h = refl
 take_replicate (suc n) zero b h = absurd (omega arith)
 take_replicate (suc n) (suc m) b h = let e : n ≤ m = omega arith in ap (λ t. b ∷ t) (take_replicate n m b e)
+
+-- the bytes of one element more
+pub pushes_more : {X : Type 0} (f : X → List ℕ) (xs : List X) (i : ℕ) (d : X) {a b c : List ℕ} → i < length xs → Pushes a b (flat_map f (take i xs)) → Pushes b c (f (get_or xs i d)) → Pushes a c (flat_map f (take (i + 1) xs))
+pushes_more f xs i d within p q =
+    let last : flat_map f (get_or xs i d ∷ []) ≡ f (get_or xs i d) = append-nil (f (get_or xs i d)) in
+    pushes_as (sym (ap (flat_map f) (take_more xs i d within) ∙ flat_map-append f (take i xs) (get_or xs i d ∷ []) ∙ ap (λ t. flat_map f (take i xs) ++ t) last)) (pushes_then p q)
+
+-- the bytes of one entry more
+pub pushes_entry : (f : List ℕ × ℕ → List ℕ) (xs : List (Bor (List ℕ) × ℕ)) (i : ℕ) (d : Bor (List ℕ) × ℕ) {a b c : List ℕ} → i < length xs → Pushes a b (flat_map f (shown (take i xs))) → Pushes b c (f ((get_or xs i d).0.now, (get_or xs i d).1)) → Pushes a c (flat_map f (shown (take (i + 1) xs)))
+pushes_entry f xs i d within p q =
+    let g = λ (e : Bor (List ℕ) × ℕ). f (e.0.now, e.1) in
+    pushes_as (sym (flat_map-map f (λ e. (e.0.now, e.1)) (take (i + 1) xs)))
+    (pushes_more g xs i d within (pushes_as (flat_map-map f (λ e. (e.0.now, e.1)) (take i xs)) p) q)
+
+-- a fact of the number of each entry
+pub number_at : (P : ℕ → Type 0) (xs : List (Bor (List ℕ) × ℕ)) (i : ℕ) (d : Bor (List ℕ) × ℕ) → i < length xs → All (λ e. P e.1) (shown xs) → P (get_or xs i d).1
+number_at P [] i d within all = absurd (omega arith)
+number_at P (x ∷ xs) zero d within all = all 0 (d.0.now, d.1) (omega arith)
+number_at P (x ∷ xs) (suc i) d within all = let w : i < length xs = omega arith in number_at P xs i d w (λ k e h. all (suc k) e (omega (arith, h)))

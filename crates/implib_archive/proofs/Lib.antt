@@ -1,5 +1,10 @@
 pub mod Appended
 pub mod Chosen
 pub mod Listed
+pub mod Named
+pub mod Numbered
 pub mod Ordered
+pub mod Placed
+pub mod Sized
+pub mod Whole
 pub mod WorkedBytes

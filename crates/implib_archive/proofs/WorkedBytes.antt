@@ -2,14 +2,14 @@
 use Rattle.std.proofs.Common.{refl}
 use Rattle.std.specs.Fmt.{digits}
 use Rattle.implib.specs.Worked.Digits.{bytes_of_digits}
-use Rattle.implib_archive.specs.Archive.{archive_of, end_from, entries_from, entries_of, first_linker, first_linker_size, first_place, front_of, is_long, linker_label, linkers, long_names, member_label, member_part, name_end, name_field, names_bytes, names_label, names_part, names_size, offset_of, place_of, places_from, second_linker, second_linker_size, sorted_entries, strings_of, with_first, with_name}
+use Rattle.implib_archive.specs.Archive.{archive_of, end_from, entries_from, entries_of, first_linker, first_linker_size, first_place, front, front_of, front_size, is_long, linker_label, linkers, long_names, member_label, member_part, name_end, name_field, names_bytes, names_label, names_part, names_size, offset_of, place_of, places_from, second_linker, second_linker_size, sorted_entries, strings_of, with_first, with_name}
 use Rattle.implib_archive.specs.Parts.{field, header_bytes, padded_part_bytes, padding, part_bytes, signature, u16_le, u32_be, u32_le}
 use Rattle.implib_archive.specs.Reader.{data_at, first_in, linker_in, long_name, long_name_at, long_names_in, long_names_or, before_others, member_at, members_among, members_in, name_in, number_in, numbers_in, paired, read_as, second_in, stored_at, stored_from, stored_in, texts_in, trimmed}
-use Rattle.implib_archive.specs.Refusal.{has_short_places, has_too_many, member_refusal, members_refusal, name_refusal, refusal_of, symbol_refusal, symbols_refusal}
+use Rattle.implib_archive.specs.Refusal.{has_short_places, has_too_many, member_refusal, members_refusal, name_refusal, places_refusal, refusal_of, symbol_refusal, symbols_refusal}
 use Rattle.implib_archive.specs.Worked.{WorkedArchives, WorkedReadings, WorkedRefusals, worked_coff, worked_gnu}
 
 pub worked_archives : WorkedArchives
-unfolding bytes_of_digits worked_coff worked_gnu archive_of end_from entries_from entries_of first_linker first_linker_size first_place front_of is_long linker_label linkers long_names member_label member_part name_end name_field names_bytes names_label names_part names_size offset_of place_of places_from second_linker second_linker_size sorted_entries strings_of with_first with_name field header_bytes padded_part_bytes padding part_bytes signature u16_le u32_be u32_le digits
+unfolding bytes_of_digits worked_coff worked_gnu archive_of end_from entries_from entries_of first_linker first_linker_size first_place front front_of front_size is_long linker_label linkers long_names member_label member_part name_end name_field names_bytes names_label names_part names_size offset_of place_of places_from second_linker second_linker_size sorted_entries strings_of with_first with_name field header_bytes padded_part_bytes padding part_bytes signature u16_le u32_be u32_le digits
 worked_archives = record { coff = refl; gnu = refl; no_gnu_members = refl; no_coff_members = refl }
 
 pub worked_readings : WorkedReadings
@@ -27,7 +27,7 @@ worked_readings = record {
 }
 
 pub worked_refusals : WorkedRefusals
-unfolding entries_from entries_of first_linker_size first_place is_long long_names name_end names_bytes names_size offset_of places_from second_linker_size strings_of with_first with_name has_short_places has_too_many member_refusal members_refusal name_refusal refusal_of symbol_refusal symbols_refusal
+unfolding entries_from entries_of first_linker_size first_place front_size is_long long_names name_end names_bytes names_size offset_of places_from second_linker_size strings_of with_first with_name has_short_places has_too_many member_refusal members_refusal name_refusal places_refusal refusal_of symbol_refusal symbols_refusal
 worked_refusals = record {
   none_of_gnu = refl;
   none_of_coff = refl;

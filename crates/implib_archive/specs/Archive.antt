@@ -113,13 +113,17 @@ second_linker_size Gnu members entries strings = 0
 unfoldable pub names_size : ℕ → ℕ
 names_size size = if nat_lt 0 size then part_size size else 0
 
+-- the size of what stands before the members: of so many members and entries, whose strings and long names
+-- have so many bytes
+unfoldable pub front_size : Kind → ℕ → ℕ → ℕ → ℕ → ℕ
+front_size kind members entries strings names =
+    8 + first_linker_size kind entries strings + second_linker_size kind members entries strings + names_size names
+
 -- the offset of the first member's header
 unfoldable pub first_place : Kind → List MemberView → ℕ
 first_place kind members =
     let entries = entries_of kind members in
-    let strings = length (strings_of entries) in
-    8 + first_linker_size kind (length entries) strings + second_linker_size kind (length members) (length entries) strings
-    + names_size (length (names_bytes kind (long_names kind members)))
+    front_size kind (length members) (length entries) (length (strings_of entries)) (length (names_bytes kind (long_names kind members)))
 
 -- the offsets of the members' headers
 abbrev pub places_of : Kind → List MemberView → List ℕ
@@ -153,11 +157,13 @@ linkers Gnu places entries =
 unfoldable pub names_part : List ℕ → List ℕ
 names_part names = if nat_lt 0 (length names) then padded_part_bytes names_label 10 names else []
 
+-- what stands before members with these offsets, entries and long names
+unfoldable pub front : Kind → List ℕ → List (List ℕ × ℕ) → List (List ℕ × ℕ) → List ℕ
+front kind places entries names = signature ++ linkers kind places entries ++ names_part (names_bytes kind names)
+
 -- what stands before the members
 unfoldable pub front_of : Kind → List MemberView → List ℕ
-front_of kind members =
-    signature ++ linkers kind (places_of kind members) (entries_of kind members)
-    ++ names_part (names_bytes kind (long_names kind members))
+front_of kind members = front kind (places_of kind members) (entries_of kind members) (long_names kind members)
 
 -- a member in the archive
 unfoldable pub member_part : List (List ℕ × ℕ) → MemberView → List ℕ
@@ -166,3 +172,8 @@ member_part names m = part_bytes (member_label names m.name) m.bytes
 -- the archive of the members
 unfoldable pub archive_of : Kind → List MemberView → List ℕ
 archive_of kind members = front_of kind members ++ flat_map (member_part (long_names kind members)) members
+
+-- what an archive of the program holds
+pub record ArchiveView : Type 0 where
+  pub kind : Kind
+  pub members : List MemberView

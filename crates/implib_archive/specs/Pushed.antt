@@ -1,6 +1,15 @@
--- View: what the code's functions have appended.
-use Rattle.std.specs.Prelude.{◌≡◌, ℕ, List, ◌++◌, map}
+-- View: what the code's functions have appended and measured.
+use Rattle.std.specs.Prelude.{◌≡◌, ℕ, ◌+◌, ◌*◌, ◌^◌, ◌<◌, ◌≤◌, List, ◌++◌, Option, None, Some, length, map}
 use Rattle.std.specs.Borrow.{Bor}
+use Rattle.std.specs.List.{All}
+use Rattle.implib_archive.specs.Archive.{end_from, entries_of, first_place, long_names, names_bytes, places_of, sorted_entries, strings_of}
+use Rattle.implib_archive.specs.Refusal.{refusal_of}
+use Rattle.implib_archive.specs.declared.error.Error.{Error}
+use Rattle.implib_archive.specs.declared.error.Error.TheVariants.{Invalid, OutOfMemory}
+use Rattle.implib_archive.specs.declared.error.Fault.{Fault}
+use Rattle.implib_archive.specs.declared.kind.Kind.{Kind}
+use Rattle.implib_archive.specs.declared.kind.Kind.TheVariants.{Coff}
+use Rattle.implib.specs.Members.MemberSpec.{MemberView}
 use Rattle.implib_archive.specs.Parts.{Label as LabelSpec}
 use Rattle.implib_archive.specs.declared.bytes.Label.{Label}
 
@@ -15,3 +24,32 @@ shown pairs = map (λ e. (e.0.now, e.1)) pairs
 -- the texts of a header
 abbrev pub label_view : Label → LabelSpec
 label_view l = record { name = l.name.now ++ l.name_end.now; date = l.date.now; owner = l.owner.now; mode = l.mode.now }
+
+-- long names that were found with their offsets, and the size of their data, as far as it is below 2^32
+pub record AreMeasured (kind : Kind) (names found : List (List ℕ × ℕ)) (size : ℕ) : Type 0 where
+  pub same : size < 2 ^ 32 → found ≡ names
+  pub exact : size < 2 ^ 32 → length (names_bytes kind names) ≡ size
+  pub long : 2 ^ 32 ≤ size → 2 ^ 32 ≤ length (names_bytes kind names)
+
+-- an error is a failed allocation, or this refusal
+abbrev pub IsRefusal : Option Fault → Error → Type 0
+IsRefusal refusal (Invalid fault) = refusal ≡ Some fault
+IsRefusal refusal (OutOfMemory failed) = Unit {0}
+
+-- entries and offsets fit the fields of the linker members
+pub record FrontFits (kind : Kind) (places : List ℕ) (entries : List (List ℕ × ℕ)) : Type 0 where
+  pub numbered : All (λ e. (0 < e.1) × (e.1 ≤ length places)) entries
+  pub short : 4 + 4 * length entries + length (strings_of entries) < 2 ^ 32
+  pub numbers : kind ≡ Coff → All (λ e. e.1 < 2 ^ 16) (sorted_entries entries)
+  pub second_short : kind ≡ Coff
+      → 8 + 4 * length places + 2 * length (sorted_entries entries) + length (strings_of (sorted_entries entries)) < 2 ^ 32
+
+-- members that have an archive, with what is kept of them to write it
+pub record IsMade (kind : Kind) (members : List MemberView) (entries offsets : List (List ℕ × ℕ)) (size : ℕ) (places : List ℕ) (end' : ℕ)
+    : Type 0 where
+  pub accepted : refusal_of kind members ≡ None
+  pub listed : entries ≡ entries_of kind members
+  pub named : offsets ≡ long_names kind members
+  pub sized : size ≡ length (names_bytes kind (long_names kind members))
+  pub placed : places ≡ places_of kind members
+  pub ends : end' ≡ end_from (first_place kind members) members

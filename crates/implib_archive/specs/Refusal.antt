@@ -57,11 +57,14 @@ has_too_many Gnu members = false
 unfoldable pub has_short_places : ℕ → List MemberView → Bool
 has_short_places place members = nat_lt place (2 ^ 32) && list_all (λ p. nat_lt p (2 ^ 32)) (places_from place members)
 
+-- whether the members are too long together, the first of which begins at this offset
+unfoldable pub places_refusal : ℕ → List MemberView → Option Fault
+places_refusal place members = if has_short_places place members then None else Some ArchiveTooLong
+
 -- The one cause for which there is no archive of the members, if any: the first member that is refused,
--- then their
--- number, then the length of the archive.
+-- then their number, then the length of the archive.
 unfoldable pub refusal_of : Kind → List MemberView → Option Fault
 refusal_of kind members =
     if is_some (members_refusal kind members) then members_refusal kind members
     else (if has_too_many kind members then Some TooManyMembers
-    else (if has_short_places (first_place kind members) members then None else Some ArchiveTooLong))
+    else places_refusal (first_place kind members) members)

@@ -1,6 +1,6 @@
 //! Headers, numbers and padding, appended.
 
-ghost use Rattle.implib_archive.specs.Parts.{field, header_bytes, padded_part_bytes, padding, u16_le, u32_be, u32_le};
+ghost use Rattle.implib_archive.specs.Parts.{field, header_bytes, padding, u16_le, u32_be, u32_le};
 ghost use Rattle.implib_archive.specs.Pushed.{Pushes, label_view};
 ghost use Rattle.std.specs.Prelude.{◌≡◌, ◌≤◌, ◌++◌, OnOk, length};
 
@@ -52,21 +52,6 @@ pub(crate) fn push_padding(out: &mut Vec<u8>, byte: u8, size: usize) -> Result<(
 {
     let bytes = [byte; 1];
     out.extend_from_slice(&bytes[..size % 2])
-}
-
-// Appends a part whose padding is within its data, to which it is added here.
-pub(crate) fn push_padded_part(
-    out: &mut Vec<u8>,
-    label: &Label,
-    byte: u8,
-    contents: &mut Vec<u8>,
-) -> Result<(), AllocError>
-    ensures { OnOk result (Pushes out.old.items out.new.items
-        (padded_part_bytes (label_view label.now) byte contents.old.items)) }
-{
-    push_padding(contents, byte, contents.len())?;
-    push_header(out, label, contents.len())?;
-    out.extend_from_slice(contents.as_slice())
 }
 
 // Appends a number in 4 bytes, the high one first.

@@ -12,7 +12,7 @@ use indexmap::IndexMap;
 use std::alloc::{AllocError, Global};
 use std::collections::BTreeMap;
 
-/// The entries of the index: symbols, and the numbers of their members from 1.
+// The entries of the index: symbols, and the numbers of their members from 1.
 pub(crate) fn entries_of<'a>(
     alloc: Global,
     members: &'a [Member],
@@ -93,16 +93,31 @@ fn push_first<'a>(
     firsts.push((symbol, number))?;
     Ok(())
 }
-/// The entries in the order of their symbols' bytes.
+
+// The entries in the order of their symbols' bytes.
 pub(crate) fn sorted<'a>(
     alloc: Global,
     entries: &[(&'a str, usize)],
-) -> Result<BTreeMap<&'a str, usize>, AllocError>
-    ensures { IfOk result (λ sorted. shown sorted.entries ≡ sorted_entries (shown entries.now)) }
+) -> Result<Vec<(&'a str, usize)>, AllocError>
+    ensures { IfOk result (λ sorted. shown sorted.items ≡ sorted_entries (shown entries.now)) }
 {
     let mut sorted = BTreeMap::new(alloc);
     for entry in entries {
         sorted.insert(entry.0, entry.1)?;
     }
-    Ok(sorted)
+    listed(alloc, sorted)
+}
+
+// The entries of a map, in its order.
+fn listed<'a>(
+    alloc: Global,
+    sorted: BTreeMap<&'a str, usize>,
+) -> Result<Vec<(&'a str, usize)>, AllocError>
+    ensures { IfOk result (λ entries. shown entries.items ≡ shown sorted.entry.entries) }
+{
+    let mut entries = Vec::with_capacity(alloc, sorted.len())?;
+    for entry in sorted {
+        entries.push(entry)?;
+    }
+    Ok(entries)
 }

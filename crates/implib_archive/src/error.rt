@@ -1,5 +1,10 @@
 //! The errors of the crate's calls.
 
+ghost use Rattle.implib_archive.specs.declared.error.Error.TheVariants.{OutOfMemory};
+ghost use Rattle.std.specs.Prelude.{◌≡◌};
+
+use std::alloc::{AllocError, AllocFailed};
+
 /// Why members have no archive.
 #[derive(Clone, Copy, Debug, PartialEq, Eq, thiserror::Error)]
 pub enum Fault {
@@ -27,4 +32,33 @@ pub enum Fault {
     /// A header would be at an offset of 2^32 or more.
     #[error("archive too long")]
     ArchiveTooLong,
+}
+
+/// Why `Archive::new` gives no archive.
+#[derive(Debug, Drop, thiserror::Error)]
+pub enum Error {
+    /// The members have no archive of the kind.
+    #[error("{0}")]
+    Invalid(#[from] Fault),
+    /// An allocation failed.
+    #[error("out of memory")]
+    OutOfMemory(AllocError),
+}
+
+impl From<AllocError> for Error {
+    ghost from_gives = { λ refused error. error ≡ OutOfMemory refused };
+
+    fn from(refused: AllocError) -> Error {
+        Error::OutOfMemory(refused)
+    }
+}
+
+impl<T: Drop> From<AllocFailed<T>> for Error {
+    ghost use Rattle.std.specs.Prelude.{◌≡◌, alloc_error};
+
+    ghost from_gives = { λ _ error. error ≡ OutOfMemory alloc_error };
+
+    fn from(refused: AllocFailed<T>) -> Error {
+        Error::OutOfMemory(AllocError::from(refused))
+    }
 }

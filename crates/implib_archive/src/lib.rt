@@ -7,10 +7,15 @@
 mod bytes;
 mod entries;
 mod error;
+mod front;
 mod kind;
 pub mod laws;
+mod long_names;
+mod places;
 mod refusal;
+mod writer;
 
-pub use error::Fault;
+pub use error::{Error, Fault};
 pub use kind::Kind;
 pub use refusal::members_refusal;
+pub use writer::Archive;

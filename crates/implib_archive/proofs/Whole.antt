@@ -1,0 +1,461 @@
+-- The length of an archive, and what holds of members that have one.
+use Rattle.std.proofs.Common.{◌≡◌, ℕ, zero, suc, ◌+◌, ◌-◌, ◌*◌, ◌%◌, ◌^◌, ◌<◌, ◌≤◌, Bool, true, false, ◌&&◌, ◌||◌, List, [], ◌∷◌, ◌++◌, Option, Some, None, bytes_eq, codes, decimal, flat_map, fold, if◌then◌else◌, is_some, length, min, nat_eq, nat_le, nat_lt, replicate, unwrap_or, refl, sym, ap, subst, ◌∙◌, length-append, arith}
+use Rattle.std.specs.List.{list_any}
+use Rattle.std.proofs.lemmas.Bool.{leb-false, lt-ltb, ltb-false, ltb-true, true≢false}
+use Rattle.std.proofs.lemmas.Fmt.{length-decimal-le}
+use Rattle.std.proofs.lemmas.List.{length-replicate}
+use Rattle.implib.specs.Members.MemberSpec.{MemberView}
+use Rattle.implib_archive.specs.Archive.{archive_of, end_from, entries_of, first_linker, first_linker_size, first_place, front, front_of, front_size, is_long, linker_label, linkers, long_names, member_label, member_part, name_field, names_bytes, names_label, names_part, names_size, offset_of, places_from, places_of, second_linker, second_linker_size, sorted_entries, strings_of, with_name}
+use Rattle.implib_archive.specs.Parts.{Label, field, header_bytes, padded_part_bytes, padding, part_bytes, part_size, signature}
+use Rattle.implib_archive.specs.Pushed.{AreMeasured, FrontFits, IsMade}
+use Rattle.implib_archive.specs.Refusal.{has_too_many, member_refusal, members_refusal, name_refusal, places_refusal, refusal_of, symbols_refusal}
+use Rattle.implib_archive.specs.declared.kind.Kind.{Kind}
+use Rattle.implib_archive.specs.declared.kind.Kind.TheVariants.{Coff, Gnu}
+use Rattle.implib_archive.specs.declared.error.Fault.{Fault}
+use Rattle.implib_archive.specs.declared.error.Fault.TheVariants.{ArchiveTooLong, MemberTooLong, TooManyMembers}
+use Rattle.implib_archive.proofs.Named.{names_bytes-push}
+use Rattle.implib_archive.proofs.Numbered.{Each, all_from_each, each_entry, each_sorted, each_weaker, sorted_as_many}
+use Rattle.implib_archive.proofs.Placed.{first_too_far}
+use Rattle.implib_archive.proofs.Sized.{length-first_linker, length-padding, length-second_linker, linkers-gnu, names_part-some}
+
+-- Refusals.
+
+and_true : (a b : Bool) → (a && b) ≡ true → a ≡ true
+and_true true b h = refl
+and_true false b h = absurd (true≢false (sym h))
+
+-- a first header that is not refused is below 2^32
+pub first_near : (first : ℕ) (members : List MemberView) → places_refusal first members ≡ None → first < 2 ^ 32
+first_near first members accepted = by_test (nat_lt first (2 ^ 32)) refl
+  where
+    by_test : (b : Bool) → nat_lt first (2 ^ 32) ≡ b → first < 2 ^ 32
+    by_test true near = ltb-true first (2 ^ 32) near
+    by_test false far = let e : Some ArchiveTooLong ≡ None = sym (first_too_far first members (ltb-false first (2 ^ 32) far)) ∙ accepted in absurd (cc)
+
+-- offsets that are the same as far as they are told apart are refused alike
+pub same_refusal : (a b : ℕ) (members : List MemberView) → min a (2 ^ 32) ≡ min b (2 ^ 32) → places_refusal a members ≡ places_refusal b members
+same_refusal a b members same = by_test (nat_lt a (2 ^ 32)) refl
+  where
+    by_test : (t : Bool) → nat_lt a (2 ^ 32) ≡ t → places_refusal a members ≡ places_refusal b members
+    by_test true near = let n = ltb-true a (2 ^ 32) near in let e : a ≡ b = omega (arith, same, n) in ap (λ x. places_refusal x members) e
+    by_test false far =
+        let f = ltb-false a (2 ^ 32) far in
+        let g : 2 ^ 32 ≤ b = omega (arith, same, f) in
+        first_too_far a members f ∙ sym (first_too_far b members g)
+
+-- the first cause, in turn
+module _ (kind : Kind) (members : List MemberView) where
+  pub refused_member : (f : Option Fault) → members_refusal kind members ≡ f → is_some f ≡ true → refusal_of kind members ≡ f
+  unfolding refusal_of
+  refused_member f is some =
+      ap (λ b. if b then members_refusal kind members else (if has_too_many kind members then Some TooManyMembers else places_refusal (first_place kind members) members))
+      (ap is_some is ∙ some) ∙ is
+
+  rest : members_refusal kind members ≡ None → refusal_of kind members ≡ (if has_too_many kind members then Some TooManyMembers else places_refusal (first_place kind members) members)
+  unfolding refusal_of
+  rest none = ap (λ f. if is_some f then f else (if has_too_many kind members then Some TooManyMembers else places_refusal (first_place kind members) members)) none
+
+  pub refused_many : members_refusal kind members ≡ None → has_too_many kind members ≡ true → refusal_of kind members ≡ Some TooManyMembers
+  refused_many none many = rest none ∙ ap (λ b. if b then Some TooManyMembers else places_refusal (first_place kind members) members) many
+
+  pub refused_places : members_refusal kind members ≡ None → has_too_many kind members ≡ false → refusal_of kind members ≡ places_refusal (first_place kind members) members
+  refused_places none few = rest none ∙ ap (λ b. if b then Some TooManyMembers else places_refusal (first_place kind members) members) few
+
+  pub record Accepted : Type 0 where
+    pub none : members_refusal kind members ≡ None
+    pub few : has_too_many kind members ≡ false
+    pub near : places_refusal (first_place kind members) members ≡ None
+
+  pub accepted_parts : refusal_of kind members ≡ None → Accepted
+  accepted_parts accepted = by_member (members_refusal kind members) refl
+    where
+      by_many : (b : Bool) → has_too_many kind members ≡ b → members_refusal kind members ≡ None → Accepted
+      by_many true many none = let e : Some TooManyMembers ≡ None = sym (refused_many none many) ∙ accepted in absurd (cc)
+      by_many false few none = record { none = none; few = few; near = sym (refused_places none few) ∙ accepted }
+
+      by_member : (f : Option Fault) → members_refusal kind members ≡ f → Accepted
+      by_member None none = by_many (has_too_many kind members) refl none
+      by_member (Some f) is = let e : Some f ≡ None = sym (refused_member (Some f) is refl) ∙ accepted in absurd (cc)
+
+-- Members that are not refused are below 2^32.
+
+abbrev pub AreShort : List MemberView → Type 0
+AreShort [] = Unit {0}
+AreShort (m ∷ members) = (length m.bytes < 2 ^ 32) × AreShort members
+
+short_by : (a b : Option Fault) (n : ℕ) → (if is_some a then a else (if is_some b then b else (if nat_lt n (2 ^ 32) then None else Some MemberTooLong))) ≡ None → n < 2 ^ 32
+short_by (Some f) b n h = absurd (cc)
+short_by None (Some f) n h = absurd (cc)
+short_by None None n h = by_test (nat_lt n (2 ^ 32)) refl h
+  where
+    by_test : (t : Bool) → nat_lt n (2 ^ 32) ≡ t → (if t then None else Some MemberTooLong) ≡ None → n < 2 ^ 32
+    by_test true near h = ltb-true n (2 ^ 32) near
+    by_test false far h = absurd (cc)
+
+both_none : (f g : Option Fault) → (if is_some f then f else g) ≡ None → (f ≡ None) × (g ≡ None)
+both_none None g h = (refl, h)
+both_none (Some f) g h = absurd (cc)
+
+pub members_short : (kind : Kind) (members : List MemberView) → members_refusal kind members ≡ None → AreShort members
+unfolding members_refusal member_refusal
+members_short kind [] none = tt
+members_short kind (m ∷ members) none =
+    let both = both_none (member_refusal kind m) (members_refusal kind members) none in
+    (short_by (name_refusal kind m.name) (symbols_refusal m.symbols) (length m.bytes) both.0, members_short kind members both.1)
+
+-- Lengths.
+
+pub length-field : (width : ℕ) (text : List ℕ) → length text ≤ width → length (field width text) ≡ width
+unfolding field
+length-field width text fits = omega (arith, length-append text (replicate (width - length text) 32), length-replicate {A = ℕ} (width - length text) 32, fits)
+
+-- texts fit their fields
+pub record LabelFits (l : Label) : Type 0 where
+  pub name : length l.name ≤ 16
+  pub date : length l.date ≤ 12
+  pub owner : length l.owner ≤ 6
+  pub mode : length l.mode ≤ 8
+
+pub length-header : (l : Label) (size : ℕ) → LabelFits l → size < 2 ^ 33 → length (header_bytes l size) ≡ 60
+unfolding header_bytes
+length-header l size fits short =
+    let name = field 16 l.name in
+    let date = field 12 l.date in
+    let owner = field 6 l.owner in
+    let mode = field 8 l.mode in
+    let digits = field 10 (decimal size) in
+    let small : size < 10 ^ 10 = omega (arith, short) in
+    let fit : size < 2 ^ 64 = omega (arith, short) in
+    omega (
+      arith,
+      length-append (name ++ date ++ owner ++ owner ++ mode ++ digits) (96 ∷ 10 ∷ []),
+      length-append (name ++ date ++ owner ++ owner ++ mode) digits,
+      length-append (name ++ date ++ owner ++ owner) mode,
+      length-append (name ++ date ++ owner) owner,
+      length-append (name ++ date) owner,
+      length-append name date,
+      length-field 16 l.name fits.name,
+      length-field 12 l.date fits.date,
+      length-field 6 l.owner fits.owner,
+      length-field 8 l.mode fits.mode,
+      length-field 10 (decimal size) (length-decimal-le 10 size (omega arith) small fit),
+    )
+
+pub length-part : (l : Label) (contents : List ℕ) → LabelFits l → length contents < 2 ^ 32 → length (part_bytes l contents) ≡ part_size (length contents)
+unfolding part_bytes
+length-part l contents fits short =
+    let size = length contents in
+    let header = length-header l size fits (omega (arith, short)) in
+    omega (arith, length-append (header_bytes l size ++ contents) (padding 10 size), length-append (header_bytes l size) contents, header, length-padding 10 size)
+
+pub length-padded : (l : Label) (byte : ℕ) (contents : List ℕ) → LabelFits l → length contents < 2 ^ 32 → length (padded_part_bytes l byte contents) ≡ part_size (length contents)
+unfolding padded_part_bytes
+length-padded l byte contents fits short =
+    let data' = contents ++ padding byte (length contents) in
+    let inside : length data' ≡ length contents + length contents % 2 = length-append contents (padding byte (length contents)) ∙ ap (λ n. length contents + n) (length-padding byte (length contents)) in
+    let header = length-header l (length data') fits (omega (arith, inside, short)) in
+    omega (arith, length-append (header_bytes l (length data')) data', header, inside)
+
+linker_fits : LabelFits linker_label
+unfolding linker_label
+linker_fits = record { name = omega arith; date = omega arith; owner = omega arith; mode = omega arith }
+
+names_fit : LabelFits names_label
+unfolding names_label
+names_fit = record { name = omega arith; date = omega arith; owner = omega arith; mode = omega arith }
+
+-- The offsets of long names are below the size of their data.
+
+abbrev AreWithin : ℕ → List (List ℕ × ℕ) → Type 0
+AreWithin size names = Each (λ n. n ≤ size) names
+
+within_more : (a b : ℕ) → a ≤ b → (names : List (List ℕ × ℕ)) → AreWithin a names → AreWithin b names
+within_more a b more names within = each_weaker (λ n. n ≤ a) (λ n. n ≤ b) (λ n h. omega (arith, h, more)) names within
+
+within_push : (size : ℕ) (names : List (List ℕ × ℕ)) (n : List ℕ × ℕ) → AreWithin size names → n.1 ≤ size → AreWithin size (names ++ n ∷ [])
+within_push size [] n within h = (h, tt)
+within_push size (x ∷ names) n within h = (within.0, within_push size names n within.1 h)
+
+within_name : (kind : Kind) (names : List (List ℕ × ℕ)) (name : List ℕ) (a b : Bool) → AreWithin (length (names_bytes kind names)) names
+    → AreWithin (length (names_bytes kind (if a then (if b then names else names ++ (name, length (names_bytes kind names)) ∷ []) else names))) (if a then (if b then names else names ++ (name, length (names_bytes kind names)) ∷ []) else names)
+within_name kind names name true true within = within
+within_name kind names name true false within =
+    let size = length (names_bytes kind names) in
+    let more = length (names_bytes kind (names ++ (name, size) ∷ [])) in
+    let longer : size ≤ more = omega (arith, names_bytes-push kind names (name, size)) in
+    within_push more names (name, size) (within_more size more longer names within) longer
+within_name kind names name false b within = within
+
+within_names : (kind : Kind) (names : List (List ℕ × ℕ)) (members : List MemberView) → AreWithin (length (names_bytes kind names)) names
+    → AreWithin (length (names_bytes kind (fold (λ found m. with_name kind found m.name) names members))) (fold (λ found m. with_name kind found m.name) names members)
+unfolding with_name
+within_names kind names [] within = within
+within_names kind names (m ∷ members) within =
+    within_names kind (with_name kind names m.name) members (within_name kind names m.name (is_long m.name) (is_some (offset_of names m.name)) within)
+
+offset_by : (size : ℕ) (b : Bool) (n : ℕ) (others : Option ℕ) → n ≤ size → unwrap_or others 0 ≤ size → unwrap_or (if b then Some n else others) 0 ≤ size
+offset_by size true n others here rest = here
+offset_by size false n others here rest = rest
+
+offset_within : (size : ℕ) (names : List (List ℕ × ℕ)) (name : List ℕ) → AreWithin size names → unwrap_or (offset_of names name) 0 ≤ size
+unfolding offset_of
+offset_within size [] name within = omega arith
+offset_within size (n ∷ names) name within =
+    offset_by size (bytes_eq name n.0) n.1 (offset_of names name) within.0 (offset_within size names name within.1)
+
+pub offset_below : (kind : Kind) (members : List MemberView) (name : List ℕ) → unwrap_or (offset_of (long_names kind members) name) 0 ≤ length (names_bytes kind (long_names kind members))
+unfolding long_names
+offset_below kind members name =
+    offset_within (length (names_bytes kind (long_names kind members))) (long_names kind members) name (within_names kind [] members tt)
+
+short_name : (name : List ℕ) → is_long name ≡ false → length name ≤ 15
+unfolding is_long
+short_name name short = by_test (nat_lt 15 (length name)) refl
+  where
+    by_test : (b : Bool) → nat_lt 15 (length name) ≡ b → length name ≤ 15
+    by_test false near = ltb-false 15 (length name) near
+    by_test true far = absurd (true≢false (sym (ap (λ b. b || list_any (λ c. nat_eq c 47) name) far) ∙ short))
+
+-- a name field fits
+name_field-fits : (names : List (List ℕ × ℕ)) (name : List ℕ) → unwrap_or (offset_of names name) 0 < 2 ^ 32 → length (name_field names name) ≤ 16
+unfolding name_field
+name_field-fits names name near = by_test (is_long name) refl
+  where
+    by_test : (b : Bool) → is_long name ≡ b → length (if b then codes "/" ++ decimal (unwrap_or (offset_of names name) 0) else name ++ codes "/") ≤ 16
+    by_test true long =
+        let o = unwrap_or (offset_of names name) 0 in
+        let small : o < 10 ^ 10 = omega (arith, near) in
+        let fit : o < 2 ^ 64 = omega (arith, near) in
+        omega (arith, length-append (codes "/") (decimal o), length-decimal-le 10 o (omega arith) small fit)
+    by_test false short = omega (arith, length-append name (codes "/"), short_name name short)
+
+pub member_fits : (names : List (List ℕ × ℕ)) (name : List ℕ) → unwrap_or (offset_of names name) 0 < 2 ^ 32 → LabelFits (member_label names name)
+unfolding member_label
+member_fits names name near = record { name = name_field-fits names name near; date = omega arith; owner = omega arith; mode = omega arith }
+
+-- the members take the places from the first one on
+pub length-members : (names : List (List ℕ × ℕ)) → ((name : List ℕ) → unwrap_or (offset_of names name) 0 < 2 ^ 32) → (place : ℕ) (members : List MemberView) → AreShort members
+    → place + length (flat_map (member_part names) members) ≡ end_from place members
+unfolding end_from member_part
+length-members names near place [] short = omega arith
+length-members names near place (m ∷ members) short =
+    let one = length-part (member_label names m.name) m.bytes (member_fits names m.name (near m.name)) short.0 in
+    let rest = length-members names near (place + part_size (length m.bytes)) members short.1 in
+    omega (arith, length-append (part_bytes (member_label names m.name) m.bytes) (flat_map (member_part names) members), one, rest)
+
+length-places : (place : ℕ) (members : List MemberView) → length (places_from place members) ≡ length members
+unfolding places_from
+length-places place [] = refl
+length-places place (m ∷ members) = ap (λ n. suc n) (length-places (place + part_size (length m.bytes)) members)
+
+-- What stands before the members.
+
+linker_some : (e s : ℕ) → 0 < e → first_linker_size Gnu e s ≡ part_size (4 + 4 * e + s)
+unfolding first_linker_size
+linker_some e s some = ap (λ b. if b then part_size (4 + 4 * e + s) else 0) (lt-ltb 0 e some)
+
+names_some : (n : ℕ) → 0 < n → names_size n ≡ part_size n
+unfolding names_size
+names_some n some = ap (λ b. if b then part_size n else 0) (lt-ltb 0 n some)
+
+names_of-size : (names : List ℕ) → names_size (length names) < 2 ^ 32 → length (names_part names) ≡ names_size (length names)
+unfolding names_part names_size
+names_of-size [] short = refl
+names_of-size (c ∷ names) short =
+    let some : 0 < length (c ∷ names) = omega arith in
+    let size = names_some (length (c ∷ names)) some in
+    sym (ap length (names_part-some (c ∷ names) some)) ∙ length-padded names_label 10 (c ∷ names) names_fit (omega (arith, short, size)) ∙ sym size
+
+names_short : (n : ℕ) → names_size n < 2 ^ 32 → n < 2 ^ 32
+names_short zero short = omega arith
+names_short (suc n) short = let size = names_some (suc n) (omega arith) in omega (arith, short, size)
+
+first_short : (kind : Kind) (entries : List (List ℕ × ℕ)) → first_linker_size kind (length entries) (length (strings_of entries)) < 2 ^ 32 → 4 + 4 * length entries + length (strings_of entries) < 2 ^ 32
+unfolding first_linker_size strings_of
+first_short Coff entries short = omega (arith, short)
+first_short Gnu [] short = omega arith
+first_short Gnu (e ∷ entries) short = let size = linker_some (length (e ∷ entries)) (length (strings_of (e ∷ entries))) (omega arith) in omega (arith, short, size)
+
+linkers-size : (kind : Kind) (places : List ℕ) (entries : List (List ℕ × ℕ)) → first_linker_size kind (length entries) (length (strings_of entries)) < 2 ^ 32
+    → second_linker_size kind (length places) (length entries) (length (strings_of entries)) < 2 ^ 32
+    → (kind ≡ Coff → (length (sorted_entries entries) ≡ length entries) × (length (strings_of (sorted_entries entries)) ≡ length (strings_of entries)))
+    → length (linkers kind places entries) ≡ first_linker_size kind (length entries) (length (strings_of entries)) + second_linker_size kind (length places) (length entries) (length (strings_of entries))
+unfolding linkers first_linker_size second_linker_size
+linkers-size Coff places entries short second many =
+    let same = many refl in
+    let one = first_linker places entries in
+    let two = second_linker places (sorted_entries entries) in
+    let long_one = length-first_linker places entries in
+    let long_two : length two ≡ 8 + 4 * length places + 2 * length entries + length (strings_of entries) = omega (arith, length-second_linker places (sorted_entries entries), same.0, same.1) in
+    let a = length-padded linker_label 0 one linker_fits (omega (arith, long_one, short)) in
+    let b = length-padded linker_label 0 two linker_fits (omega (arith, long_two, second)) in
+    length-append (padded_part_bytes linker_label 0 one) (padded_part_bytes linker_label 0 two)
+    ∙ (ap (λ n. n + length (padded_part_bytes linker_label 0 two)) (a ∙ ap part_size long_one)
+    ∙ ap (λ n. part_size (4 + 4 * length entries + length (strings_of entries)) + n) (b ∙ ap part_size long_two))
+linkers-size Gnu places [] short second many = refl
+linkers-size Gnu places (e ∷ entries) short second many =
+    let one = first_linker places (e ∷ entries) in
+    let long_one = length-first_linker places (e ∷ entries) in
+    let some : 0 < length (e ∷ entries) = omega arith in
+    let size = linker_some (length (e ∷ entries)) (length (strings_of (e ∷ entries))) some in
+    let a = length-padded linker_label 0 one linker_fits (omega (arith, long_one, short, size)) in
+    omega (arith, ap length (linkers-gnu places (e ∷ entries) {kind = Gnu} refl some), a, ap part_size long_one, size)
+
+many_if_coff : (kind : Kind) (members : List MemberView) → kind ≡ Coff → (length (sorted_entries (entries_of kind members)) ≡ length (entries_of kind members))
+    × (length (strings_of (sorted_entries (entries_of kind members))) ≡ length (strings_of (entries_of kind members)))
+many_if_coff Coff members is = sorted_as_many members
+many_if_coff Gnu members is = absurd (cc)
+
+few_if_coff : (kind : Kind) (members : List MemberView) → has_too_many kind members ≡ false → kind ≡ Coff → length members < 65535
+unfolding has_too_many
+few_if_coff Coff members few is = by_test (nat_le 65535 (length members)) refl few
+  where
+    by_test : (b : Bool) → nat_le 65535 (length members) ≡ b → b ≡ false → length members < 65535
+    by_test b is not_many = leb-false 65535 (length members) (is ∙ not_many)
+few_if_coff Gnu members few is = absurd (cc)
+
+sum_front : (kind : Kind) (m e s n : ℕ) → front_size kind m e s n ≡ 8 + first_linker_size kind e s + second_linker_size kind m e s + names_size n
+unfolding front_size
+sum_front kind m e s n = refl
+
+sum_first : (kind : Kind) (members : List MemberView) → first_place kind members ≡ 8 + first_linker_size kind (length (entries_of kind members)) (length (strings_of (entries_of kind members)))
+    + second_linker_size kind (length members) (length (entries_of kind members)) (length (strings_of (entries_of kind members))) + names_size (length (names_bytes kind (long_names kind members)))
+unfolding first_place
+sum_first kind members = sum_front kind (length members) (length (entries_of kind members)) (length (strings_of (entries_of kind members))) (length (names_bytes kind (long_names kind members)))
+
+-- of members that are not refused, the sizes of what stands before them
+pub record FrontShort (kind : Kind) (members : List MemberView) : Type 0 where
+  pub first : first_place kind members < 2 ^ 32
+  pub linker : first_linker_size kind (length (entries_of kind members)) (length (strings_of (entries_of kind members))) < 2 ^ 32
+  pub second : second_linker_size kind (length members) (length (entries_of kind members)) (length (strings_of (entries_of kind members))) < 2 ^ 32
+  pub names : names_size (length (names_bytes kind (long_names kind members))) < 2 ^ 32
+
+pub front_short : (kind : Kind) (members : List MemberView) → refusal_of kind members ≡ None → FrontShort kind members
+front_short kind members accepted =
+    let near = first_near (first_place kind members) members (accepted_parts kind members accepted).near in
+    let sum = sum_first kind members in
+    record {
+      first = near;
+      linker = omega (arith, near, sum);
+      second = omega (arith, near, sum);
+      names = omega (arith, near, sum);
+    }
+
+-- the long names are shorter than 2^32
+pub names_below : (kind : Kind) (members : List MemberView) → refusal_of kind members ≡ None → length (names_bytes kind (long_names kind members)) < 2 ^ 32
+names_below kind members accepted = names_short (length (names_bytes kind (long_names kind members))) (front_short kind members accepted).names
+
+-- what stands before the members has the size that it was measured to have
+pub length-front : (kind : Kind) (members : List MemberView) → refusal_of kind members ≡ None → length (front_of kind members) ≡ first_place kind members
+unfolding front_of front signature
+length-front kind members accepted =
+    let short = front_short kind members accepted in
+    let entries = entries_of kind members in
+    let places = places_of kind members in
+    let names = names_bytes kind (long_names kind members) in
+    let count = length-places (first_place kind members) members in
+    let first = linkers kind places entries in
+    let one = linkers-size kind places entries short.linker (subst (λ n. second_linker_size kind n (length entries) (length (strings_of entries)) < 2 ^ 32) (sym count) short.second) (many_if_coff kind members)
+    ∙ ap (λ n. first_linker_size kind (length entries) (length (strings_of entries)) + second_linker_size kind n (length entries) (length (strings_of entries))) count in
+    let two = names_of-size names short.names in
+    omega (arith, length-append (codes "!<arch>\n" ++ first) (names_part names), length-append (codes "!<arch>\n") first, one, two, sum_first kind members)
+
+-- an archive ends where its last member does
+pub length-archive : (kind : Kind) (members : List MemberView) → refusal_of kind members ≡ None → length (archive_of kind members) ≡ end_from (first_place kind members) members
+unfolding archive_of
+length-archive kind members accepted =
+    let names = long_names kind members in
+    let below = names_below kind members accepted in
+    let near : (name : List ℕ) → unwrap_or (offset_of names name) 0 < 2 ^ 32 = λ name. omega (arith, below, offset_below kind members name) in
+    length-append (front_of kind members) (flat_map (member_part names) members)
+    ∙ ap (λ n. n + length (flat_map (member_part names) members)) (length-front kind members accepted)
+    ∙ length-members names near (first_place kind members) members (members_short kind members (accepted_parts kind members accepted).none)
+
+second_fits : (kind : Kind) (members : List MemberView) → kind ≡ Coff → second_linker_size kind (length members) (length (entries_of kind members)) (length (strings_of (entries_of kind members))) < 2 ^ 32
+    → 8 + 4 * length (places_of kind members) + 2 * length (sorted_entries (entries_of kind members)) + length (strings_of (sorted_entries (entries_of kind members))) < 2 ^ 32
+unfolding second_linker_size
+second_fits Coff members is short =
+    let many = sorted_as_many members in
+    omega (arith, short, many.0, many.1, length-places (first_place Coff members) members)
+second_fits Gnu members is short = absurd (cc)
+
+-- the linker members' fields
+pub front_fits : (kind : Kind) (members : List MemberView) → refusal_of kind members ≡ None → FrontFits kind (places_of kind members) (entries_of kind members)
+front_fits kind members accepted =
+    let short = front_short kind members accepted in
+    let entries = entries_of kind members in
+    let count = length-places (first_place kind members) members in
+    let n = length members in
+    let each = subst (λ k. Each (λ i. (0 < i) × (i ≤ k)) entries) (sym count) (each_entry kind members) in
+    let few = few_if_coff kind members (accepted_parts kind members accepted).few in
+    record {
+      numbered = all_from_each (λ i. (0 < i) × (i ≤ length (places_of kind members))) entries each;
+      short = first_short kind entries short.linker;
+      numbers = λ is. let small = few is in
+          all_from_each (λ i. i < 2 ^ 16) (sorted_entries entries) (each_sorted (λ i. i < 2 ^ 16) entries
+          (each_weaker (λ i. (0 < i) × (i ≤ n)) (λ i. i < 2 ^ 16) (λ i h. omega (arith, h.1, small)) entries (each_entry kind members)));
+      second_short = λ is. second_fits kind members is short.second;
+    }
+
+-- What the code measures before it knows that the members are not refused: sizes as far as they are told apart.
+
+linker_capped : (kind : Kind) (e s e' s' : ℕ) → min e (2 ^ 32) ≡ min e' (2 ^ 32) → min s (2 ^ 32) ≡ min s' (2 ^ 32) → min (first_linker_size kind e s) (2 ^ 32) ≡ min (first_linker_size kind e' s') (2 ^ 32)
+unfolding first_linker_size
+linker_capped Coff e s e' s' a b = omega (arith, a, b)
+linker_capped Gnu zero s zero s' a b = refl
+linker_capped Gnu zero s (suc e') s' a b = absurd (omega (arith, a))
+linker_capped Gnu (suc e) s zero s' a b = absurd (omega (arith, a))
+linker_capped Gnu (suc e) s (suc e') s' a b =
+    let p = linker_some (suc e) s (omega arith) in let q = linker_some (suc e') s' (omega arith) in omega (arith, a, b, p, q)
+
+second_capped : (kind : Kind) (m e s m' e' s' : ℕ) → min m (2 ^ 32) ≡ min m' (2 ^ 32) → min e (2 ^ 32) ≡ min e' (2 ^ 32) → min s (2 ^ 32) ≡ min s' (2 ^ 32) → min (second_linker_size kind m e s) (2 ^ 32) ≡ min (second_linker_size kind m' e' s') (2 ^ 32)
+unfolding second_linker_size
+second_capped Coff m e s m' e' s' c a b = omega (arith, a, b, c)
+second_capped Gnu m e s m' e' s' c a b = refl
+
+names_capped : (n n' : ℕ) → min n (2 ^ 32) ≡ min n' (2 ^ 32) → min (names_size n) (2 ^ 32) ≡ min (names_size n') (2 ^ 32)
+unfolding names_size
+names_capped zero zero a = refl
+names_capped zero (suc n') a = absurd (omega (arith, a))
+names_capped (suc n) zero a = absurd (omega (arith, a))
+names_capped (suc n) (suc n') a = let p = names_some (suc n) (omega arith) in let q = names_some (suc n') (omega arith) in omega (arith, a, p, q)
+
+sum_capped : (a b c a' b' c' : ℕ) → min a (2 ^ 32) ≡ min a' (2 ^ 32) → min b (2 ^ 32) ≡ min b' (2 ^ 32) → min c (2 ^ 32) ≡ min c' (2 ^ 32) → min (8 + a + b + c) (2 ^ 32) ≡ min (8 + a' + b' + c') (2 ^ 32)
+sum_capped a b c a' b' c' p q r = omega (arith, p, q, r)
+
+pub front_capped : (kind : Kind) (m e s n m' e' s' n' : ℕ) → min m (2 ^ 32) ≡ min m' (2 ^ 32) → min e (2 ^ 32) ≡ min e' (2 ^ 32) → min s (2 ^ 32) ≡ min s' (2 ^ 32) → min n (2 ^ 32) ≡ min n' (2 ^ 32)
+    → min (front_size kind m e s n) (2 ^ 32) ≡ min (front_size kind m' e' s' n') (2 ^ 32)
+unfolding front_size
+front_capped kind m e s n m' e' s' n' a b c d =
+    sum_capped (first_linker_size kind e s) (second_linker_size kind m e s) (names_size n) (first_linker_size kind e' s') (second_linker_size kind m' e' s') (names_size n')
+    (linker_capped kind e s e' s' b c) (second_capped kind m e s m' e' s' a b c) (names_capped n n' d)
+
+pub capped_min : (n : ℕ) → min (min n (2 ^ 32)) (2 ^ 32) ≡ min n (2 ^ 32)
+capped_min n = omega arith
+
+pub capped_more : (s n : ℕ) → s ≡ min n (2 ^ 64 - 1) → min (min s (2 ^ 32)) (2 ^ 32) ≡ min n (2 ^ 32)
+capped_more s n e = omega (arith, e)
+
+pub capped_names : {kind : Kind} {names found : List (List ℕ × ℕ)} {size : ℕ} → AreMeasured kind names found size → min (min size (2 ^ 32)) (2 ^ 32) ≡ min (length (names_bytes kind names)) (2 ^ 32)
+capped_names {kind} {names} {found} {size} m = by_test (nat_lt size (2 ^ 32)) refl
+  where
+    by_test : (b : Bool) → nat_lt size (2 ^ 32) ≡ b → min (min size (2 ^ 32)) (2 ^ 32) ≡ min (length (names_bytes kind names)) (2 ^ 32)
+    by_test true near = let n = ltb-true size (2 ^ 32) near in omega (arith, n, m.exact n)
+    by_test false far = let f = ltb-false size (2 ^ 32) far in omega (arith, f, m.long f)
+
+-- Of an archive that was made, front and members are all its bytes.
+pub archive_pieces : {kind : Kind} {members : List MemberView} {listed offsets : List (List ℕ × ℕ)} {size : ℕ} {places : List ℕ} {end' : ℕ} → IsMade kind members listed offsets size places end'
+    → front kind places listed offsets ++ flat_map (member_part offsets) members ≡ archive_of kind members
+unfolding archive_of front_of
+archive_pieces {kind} {members} {listed} {offsets} {size} {places} {end'} made =
+    ap (λ p. front kind p listed offsets ++ flat_map (member_part offsets) members) made.placed
+    ∙ (ap (λ e. front kind (places_of kind members) e offsets ++ flat_map (member_part offsets) members) made.listed
+    ∙ ap (λ n. front kind (places_of kind members) (entries_of kind members) n ++ flat_map (member_part n) members) made.named)
+
+-- what was measured is exact where the members are not refused
+pub near_size : {kind : Kind} {names found : List (List ℕ × ℕ)} {size : ℕ} → AreMeasured kind names found size → length (names_bytes kind names) < 2 ^ 32 → size < 2 ^ 32
+near_size {kind} {names} {found} {size} m below = by_test (nat_lt size (2 ^ 32)) refl
+  where
+    by_test : (b : Bool) → nat_lt size (2 ^ 32) ≡ b → size < 2 ^ 32
+    by_test true near = ltb-true size (2 ^ 32) near
+    by_test false far = let f = m.long (ltb-false size (2 ^ 32) far) in absurd (omega (arith, f, below))

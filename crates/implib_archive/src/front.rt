@@ -1,0 +1,199 @@
+//! What stands before the members.
+
+ghost use Rattle.implib_archive.specs.Archive.{first_linker, front, linker_label, linkers, name_end, names_bytes, names_label, names_part, place_of, second_linker, strings_of};
+ghost use Rattle.implib_archive.specs.Parts.{padded_part_bytes, u16_le, u32_be, u32_le};
+ghost use Rattle.implib_archive.specs.Pushed.{FrontFits, Pushes, label_view, shown};
+ghost use Rattle.implib_archive.specs.declared.kind.Kind.{Kind};
+ghost use Rattle.std.specs.List.{All};
+ghost use Rattle.std.specs.Prelude.{◌≡◌, ◌++◌, ◌+◌, ◌*◌, ◌^◌, ◌<◌, ◌≤◌, ◌∷◌, [], OnOk, flat_map, length, ℕ};
+
+use crate::bytes::{Label, push_header, push_padding, push_u16_le, push_u32_be, push_u32_le};
+use crate::entries::sorted;
+use crate::kind::Kind;
+use crate::long_names::LongNames;
+use crate::places::strings_size;
+use std::alloc::{AllocError, Global};
+
+// Appends what stands before members with these entries, long names and offsets.
+pub(crate) fn push_front(
+    out: &mut Vec<u8>,
+    alloc: Global,
+    kind: Kind,
+    entries: &[(&str, usize)],
+    names: &LongNames,
+    places: &[u32],
+) -> Result<(), AllocError>
+    requires fits { FrontFits kind places.now (shown entries.now) }
+    requires short { names.now.size < 2 ^ 32 }
+    requires measured { names.now.size ≡ length (names_bytes kind (shown names.now.offsets.entries)) }
+    ensures { OnOk result (Pushes out.old.items out.new.items
+        (front kind places.now (shown entries.now) (shown names.now.offsets.entries))) }
+{
+    out.extend_from_slice(b"!<arch>\n")?;
+    push_linkers(out, alloc, kind, entries, places)?;
+    push_names(out, kind, names)
+}
+
+// Appends the linker members.
+fn push_linkers(
+    out: &mut Vec<u8>,
+    alloc: Global,
+    kind: Kind,
+    entries: &[(&str, usize)],
+    places: &[u32],
+) -> Result<(), AllocError>
+    requires { FrontFits kind places.now (shown entries.now) }
+    ensures { OnOk result (Pushes out.old.items out.new.items (linkers kind places.now (shown entries.now))) }
+{
+    match kind {
+        Kind::Coff => {
+            push_first_linker(out, entries, places)?;
+            let sorted = sorted(alloc, entries)?;
+            push_second_linker(out, sorted.as_slice(), places)
+        }
+        Kind::Gnu => {
+            if entries.is_empty() {
+                return Ok(());
+            }
+            push_first_linker(out, entries, places)
+        }
+    }
+}
+
+// Appends the first linker member.
+fn push_first_linker(
+    out: &mut Vec<u8>,
+    entries: &[(&str, usize)],
+    places: &[u32],
+) -> Result<(), AllocError>
+    requires numbered { All (λ e. (0 < e.1) × (e.1 ≤ length places.now)) (shown entries.now) }
+    requires short { 4 + 4 * length entries.now + length (strings_of (shown entries.now)) < 2 ^ 32 }
+    ensures { OnOk result (Pushes out.old.items out.new.items
+        (padded_part_bytes linker_label 0 (first_linker places.now (shown entries.now)))) }
+{
+    let size = 4 + 4 * entries.len() + strings_size(entries) as usize;
+    push_header(out, &linker_label(), size + size % 2)?;
+    push_u32_be(out, entries.len() as u32)?;
+    push_entry_places(out, entries, places)?;
+    push_strings(out, entries)?;
+    push_padding(out, 0, size)
+}
+
+// Appends the second linker member.
+fn push_second_linker(
+    out: &mut Vec<u8>,
+    sorted: &[(&str, usize)],
+    places: &[u32],
+) -> Result<(), AllocError>
+    requires numbers { All (λ e. e.1 < 2 ^ 16) (shown sorted.now) }
+    requires short { 8 + 4 * length places.now + 2 * length sorted.now + length (strings_of (shown sorted.now)) < 2 ^ 32 }
+    ensures { OnOk result (Pushes out.old.items out.new.items
+        (padded_part_bytes linker_label 0 (second_linker places.now (shown sorted.now)))) }
+{
+    let size = 8 + 4 * places.len() + 2 * sorted.len() + strings_size(sorted) as usize;
+    push_header(out, &linker_label(), size + size % 2)?;
+    push_u32_le(out, places.len() as u32)?;
+    push_places(out, places)?;
+    push_u32_le(out, sorted.len() as u32)?;
+    push_numbers(out, sorted)?;
+    push_strings(out, sorted)?;
+    push_padding(out, 0, size)
+}
+
+// Appends the long names member, where there is a long name.
+fn push_names(out: &mut Vec<u8>, kind: Kind, names: &LongNames) -> Result<(), AllocError>
+    requires short { names.now.size < 2 ^ 32 }
+    requires measured { names.now.size ≡ length (names_bytes kind (shown names.now.offsets.entries)) }
+    ensures { OnOk result (Pushes out.old.items out.new.items (names_part (names_bytes kind (shown names.now.offsets.entries)))) }
+{
+    if names.size == 0 {
+        return Ok(());
+    }
+    let size = names.size as usize;
+    push_header(out, &names_label(), size + size % 2)?;
+    names.push_names(out, kind)?;
+    push_padding(out, b'\n', size)
+}
+
+// Appends the offset of each entry's member.
+fn push_entry_places(
+    out: &mut Vec<u8>,
+    entries: &[(&str, usize)],
+    places: &[u32],
+) -> Result<(), AllocError>
+    requires { All (λ e. (0 < e.1) × (e.1 ≤ length places.now)) (shown entries.now) }
+    ensures { OnOk result (Pushes out.old.items out.new.items
+        (flat_map (λ e. u32_be (place_of places.now e.1)) (shown entries.now))) }
+{
+    for entry in entries {
+        push_u32_be(out, places[entry.1 - 1])?;
+    }
+    Ok(())
+}
+
+// Appends the offsets of the members.
+fn push_places(out: &mut Vec<u8>, places: &[u32]) -> Result<(), AllocError>
+    ensures { OnOk result (Pushes out.old.items out.new.items (flat_map u32_le places.now)) }
+{
+    for place in places {
+        push_u32_le(out, *place)?;
+    }
+    Ok(())
+}
+
+// Appends the number of each entry's member.
+fn push_numbers(out: &mut Vec<u8>, entries: &[(&str, usize)]) -> Result<(), AllocError>
+    requires { All (λ e. e.1 < 2 ^ 16) (shown entries.now) }
+    ensures { OnOk result (Pushes out.old.items out.new.items (flat_map (λ e. u16_le e.1) (shown entries.now))) }
+{
+    for entry in entries {
+        push_u16_le(out, entry.1 as u16)?;
+    }
+    Ok(())
+}
+
+// Appends the symbols of entries, each ended by a NUL.
+fn push_strings(out: &mut Vec<u8>, entries: &[(&str, usize)]) -> Result<(), AllocError>
+    ensures { OnOk result (Pushes out.old.items out.new.items (strings_of (shown entries.now))) }
+{
+    for entry in entries {
+        push_ended(out, entry.0, b"\0")?;
+    }
+    Ok(())
+}
+
+// Appends a text and what ends it.
+pub(crate) fn push_ended(out: &mut Vec<u8>, text: &str, end: &[u8]) -> Result<(), AllocError>
+    ensures { OnOk result (Pushes out.old.items out.new.items (text.now ++ end.now)) }
+{
+    out.extend_from_slice(text.as_bytes())?;
+    out.extend_from_slice(end)
+}
+
+// The texts in the header of a linker member.
+#[tactic(auto, unfolding(crate::specs::Archive::linker_label))]
+fn linker_label() -> Label<'static>
+    ensures { label_view result ≡ linker_label }
+{
+    Label {
+        name: b"/",
+        name_end: b"",
+        date: b"0",
+        owner: b"0",
+        mode: b"0",
+    }
+}
+
+// The texts in the header of the long names member.
+#[tactic(auto, unfolding(crate::specs::Archive::names_label))]
+fn names_label() -> Label<'static>
+    ensures { label_view result ≡ names_label }
+{
+    Label {
+        name: b"//",
+        name_end: b"",
+        date: b"",
+        owner: b"",
+        mode: b"",
+    }
+}

@@ -1,0 +1,132 @@
+//! Archives, and writing them.
+
+ghost use Rattle.implib.specs.Library.{member_view};
+ghost use Rattle.implib_archive.specs.Archive.{archive_of, entries_of, first_place, long_names, member_part};
+ghost use Rattle.implib_archive.specs.Pushed.{AreMeasured, IsRefusal, Pushes, shown};
+ghost use Rattle.implib_archive.specs.Refusal.{has_too_many, refusal_of};
+ghost use Rattle.std.specs.Prelude.{◌≡◌, ◌^◌, IfErr, IfOk, None, OnOk, flat_map, length, map, min};
+
+use crate::entries::entries_of;
+use crate::error::{Error, Fault};
+use crate::front::push_front;
+use crate::kind::Kind;
+use crate::long_names::LongNames;
+use crate::places::{Places, front_size, place_members, strings_size};
+use crate::refusal::members_refusal;
+use implib::Member;
+use std::alloc::{AllocError, Global};
+use std::marker::Model;
+
+/// An archive of members, which it borrows: its layout is known, its bytes are not made yet.
+#[derive(Drop)]
+pub struct Archive<'a> {
+    members: &'a [Member],
+    kind: Kind,
+    entries: Vec<(&'a str, usize)>,
+    names: LongNames<'a>,
+    places: Places,
+}
+
+impl<'a> Model for Archive<'a> {
+    ghost use Rattle.implib.specs.Library.{member_view};
+    ghost use Rattle.implib_archive.specs.Archive.{ArchiveView};
+    ghost use Rattle.implib_archive.specs.Pushed.{IsMade, shown};
+    ghost use Rattle.std.specs.Prelude.{map};
+
+    ghost Value = { ArchiveView };
+
+    ghost view = { λ a. record { kind = a.kind; members = map member_view a.members.now } };
+
+    ghost invariant = { λ a. IsMade a.kind (map member_view a.members.now) (shown a.entries.items) (shown a.names.offsets.entries) a.names.size a.places.offsets.items a.places.end };
+}
+
+impl<'a> Archive<'a> {
+    /// The archive of the members, in their order.
+    ///
+    /// It is refused where the kind cannot carry the members: `Error::Invalid` tells the first cause,
+    /// that of the first member that has one, then too many members, then a header at an offset of 2^32
+    /// or more. Nothing is refused but for its cause or a failed allocation.
+    pub fn new(alloc: Global, members: &'a [Member], kind: Kind) -> Result<Self, Error>
+        ensures holds { IfOk result (λ archive. archive ≡ record { kind = kind; members = map member_view members.now }) }
+        ensures accepted { OnOk result (refusal_of kind (map member_view members.now) ≡ None) }
+        ensures refused { IfErr result (IsRefusal (refusal_of kind (map member_view members.now))) }
+    {
+        if let Some(fault) = members_refusal(kind, members) {
+            return Err(Error::Invalid(fault));
+        }
+        if has_too_many(kind, members) {
+            return Err(Error::Invalid(Fault::TooManyMembers));
+        }
+        let entries = entries_of(alloc, members, kind)?;
+        let names = LongNames::of(alloc, members, kind)?;
+        let first = first_place(kind, members, entries.as_slice(), &names);
+        let places = place_members(alloc, first, members)?;
+        Ok(Archive {
+            members,
+            kind,
+            entries,
+            names,
+            places,
+        })
+    }
+
+    /// How many bytes the archive has.
+    pub fn len(&self) -> u64
+        ensures { result ≡ length (archive_of self.now.kind self.now.members) }
+    {
+        self.places.end
+    }
+
+    /// The archive's bytes, in memory of just their size.
+    ///
+    /// # Errors
+    ///
+    /// An allocation failed.
+    pub fn to_vec(&self, alloc: Global) -> Result<Vec<u8>, AllocError>
+        ensures { IfOk result (λ bytes. bytes.items ≡ archive_of self.now.kind self.now.members) }
+    {
+        let mut bytes = Vec::with_capacity(alloc, self.places.end as usize)?;
+        let entries = self.entries.as_slice();
+        let places = self.places.offsets.as_slice();
+        push_front(&mut bytes, alloc, self.kind, entries, &self.names, places)?;
+        push_members(&mut bytes, &self.names, self.members)?;
+        Ok(bytes)
+    }
+}
+
+// Whether there are more members than the second linker member numbers.
+#[tactic(auto, unfolding(crate::specs::Refusal::has_too_many))]
+fn has_too_many(kind: Kind, members: &[Member]) -> bool
+    ensures { result ≡ has_too_many kind (map member_view members.now) }
+{
+    match kind {
+        Kind::Coff => members.len() >= 65535,
+        Kind::Gnu => false,
+    }
+}
+
+// The offset of the first member's header, as far as it is below 2^32.
+fn first_place(kind: Kind, members: &[Member], entries: &[(&str, usize)], names: &LongNames) -> u64
+    requires listed { shown entries.now ≡ entries_of kind (map member_view members.now) }
+    requires measured { AreMeasured kind (long_names kind (map member_view members.now)) (shown names.now.offsets.entries) names.now.size }
+    ensures { min result (2 ^ 32) ≡ min (first_place kind (map member_view members.now)) (2 ^ 32) }
+{
+    front_size(
+        kind,
+        members.len(),
+        entries.len(),
+        strings_size(entries),
+        names.size,
+    )
+}
+
+// Appends the members.
+fn push_members(out: &mut Vec<u8>, names: &LongNames, members: &[Member]) -> Result<(), AllocError>
+    ensures { OnOk result (Pushes out.old.items out.new.items
+        (flat_map (member_part (shown names.now.offsets.entries)) (map member_view members.now))) }
+{
+    for member in members {
+        names.push_member(out, member)?;
+    }
+    Ok(())
+}
