@@ -5,6 +5,8 @@ use Rattle.implib.specs.declared.machine.MachineType.{MachineType}
 use Rattle.implib.specs.declared.machine.MachineType.TheVariants.{I386, ARMNT, AMD64, ARM64}
 use Rattle.implib_dlltool.specs.declared.options.Meaning.{Meaning}
 use Rattle.implib_dlltool.specs.declared.options.Meaning.TheVariants.{Takes, Switches, Unsupported, Unknown}
+use Rattle.implib_dlltool.specs.declared.options.Setting.{Setting}
+use Rattle.implib_dlltool.specs.declared.options.Switch.{Switch}
 use Rattle.implib_dlltool.specs.declared.options.Setting.TheVariants.{Definition, Output, Machine, Dll, Flavor, Assembler, AssemblerFlags, TemporaryPrefix}
 use Rattle.implib_dlltool.specs.declared.options.Switch.TheVariants.{KillAt, NoLeadingUnderscore, DeterministicLibraries, Verbose, Help, Version}
 
@@ -98,3 +100,31 @@ machine_called name =
     else if bytes_eq name (codes "arm64") then Some ARM64
     else if bytes_eq name (codes "aarch64") then Some ARM64
     else None
+
+-- the number of an option that takes a value, by which options are told apart
+abbrev pub setting_number : Setting → ℕ
+setting_number Definition = 0
+setting_number Output = 1
+setting_number Machine = 2
+setting_number Dll = 3
+setting_number Flavor = 4
+setting_number Assembler = 5
+setting_number AssemblerFlags = 6
+setting_number TemporaryPrefix = 7
+
+-- the number of an option without a value
+abbrev pub switch_number : Switch → ℕ
+switch_number KillAt = 0
+switch_number NoLeadingUnderscore = 1
+switch_number DeterministicLibraries = 2
+switch_number Verbose = 3
+switch_number Help = 4
+switch_number Version = 5
+
+-- whether two options that take values are one
+abbrev pub is_same_setting : Setting → Setting → Bool
+is_same_setting setting other = setting_number setting == setting_number other
+
+-- whether two options without values are one
+abbrev pub is_same_switch : Switch → Switch → Bool
+is_same_switch switch other = switch_number switch == switch_number other

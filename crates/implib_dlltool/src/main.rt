@@ -1,6 +1,7 @@
 //! Makes the import library of a module definition, as a file.
 #![tactic(auto)]
 
+pub mod arguments;
 pub mod options;
 
 fn main(rt: HostRuntime) {

@@ -1,6 +1,7 @@
 //! The names of options, machines and flavours on the command line.
 
-ghost use Rattle.implib_dlltool.specs.Options.{is_unsupported, machine_called, option_lettered, option_named};
+ghost use Rattle.implib_dlltool.specs.Options.{is_same_setting, is_same_switch, is_unsupported, machine_called};
+ghost use Rattle.implib_dlltool.specs.Options.{option_lettered, option_named, setting_number, switch_number};
 ghost use Rattle.std.specs.Prelude.{◌≡◌};
 
 use implib::MachineType;
@@ -41,6 +42,54 @@ pub enum Switch {
     Help,
     /// `-V`, `--version`
     Version,
+}
+
+impl Setting {
+    // The number of the option, by which options are told apart.
+    fn number(self) -> u8
+        ensures { result ≡ setting_number self }
+    {
+        match self {
+            Setting::Definition => 0,
+            Setting::Output => 1,
+            Setting::Machine => 2,
+            Setting::Dll => 3,
+            Setting::Flavor => 4,
+            Setting::Assembler => 5,
+            Setting::AssemblerFlags => 6,
+            Setting::TemporaryPrefix => 7,
+        }
+    }
+
+    /// Whether this is the other option.
+    pub fn is(self, other: Setting) -> bool
+        ensures { result ≡ is_same_setting self other }
+    {
+        self.number() == other.number()
+    }
+}
+
+impl Switch {
+    // The number of the option, by which options are told apart.
+    fn number(self) -> u8
+        ensures { result ≡ switch_number self }
+    {
+        match self {
+            Switch::KillAt => 0,
+            Switch::NoLeadingUnderscore => 1,
+            Switch::DeterministicLibraries => 2,
+            Switch::Verbose => 3,
+            Switch::Help => 4,
+            Switch::Version => 5,
+        }
+    }
+
+    /// Whether this is the other option.
+    pub fn is(self, other: Switch) -> bool
+        ensures { result ≡ is_same_switch self other }
+    {
+        self.number() == other.number()
+    }
 }
 
 /// What a name of an option stands for.
