@@ -2,6 +2,7 @@
 #![tactic(auto)]
 
 pub mod arguments;
+pub mod laws;
 pub mod options;
 
 fn main(rt: HostRuntime) {
