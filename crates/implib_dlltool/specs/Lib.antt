@@ -1,0 +1,3 @@
+pub mod Options
+pub mod Arguments
+pub mod Worked

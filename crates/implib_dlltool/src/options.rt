@@ -1,0 +1,181 @@
+//! The names of options, machines and flavours on the command line.
+
+ghost use Rattle.implib_dlltool.specs.Options.{is_same_setting, is_same_switch, is_unsupported, machine_called};
+ghost use Rattle.implib_dlltool.specs.Options.{option_lettered, option_named, setting_number, switch_number};
+ghost use Rattle.std.specs.Prelude.{◌≡◌};
+
+use implib::MachineType;
+
+/// An option that takes a value.
+#[derive(Clone, Copy, Debug, PartialEq, Eq)]
+pub enum Setting {
+    /// `-d`, `--input-def`: the module definition.
+    Definition,
+    /// `-l`, `--output-lib`: the import library.
+    Output,
+    /// `-m`, `--machine`
+    Machine,
+    /// `-D`, `--dllname`: the DLL's name, before the definition's own.
+    Dll,
+    /// `--flavor`
+    Flavor,
+    /// `-S`, `--as`: an assembler. None is needed.
+    Assembler,
+    /// `-f`, `--as-flags`: options for an assembler.
+    AssemblerFlags,
+    /// `-t`, `--temp-prefix`: a name for temporary files.
+    TemporaryPrefix,
+}
+
+/// An option without a value.
+#[derive(Clone, Copy, Debug, PartialEq, Eq)]
+pub enum Switch {
+    /// `-k`, `--kill-at`
+    KillAt,
+    /// `--no-leading-underscore`
+    NoLeadingUnderscore,
+    /// `--deterministic-libraries`: they are so in any case.
+    DeterministicLibraries,
+    /// `-v`, `--verbose`
+    Verbose,
+    /// `-h`, `--help`
+    Help,
+    /// `-V`, `--version`
+    Version,
+}
+
+impl Setting {
+    // The number of the option, by which options are told apart.
+    fn number(self) -> u8
+        ensures { result ≡ setting_number self }
+    {
+        match self {
+            Setting::Definition => 0,
+            Setting::Output => 1,
+            Setting::Machine => 2,
+            Setting::Dll => 3,
+            Setting::Flavor => 4,
+            Setting::Assembler => 5,
+            Setting::AssemblerFlags => 6,
+            Setting::TemporaryPrefix => 7,
+        }
+    }
+
+    /// Whether this is the other option.
+    pub fn is(self, other: Setting) -> bool
+        ensures { result ≡ is_same_setting self other }
+    {
+        self.number() == other.number()
+    }
+}
+
+impl Switch {
+    // The number of the option, by which options are told apart.
+    fn number(self) -> u8
+        ensures { result ≡ switch_number self }
+    {
+        match self {
+            Switch::KillAt => 0,
+            Switch::NoLeadingUnderscore => 1,
+            Switch::DeterministicLibraries => 2,
+            Switch::Verbose => 3,
+            Switch::Help => 4,
+            Switch::Version => 5,
+        }
+    }
+
+    /// Whether this is the other option.
+    pub fn is(self, other: Switch) -> bool
+        ensures { result ≡ is_same_switch self other }
+    {
+        self.number() == other.number()
+    }
+}
+
+/// What a name of an option stands for.
+#[derive(Clone, Copy, Debug, PartialEq, Eq)]
+pub enum Meaning {
+    /// An option that takes a value.
+    Takes(Setting),
+    /// An option without a value.
+    Switches(Switch),
+    /// An option of GNU dlltool that has a meaning there, and none here.
+    Unsupported,
+    /// No option.
+    Unknown,
+}
+
+// Whether GNU dlltool has an option of this long name that has no meaning here.
+fn is_unsupported(name: &str) -> bool
+    ensures { result ≡ is_unsupported name.now }
+{
+    match name {
+        "output-exp" | "output-def" | "output-delaylib" | "base-file" | "identify" => true,
+        "identify-strict" | "no-idata4" | "no-idata5" | "add-indirect" => true,
+        "ext-prefix-alias" | "add-underscore" | "add-stdcall-underscore" => true,
+        "add-stdcall-alias" | "compat-implib" | "leading-underscore" => true,
+        "export-all-symbols" | "no-export-all-symbols" | "exclude-symbols" => true,
+        "no-default-excludes" | "use-nul-prefixed-import-tables" => true,
+        "non-deterministic-libraries" | "no-delete" => true,
+        _ => false,
+    }
+}
+
+/// The option of a long name, which is given without its `--`.
+pub fn option_named(name: &str) -> Meaning
+    ensures { result ≡ option_named name.now }
+{
+    match name {
+        "input-def" => Meaning::Takes(Setting::Definition),
+        "output-lib" => Meaning::Takes(Setting::Output),
+        "machine" => Meaning::Takes(Setting::Machine),
+        "dllname" => Meaning::Takes(Setting::Dll),
+        "flavor" => Meaning::Takes(Setting::Flavor),
+        "as" => Meaning::Takes(Setting::Assembler),
+        "as-flags" => Meaning::Takes(Setting::AssemblerFlags),
+        "temp-prefix" => Meaning::Takes(Setting::TemporaryPrefix),
+        "kill-at" => Meaning::Switches(Switch::KillAt),
+        "no-leading-underscore" => Meaning::Switches(Switch::NoLeadingUnderscore),
+        "deterministic-libraries" => Meaning::Switches(Switch::DeterministicLibraries),
+        "verbose" => Meaning::Switches(Switch::Verbose),
+        "help" => Meaning::Switches(Switch::Help),
+        "version" => Meaning::Switches(Switch::Version),
+        _ if is_unsupported(name) => Meaning::Unsupported,
+        _ => Meaning::Unknown,
+    }
+}
+
+/// The option of a letter.
+pub fn option_lettered(letter: u8) -> Meaning
+    ensures { result ≡ option_lettered letter }
+{
+    match letter {
+        b'd' => Meaning::Takes(Setting::Definition),
+        b'l' => Meaning::Takes(Setting::Output),
+        b'm' => Meaning::Takes(Setting::Machine),
+        b'D' => Meaning::Takes(Setting::Dll),
+        b'S' => Meaning::Takes(Setting::Assembler),
+        b'f' => Meaning::Takes(Setting::AssemblerFlags),
+        b't' => Meaning::Takes(Setting::TemporaryPrefix),
+        b'k' => Meaning::Switches(Switch::KillAt),
+        b'v' => Meaning::Switches(Switch::Verbose),
+        b'h' => Meaning::Switches(Switch::Help),
+        b'V' => Meaning::Switches(Switch::Version),
+        b'e' | b'z' | b'y' | b'b' | b'I' | b'x' | b'c' => Meaning::Unsupported,
+        b'a' | b'p' | b'U' | b'A' | b'C' | b'n' => Meaning::Unsupported,
+        _ => Meaning::Unknown,
+    }
+}
+
+/// The machine of a name, which is given in small letters.
+pub fn machine_called(name: &str) -> Option<MachineType>
+    ensures { result ≡ machine_called name.now }
+{
+    match name {
+        "i386" | "x86" => Some(MachineType::I386),
+        "i386:x86-64" | "amd64" | "x64" | "x86_64" => Some(MachineType::AMD64),
+        "arm" | "armnt" => Some(MachineType::ARMNT),
+        "arm64" | "aarch64" => Some(MachineType::ARM64),
+        _ => None,
+    }
+}
