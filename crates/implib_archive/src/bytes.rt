@@ -34,7 +34,8 @@ fn push_field(out: &mut Vec<u8>, width: usize, text: &[u8], end: &[u8]) -> Resul
 
 // Appends a header whose data has this size.
 pub(crate) fn push_header(out: &mut Vec<u8>, label: &Label, size: usize) -> Result<(), AllocError>
-    ensures { OnOk result (Pushes out.old.items out.new.items (header_bytes (label_view label.now) size)) }
+    ensures { OnOk result
+        (Pushes out.old.items out.new.items (header_bytes (label_view label.now) size)) }
 {
     let mut digits = Buffer::new();
     push_field(out, 16, label.name, label.name_end)?;

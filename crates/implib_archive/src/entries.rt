@@ -1,7 +1,8 @@
 //! The entries of the index.
 
 ghost use Rattle.implib.specs.Library.{member_view};
-ghost use Rattle.implib_archive.specs.Archive.{entries_from, entries_of, sorted_entries, with_first};
+ghost use Rattle.implib_archive.specs.Archive.{entries_from, entries_of, sorted_entries};
+ghost use Rattle.implib_archive.specs.Archive.{with_first};
 ghost use Rattle.implib_archive.specs.Pushed.{shown};
 ghost use Rattle.std.specs.Prelude.{◌≡◌, ◌++◌, [], IfOk, OnOk, fold, map};
 ghost use Rattle.std.specs.String.{string_bytes};
@@ -18,7 +19,8 @@ pub(crate) fn entries_of<'a>(
     members: &'a [Member],
     kind: Kind,
 ) -> Result<Vec<(&'a str, usize)>, AllocError>
-    ensures { IfOk result (λ entries. shown entries.items ≡ entries_of kind (map member_view members.now)) }
+    ensures { IfOk result (λ entries. shown entries.items
+        ≡ entries_of kind (map member_view members.now)) }
 {
     let entries = all_entries(alloc, members)?;
     match kind {
@@ -32,7 +34,8 @@ fn all_entries<'a>(
     alloc: Global,
     members: &'a [Member],
 ) -> Result<Vec<(&'a str, usize)>, AllocError>
-    ensures { IfOk result (λ entries. shown entries.items ≡ entries_from 1 (map member_view members.now)) }
+    ensures { IfOk result (λ entries. shown entries.items
+        ≡ entries_from 1 (map member_view members.now)) }
 {
     let mut entries = Vec::new(alloc);
     let mut number = 0;
@@ -50,7 +53,8 @@ fn push_entries<'a>(
     number: usize,
 ) -> Result<(), AllocError>
     ensures { OnOk result (shown entries.new.items
-        ≡ shown entries.old.items ++ map (λ symbol. (symbol, number)) (map string_bytes symbols.now)) }
+        ≡ shown entries.old.items
+        ++ map (λ symbol. (symbol, number)) (map string_bytes symbols.now)) }
 {
     for symbol in symbols {
         entries.push((symbol.as_str(), number))?;

@@ -1,11 +1,14 @@
 //! What stands before the members.
 
-ghost use Rattle.implib_archive.specs.Archive.{first_linker, front, linker_label, linkers, name_end, names_bytes, names_label, names_part, place_of, second_linker, strings_of};
+ghost use Rattle.implib_archive.specs.Archive.{first_linker, front, linker_label, linkers};
+ghost use Rattle.implib_archive.specs.Archive.{name_end, names_bytes, names_label, names_part};
+ghost use Rattle.implib_archive.specs.Archive.{place_of, second_linker, strings_of};
 ghost use Rattle.implib_archive.specs.Parts.{padded_part_bytes, u16_le, u32_be, u32_le};
 ghost use Rattle.implib_archive.specs.Pushed.{FrontFits, Pushes, label_view, shown};
 ghost use Rattle.implib_archive.specs.declared.kind.Kind.{Kind};
 ghost use Rattle.std.specs.List.{All};
-ghost use Rattle.std.specs.Prelude.{◌≡◌, ◌++◌, ◌+◌, ◌*◌, ◌^◌, ◌<◌, ◌≤◌, ◌∷◌, [], OnOk, flat_map, length, ℕ};
+ghost use Rattle.std.specs.Prelude.{◌≡◌, ◌++◌, ◌+◌, ◌*◌, ◌^◌, ◌<◌, ◌≤◌, ◌∷◌, [], OnOk, flat_map};
+ghost use Rattle.std.specs.Prelude.{length, ℕ};
 
 use crate::bytes::{Label, push_header, push_padding, push_u16_le, push_u32_be, push_u32_le};
 use crate::entries::sorted;
@@ -25,7 +28,8 @@ pub(crate) fn push_front(
 ) -> Result<(), AllocError>
     requires fits { FrontFits kind places.now (shown entries.now) }
     requires short { names.now.size < 2 ^ 32 }
-    requires measured { names.now.size ≡ length (names_bytes kind (shown names.now.offsets.entries)) }
+    requires measured { names.now.size
+        ≡ length (names_bytes kind (shown names.now.offsets.entries)) }
     ensures { OnOk result (Pushes out.old.items out.new.items
         (front kind places.now (shown entries.now) (shown names.now.offsets.entries))) }
 {
@@ -43,7 +47,8 @@ fn push_linkers(
     places: &[u32],
 ) -> Result<(), AllocError>
     requires { FrontFits kind places.now (shown entries.now) }
-    ensures { OnOk result (Pushes out.old.items out.new.items (linkers kind places.now (shown entries.now))) }
+    ensures { OnOk result
+        (Pushes out.old.items out.new.items (linkers kind places.now (shown entries.now))) }
 {
     match kind {
         Kind::Coff => {
@@ -86,7 +91,8 @@ fn push_second_linker(
     places: &[u32],
 ) -> Result<(), AllocError>
     requires numbers { All (λ e. e.1 < 2 ^ 16) (shown sorted.now) }
-    requires short { 8 + 4 * length places.now + 2 * length sorted.now + length (strings_of (shown sorted.now)) < 2 ^ 32 }
+    requires short { 8 + 4 * length places.now + 2 * length sorted.now
+        + length (strings_of (shown sorted.now)) < 2 ^ 32 }
     ensures { OnOk result (Pushes out.old.items out.new.items
         (padded_part_bytes linker_label 0 (second_linker places.now (shown sorted.now)))) }
 {
@@ -103,8 +109,11 @@ fn push_second_linker(
 // Appends the long names member, where there is a long name.
 fn push_names(out: &mut Vec<u8>, kind: Kind, names: &LongNames) -> Result<(), AllocError>
     requires short { names.now.size < 2 ^ 32 }
-    requires measured { names.now.size ≡ length (names_bytes kind (shown names.now.offsets.entries)) }
-    ensures { OnOk result (Pushes out.old.items out.new.items (names_part (names_bytes kind (shown names.now.offsets.entries)))) }
+    requires measured { names.now.size
+        ≡ length (names_bytes kind (shown names.now.offsets.entries)) }
+    ensures { OnOk result
+        (Pushes out.old.items out.new.items
+        (names_part (names_bytes kind (shown names.now.offsets.entries)))) }
 {
     if names.size == 0 {
         return Ok(());
@@ -144,7 +153,8 @@ fn push_places(out: &mut Vec<u8>, places: &[u32]) -> Result<(), AllocError>
 // Appends the number of each entry's member.
 fn push_numbers(out: &mut Vec<u8>, entries: &[(&str, usize)]) -> Result<(), AllocError>
     requires { All (λ e. e.1 < 2 ^ 16) (shown entries.now) }
-    ensures { OnOk result (Pushes out.old.items out.new.items (flat_map (λ e. u16_le e.1) (shown entries.now))) }
+    ensures { OnOk result
+        (Pushes out.old.items out.new.items (flat_map (λ e. u16_le e.1) (shown entries.now))) }
 {
     for entry in entries {
         push_u16_le(out, entry.1 as u16)?;

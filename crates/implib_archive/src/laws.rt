@@ -18,7 +18,8 @@ pub fn worked_refusals()
     ensures { WorkedRefusals }
 {}
 
-/// A reader finds in each archive the linker members, the long names and the members, in order, and nothing else.
+/// A reader finds in each archive the linker members, the long names and the members, in order, and
+/// nothing else.
 pub fn parts_read_back()
     ensures { PartsReadBack }
 {}

@@ -1,14 +1,17 @@
-//! Archives of the members of import libraries, in two kinds: COFF (Microsoft's) and GNU (System V's).
+//! Archives of the members of import libraries, in two kinds: COFF (Microsoft's) and GNU (System
+//! V's).
 //!
-//! [`Archive::new`] gives an archive of members, or tells the first thing that the kind cannot carry. [`Archive::len`],
-//! [`Archive::to_vec`] and [`Archive::write_to`] give its length and its bytes, which are those of the tables in
-//! `specs/Archive`. A writer whose bytes are known has just these after `Ok`, and a beginning of them after an error.
-//! [`members_refusal`] says what is wrong with members alone, without their archive.
+//! [`Archive::new`] gives an archive of members, or tells the first thing that the kind cannot
+//! carry. [`Archive::len`], [`Archive::to_vec`] and [`Archive::write_to`] give its length and its
+//! bytes, which are those of the tables in `specs/Archive`. A writer whose bytes are known has just
+//! these after `Ok`, and a beginning of them after an error. [`members_refusal`] says what is wrong
+//! with members alone, without their archive.
 //!
-//! [`laws`] has what is proved of every archive: a reader that follows headers and sizes finds the linker members, the
-//! long names and each member with its bytes, in order, and nothing else. What is worked by hand stands there too: whole
-//! archives of both kinds, written and read, by their indexes also, and refusals. That long names and indexes of every
-//! archive are read back is not proved.
+//! [`laws`] has what is proved of every archive: a reader that follows headers and sizes finds the
+//! linker members, the long names and each member with its bytes, in order, and nothing else. What
+//! is worked by hand stands there too: whole archives of both kinds, written and read, by their
+//! indexes also, and refusals. That long names and indexes of every archive are read back is not
+//! proved.
 #![tactic(auto)]
 
 mod bytes;

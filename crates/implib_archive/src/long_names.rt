@@ -1,11 +1,13 @@
 //! The long names, and the names in headers.
 
 ghost use Rattle.implib.specs.Library.{member_view};
-ghost use Rattle.implib_archive.specs.Archive.{is_long, long_names, member_label, name_end, names_bytes, offset_of, with_name};
+ghost use Rattle.implib_archive.specs.Archive.{is_long, long_names, member_label, name_end};
+ghost use Rattle.implib_archive.specs.Archive.{names_bytes, offset_of, with_name};
 ghost use Rattle.implib_archive.specs.Parts.{header_bytes, part_bytes};
 ghost use Rattle.implib_archive.specs.Pushed.{AreMeasured, Pushes, label_view, shown};
 ghost use Rattle.implib_archive.specs.declared.kind.Kind.{Kind};
-ghost use Rattle.std.specs.Prelude.{◌≡◌, ◌++◌, ◌≤◌, ℕ, List, IfOk, OnOk, codes, length, map, unwrap_or};
+ghost use Rattle.std.specs.Prelude.{◌≡◌, ◌++◌, ◌≤◌, ℕ, List, IfOk, OnOk, codes, length, map};
+ghost use Rattle.std.specs.Prelude.{unwrap_or};
 ghost use Rattle.std.specs.String.{string_bytes};
 
 use crate::bytes::{Label, push_header, push_padding};
@@ -32,7 +34,8 @@ impl<'a> LongNames<'a> {
         kind: Kind,
     ) -> Result<LongNames<'a>, AllocError>
         ensures { IfOk result (λ names. AreMeasured kind
-            (long_names kind (map member_view members.now)) (shown names.offsets.entries) names.size) }
+            (long_names kind (map member_view members.now))
+            (shown names.offsets.entries) names.size) }
     {
         let mut names = LongNames {
             offsets: IndexMap::new(alloc),
@@ -93,7 +96,8 @@ impl<'a> LongNames<'a> {
         member: &Member,
     ) -> Result<(), AllocError>
         ensures { OnOk result (Pushes out.old.items out.new.items
-            (header_bytes (member_label (shown self.now.offsets.entries) (string_bytes member.now.name))
+            (header_bytes (member_label (shown self.now.offsets.entries)
+            (string_bytes member.now.name))
             (length member.now.bytes.items))) }
     {
         let name = member.name.as_str();
@@ -113,7 +117,8 @@ impl<'a> LongNames<'a> {
     // Appends a member.
     pub(crate) fn push_member(&self, out: &mut Vec<u8>, member: &Member) -> Result<(), AllocError>
         ensures { OnOk result (Pushes out.old.items out.new.items
-            (part_bytes (member_label (shown self.now.offsets.entries) (string_bytes member.now.name))
+            (part_bytes (member_label (shown self.now.offsets.entries)
+            (string_bytes member.now.name))
             member.now.bytes.items)) }
     {
         let bytes = member.bytes.as_slice();

@@ -24,7 +24,8 @@ pub(crate) fn put<W: io::Write>(writer: &mut W, bytes: &[u8]) -> io::Result<()>
 
 // Writes some bytes, and others behind them.
 fn put_both<W: io::Write>(writer: &mut W, first: &[u8], second: &[u8]) -> io::Result<()>
-    ensures { Writes (W.contents writer.old) (W.contents writer.new) (first.now ++ second.now) result }
+    ensures { Writes (W.contents writer.old) (W.contents writer.new) (first.now
+        ++ second.now) result }
 {
     put(writer, first)?;
     put(writer, second)
@@ -32,7 +33,8 @@ fn put_both<W: io::Write>(writer: &mut W, first: &[u8], second: &[u8]) -> io::Re
 
 // Writes a header, data, and a line end behind data of an odd size.
 pub(crate) fn put_part<W: io::Write>(writer: &mut W, header: &[u8], bytes: &[u8]) -> io::Result<()>
-    ensures { Writes (W.contents writer.old) (W.contents writer.new) (header.now ++ bytes.now ++ padding 10 (length bytes.now)) result }
+    ensures { Writes (W.contents writer.old) (W.contents writer.new) (header.now ++ bytes.now
+        ++ padding 10 (length bytes.now)) result }
 {
     let end = [b'\n'; 1];
     put_both(writer, header, bytes)?;

@@ -1,11 +1,13 @@
 //! The sizes of what stands before the members, and the offsets of their headers.
 
 ghost use Rattle.implib.specs.Library.{member_view};
-ghost use Rattle.implib_archive.specs.Archive.{end_from, first_linker_size, front_size, names_size, places_from, second_linker_size, strings_of};
+ghost use Rattle.implib_archive.specs.Archive.{end_from, first_linker_size, front_size, names_size};
+ghost use Rattle.implib_archive.specs.Archive.{places_from, second_linker_size, strings_of};
 ghost use Rattle.implib_archive.specs.Parts.{part_size};
 ghost use Rattle.implib_archive.specs.Pushed.{IsRefusal, shown};
 ghost use Rattle.implib_archive.specs.Refusal.{places_refusal};
-ghost use Rattle.std.specs.Prelude.{◌≡◌, ◌<◌, ◌≤◌, ◌+◌, ◌-◌, ◌^◌, IfErr, IfOk, None, OnOk, length, map, min};
+ghost use Rattle.std.specs.Prelude.{◌≡◌, ◌<◌, ◌≤◌, ◌+◌, ◌-◌, ◌^◌, IfErr, IfOk, None, OnOk, length};
+ghost use Rattle.std.specs.Prelude.{map, min};
 
 use crate::error::{Error, Fault};
 use crate::kind::Kind;
@@ -105,7 +107,8 @@ pub(crate) fn front_size(
     strings: u64,
     names: u64,
 ) -> u64
-    ensures { result ≡ front_size kind (min members (2 ^ 32)) (min entries (2 ^ 32)) (min strings (2 ^ 32)) (min names (2 ^ 32)) }
+    ensures { result ≡ front_size kind (min members (2 ^ 32)) (min entries (2 ^ 32))
+        (min strings (2 ^ 32)) (min names (2 ^ 32)) }
 {
     let members = capped(members as u64);
     let entries = capped(entries as u64);
@@ -118,9 +121,12 @@ pub(crate) fn front_size(
 // The places of the members, the first of which begins at this offset.
 pub(crate) fn place_members(alloc: Global, first: u64, members: &[Member]) -> Result<Places, Error>
     ensures accepted { OnOk result (places_refusal first (map member_view members.now) ≡ None) }
-    ensures offsets { IfOk result (λ places. places.offsets.items ≡ places_from first (map member_view members.now)) }
-    ensures end { IfOk result (λ places. places.end ≡ end_from first (map member_view members.now)) }
-    ensures refused { IfErr result (IsRefusal (places_refusal first (map member_view members.now))) }
+    ensures offsets { IfOk result (λ places. places.offsets.items
+        ≡ places_from first (map member_view members.now)) }
+    ensures end { IfOk result (λ places. places.end
+        ≡ end_from first (map member_view members.now)) }
+    ensures refused { IfErr result
+        (IsRefusal (places_refusal first (map member_view members.now))) }
 {
     if first >= TOO_LONG {
         return Err(Error::Invalid(Fault::ArchiveTooLong));

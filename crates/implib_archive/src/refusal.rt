@@ -1,7 +1,8 @@
 //! Which members are refused.
 
 ghost use Rattle.implib.specs.Library.{member_view};
-ghost use Rattle.implib_archive.specs.Refusal.{member_refusal, members_refusal, name_refusal, symbol_refusal, symbols_refusal};
+ghost use Rattle.implib_archive.specs.Refusal.{member_refusal, members_refusal, name_refusal};
+ghost use Rattle.implib_archive.specs.Refusal.{symbol_refusal, symbols_refusal};
 ghost use Rattle.std.specs.Prelude.{◌≡◌, length, map};
 ghost use Rattle.std.specs.String.{string_bytes};
 
@@ -77,8 +78,8 @@ fn member_refusal(kind: Kind, member: &Member) -> Option<Fault>
     None
 }
 
-/// What is wrong with the first member that is refused: its name, a symbol, its length. Whether there are too many
-/// members, or too long ones together, is not asked.
+/// What is wrong with the first member that is refused: its name, a symbol, its length. Whether
+/// there are too many members, or too long ones together, is not asked.
 pub fn members_refusal(kind: Kind, members: &[Member]) -> Option<Fault>
     ensures { result ≡ members_refusal kind (map member_view members.now) }
 {

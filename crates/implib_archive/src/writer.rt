@@ -1,11 +1,13 @@
 //! Archives, and writing them.
 
 ghost use Rattle.implib.specs.Library.{member_view};
-ghost use Rattle.implib_archive.specs.Archive.{archive_of, entries_of, first_place, front_of, long_names, member_part};
+ghost use Rattle.implib_archive.specs.Archive.{archive_of, entries_of, first_place, front_of};
+ghost use Rattle.implib_archive.specs.Archive.{long_names, member_part};
 ghost use Rattle.implib_archive.specs.Pushed.{AreMeasured, IsRefusal, Pushes, shown};
 ghost use Rattle.implib_archive.specs.Refusal.{has_too_many, refusal_of};
 ghost use Rattle.implib_archive.specs.Written.{Writes};
-ghost use Rattle.std.specs.Prelude.{◌≡◌, ◌++◌, ◌^◌, IfErr, IfOk, None, OnOk, flat_map, length, map, min};
+ghost use Rattle.std.specs.Prelude.{◌≡◌, ◌++◌, ◌^◌, IfErr, IfOk, None, OnOk, flat_map, length, map};
+ghost use Rattle.std.specs.Prelude.{min};
 
 use crate::entries::entries_of;
 use crate::error::{Error, Fault, WriteError};
@@ -40,17 +42,19 @@ impl<'a> Model for Archive<'a> {
 
     ghost view = { λ a. record { kind = a.kind; members = map member_view a.members.now } };
 
-    ghost invariant = { λ a. IsMade a.kind (map member_view a.members.now) (shown a.entries.items) (shown a.names.offsets.entries) a.names.size a.places.offsets.items a.places.end };
+    ghost invariant = { λ a. IsMade a.kind (map member_view a.members.now) (shown a.entries.items)
+        (shown a.names.offsets.entries) a.names.size a.places.offsets.items a.places.end };
 }
 
 impl<'a> Archive<'a> {
     /// The archive of the members, in their order.
     ///
-    /// It is refused where the kind cannot carry the members: `Error::Invalid` tells the first cause,
-    /// that of the first member that has one, then too many members, then a header at an offset of 2^32
-    /// or more. Nothing is refused but for its cause or a failed allocation.
+    /// It is refused where the kind cannot carry the members: `Error::Invalid` tells the first
+    /// cause, that of the first member that has one, then too many members, then a header at an
+    /// offset of 2^32 or more. Nothing is refused but for its cause or a failed allocation.
     pub fn new(alloc: Global, members: &'a [Member], kind: Kind) -> Result<Self, Error>
-        ensures holds { IfOk result (λ archive. archive ≡ record { kind = kind; members = map member_view members.now }) }
+        ensures holds { IfOk result (λ archive. archive
+            ≡ record { kind = kind; members = map member_view members.now }) }
         ensures accepted { OnOk result (refusal_of kind (map member_view members.now) ≡ None) }
         ensures refused { IfErr result (IsRefusal (refusal_of kind (map member_view members.now))) }
     {
@@ -96,8 +100,8 @@ impl<'a> Archive<'a> {
 
     /// Writes the archive, without a second copy of the members.
     ///
-    /// It calls `write` for what stands before the members, and for each member two or three times, so
-    /// a writer to a file wants a `BufWriter` before it. It does not flush.
+    /// It calls `write` for what stands before the members, and for each member two or three times,
+    /// so a writer to a file wants a `BufWriter` before it. It does not flush.
     ///
     /// # Errors
     ///
@@ -137,7 +141,8 @@ fn has_too_many(kind: Kind, members: &[Member]) -> bool
 // The offset of the first member's header, as far as it is below 2^32.
 fn first_place(kind: Kind, members: &[Member], entries: &[(&str, usize)], names: &LongNames) -> u64
     requires listed { shown entries.now ≡ entries_of kind (map member_view members.now) }
-    requires measured { AreMeasured kind (long_names kind (map member_view members.now)) (shown names.now.offsets.entries) names.now.size }
+    requires measured { AreMeasured kind (long_names kind (map member_view members.now))
+        (shown names.now.offsets.entries) names.now.size }
     ensures { min result (2 ^ 32) ≡ min (first_place kind (map member_view members.now)) (2 ^ 32) }
 {
     front_size(
@@ -169,7 +174,8 @@ fn write_parts<W: io::Write>(
     members: &[Member],
 ) -> Result<(), WriteError>
     ensures { Writes (W.contents writer.old) (W.contents writer.new)
-        (front.now ++ flat_map (member_part (shown names.now.offsets.entries)) (map member_view members.now)) result }
+        (front.now ++ flat_map (member_part (shown names.now.offsets.entries))
+        (map member_view members.now)) result }
 {
     let mut header = Vec::with_capacity(alloc, 60)?;
     put(writer, front)?;
@@ -184,7 +190,8 @@ fn write_members<W: io::Write>(
     members: &[Member],
 ) -> Result<(), WriteError>
     ensures { Writes (W.contents writer.old) (W.contents writer.new)
-        (flat_map (member_part (shown names.now.offsets.entries)) (map member_view members.now)) result }
+        (flat_map (member_part (shown names.now.offsets.entries)) (map member_view members.now))
+        result }
 {
     for member in members {
         write_member(writer, header, names, member)?;

@@ -1,7 +1,9 @@
 //! The words of a command line, as options with their values.
 
-ghost use Rattle.implib_dlltool.specs.Arguments.{IsRefusalOf, is_switched, last_given, long_word, occurrence_view};
-ghost use Rattle.implib_dlltool.specs.Arguments.{read_words, short_word, step, step_view, word_of, word_view};
+ghost use Rattle.implib_dlltool.specs.Arguments.{IsRefusalOf, is_switched, last_given, long_word};
+ghost use Rattle.implib_dlltool.specs.Arguments.{occurrence_view};
+ghost use Rattle.implib_dlltool.specs.Arguments.{read_words, short_word, step, step_view, word_of};
+ghost use Rattle.implib_dlltool.specs.Arguments.{word_view};
 ghost use Rattle.implib_dlltool.specs.declared.arguments.ReadWordsError.TheVariants.{OutOfMemory};
 ghost use Rattle.std.specs.Prelude.{◌≡◌, IfErr, IfOk, Ok, map};
 ghost use Rattle.std.specs.Option.{option_map};
@@ -184,7 +186,8 @@ pub fn read_words<'a>(
 
 /// The last value that an option is given.
 pub fn last_given<'a>(options: &[Occurrence<'a>], setting: Setting) -> Option<&'a str>
-    ensures { option_map (λ text. text.now) result ≡ last_given setting (map occurrence_view options.now) }
+    ensures { option_map (λ text. text.now) result
+        ≡ last_given setting (map occurrence_view options.now) }
 {
     let mut last = None;
     for option in options {

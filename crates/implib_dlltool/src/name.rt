@@ -1,7 +1,8 @@
 //! The name of the DLL that an import library is for.
 
 ghost use Rattle.implib.specs.Text.Token.{Lexed, TokenView};
-ghost use Rattle.implib_dlltool.specs.Names.{bare_name, dll_name, ending, is_program, heading_after, name_fault};
+ghost use Rattle.implib_dlltool.specs.Names.{bare_name, dll_name, ending, is_program};
+ghost use Rattle.implib_dlltool.specs.Names.{heading_after, name_fault};
 ghost use Rattle.implib_dlltool.specs.Views.{given_bytes};
 ghost use Rattle.std.specs.Prelude.{◌≡◌, IfOk, List};
 ghost use Rattle.std.specs.String.{string_bytes};
@@ -67,7 +68,8 @@ fn ending(is_program: bool) -> &'static str
     if is_program { ".exe" } else { ".dll" }
 }
 
-/// The name of the DLL: the one that is given, or the definition's own, with an ending where it has no full stop.
+/// The name of the DLL: the one that is given, or the definition's own, with an ending where it has
+/// no full stop.
 ///
 /// # Errors
 ///
@@ -79,7 +81,8 @@ pub fn dll_name(
     own: &str,
     is_program: bool,
 ) -> Result<String, AllocError>
-    ensures { IfOk result (λ name. string_bytes name ≡ dll_name (given_bytes given.entry) own.now is_program) }
+    ensures { IfOk result (λ name. string_bytes name
+        ≡ dll_name (given_bytes given.entry) own.now is_program) }
 {
     let Some(name) = given else {
         let mut name = String::from_str(alloc, own)?;

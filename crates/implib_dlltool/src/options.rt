@@ -1,7 +1,9 @@
 //! The names of options, machines and flavours on the command line.
 
-ghost use Rattle.implib_dlltool.specs.Options.{is_same_setting, is_same_switch, is_unsupported, machine_called};
-ghost use Rattle.implib_dlltool.specs.Options.{option_lettered, option_named, setting_number, switch_number};
+ghost use Rattle.implib_dlltool.specs.Options.{is_same_setting, is_same_switch, is_unsupported};
+ghost use Rattle.implib_dlltool.specs.Options.{machine_called};
+ghost use Rattle.implib_dlltool.specs.Options.{option_lettered, option_named, setting_number};
+ghost use Rattle.implib_dlltool.specs.Options.{switch_number};
 ghost use Rattle.std.specs.Prelude.{◌≡◌};
 
 use implib::MachineType;

@@ -1,7 +1,8 @@
 //! What a definition may not have, since no import library by the program would say what it means.
 
 ghost use Rattle.implib_dlltool.specs.Names.{has};
-ghost use Rattle.implib_dlltool.specs.Supported.{IsFirstUnsupported, has_at_sign_inside, is_decorated_word, is_unsupported};
+ghost use Rattle.implib_dlltool.specs.Supported.{IsFirstUnsupported, has_at_sign_inside};
+ghost use Rattle.implib_dlltool.specs.Supported.{is_decorated_word, is_unsupported};
 ghost use Rattle.std.specs.Prelude.{◌≡◌};
 
 use implib::MachineType;
@@ -29,8 +30,8 @@ fn is_unsupported(machine: MachineType, kind: TokenKind, value: &[u8]) -> bool
     }
 }
 
-/// The offset of the first word of a text that asks for more than the program makes: `==`, or on I386 a word
-/// with an `@` behind its first byte.
+/// The offset of the first word of a text that asks for more than the program makes: `==`, or on
+/// I386 a word with an `@` behind its first byte.
 pub fn first_unsupported(text: &str, machine: MachineType) -> Option<usize>
     ensures { IsFirstUnsupported text.now machine result }
 {

@@ -19,7 +19,8 @@ const MACHINES: [(MachineType, [u8; 2]); 4] = [
     (MachineType::ARM64, [0x64, 0xAA]),
 ];
 
-// For Microsoft's linker a DLL has three members and one for each export, for GNU's two and one for each.
+// For Microsoft's linker a DLL has three members and one for each export, for GNU's two and one for
+// each.
 #[test]
 fn texts_have_members(rt: HostRuntime) -> Result<(), Fail> {
     let alloc = rt.alloc();

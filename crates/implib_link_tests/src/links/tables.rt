@@ -7,8 +7,8 @@ use std::alloc::Global;
 use std::process::Abort;
 use std::test::Fail;
 
-// A DLL's import descriptor: its address; the addresses in it; and what is there: the thunks of both tables,
-// with the null thunk, and the name with its NUL.
+// A DLL's import descriptor: its address; the addresses in it; and what is there: the thunks of
+// both tables, with the null thunk, and the name with its NUL.
 #[derive(Clone, Copy)]
 struct Dll {
     descriptor: usize,
@@ -19,8 +19,9 @@ struct Dll {
     text: &'static [u8],
 }
 
-// Members of definitions for a machine, and what comes of them at these bases: descriptors, hints and names by
-// their addresses, the symbols of the address tables, and all bytes with the ends of the ranges.
+// Members of definitions for a machine, and what comes of them at these bases: descriptors, hints
+// and names by their addresses, the symbols of the address tables, and all bytes with the ends of
+// the ranges.
 #[derive(Clone, Copy)]
 struct Row {
     machine: MachineType,
@@ -103,8 +104,8 @@ const ON_AMD64: Bases = [0x1000, 0x1020, 0x1040, 0x1060, 0x1080, 0x2000];
 
 const ON_I386: Bases = [0x1000, 0x1014, 0x1020, 0x102C, 0x1034, 0x2000];
 
-// A name and a number on AMD64. Before the DLL's name are the two exports' own contributions to `.idata$7`,
-// each the address of the descriptor.
+// A name and a number on AMD64. Before the DLL's name are the two exports' own contributions to
+// `.idata$7`, each the address of the descriptor.
 const NAME_AND_NUMBER: Row = Row {
     machine: MachineType::AMD64,
     texts: &[TWO],

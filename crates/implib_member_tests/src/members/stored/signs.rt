@@ -1,6 +1,6 @@
-//! All members of a definition of a DLL with a sign in its name and another extension, of a constant by the
-//! greatest ordinal and of data, each with an alias: byte for byte, for each machine. Another program works out
-//! the same bytes.
+//! All members of a definition of a DLL with a sign in its name and another extension, of a
+//! constant by the greatest ordinal and of data, each with an alias: byte for byte, for each
+//! machine. Another program works out the same bytes.
 
 mod amd64;
 mod arm64;
