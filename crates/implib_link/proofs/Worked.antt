@@ -18,3 +18,4 @@ pub mod RefusedTexts
 pub mod Sources
 pub mod Closed
 pub mod Claims
+pub mod Rebased

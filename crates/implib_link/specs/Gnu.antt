@@ -6,3 +6,4 @@ pub mod Reading
 pub mod Calls
 pub mod Packed
 pub mod Bounds
+pub mod Rebased

@@ -100,7 +100,7 @@ one_code_resolves linked k m u entries own other differs = record {
       absurd (not_named m u t other differs defines.external (named ∙ ap (λ (x : ObjectSymbol). x.name) s_is) (first_or_second (ASymbol t) (ASymbol m) (ASymbol u) among));
 }
 
-amd64_program : IsProgram AMD64 touching_8 (both_inputs AMD64) (calling_objects AMD64)
+pub amd64_program : IsProgram AMD64 touching_8 (both_inputs AMD64) (calling_objects AMD64)
 unfolding opened refusal renamed_refusal alias_specs encoded_size weak_object has_tables
 amd64_program = record {
   distinct = distinct_by (linked_symbols AMD64 (both_inputs AMD64)) refl;
@@ -129,7 +129,7 @@ amd64_beside = record {
       (symbol_of_class (imp_symbol (symbol_on AMD64 (codes "open"))) 0 class_external) refl refl refl (λ same. cc);
 }
 
-amd64_has : HasCall AMD64 (calling_at AMD64 0x1000) 4 (imp_symbol (symbol_on AMD64 (codes "open")))
+pub amd64_has : HasCall AMD64 (calling_at AMD64 0x1000) 4 (imp_symbol (symbol_on AMD64 (codes "open")))
 amd64_has = record {
   front = first_bytes AMD64;
   back = last_bytes AMD64;
@@ -147,7 +147,7 @@ amd64_has = record {
   named = refl;
 }
 
-i386_program : IsProgram I386 touching_4 (both_inputs I386) (calling_objects I386)
+pub i386_program : IsProgram I386 touching_4 (both_inputs I386) (calling_objects I386)
 unfolding opened refusal renamed_refusal alias_specs encoded_size weak_object has_tables
 i386_program = record {
   distinct = distinct_by (linked_symbols I386 (both_inputs I386)) refl;
@@ -176,7 +176,7 @@ i386_beside = record {
       (symbol_of_class (imp_symbol (symbol_on I386 (codes "open"))) 0 class_external) refl refl refl (λ same. cc);
 }
 
-i386_has : HasCall I386 (calling_at I386 0x1000) 4 (imp_symbol (symbol_on I386 (codes "open")))
+pub i386_has : HasCall I386 (calling_at I386 0x1000) 4 (imp_symbol (symbol_on I386 (codes "open")))
 i386_has = record {
   front = first_bytes I386;
   back = last_bytes I386;
@@ -194,7 +194,7 @@ i386_has = record {
   named = refl;
 }
 
-arm64_program : IsProgram ARM64 touching_8 (both_inputs ARM64) (calling_objects ARM64)
+pub arm64_program : IsProgram ARM64 touching_8 (both_inputs ARM64) (calling_objects ARM64)
 unfolding opened refusal renamed_refusal alias_specs encoded_size weak_object has_tables
 arm64_program = record {
   distinct = distinct_by (linked_symbols ARM64 (both_inputs ARM64)) refl;
@@ -223,7 +223,7 @@ arm64_beside = record {
       (symbol_of_class (imp_symbol (symbol_on ARM64 (codes "open"))) 0 class_external) refl refl refl (λ same. cc);
 }
 
-arm64_has : HasCall ARM64 (calling_at ARM64 0x1000) 4 (imp_symbol (symbol_on ARM64 (codes "open")))
+pub arm64_has : HasCall ARM64 (calling_at ARM64 0x1000) 4 (imp_symbol (symbol_on ARM64 (codes "open")))
 arm64_has = record {
   front = first_bytes ARM64;
   back = last_bytes ARM64;
@@ -241,7 +241,7 @@ arm64_has = record {
   named = refl;
 }
 
-wide : (machine : MachineType) (dll : List ℕ) (ask : Ask) → length (given_on machine dll ask) ≡ thunk_width machine
+pub wide : (machine : MachineType) (dll : List ℕ) (ask : Ask) → length (given_on machine dll ask) ≡ thunk_width machine
 unfolding u32_bytes
 wide I386 dll (Ordinal n) = refl
 wide I386 dll (Name text hint) = refl
@@ -253,7 +253,7 @@ wide ARM64 dll (Ordinal n) = refl
 wide ARM64 dll (Name text hint) = refl
 
 -- the export that is called
-abbrev open_export : MachineType → ExportView
+abbrev pub open_export : MachineType → ExportView
 open_export machine = record (plain_export (symbol_on machine (codes "open"))) { ordinal = 258 }
 
 amd64 : WorkedCall AMD64 0x1_4000_0000 touching_8 (0xFF ∷ 0x15 ∷ 0x76 ∷ 0xF0 ∷ 0xFF ∷ 0xFF ∷ []) 0x80 (0x40 ∷ 0 ∷ 0 ∷ 0x10 ∷ 0 ∷ 0 ∷ 0 ∷ 0 ∷ [])
@@ -352,7 +352,7 @@ worked_reading = record { amd64 = amd64_reading; i386 = i386_reading; flavors = 
 
 -- The program of both flavours.
 
-flavors_program : IsFlavorProgram AMD64 flavor_bases_8 (flavor_inputs AMD64) calling_flavors
+pub flavors_program : IsFlavorProgram AMD64 flavor_bases_8 (flavor_inputs AMD64) calling_flavors
 unfolding opened refusal renamed_refusal alias_specs encoded_size weak_object has_tables expanded_in short_import_in import_object descriptor_symbol_by_name with_section_symbols descriptor null_descriptor null_thunk descriptor_symbol null_descriptor_symbol null_thunk_symbol base_name descriptor_spec null_descriptor_spec null_thunk_spec header_specs weak_specs group_end sections_end
 flavors_program = record {
   held = record {
@@ -385,7 +385,7 @@ flavors_program = record {
   follows = refl;
 }
 
-flavors_beside : AreBeside AMD64 0x1_4000_0000 flavor_bases_8 calling_flavors (calling_at AMD64 0x1000 ∷ []) flavor_targets
+pub flavors_beside : AreBeside AMD64 0x1_4000_0000 flavor_bases_8 calling_flavors (calling_at AMD64 0x1000 ∷ []) flavor_targets
 unfolding opened refusal renamed_refusal alias_specs encoded_size weak_object has_tables expanded_in short_import_in import_object descriptor_symbol_by_name with_section_symbols descriptor null_descriptor null_thunk descriptor_symbol null_descriptor_symbol null_thunk_symbol base_name descriptor_spec null_descriptor_spec null_thunk_spec header_specs weak_specs group_end sections_end
 flavors_beside = record {
   held = ((0, omega arith, refl), tt);
@@ -427,7 +427,7 @@ no_address p x address check named is =
     true≢false (sym none ∙ some)
 
 -- whether an entry is an undefined symbol of this name
-abbrev is_wanted : List ℕ → Entry → Bool
+abbrev pub is_wanted : List ℕ → Entry → Bool
 is_wanted name (Auxiliary bytes) = false
 is_wanted name (ASymbol s) = is_undefined_external s && bytes_eq s.name name
 
@@ -439,7 +439,7 @@ fits wanted d (ASymbol t) =
     then (if is_open (ASymbol t) then d.position + t.value == 0x1010 else list_all (λ x. not (is_wanted t.name x)) wanted)
     else true
 
-each_of : {X : Type 0} (test : X → Bool) (x : X) (xs : List X) → list_all test xs ≡ true → Among x xs → test x ≡ true
+pub each_of : {X : Type 0} (test : X → Bool) (x : X) (xs : List X) → list_all test xs ≡ true → Among x xs → test x ≡ true
 unfolding Among
 each_of test x [] all m = absurd m
 each_of test x (y ∷ xs) all (inl same) = ap test same ∙ (and_parts (test y) (list_all test xs) all).0
