@@ -19,3 +19,4 @@ pub mod Sources
 pub mod Closed
 pub mod Claims
 pub mod Rebased
+pub mod DirectCalls

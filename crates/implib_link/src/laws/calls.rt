@@ -9,11 +9,12 @@ ghost use Rattle.implib.specs.Formats.Object.{Object, ObjectSymbol};
 ghost use Rattle.implib.specs.Link.Placement.{Bases, placed_from};
 ghost use Rattle.implib.specs.declared.machine.MachineType.{MachineType};
 ghost use Rattle.implib_link.specs.Directory.{imported};
-ghost use Rattle.implib_link.specs.Flavors.Program.{FlavorInput, IsFlavorProgram, IsMadeFor, ask_in, dll_of, exports_chosen, imported_in, symbol_in};
-ghost use Rattle.implib_link.specs.Gnu.Calls.{AreBeside, CallArrives, Defines, DirectCallArrives, HasCall, HasDirectCall, HasRel32, PlacedCode, code_ranges};
+ghost use Rattle.implib_link.specs.Flavors.Program.{FlavorInput, IsCode, IsFlavorProgram, IsMadeFor, ask_in, dll_of, exports_chosen, imported_in, symbol_in};
+ghost use Rattle.implib_link.specs.Gnu.Calls.{AreBeside, CallArrives, CanBranch, Defines, DirectCallArrives, HasCall, HasDirectCall, PlacedCode, code_ranges};
 ghost use Rattle.implib_link.specs.Gnu.Loaded.{Writes};
 ghost use Rattle.implib_link.specs.Gnu.Program.{IsProgram};
 ghost use Rattle.implib_link.specs.Stub.{CanJump};
+ghost use Rattle.implib_link.specs.Worked.DirectCalls.{WorkedBranch, WorkedFlavorDirect};
 ghost use Rattle.implib_link.specs.Worked.Calls.{WorkedCalls, WorkedDirectCall, WorkedFlavorCall, WorkedReading};
 ghost use Rattle.std.specs.List.{AllByRecursion, Contains};
 ghost use Rattle.std.specs.Prelude.{◌≡◌, ◌+◌, ◌++◌, ℕ, List, Some, false, length, map, slice_get};
@@ -69,11 +70,11 @@ pub fn calls_of_flavors_reach_through_entries()
         (c.position + offset) (gives (dll_of p) (ask_in p.flavor machine e)) }
 {}
 
-/// In a loaded program of I386 or AMD64, a direct call of an export of code by its name, in the
-/// code of any object at any place, leads to the export's stub, which reads the address that the
-/// DLL gives for the export.
+/// In a loaded program, a direct call of an export of code by its name, in the code of any object
+/// at any place, leads to the export's stub, which reads the address that the DLL gives for the
+/// export.
 ///
-/// The stub is whatever placed code defines the name.
+/// The stub is whatever placed code defines the name, on ARM64 within the reach of a branch.
 pub fn direct_calls_reach()
     ensures reaches { (machine : MachineType) (image_base : ℕ) (bases : Bases)
         (inputs : List LinkInput) (objects : List Object)
@@ -84,7 +85,6 @@ pub fn direct_calls_reach()
         AllByRecursion (IsMade machine) inputs →
         IsProgram machine bases inputs objects →
         CanJump machine image_base bases →
-        HasRel32 machine →
         AreBeside machine image_base bases objects codes targets →
         ((dll : List ℕ) (ask : Ask) → length (gives dll ask) ≡ thunk_width machine) →
         Writes (image_of machine bases (placed_from bases objects))
@@ -98,10 +98,42 @@ pub fn direct_calls_reach()
         t.name ≡ e.name →
         Contains codes c →
         HasDirectCall machine c offset e.name →
+        CanBranch machine (c.position + offset) d.position →
         DirectCallArrives machine image_base
         (written ++ (image_of machine bases (placed_from bases objects)
         ++ code_ranges machine image_base targets codes))
         (c.position + offset) (gives p.definition.import_name (expected_ask machine e)) }
+{}
+
+/// The same of a program of both flavours.
+pub fn direct_calls_of_flavors_reach()
+    ensures reaches { (machine : MachineType) (image_base : ℕ) (bases : Bases)
+        (inputs : List FlavorInput) (objects : List Object)
+        (codes : List PlacedCode) (targets : PlacedCode → ℕ → ℕ) (gives : List ℕ → Ask →
+        List ℕ) (written : List Range)
+        (i j : ℕ) (p : FlavorInput) (e : ExportView) (c d : PlacedCode) (offset : ℕ)
+        (t : ObjectSymbol) →
+        AllByRecursion (IsMadeFor machine) inputs →
+        IsFlavorProgram machine bases inputs objects →
+        CanJump machine image_base bases →
+        AreBeside machine image_base bases objects codes targets →
+        ((dll : List ℕ) (ask : Ask) → length (gives dll ask) ≡ thunk_width machine) →
+        Writes (image_of machine bases (placed_from bases objects))
+        (thunk_width machine) gives bases.descriptors
+        (map (imported_in machine) inputs) written →
+        slice_get inputs i ≡ Some p →
+        slice_get (exports_chosen p) j ≡ Some e →
+        IsCode p.flavor e →
+        Contains codes d →
+        Defines d t →
+        t.name ≡ symbol_in p.flavor e →
+        Contains codes c →
+        HasDirectCall machine c offset (symbol_in p.flavor e) →
+        CanBranch machine (c.position + offset) d.position →
+        DirectCallArrives machine image_base
+        (written ++ (image_of machine bases (placed_from bases objects)
+        ++ code_ranges machine image_base targets codes))
+        (c.position + offset) (gives (dll_of p) (ask_in p.flavor machine e)) }
 {}
 
 /// Calls that were relocated by hand arrive, on three machines; a loader that reads the image of a
@@ -111,5 +143,7 @@ pub fn worked_calls()
     ensures calls { WorkedCalls }
     ensures flavors { WorkedFlavorCall }
     ensures direct { WorkedDirectCall }
+    ensures branch { WorkedBranch }
+    ensures flavor_direct { WorkedFlavorDirect }
     ensures reading { WorkedReading }
 {}
