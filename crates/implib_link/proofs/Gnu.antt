@@ -26,3 +26,4 @@ pub mod Moved
 pub mod PlacedStubs
 pub mod MovedCode
 pub mod Rebased
+pub mod Pointers

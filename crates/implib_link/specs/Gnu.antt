@@ -7,3 +7,4 @@ pub mod Calls
 pub mod Packed
 pub mod Bounds
 pub mod Rebased
+pub mod Pointers

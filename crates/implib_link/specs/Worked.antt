@@ -20,3 +20,4 @@ pub mod Closed
 pub mod Claims
 pub mod Rebased
 pub mod DirectCalls
+pub mod Pointers

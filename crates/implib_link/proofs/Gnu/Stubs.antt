@@ -249,6 +249,16 @@ same_address name a b ds first second =
     let same : Some a ≡ Some b = ap first_address (sym first ∙ second) in
     cc
 
+-- the entry of an export is the only definition of its symbol
+pub entry_defined : (machine : MachineType) (bases : Bases) (inputs : List LinkInput) (objects : List Object) (i j : ℕ) (p : LinkInput) (e : ExportView) → AllByRecursion (IsMade machine) inputs →
+    IsProgram machine bases inputs objects → slice_get inputs i ≡ Some p → slice_get (chosen_exports p.definition p.chosen) j ≡ Some e →
+    definitions_of (imp_symbol e.name) (placed_from bases objects)
+    ≡ record { name = imp_symbol e.name; address = Some (bases.addresses + thunk_width machine * thunks_before i inputs + thunk_width machine * j) } ∷ []
+entry_defined machine bases inputs objects i j p e made program input chosen =
+    let one = (program_links machine bases inputs objects made program).imports i p input in
+    entry_once (placed_from bases objects) (thunk_width machine) (bases.addresses + thunk_width machine * thunks_before i inputs) (chosen_exports p.definition p.chosen) j e
+    (subst (λ n. EntriesAt (placed_from bases objects) (thunk_width machine) n (chosen_exports p.definition p.chosen)) one.table_located one.strictly.entries) chosen
+
 -- the entry of an export has what its DLL gives
 pub entry_loaded : (machine : MachineType) (bases : Bases) (inputs : List LinkInput) (objects : List Object) (gives : List ℕ → Ask → List ℕ) (written : List Range) (i j : ℕ) (p : LinkInput) (e : ExportView) →
     AllByRecursion (IsMade machine) inputs → IsProgram machine bases inputs objects → ((dll : List ℕ) (ask : Ask) → length (gives dll ask) ≡ thunk_width machine) →
@@ -258,13 +268,10 @@ pub entry_loaded : (machine : MachineType) (bases : Bases) (inputs : List LinkIn
     (gives p.definition.import_name (expected_ask machine e))
 entry_loaded machine bases inputs objects gives written i j p e made program wide writes input chosen =
     let linked : List Placed = placed_from bases objects in
-    let links = (program_links machine bases inputs objects made program).imports i p input in
-    let table : ℕ = bases.addresses + thunk_width machine * thunks_before i inputs in
-    let once : definitions_of (imp_symbol e.name) linked ≡ record { name = imp_symbol e.name; address = Some (table + thunk_width machine * j) } ∷ [] =
-    entry_once linked (thunk_width machine) table (chosen_exports p.definition p.chosen) j e
-    (subst (λ n. EntriesAt linked (thunk_width machine) n (chosen_exports p.definition p.chosen)) links.table_located links.strictly.entries) chosen in
+    let place : ℕ = bases.addresses + thunk_width machine * thunks_before i inputs + thunk_width machine * j in
+    let once = entry_defined machine bases inputs objects i j p e made program input chosen in
     let holds = (program_loads machine bases inputs objects gives written made program wide writes).entries i j p e input chosen in
-    let same : holds.address ≡ table + thunk_width machine * j = same_address (imp_symbol e.name) holds.address (table + thunk_width machine * j) (definitions_of (imp_symbol e.name) linked) holds.once once in
+    let same : holds.address ≡ place = same_address (imp_symbol e.name) holds.address place (definitions_of (imp_symbol e.name) linked) holds.once once in
     subst (λ n. BytesAt (written ++ image_of machine bases linked) n (gives p.definition.import_name (expected_ask machine e))) same holds.located
 
 pub calls_reach : (machine : MachineType) (image_base : ℕ) (bases : Bases) (inputs : List LinkInput) (objects : List Object) (gives : List ℕ → Ask → List ℕ) (written : List Range) (i j : ℕ) (p : LinkInput) (e : ExportView) →

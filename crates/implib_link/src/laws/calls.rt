@@ -12,9 +12,11 @@ ghost use Rattle.implib_link.specs.Directory.{imported};
 ghost use Rattle.implib_link.specs.Flavors.Program.{FlavorInput, IsCode, IsFlavorProgram, IsMadeFor, ask_in, dll_of, exports_chosen, imported_in, symbol_in};
 ghost use Rattle.implib_link.specs.Gnu.Calls.{AreBeside, CallArrives, CanBranch, Defines, DirectCallArrives, HasCall, HasDirectCall, PlacedCode, code_ranges};
 ghost use Rattle.implib_link.specs.Gnu.Loaded.{Writes};
+ghost use Rattle.implib_link.specs.Gnu.Pointers.{HasLoad, LoadArrives};
 ghost use Rattle.implib_link.specs.Gnu.Program.{IsProgram};
 ghost use Rattle.implib_link.specs.Stub.{CanJump};
 ghost use Rattle.implib_link.specs.Worked.DirectCalls.{WorkedBranch, WorkedFlavorDirect};
+ghost use Rattle.implib_link.specs.Worked.Pointers.{WorkedPointers};
 ghost use Rattle.implib_link.specs.Worked.Calls.{WorkedCalls, WorkedDirectCall, WorkedFlavorCall, WorkedReading};
 ghost use Rattle.std.specs.List.{AllByRecursion, Contains};
 ghost use Rattle.std.specs.Prelude.{◌≡◌, ◌+◌, ◌++◌, ℕ, List, Some, false, length, map, slice_get};
@@ -136,6 +138,57 @@ pub fn direct_calls_of_flavors_reach()
         (c.position + offset) (gives (dll_of p) (ask_in p.flavor machine e)) }
 {}
 
+/// In a loaded program, code of any object, at any place, that reads a pointer through an export's
+/// `__imp_` symbol reads what the DLL gives for the export: its address, of data as of code.
+pub fn pointers_are_read_through_entries()
+    ensures reaches { (machine : MachineType) (image_base : ℕ) (bases : Bases)
+        (inputs : List LinkInput) (objects : List Object)
+        (codes : List PlacedCode) (targets : PlacedCode → ℕ → ℕ) (gives : List ℕ → Ask →
+        List ℕ) (written : List Range)
+        (i j : ℕ) (p : LinkInput) (e : ExportView) (c : PlacedCode) (offset : ℕ) →
+        AllByRecursion (IsMade machine) inputs →
+        IsProgram machine bases inputs objects →
+        CanJump machine image_base bases →
+        AreBeside machine image_base bases objects codes targets →
+        ((dll : List ℕ) (ask : Ask) → length (gives dll ask) ≡ thunk_width machine) →
+        Writes (image_of machine bases (placed_from bases objects))
+        (thunk_width machine) gives bases.descriptors
+        (map (imported machine) inputs) written →
+        slice_get inputs i ≡ Some p →
+        slice_get (chosen_exports p.definition p.chosen) j ≡ Some e →
+        Contains codes c →
+        HasLoad machine c offset (imp_symbol e.name) →
+        LoadArrives machine image_base
+        (written ++ (image_of machine bases (placed_from bases objects)
+        ++ code_ranges machine image_base targets codes))
+        (c.position + offset) (gives p.definition.import_name (expected_ask machine e)) }
+{}
+
+/// The same of a program of both flavours.
+pub fn pointers_of_flavors_are_read_through_entries()
+    ensures reaches { (machine : MachineType) (image_base : ℕ) (bases : Bases)
+        (inputs : List FlavorInput) (objects : List Object)
+        (codes : List PlacedCode) (targets : PlacedCode → ℕ → ℕ) (gives : List ℕ → Ask →
+        List ℕ) (written : List Range)
+        (i j : ℕ) (p : FlavorInput) (e : ExportView) (c : PlacedCode) (offset : ℕ) →
+        AllByRecursion (IsMadeFor machine) inputs →
+        IsFlavorProgram machine bases inputs objects →
+        CanJump machine image_base bases →
+        AreBeside machine image_base bases objects codes targets →
+        ((dll : List ℕ) (ask : Ask) → length (gives dll ask) ≡ thunk_width machine) →
+        Writes (image_of machine bases (placed_from bases objects))
+        (thunk_width machine) gives bases.descriptors
+        (map (imported_in machine) inputs) written →
+        slice_get inputs i ≡ Some p →
+        slice_get (exports_chosen p) j ≡ Some e →
+        Contains codes c →
+        HasLoad machine c offset (imp_symbol (symbol_in p.flavor e)) →
+        LoadArrives machine image_base
+        (written ++ (image_of machine bases (placed_from bases objects)
+        ++ code_ranges machine image_base targets codes))
+        (c.position + offset) (gives (dll_of p) (ask_in p.flavor machine e)) }
+{}
+
 /// Calls that were relocated by hand arrive, on three machines; a loader that reads the image of a
 /// program that was linked by hand loads it, and one that reads an image without the DLL's name
 /// does not.
@@ -145,5 +198,6 @@ pub fn worked_calls()
     ensures direct { WorkedDirectCall }
     ensures branch { WorkedBranch }
     ensures flavor_direct { WorkedFlavorDirect }
+    ensures pointers { WorkedPointers }
     ensures reading { WorkedReading }
 {}
