@@ -27,3 +27,4 @@ pub mod PlacedStubs
 pub mod MovedCode
 pub mod Rebased
 pub mod Pointers
+pub mod Pages

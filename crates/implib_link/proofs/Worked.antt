@@ -21,3 +21,4 @@ pub mod Claims
 pub mod Rebased
 pub mod DirectCalls
 pub mod Pointers
+pub mod Pages

@@ -8,3 +8,4 @@ pub mod Packed
 pub mod Bounds
 pub mod Rebased
 pub mod Pointers
+pub mod Pages

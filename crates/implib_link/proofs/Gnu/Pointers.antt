@@ -14,7 +14,7 @@ use Rattle.implib.specs.Import.{Ask, expected_ask, imp_symbol}
 use Rattle.implib.specs.Link.Image.{IsAdmissible, Range, image_of}
 use Rattle.implib.specs.Link.LinkedMembers.{IsMade, LinkInput, chosen_exports}
 use Rattle.implib.specs.Link.Load.{BytesAt, number_in}
-use Rattle.implib.specs.Link.Placement.{Bases, Placed, placed_from}
+use Rattle.implib.specs.Link.Placement.{Bases, placed_from}
 use Rattle.implib.specs.Link.Resolution.{definitions_of}
 use Rattle.implib.specs.Members.ImportTables.{thunk_width}
 use Rattle.implib.proofs.Link.LinkedBlocks.{ends, starts}

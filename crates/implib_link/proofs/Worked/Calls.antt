@@ -1,7 +1,7 @@
 -- The calls that were relocated by hand, and the loader that reads, by computing and by the laws.
 use Rattle.std.proofs.Common.{◌≡◌, ℕ, zero, suc, ◌+◌, ◌^◌, ◌⊎◌, true, false, List, [], ◌∷◌, ◌++◌, codes, length, Some, None, Option, refl, ap, sym, ◌∙◌, subst, inl, inr, arith, true≢false}
 use Rattle.std.specs.Prelude.{Bool, bytes_eq, not, slice_get, ◌&&◌, ◌==◌, if◌then◌else◌}
-use Rattle.std.specs.List.{AllByRecursion, list_all}
+use Rattle.std.specs.List.{list_all}
 use Rattle.std.proofs.lemmas.Bool.{and_from, and_parts, cases_Bool, eq-eqb, eqb-true, not-true}
 use Rattle.implib.proofs.Link.Definitions.{same_text}
 use Rattle.implib_link.proofs.Gnu.DirectCalls.{direct_calls_reach}
@@ -26,7 +26,7 @@ use Rattle.implib.specs.Link.Placement.{Placed, next_multiple}
 use Rattle.implib.specs.Link.Resolution.{address_or_zero, definitions_of, is_undefined_external, symbol_address, target_address}
 use Rattle.implib.specs.Formats.Writer.{long_names, name_location, layout_of, symbol_written, with_long_name, with_name}
 use Rattle.implib.proofs.Link.Loading.{number_once}
-use Rattle.implib.proofs.Link.Ranges.{Among, all_among, among_back, among_front, apart_as_they_rise, ends_below}
+use Rattle.implib.proofs.Link.Ranges.{Among, apart_as_they_rise, ends_below}
 use Rattle.implib.specs.Worked.Statements.{plain_export}
 use Rattle.implib.specs.Members.MsvcMembers.{descriptor_spec, header_specs, null_descriptor_spec, null_thunk_spec, weak_specs}
 use Rattle.implib.specs.Members.MsvcObjects.{base_name, descriptor, descriptor_symbol, null_descriptor, null_descriptor_symbol, null_thunk, null_thunk_symbol}

@@ -1,5 +1,5 @@
 -- The further direct calls by hand, by computing and by the laws.
-use Rattle.std.proofs.Common.{◌≡◌, ℕ, ◌+◌, ◌%◌, ◌^◌, ◌<◌, ◌≤◌, List, [], ◌∷◌, ◌++◌, codes, refl, arith}
+use Rattle.std.proofs.Common.{◌^◌, [], ◌∷◌, ◌++◌, codes, refl, arith}
 use Rattle.std.specs.Prelude.{drop, take}
 use Rattle.implib.specs.declared.machine.MachineType.TheVariants.{AMD64, ARM64}
 use Rattle.implib.specs.Formats.Constants.{class_external}

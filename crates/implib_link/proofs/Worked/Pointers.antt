@@ -1,5 +1,5 @@
 -- The pointers by hand, by computing and by the laws.
-use Rattle.std.proofs.Common.{◌≡◌, ℕ, ◌+◌, ◌%◌, ◌^◌, ◌<◌, true, List, [], ◌∷◌, ◌++◌, codes, refl, arith}
+use Rattle.std.proofs.Common.{◌^◌, true, [], ◌∷◌, ◌++◌, codes, refl, arith}
 use Rattle.std.specs.Prelude.{drop, take}
 use Rattle.implib.specs.declared.machine.MachineType.{MachineType}
 use Rattle.implib.specs.declared.machine.MachineType.TheVariants.{I386, AMD64, ARM64}
@@ -35,7 +35,7 @@ use Rattle.implib_link.proofs.Worked.Programs.{claims_none_by, distinct_by, open
 use Rattle.implib_link.proofs.Worked.Rebased.{resolves_by_tables}
 
 -- the export whose address is read
-abbrev stat_export : MachineType → ExportView
+abbrev pub stat_export : MachineType → ExportView
 stat_export machine = record (plain_export (symbol_on machine (codes "stat"))) { is_data = true }
 
 amd64_program : IsProgram AMD64 touching_8 (both_inputs AMD64) (loading_objects AMD64)
