@@ -14,7 +14,7 @@ use Rattle.implib.specs.Link.Resolution.{definitions_of}
 use Rattle.implib.specs.Members.ImportTables.{thunk_width}
 use Rattle.implib_link.specs.Flavors.Loaded.{AreLoaded}
 use Rattle.implib_link.specs.Flavors.Program.{FlavorInput, IsCode, IsFlavorProgram, IsMadeFor, ask_in, dll_of, exports_chosen, imported_in, symbol_in, thunks_of}
-use Rattle.implib_link.specs.Gnu.Calls.{CallArrives, Defines, HasCall, PlacedCode}
+use Rattle.implib_link.specs.Gnu.Calls.{CallArrives, CanBranch, Defines, DirectCallArrives, HasCall, HasDirectCall, PlacedCode}
 use Rattle.implib_link.specs.Gnu.Loaded.{Writes}
 use Rattle.implib_link.specs.Gnu.Reading.{ReadsAndWrites}
 use Rattle.implib_link.specs.Gnu.Rebased.{IsAtBase, StubArrives}
@@ -27,7 +27,7 @@ use Rattle.implib_link.proofs.Gnu.Keeps.{memory_can_be_read, memory_read}
 use Rattle.implib_link.proofs.Gnu.Memory.{written_covers}
 use Rattle.implib_link.proofs.Gnu.Moved.{image_kept}
 use Rattle.implib_link.proofs.Gnu.MovedCode.{can_jump}
-use Rattle.implib_link.proofs.Gnu.Rebased.{call_moves, stub_moves}
+use Rattle.implib_link.proofs.Gnu.Rebased.{call_moves, direct_moves, stub_moves}
 use Rattle.implib_link.proofs.Gnu.Stubs.{same_address, wide_thunk}
 
 module _ (machine : MachineType) (from to : ℕ) (bases : Bases) (inputs : List FlavorInput) (objects : List Object) (codes : List PlacedCode) (targets : PlacedCode → ℕ → ℕ) (memory : List Range)
@@ -101,3 +101,20 @@ module _ (machine : MachineType) (from to : ℕ) (bases : Bases) (inputs : List 
       (place i j) given (can_reach machine to bases (thunks_of i inputs) j (can_jump machine from to bases at.can))
       (subst (λ n. 0 < n) (sym (wide (dll_of p) (ask_in p.flavor machine e))) (wide_thunk machine))
       (entry_holds written i j p e made program input chosen loaded) d held t (flavors_stub machine from bases inputs objects codes targets i j p e d t made program at.beside input chosen is held defines named)
+
+  pub flavors_direct_calls_at_base : (n : ℕ) (written : List Range) (i j : ℕ) (p : FlavorInput) (e : ExportView) (c d : PlacedCode) (offset : ℕ) (t : ObjectSymbol) → AllByRecursion (IsMadeFor machine) inputs → IsFlavorProgram machine bases inputs objects →
+      IsAtBase machine from to bases objects codes targets memory → ((dll : List ℕ) (ask : Ask) → length (gives dll ask) ≡ thunk_width machine) →
+      ReadsAndWrites memory (thunk_width machine) gives n bases.descriptors written → slice_get inputs i ≡ Some p → slice_get (exports_chosen p) j ≡ Some e → IsCode p.flavor e →
+      Contains codes d → Defines d t → t.name ≡ symbol_in p.flavor e → Contains codes c → HasDirectCall machine c offset (symbol_in p.flavor e) →
+      CanBranch machine (c.position + offset) d.position → DirectCallArrives machine to (written ++ memory) (c.position + offset) (gives (dll_of p) (ask_in p.flavor machine e))
+  flavors_direct_calls_at_base n written i j p e c d offset t made program at wide reads input chosen is held defines named c_held has branch =
+      let given : List ℕ = gives (dll_of p) (ask_in p.flavor machine e) in
+      let read = writes_of n written made program at reads in
+      let links = flavors_link machine bases inputs objects made program in
+      let loaded = flavors_load machine bases inputs objects gives written made program wide read.1 in
+      direct_moves machine from to bases objects codes targets memory at (flavors_tables_none machine bases inputs objects made program) program.admissible written
+      (written_covers image (thunk_width machine) gives wide (map (imported_in machine) inputs) bases.descriptors written links.directory read.1)
+      (place i j) given (can_reach machine to bases (thunks_of i inputs) j (can_jump machine from to bases at.can))
+      (subst (λ n. 0 < n) (sym (wide (dll_of p) (ask_in p.flavor machine e))) (wide_thunk machine))
+      (entry_holds written i j p e made program input chosen loaded) c c_held offset (symbol_in p.flavor e) has d held t defines named
+      (flavors_stub machine from bases inputs objects codes targets i j p e d t made program at.beside input chosen is held defines named) branch

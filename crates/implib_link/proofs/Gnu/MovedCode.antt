@@ -120,7 +120,7 @@ can_jump ARM64 from to bases can = can.0
 module _ (machine : MachineType) (from to : ℕ) (bases : Bases) (objects : List Object) (codes : List PlacedCode) (targets : PlacedCode → ℕ → ℕ) (memory : List Range)
     (at : IsAtBase machine from to bases objects codes targets memory) (none : table_places machine (placed_from bases objects) ≡ []) (c : PlacedCode) (m : Among c codes) where
   -- instructions without a base relocation stay as they are
-  window_kept : (offset : ℕ) (bytes : List ℕ) (own : List Relocation) → Window c offset (length bytes) own → places_at machine c.position own ≡ [] →
+  pub window_kept : (offset : ℕ) (bytes : List ℕ) (own : List Relocation) → Window c offset (length bytes) own → places_at machine c.position own ≡ [] →
       c.position + offset + length bytes ≤ range_end (code_range machine from targets c) →
       BytesAt (image_of machine bases (placed_from bases objects) ++ code_ranges machine from targets codes) (c.position + offset) bytes → BytesAt memory (c.position + offset) bytes
   window_kept offset bytes own w own_none end located =
@@ -180,7 +180,7 @@ i386_window from to bases objects codes targets memory at none c m offset first 
 -- Calls.
 
 -- the relocations of a call's code, as those about a window
-call_window : (c : PlacedCode) (offset : ℕ) (name bytes : List ℕ) (relocations : ℕ → List Relocation) → (has : HasInstructions c offset name bytes relocations) →
+pub call_window : (c : PlacedCode) (offset : ℕ) (name bytes : List ℕ) (relocations : ℕ → List Relocation) → (has : HasInstructions c offset name bytes relocations) →
     Window c offset (length bytes) (map (moved_by offset) (relocations has.index))
 call_window c offset name bytes relocations has = record {
   before = has.before;

@@ -1,9 +1,11 @@
 -- Programs at another base than the one that they were linked for.
-use Rattle.std.proofs.Common.{◌≡◌, ℕ, ◌+◌, ◌*◌, ◌^◌, ◌<◌, ◌≤◌, false, List, ◌∷◌, [], ◌++◌, length, map, Some, ap, sym, ◌∙◌, subst, arith}
+use Rattle.std.proofs.Common.{◌≡◌, ℕ, ◌+◌, ◌*◌, ◌^◌, ◌<◌, ◌≤◌, false, List, ◌∷◌, [], ◌++◌, length, map, Some, refl, ap, sym, ◌∙◌, subst, arith}
 use Rattle.std.specs.Prelude.{slice_get}
 use Rattle.std.specs.List.{AllByRecursion, Contains}
 use Rattle.std.proofs.lemmas.List.{length-append, length-map}
+use Rattle.implib.specs.declared.coff.object.Relocation.{Relocation}
 use Rattle.implib.specs.declared.machine.MachineType.{MachineType}
+use Rattle.implib.specs.declared.machine.MachineType.TheVariants.{I386, ARMNT, AMD64, ARM64}
 use Rattle.implib.specs.Definition.{ExportView}
 use Rattle.implib.specs.Formats.Object.{Object, ObjectSymbol}
 use Rattle.implib.specs.Import.{Ask, expected_ask, imp_symbol}
@@ -18,24 +20,40 @@ use Rattle.implib.specs.Members.ImportTables.{thunk_width}
 use Rattle.implib.proofs.Link.LinkedBlocks.{ends, starts}
 use Rattle.implib.proofs.Link.Ranges.{all_among}
 use Rattle.implib_link.specs.Directory.{imported}
-use Rattle.implib_link.specs.Gnu.Calls.{CallArrives, Defines, HasCall, PlacedCode, call_bytes, call_relocations}
+use Rattle.implib_link.specs.Gnu.Calls.{CallArrives, CanBranch, Defines, DirectCallArrives, HasCall, HasDirectCall, PlacedCode, call_bytes, call_relocations, code_relocated_by, direct_bytes, direct_leads, direct_relocations, moved_by}
 use Rattle.implib_link.specs.Gnu.Loaded.{IsLoaded, Writes}
 use Rattle.implib_link.specs.Gnu.Program.{IsProgram, thunks_before}
 use Rattle.implib_link.specs.Gnu.Reading.{ReadsAndWrites}
-use Rattle.implib_link.specs.Gnu.Rebased.{IsAtBase, StubArrives, table_places}
+use Rattle.implib_link.specs.Gnu.Rebased.{IsAtBase, StubArrives, places_at, table_places}
 use Rattle.implib_link.proofs.Gnu.CallBytes.{length_within}
 use Rattle.implib_link.proofs.Gnu.CallReads.{CanReach, call_within, can_reach}
-use Rattle.implib_link.proofs.Gnu.Calls.{instructions_end, instructions_target}
+use Rattle.implib_link.proofs.Gnu.Calls.{instructions_end, instructions_linked, instructions_target, window}
+use Rattle.implib_link.proofs.Gnu.DirectCalls.{direct_within, leads_by}
 use Rattle.implib_link.proofs.Gnu.Keeps.{bytes_kept, keeps_written, memory_can_be_read, memory_read}
 use Rattle.implib_link.proofs.Gnu.Loaded.{entry_once, program_loads}
 use Rattle.implib_link.proofs.Gnu.Memory.{Covers, byte_first, loaded_below, written_covers}
-use Rattle.implib_link.proofs.Gnu.Moved.{code_unwritten, grows, image_kept}
-use Rattle.implib_link.proofs.Gnu.MovedCode.{call_lies, can_jump, stub_lies}
+use Rattle.implib_link.proofs.Gnu.Moved.{Window, code_unwritten, grows, image_kept}
+use Rattle.implib_link.proofs.Gnu.MovedCode.{call_lies, call_window, can_jump, stub_lies, window_kept}
 use Rattle.implib_link.proofs.Gnu.PlacedStubs.{PlacedStub, gnu_stub}
 use Rattle.implib_link.proofs.Gnu.Program.{program_links}
 use Rattle.implib_link.proofs.Gnu.Steady.{program_tables_none}
 use Rattle.implib_link.proofs.Gnu.Stubs.{same_address, wide_thunk}
 use Rattle.implib_link.proofs.Search.Lists.{contains_among}
+
+-- Direct calls have no base relocations, and are the same at every base.
+
+direct_steady : (machine : MachineType) (position offset index : ℕ) → places_at machine position (map (moved_by offset) (direct_relocations machine index)) ≡ []
+direct_steady I386 position offset index = refl
+direct_steady ARMNT position offset index = refl
+direct_steady AMD64 position offset index = refl
+direct_steady ARM64 position offset index = refl
+
+direct_same : (machine : MachineType) (from to position index : ℕ) (targets : ℕ → ℕ) →
+    code_relocated_by machine from targets position (direct_relocations machine index) (direct_bytes machine) ≡ code_relocated_by machine to targets position (direct_relocations machine index) (direct_bytes machine)
+direct_same I386 from to position index targets = refl
+direct_same ARMNT from to position index targets = refl
+direct_same AMD64 from to position index targets = refl
+direct_same ARM64 from to position index targets = refl
 
 -- What arrives, whatever the flavours: the entry at this address of the loaded image has these bytes.
 module _ (machine : MachineType) (from to : ℕ) (bases : Bases) (objects : List Object) (codes : List PlacedCode) (targets : PlacedCode → ℕ → ℕ) (memory : List Range)
@@ -95,6 +113,45 @@ module _ (machine : MachineType) (from to : ℕ) (bases : Bases) (objects : List
         entry = entry;
         reads = lies.leads;
         located = entry_kept;
+      }
+
+  -- a direct call stays as it is, and leads to the stub
+  pub direct_moves : (c : PlacedCode) (held : Contains codes c) (offset : ℕ) (name : List ℕ) (has : HasDirectCall machine c offset name) (d : PlacedCode) (d_held : Contains codes d) (t : ObjectSymbol) →
+      Defines d t → t.name ≡ name → PlacedStub machine (placed_from bases objects) targets d t entry → CanBranch machine (c.position + offset) d.position →
+      DirectCallArrives machine to (written ++ memory) (c.position + offset) bytes
+  direct_moves c held offset name has d d_held t defines named stub branch =
+      let end : c.position + length c.code.bytes + 16 ≤ 2 ^ 31 =
+      all_among (λ (x : PlacedCode). x.position + length x.code.bytes + 16 ≤ 2 ^ 31) c codes (contains_among c codes held) at.beside.ends in
+      let d_end : d.position + length d.code.bytes + 16 ≤ 2 ^ 31 =
+      all_among (λ (x : PlacedCode). x.position + length x.code.bytes + 16 ≤ 2 ^ 31) d codes (contains_among d codes d_held) at.beside.ends in
+      let here : length has.front ≡ offset = has.here in
+      let size : length c.code.bytes ≡ length has.front + length (direct_bytes machine ++ has.back) = ap length has.instructions ∙ length-append has.front (direct_bytes machine ++ has.back) in
+      let near : c.position + offset + 16 ≤ 2 ^ 31 = omega arith in
+      let begins : t.value ≡ 0 = stub.begins in
+      let called : targets c has.index ≡ d.position =
+      at.beside.resolved.code c d has.index has.symbol t held d_held has.target has.undefined defines (named ∙ sym has.named) ∙ (let sum : d.position + t.value ≡ d.position = omega arith in sum) in
+      let within = direct_within machine has.index in
+      let own : List Relocation = map (moved_by offset) (direct_relocations machine has.index) in
+      let code : List ℕ = window machine from bases objects codes targets at.beside c held offset name (direct_bytes machine) (direct_relocations machine) has in
+      let long : length code ≡ length (direct_bytes machine) = length_within machine from (targets c) (c.position + offset) (direct_relocations machine has.index) (direct_bytes machine) within in
+      let inside = instructions_end machine from bases objects codes targets at.beside c held offset name (direct_bytes machine) (direct_relocations machine) has within in
+      let kept = window_kept machine from to bases objects codes targets memory at none c (contains_among c codes held) offset code own
+      (subst (λ n. Window c offset n own) (sym long) (call_window c offset name (direct_bytes machine) (direct_relocations machine) has)) (direct_steady machine c.position offset has.index) inside
+      (instructions_linked machine from bases objects codes targets at.beside c held offset name (direct_bytes machine) (direct_relocations machine) has within) in
+      let moved = stub_moves d d_held t stub in
+      record {
+        instruction = code;
+        here = code_unwritten machine from to bases objects codes targets memory at none c (contains_among c codes held) written covers code (c.position + offset) (omega arith) inside kept;
+        whole = long;
+        stub = d.position;
+        leads = ap (direct_leads machine (to + (c.position + offset))) (direct_same machine from to (c.position + offset) has.index (targets c))
+            ∙ leads_by machine to (c.position + offset) d.position has.index (targets c) branch near (omega arith) called;
+        code = moved.code;
+        there = moved.there;
+        whole_stub = moved.whole;
+        entry = moved.entry;
+        reads = moved.reads;
+        located = moved.located;
       }
 
 -- Programs of members for GNU's linker.
@@ -175,3 +232,20 @@ module _ (machine : MachineType) (from to : ℕ) (bases : Bases) (inputs : List 
       (place i j) given (can_reach machine to bases (thunks_before i inputs) j (can_jump machine from to bases at.can))
       (subst (λ n. 0 < n) (sym (wide p.definition.import_name (expected_ask machine e))) (wide_thunk machine))
       (entry_holds written i j p e made program input chosen loaded) d held t (gnu_stub machine from bases inputs objects codes targets i j p e d t made program at.beside input chosen is held defines named)
+
+  pub direct_calls_at_base : (n : ℕ) (written : List Range) (i j : ℕ) (p : LinkInput) (e : ExportView) (c d : PlacedCode) (offset : ℕ) (t : ObjectSymbol) → AllByRecursion (IsMade machine) inputs → IsProgram machine bases inputs objects →
+      IsAtBase machine from to bases objects codes targets memory → ((dll : List ℕ) (ask : Ask) → length (gives dll ask) ≡ thunk_width machine) →
+      ReadsAndWrites memory (thunk_width machine) gives n bases.descriptors written → slice_get inputs i ≡ Some p → slice_get (chosen_exports p.definition p.chosen) j ≡ Some e → e.is_data ≡ false →
+      Contains codes d → Defines d t → t.name ≡ e.name → Contains codes c → HasDirectCall machine c offset e.name → CanBranch machine (c.position + offset) d.position →
+      DirectCallArrives machine to (written ++ memory) (c.position + offset) (gives p.definition.import_name (expected_ask machine e))
+  direct_calls_at_base n written i j p e c d offset t made program at wide reads input chosen is held defines named c_held has branch =
+      let given : List ℕ = gives p.definition.import_name (expected_ask machine e) in
+      let read = writes_of n written made program at reads in
+      let links = program_links machine bases inputs objects made program in
+      let loaded = program_loads machine bases inputs objects gives written made program wide read.1 in
+      direct_moves machine from to bases objects codes targets memory at (program_tables_none machine bases inputs objects made program) program.admissible written
+      (written_covers image (thunk_width machine) gives wide (map (imported machine) inputs) bases.descriptors written links.directory read.1)
+      (place i j) given (can_reach machine to bases (thunks_before i inputs) j (can_jump machine from to bases at.can))
+      (subst (λ n. 0 < n) (sym (wide p.definition.import_name (expected_ask machine e))) (wide_thunk machine))
+      (entry_holds written i j p e made program input chosen loaded) c c_held offset e.name has d held t defines named
+      (gnu_stub machine from bases inputs objects codes targets i j p e d t made program at.beside input chosen is held defines named) branch

@@ -19,13 +19,16 @@ use Rattle.implib_link.specs.Gnu.Calls.{AreBeside, Defines, HasDirectCall, code_
 use Rattle.implib_link.specs.Gnu.Packed.{group_end, sections_end}
 use Rattle.implib_link.specs.Gnu.Program.{IsProgram, has_tables, linked_symbols}
 use Rattle.implib_link.specs.Worked.Calls.{direct_at, direct_calling, first_bytes, given_on, last_bytes, open_targets}
-use Rattle.implib_link.specs.Worked.DirectCalls.{WorkedBranch, WorkedFlavorDirect, branch_at, branch_codes, branching, branching_objects, branching_placed, mixed_codes, mixed_objects, mixed_placed, stub_of}
+use Rattle.implib_link.specs.Worked.DirectCalls.{WorkedBranch, WorkedFlavorDirect, branch_at, branch_codes, branch_memory, branching, branching_objects, branching_placed, mixed_codes, mixed_objects, mixed_placed, stub_of}
 use Rattle.implib_link.specs.Worked.Flavors.{both_inputs as flavor_inputs, flavor_bases_8, foo_input as msvc_input}
 use Rattle.implib_link.specs.Worked.Programs.{another, both_inputs, foo_input, symbol_of_class, touching_8}
 use Rattle.implib_link.proofs.Flavors.Calls.{flavors_direct_calls_reach}
 use Rattle.implib_link.proofs.Gnu.DirectCalls.{direct_calls_reach}
 use Rattle.implib_link.proofs.Worked.Calls.{direct_has, open_export, open_resolved, wide}
 use Rattle.implib_link.proofs.Worked.Flavors.{worked_flavors}
+use Rattle.implib_link.specs.Gnu.Rebased.{IsAtBase}
+use Rattle.implib_link.proofs.Gnu.Rebased.{direct_calls_at_base}
+use Rattle.implib_link.proofs.Worked.Rebased.{none_rebased}
 use Rattle.implib_link.proofs.Worked.Programs.{claims_none_by, distinct_by, opened, worked_programs}
 
 branch_program : IsProgram ARM64 touching_8 (both_inputs ARM64) branching_objects
@@ -78,6 +81,15 @@ branch_has = record {
   named = refl;
 }
 
+branch_based : IsAtBase ARM64 0x1_4000_0000 0x7FF6_1234_0000 touching_8 branching_objects branch_codes (open_targets branching_placed) branch_memory
+unfolding opened alias_specs encoded_size weak_object has_tables
+branch_based = record {
+  beside = branch_beside;
+  within = (tt, (tt, tt));
+  can = ((refl, refl), refl);
+  rebased = none_rebased 0x1_4000_0000 0x7FF6_1234_0000 branch_memory;
+}
+
 pub worked_branch : WorkedBranch
 unfolding opened alias_specs encoded_size weak_object has_tables
 worked_branch = record {
@@ -92,6 +104,11 @@ worked_branch = record {
       direct_calls_reach ARM64 0x1_4000_0000 touching_8 (both_inputs ARM64) branching_objects branch_codes (open_targets branching_placed) (given_on ARM64) written 0 1 (foo_input ARM64) (open_export ARM64) branch_at
       (stub_of ARM64 branching_placed 3) 4 (symbol_of_class (codes "open") 1 class_external) worked_programs.arm64.made branch_program (refl, refl) branch_beside (wide ARM64) writes refl refl refl (1, omega arith, refl)
       branch_defines refl (0, omega arith, refl) branch_has (refl, refl, omega arith, omega arith);
+  at = branch_based;
+  moved = λ n written reads.
+      direct_calls_at_base ARM64 0x1_4000_0000 0x7FF6_1234_0000 touching_8 (both_inputs ARM64) branching_objects branch_codes (open_targets branching_placed) branch_memory (given_on ARM64) n written 0 1 (foo_input ARM64)
+      (open_export ARM64) branch_at (stub_of ARM64 branching_placed 3) 4 (symbol_of_class (codes "open") 1 class_external) worked_programs.arm64.made branch_program branch_based (wide ARM64) reads refl refl refl
+      (1, omega arith, refl) branch_defines refl (0, omega arith, refl) branch_has (refl, refl, omega arith, omega arith);
 }
 
 mixed_program : IsFlavorProgram AMD64 flavor_bases_8 (flavor_inputs AMD64) mixed_objects

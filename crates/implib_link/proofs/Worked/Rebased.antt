@@ -105,7 +105,7 @@ among_none : (p : Place) → Among p [] → ⊥
 unfolding Among
 among_none p m = m
 
-none_rebased : (from to : ℕ) (memory : List Range) → IsRebased from to [] memory memory
+pub none_rebased : (from to : ℕ) (memory : List Range) → IsRebased from to [] memory memory
 none_rebased from to memory = record { moved = λ p n held number. absurd (among_none p (contains_among p [] held)); kept = λ a byte none is. is }
 
 amd64_at : IsAtBase AMD64 0x1_4000_0000 0x7FF6_1234_0000 touching_8 (calling_objects AMD64) (moving_codes AMD64 touching_8) (table_targets AMD64 touching_8) (linked_memory AMD64 0x1_4000_0000 touching_8)

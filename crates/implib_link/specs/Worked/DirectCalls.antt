@@ -13,6 +13,8 @@ use Rattle.implib_link.specs.Flavors.Program.{IsFlavorProgram, imported_in, obje
 use Rattle.implib_link.specs.Gnu.Calls.{AreBeside, CanBranch, Defines, DirectCallArrives, HasDirectCall, PlacedCode, code_range, code_ranges, direct_bytes, direct_leads, direct_relocations, moved_by}
 use Rattle.implib_link.specs.Gnu.Loaded.{Writes}
 use Rattle.implib_link.specs.Gnu.Program.{IsProgram, null_descriptor}
+use Rattle.implib_link.specs.Gnu.Reading.{ReadsAndWrites}
+use Rattle.implib_link.specs.Gnu.Rebased.{IsAtBase}
 use Rattle.implib_link.specs.Stub.{jump_reads}
 use Rattle.implib_link.specs.Worked.Calls.{calling, direct_calling, direct_at, first_bytes, given_on, last_bytes, open_targets, placed_or_empty}
 use Rattle.implib_link.specs.Worked.Flavors.{both_inputs as flavor_inputs, flavor_bases_8, members_with_null}
@@ -64,8 +66,14 @@ stub_of machine linked index = record {
 abbrev pub branch_codes : List PlacedCode
 branch_codes = branch_at ∷ stub_of ARM64 branching_placed 3 ∷ []
 
+-- the image with this code behind it, as it was linked
+abbrev pub branch_memory : List Range
+branch_memory =
+    image_of ARM64 touching_8 branching_placed
+    ++ code_ranges ARM64 0x1_4000_0000 (open_targets branching_placed) branch_codes
+
 -- On ARM64 the program meets all that the law of direct calls asks for; the branch leads to 0x1010, the stub reads
--- 0x80, and the call arrives at what foo.dll gives for `open`.
+-- 0x80, and the call arrives at what foo.dll gives for `open`, at another base too.
 pub record WorkedBranch : Type 0 where
   pub program : IsProgram ARM64 touching_8 (both_inputs ARM64) branching_objects
   pub beside : AreBeside ARM64 0x1_4000_0000 touching_8 branching_objects branch_codes (open_targets branching_placed)
@@ -81,6 +89,11 @@ pub record WorkedBranch : Type 0 where
       (map (imported ARM64) (both_inputs ARM64)) written →
       DirectCallArrives ARM64 0x1_4000_0000 (written ++ (image_of ARM64 touching_8 branching_placed
       ++ code_ranges ARM64 0x1_4000_0000 (open_targets branching_placed) branch_codes)) 0x1004
+      (0x40 ∷ 0 ∷ 0 ∷ 0x10 ∷ 0 ∷ 0 ∷ 0 ∷ 0 ∷ [])
+  pub at : IsAtBase ARM64 0x1_4000_0000 0x7FF6_1234_0000 touching_8 branching_objects branch_codes
+      (open_targets branching_placed) branch_memory
+  pub moved : (n : ℕ) (written : List Range) → ReadsAndWrites branch_memory 8 (given_on ARM64) n 4 written →
+      DirectCallArrives ARM64 0x7FF6_1234_0000 (written ++ branch_memory) 0x1004
       (0x40 ∷ 0 ∷ 0 ∷ 0x10 ∷ 0 ∷ 0 ∷ 0 ∷ 0 ∷ [])
 
 -- what is linked of both flavours: the calling object of AMD64, what the members of foo.dll for Microsoft's linker,

@@ -10,7 +10,7 @@ ghost use Rattle.implib.specs.Link.Placement.{Bases};
 ghost use Rattle.implib.specs.declared.machine.MachineType.{MachineType};
 ghost use Rattle.implib_link.specs.Flavors.Loaded.{AreLoaded};
 ghost use Rattle.implib_link.specs.Flavors.Program.{FlavorInput, IsCode, IsFlavorProgram, IsMadeFor, ask_in, dll_of, exports_chosen, symbol_in};
-ghost use Rattle.implib_link.specs.Gnu.Calls.{CallArrives, Defines, HasCall, PlacedCode};
+ghost use Rattle.implib_link.specs.Gnu.Calls.{CallArrives, CanBranch, Defines, DirectCallArrives, HasCall, HasDirectCall, PlacedCode};
 ghost use Rattle.implib_link.specs.Gnu.Loaded.{IsLoaded};
 ghost use Rattle.implib_link.specs.Gnu.Program.{IsProgram};
 ghost use Rattle.implib_link.specs.Gnu.Reading.{ReadsAndWrites};
@@ -22,7 +22,7 @@ ghost use Rattle.std.specs.Prelude.{◌≡◌, ◌+◌, ◌++◌, ℕ, List, Som
 /// A program that was linked for one base is loaded at another, its base relocations applied: a
 /// loader that reads it there loads the same imports, and stops at the null descriptor; a call
 /// through an export's `__imp_` symbol, in the code of any object, and the export's stub, wherever
-/// it is placed, read the address that the DLL gives for the export.
+/// it is placed, read the address that the DLL gives for the export; a direct call leads to it.
 ///
 /// The stub is whatever placed code defines the name.
 pub fn rebased_programs_reach()
@@ -78,6 +78,28 @@ pub fn rebased_programs_reach()
         Defines d t →
         t.name ≡ e.name →
         StubArrives machine to (written ++ memory) d.position
+        (gives p.definition.import_name (expected_ask machine e)) }
+    ensures direct { (machine : MachineType) (from to : ℕ) (bases : Bases)
+        (inputs : List LinkInput) (objects : List Object)
+        (codes : List PlacedCode) (targets : PlacedCode → ℕ → ℕ) (memory : List Range)
+        (gives : List ℕ → Ask → List ℕ) (n : ℕ) (written : List Range)
+        (i j : ℕ) (p : LinkInput) (e : ExportView) (c d : PlacedCode) (offset : ℕ)
+        (t : ObjectSymbol) →
+        AllByRecursion (IsMade machine) inputs →
+        IsProgram machine bases inputs objects →
+        IsAtBase machine from to bases objects codes targets memory →
+        ((dll : List ℕ) (ask : Ask) → length (gives dll ask) ≡ thunk_width machine) →
+        ReadsAndWrites memory (thunk_width machine) gives n bases.descriptors written →
+        slice_get inputs i ≡ Some p →
+        slice_get (chosen_exports p.definition p.chosen) j ≡ Some e →
+        e.is_data ≡ false →
+        Contains codes d →
+        Defines d t →
+        t.name ≡ e.name →
+        Contains codes c →
+        HasDirectCall machine c offset e.name →
+        CanBranch machine (c.position + offset) d.position →
+        DirectCallArrives machine to (written ++ memory) (c.position + offset)
         (gives p.definition.import_name (expected_ask machine e)) }
 {}
 
@@ -135,6 +157,28 @@ pub fn rebased_programs_of_flavors_reach()
         Defines d t →
         t.name ≡ symbol_in p.flavor e →
         StubArrives machine to (written ++ memory) d.position
+        (gives (dll_of p) (ask_in p.flavor machine e)) }
+    ensures direct { (machine : MachineType) (from to : ℕ) (bases : Bases)
+        (inputs : List FlavorInput) (objects : List Object)
+        (codes : List PlacedCode) (targets : PlacedCode → ℕ → ℕ) (memory : List Range)
+        (gives : List ℕ → Ask → List ℕ) (n : ℕ) (written : List Range)
+        (i j : ℕ) (p : FlavorInput) (e : ExportView) (c d : PlacedCode) (offset : ℕ)
+        (t : ObjectSymbol) →
+        AllByRecursion (IsMadeFor machine) inputs →
+        IsFlavorProgram machine bases inputs objects →
+        IsAtBase machine from to bases objects codes targets memory →
+        ((dll : List ℕ) (ask : Ask) → length (gives dll ask) ≡ thunk_width machine) →
+        ReadsAndWrites memory (thunk_width machine) gives n bases.descriptors written →
+        slice_get inputs i ≡ Some p →
+        slice_get (exports_chosen p) j ≡ Some e →
+        IsCode p.flavor e →
+        Contains codes d →
+        Defines d t →
+        t.name ≡ symbol_in p.flavor e →
+        Contains codes c →
+        HasDirectCall machine c offset (symbol_in p.flavor e) →
+        CanBranch machine (c.position + offset) d.position →
+        DirectCallArrives machine to (written ++ memory) (c.position + offset)
         (gives (dll_of p) (ask_in p.flavor machine e)) }
 {}
 
