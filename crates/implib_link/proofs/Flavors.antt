@@ -12,3 +12,6 @@ pub mod Reading
 pub mod Stubs
 pub mod Calls
 pub mod Packed
+pub mod PlacedStubs
+pub mod Steady
+pub mod Rebased

@@ -20,3 +20,11 @@ pub mod Calls
 pub mod Definers
 pub mod DirectCalls
 pub mod Bounds
+pub mod Keeps
+pub mod Steady
+pub mod Moved
+pub mod PlacedStubs
+pub mod MovedCode
+pub mod Rebased
+pub mod Pointers
+pub mod Pages

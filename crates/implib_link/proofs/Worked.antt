@@ -18,3 +18,7 @@ pub mod RefusedTexts
 pub mod Sources
 pub mod Closed
 pub mod Claims
+pub mod Rebased
+pub mod DirectCalls
+pub mod Pointers
+pub mod Pages

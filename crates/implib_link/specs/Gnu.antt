@@ -6,3 +6,6 @@ pub mod Reading
 pub mod Calls
 pub mod Packed
 pub mod Bounds
+pub mod Rebased
+pub mod Pointers
+pub mod Pages

@@ -10,6 +10,7 @@ pub mod msvc_search;
 pub mod packed;
 pub mod program;
 pub mod reading;
+pub mod rebased;
 pub mod search;
 pub mod stubs;
 pub mod texts;

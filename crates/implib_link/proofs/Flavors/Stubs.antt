@@ -2,6 +2,7 @@
 use Rattle.std.proofs.Common.{◌≡◌, ℕ, zero, suc, ◌+◌, ◌*◌, ◌^◌, ◌<◌, Bool, true, false, List, [], ◌∷◌, ◌++◌, length, map, Some, refl, ap, sym, ◌∙◌, subst, inl, inr, if◌then◌else◌, arith}
 use Rattle.std.specs.Prelude.{option_map, slice_get}
 use Rattle.std.specs.List.{AllByRecursion, flat_map}
+use Rattle.std.specs.Option.{option_and_then}
 use Rattle.std.proofs.lemmas.Option.{slice_get-map}
 use Rattle.implib.specs.declared.machine.MachineType.{MachineType}
 use Rattle.implib.specs.declared.flavor.Flavor.{Flavor}
@@ -17,7 +18,8 @@ use Rattle.implib.specs.Link.Load.{BytesAt, TableAt}
 use Rattle.implib.specs.Members.Msvc.{short_import_symbols, short_import_symbol}
 use Rattle.implib.specs.Formats.Object.{ASymbol, Object}
 use Rattle.implib.specs.Link.Placement.{Bases, Placed, placed_from}
-use Rattle.implib.specs.Link.Resolution.{definitions_of, target_address}
+use Rattle.implib.specs.Link.Resolution.{definitions_of, symbol_address, target_address}
+use Rattle.implib.proofs.Link.Linked.{address_found}
 use Rattle.implib.proofs.Link.LinkedBlocks.{ends, starts}
 use Rattle.implib.proofs.Link.LinkedMembers.{among_contains, among_map}
 use Rattle.implib.proofs.Link.Placement.{after_head, aligned_head, ends_of_head, placed-head, placed_export}
@@ -40,7 +42,7 @@ use Rattle.implib_link.proofs.Flavors.Expanded.{AreWide, ends_of_asking, ends_of
 
 -- Each export's object is placed, with its entry where the addresses have come to.
 
-abbrev placed_in : MachineType → Flavor → List ℕ → Bases → ExportView → Placed
+abbrev pub placed_in : MachineType → Flavor → List ℕ → Bases → ExportView → Placed
 placed_in machine Msvc dll b e = placed_asking machine dll b (short_import_symbol e) (ask_in Msvc machine e) (use_for e)
 placed_in machine Gnu dll b e = placed_export machine dll b e
 
@@ -98,7 +100,7 @@ behind_one machine Gnu dll es b rest q even m =
     subst (Among q) (sym (placed-head machine dll b (after_head machine dll es rest) (wide_aligned machine b even)))
     (among_later q _ _ (behind_exports machine dll es (ends_of_head machine dll b) rest q (aligned_head machine dll b (wide_aligned machine b even)) m))
 
-all_placed : (machine : MachineType) (blocks : List FlavorBlock) (b : Bases) → AreWide machine b → (i j : ℕ) (k : FlavorBlock) (e : ExportView) → slice_get blocks i ≡ Some k → slice_get k.exports j ≡ Some e →
+pub all_placed : (machine : MachineType) (blocks : List FlavorBlock) (b : Bases) → AreWide machine b → (i j : ℕ) (k : FlavorBlock) (e : ExportView) → slice_get blocks i ≡ Some k → slice_get k.exports j ≡ Some e →
     (c : Bases) × (Among (placed_in machine k.flavor k.dll c e) (placed_from b (all_objects machine blocks []))
     × (c.addresses ≡ b.addresses + thunk_width machine * thunks_in i blocks + thunk_width machine * j))
 all_placed machine [] b even i j k e is chosen = cc
@@ -149,11 +151,25 @@ asking_target machine dll linked b symbol ask use_kind entry same =
     let plain : b.addresses + 0 ≡ b.addresses = omega arith in
     plain ∙ same
 
+asking_found : (machine : MachineType) (dll : List ℕ) (linked : List Placed) (b : Bases) (symbol : List ℕ) (ask : Ask) (use_kind : Use) (entry : ℕ) → b.addresses ≡ entry →
+    option_and_then (symbol_address linked (placed_asking machine dll b symbol ask use_kind)) (slice_get (placed_asking machine dll b symbol ask use_kind).object.entries 2) ≡ Some entry
+unfolding import_object
+asking_found machine dll linked b symbol ask use_kind entry same =
+    let plain : b.addresses + 0 ≡ b.addresses = omega arith in
+    ap Some (plain ∙ same)
+
+exporting_found : (machine : MachineType) (dll : List ℕ) (linked : List Placed) (b : Bases) (e : ExportView) (entry : ℕ) → e.is_data ≡ false → b.addresses ≡ entry →
+    option_and_then (symbol_address linked (placed_export machine dll b e)) (slice_get (placed_export machine dll b e).object.entries 2) ≡ Some entry
+exporting_found machine dll linked b e entry is same =
+    let plain : b.addresses + 0 ≡ b.addresses = omega arith in
+    address_found machine dll linked b e is ∙ ap Some (plain ∙ same)
+
 -- what a jump needs, in either flavour
-record CodeOf (machine : MachineType) (linked : List Placed) (symbol : List ℕ) (own : Placed) (entry : ℕ) : Type 0 where
-  defined : Among (ASymbol (record { name = symbol; value = 0; section = 1; kind = 0; class = class_external })) own.object.entries
-  here : slice_get own.object.sections 0 ≡ Some (section text_name (cnt_code + align_4bytes + mem_execute_read) (stub_bytes machine) (stub_relocations machine 2))
-  target : target_address linked own 2 ≡ entry
+pub record CodeOf (machine : MachineType) (linked : List Placed) (symbol : List ℕ) (own : Placed) (entry : ℕ) : Type 0 where
+  pub defined : Among (ASymbol (record { name = symbol; value = 0; section = 1; kind = 0; class = class_external })) own.object.entries
+  pub here : slice_get own.object.sections 0 ≡ Some (section text_name (cnt_code + align_4bytes + mem_execute_read) (stub_bytes machine) (stub_relocations machine 2))
+  pub target : target_address linked own 2 ≡ entry
+  pub found : option_and_then (symbol_address linked own) (slice_get own.object.entries 2) ≡ Some entry
 
 msvc_code : (machine : MachineType) (dll : List ℕ) (linked : List Placed) (b : Bases) (symbol : List ℕ) (ask : Ask) (use_kind : Use) (entry : ℕ) → use_kind ≡ Code → b.addresses ≡ entry →
     CodeOf machine linked symbol (placed_asking machine dll b symbol ask use_kind) entry
@@ -162,9 +178,10 @@ msvc_code machine dll linked b symbol ask use_kind entry is same =
       defined = asking_defined machine dll b symbol ask;
       here = asking_code machine dll b symbol ask;
       target = asking_target machine dll linked b symbol ask Code entry same;
+      found = asking_found machine dll linked b symbol ask Code entry same;
     })
 
-code_in : (machine : MachineType) (flavor : Flavor) (dll : List ℕ) (linked : List Placed) (b : Bases) (e : ExportView) (entry : ℕ) → IsCode flavor e → b.addresses ≡ entry →
+pub code_in : (machine : MachineType) (flavor : Flavor) (dll : List ℕ) (linked : List Placed) (b : Bases) (e : ExportView) (entry : ℕ) → IsCode flavor e → b.addresses ≡ entry →
     CodeOf machine linked (symbol_in flavor e) (placed_in machine flavor dll b e) entry
 code_in machine Msvc dll linked b e entry is same = msvc_code machine dll linked b (short_import_symbol e) (ask_in Msvc machine e) (use_for e) entry (use_is e.is_data e.constant is.0 is.1) same
 code_in machine Gnu dll linked b e entry is same = record {
@@ -173,6 +190,7 @@ code_in machine Gnu dll linked b e entry is same = record {
       ∙ ap (λ bytes. Some (section text_name (cnt_code + align_4bytes + mem_execute_read) bytes (relocations_of_stub machine e))) (code_bytes machine e is)
       ∙ ap (λ rs. Some (section text_name (cnt_code + align_4bytes + mem_execute_read) (stub_bytes machine) rs)) (code_relocations machine e is);
   target = target_is machine dll linked b e entry is same;
+  found = exporting_found machine dll linked b e entry is same;
 }
 
 -- the name of code is one that its member is listed for
@@ -193,6 +211,12 @@ name_listed machine inputs i j p e made input chosen is =
     subst (Among (symbol_in p.flavor e)) (sym (inputs_symbols machine inputs made))
     (flat_map_among (λ (k : FlavorBlock). symbols_of machine k.flavor k.dll k.exports) (symbol_in p.flavor e) (map block_in inputs) (block_in p)
     (among_map block_in p inputs (among_at p inputs i input)) (listed_in machine p.flavor (dll_of p) (exports_chosen p) j e chosen is))
+
+pub name_once : (machine : MachineType) (bases : Bases) (inputs : List FlavorInput) (objects : List Object) (i j : ℕ) (p : FlavorInput) (e : ExportView) → AllByRecursion (IsMadeFor machine) inputs →
+    IsFlavorProgram machine bases inputs objects → slice_get inputs i ≡ Some p → slice_get (exports_chosen p) j ≡ Some e → IsCode p.flavor e → IsDefinedOnce (placed_from bases objects) (symbol_in p.flavor e)
+name_once machine bases inputs objects i j p e made program input chosen is =
+    all_among (IsDefinedOnce (placed_from bases objects)) (symbol_in p.flavor e) (symbols_listed (all_members machine inputs)) (name_listed machine inputs i j p e made input chosen is)
+    (flavors_link machine bases inputs objects made program).listed
 
 pub stubs_of_flavors_jump : (machine : MachineType) (image_base : ℕ) (bases : Bases) (inputs : List FlavorInput) (objects : List Object) (i j : ℕ) (p : FlavorInput) (e : ExportView) →
     AllByRecursion (IsMadeFor machine) inputs → IsFlavorProgram machine bases inputs objects → CanJump machine image_base bases → slice_get inputs i ≡ Some p →
@@ -216,7 +240,7 @@ stubs_of_flavors_jump machine image_base bases inputs objects i j p e made progr
     (subst (λ n. TableAt image (thunk_width machine) n (map (ask_in p.flavor machine) (exports_chosen p))) one.table_located one.loads.plain.address_table)
     (slice_get-map (ask_in p.flavor machine) (exports_chosen p) j ∙ ap (option_map (ask_in p.flavor machine)) chosen) in
     record {
-      once = all_among (IsDefinedOnce linked) (symbol_in p.flavor e) (symbols_listed (all_members machine inputs)) (name_listed machine inputs i j p e made input chosen is) all.listed;
+      once = name_once machine bases inputs objects i j p e made program input chosen is;
       from = own;
       held = among_contains own linked (among_filter (λ (q : Placed). has_tables q.object) own linked kept);
       symbol = record { name = symbol_in p.flavor e; value = 0; section = 1; kind = 0; class = class_external };

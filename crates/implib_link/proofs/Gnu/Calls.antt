@@ -8,7 +8,7 @@ use Rattle.implib.specs.declared.machine.MachineType.{MachineType}
 use Rattle.implib.specs.Definition.{ExportView}
 use Rattle.implib.specs.Formats.Object.{ASymbol, Object}
 use Rattle.implib.specs.Import.{Ask, expected_ask, imp_symbol}
-use Rattle.implib.specs.Link.Image.{IsAdmissible, Range, image_of}
+use Rattle.implib.specs.Link.Image.{IsAdmissible, Range, image_of, range_end}
 use Rattle.implib.specs.Link.Linked.{EntriesAt}
 use Rattle.implib.specs.Link.LinkedMembers.{IsMade, LinkInput, chosen_exports}
 use Rattle.implib.specs.Link.Load.{BytesAt}
@@ -61,10 +61,19 @@ module _ (machine : MachineType) (image_base : ℕ) (bases : Bases) (objects : L
       ∙ code_appended machine image_base (targets c) c.position (map (moved_by offset) (relocations has.index)) has.behind first in
       subst (λ xs. Split xs offset window) (sym whole) third
 
-  -- they are in memory, whatever a loader wrote
-  pub instructions_there : AllByRecursion (λ (r : Relocation). r.offset + 4 ≤ length bytes) (relocations has.index) → (written : List Range) → AllByRecursion (Covers (image_of machine bases (placed_from bases objects))) written →
-      BytesAt (written ++ (image_of machine bases (placed_from bases objects) ++ code_ranges machine image_base targets codes)) (c.position + offset) window
-  instructions_there within written covers =
+  -- they are within the code, and beside the image
+  pub instructions_end : AllByRecursion (λ (r : Relocation). r.offset + 4 ≤ length bytes) (relocations has.index) → c.position + offset + length window ≤ range_end (code_range machine image_base targets c)
+  instructions_end within =
+      let r : Range = code_range machine image_base targets c in
+      let split = instructions_split within in
+      let long : length split.front ≡ offset = split.long in
+      let size : length r.bytes ≡ length split.front + length (window ++ split.back) = ap length split.is ∙ length-append split.front (window ++ split.back) in
+      let size_behind : length (window ++ split.back) ≡ length window + length split.back = length-append window split.back in
+      omega arith
+
+  pub instructions_linked : AllByRecursion (λ (r : Relocation). r.offset + 4 ≤ length bytes) (relocations has.index) →
+      BytesAt (image_of machine bases (placed_from bases objects) ++ code_ranges machine image_base targets codes) (c.position + offset) window
+  instructions_linked within =
       let image : List Range = image_of machine bases (placed_from bases objects) in
       let ranges : List Range = code_ranges machine image_base targets codes in
       let r : Range = code_range machine image_base targets c in
@@ -72,13 +81,17 @@ module _ (machine : MachineType) (image_base : ℕ) (bases : Bases) (objects : L
       let member : Among r ranges = among_map (code_range machine image_base targets) c codes (contains_among c codes held) in
       let located : BytesAt (image ++ ranges) c.position (split.front ++ (window ++ split.back)) =
       subst (BytesAt (image ++ ranges) c.position) split.is (range_located r (image ++ ranges) (among_back r image ranges member) beside.apart) in
-      let there : BytesAt (image ++ ranges) (c.position + offset) window =
       subst (λ n. BytesAt (image ++ ranges) (c.position + n) window) split.long
-      (located_parts (image ++ ranges) window split.back (c.position + length split.front) (located_parts (image ++ ranges) split.front (window ++ split.back) c.position located).1).0 in
-      let long : length split.front ≡ offset = split.long in
-      let size : length r.bytes ≡ length split.front + length (window ++ split.back) = ap length split.is ∙ length-append split.front (window ++ split.back) in
-      let size_behind : length (window ++ split.back) ≡ length window + length split.back = length-append window split.back in
-      untouched image ranges written r covers beside.apart member window (c.position + offset) (omega arith) (omega arith) there
+      (located_parts (image ++ ranges) window split.back (c.position + length split.front) (located_parts (image ++ ranges) split.front (window ++ split.back) c.position located).1).0
+
+  -- they are in memory, whatever a loader wrote
+  pub instructions_there : AllByRecursion (λ (r : Relocation). r.offset + 4 ≤ length bytes) (relocations has.index) → (written : List Range) → AllByRecursion (Covers (image_of machine bases (placed_from bases objects))) written →
+      BytesAt (written ++ (image_of machine bases (placed_from bases objects) ++ code_ranges machine image_base targets codes)) (c.position + offset) window
+  instructions_there within written covers =
+      let r : Range = code_range machine image_base targets c in
+      let end = instructions_end within in
+      untouched (image_of machine bases (placed_from bases objects)) (code_ranges machine image_base targets codes) written r covers beside.apart
+      (among_map (code_range machine image_base targets) c codes (contains_among c codes held)) window (c.position + offset) (omega arith) end (instructions_linked within)
 
 module _ (machine : MachineType) (image_base : ℕ) (bases : Bases) (objects : List Object) (codes : List PlacedCode) (targets : PlacedCode → ℕ → ℕ)
     (beside : AreBeside machine image_base bases objects codes targets) (c : PlacedCode) (held : Contains codes c) (offset : ℕ) (name : List ℕ)

@@ -93,7 +93,7 @@ words_read address first second low high =
     ∙ ap (λ w. arm64_reads address first w) (number-u32 second ∙ second_is)
 
 -- the immediates lead to the entry
-pages_add : (here there : ℕ) → here < there + 2 ^ 20 → there < here + 2 ^ 20 →
+pub pages_add : (here there : ℕ) → here < there + 2 ^ 20 → there < here + 2 ^ 20 →
     plus_signed 21 4096 ((there + (2 ^ 21 - here % 2 ^ 21)) % 2 ^ 21) (here * 4096) ≡ there * 4096
 pages_add here there near far =
     let field : ℕ = (there + (2 ^ 21 - here % 2 ^ 21)) % 2 ^ 21 in
@@ -102,10 +102,10 @@ pages_add here there near far =
       | inr is ↦ let high = ltb-false field (2 ^ 20) is in rw is (omega arith)
     ]
 
-halves : (n : ℕ) → n / 4 % 2 ^ 19 * 4 + n % 4 ≡ n % 2 ^ 21
+pub halves : (n : ℕ) → n / 4 % 2 ^ 19 * 4 + n % 4 ≡ n % 2 ^ 21
 halves n = omega arith
 
-near_pages : (image_base position entry : ℕ) → position + 16 ≤ 2 ^ 31 → entry < 2 ^ 31 →
+pub near_pages : (image_base position entry : ℕ) → position + 16 ≤ 2 ^ 31 → entry < 2 ^ 31 →
     (page (image_base + position) < page (image_base + entry) + 2 ^ 20) × (page (image_base + entry) < page (image_base + position) + 2 ^ 20)
 near_pages image_base position entry near small = (omega arith, omega arith)
 
@@ -115,10 +115,10 @@ adrp_small high low first second = omega arith
 pub ldr_small : (n : ℕ) → n < 4096 → ldr_word n < 2 ^ 32
 ldr_small n small = omega arith
 
-whole_eights : (n : ℕ) → n % 8 ≡ 0 → n % 4096 / 8 * 8 ≡ n % 4096
+pub whole_eights : (n : ℕ) → n % 8 ≡ 0 → n % 4096 / 8 * 8 ≡ n % 4096
 whole_eights n even = omega arith
 
-page_and_offset : (n : ℕ) → page n * 4096 + n % 4096 ≡ n
+pub page_and_offset : (n : ℕ) → page n * 4096 + n % 4096 ≡ n
 page_and_offset n = omega arith
 
 pub sum_of_eights : (image_base entry : ℕ) → image_base % 8 ≡ 0 → entry % 8 ≡ 0 → (image_base + entry) % 8 ≡ 0

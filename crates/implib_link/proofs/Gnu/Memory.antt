@@ -19,7 +19,7 @@ abbrev pub Covers : List Range → Range → Type 0
 Covers image r = (a : ℕ) → is_in a r ≡ true → (byte : ℕ) × (byte_at image a ≡ Some byte)
 
 -- the bounds of an address in a range
-within_bounds : (a : ℕ) (r : Range) → is_in a r ≡ true → (r.start ≤ a) × (a < range_end r)
+pub within_bounds : (a : ℕ) (r : Range) → is_in a r ≡ true → (r.start ≤ a) × (a < range_end r)
 within_bounds a r within =
     let parts = and_parts (nat_le r.start a) (nat_lt a (range_end r)) within in
     (leb-true r.start a parts.0, ltb-true a (range_end r) parts.1)
@@ -93,7 +93,7 @@ not_in_both (x ∷ xs) ys r s a apart (inl e) n first second =
     all_among (AreApart x) s (xs ++ ys) (among_back s xs ys n) apart.0 a (subst (λ (y : Range). is_in a y ≡ true) e first) second
 not_in_both (x ∷ xs) ys r s a apart (inr m) n first second = not_in_both xs ys r s a apart.1 m n first second
 
-code_untouched : (image codes written : List Range) (r : Range) (a : ℕ) → AllByRecursion (Covers image) written → AllApart (image ++ codes) → Among r codes → is_in a r ≡ true →
+pub code_untouched : (image codes written : List Range) (r : Range) (a : ℕ) → AllByRecursion (Covers image) written → AllApart (image ++ codes) → Among r codes → is_in a r ≡ true →
     list_any (is_in a) written ≡ false
 code_untouched image codes [] r a covers apart m within = refl
 code_untouched image codes (w ∷ written) r a covers apart m within =
@@ -115,7 +115,7 @@ untouched image codes written r covers apart m (b ∷ bytes) a from below locate
 
 -- Bytes of the loaded image are those of memory.
 
-byte_front : (xs ys : List Range) (a b : ℕ) → byte_at xs a ≡ Some b → byte_at (xs ++ ys) a ≡ Some b
+pub byte_front : (xs ys : List Range) (a b : ℕ) → byte_at xs a ≡ Some b → byte_at (xs ++ ys) a ≡ Some b
 byte_front [] ys a b is = cc
 byte_front (x ∷ xs) ys a b is =
     elim (cases_Bool (is_in a x)) [

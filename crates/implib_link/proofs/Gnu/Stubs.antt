@@ -194,7 +194,7 @@ jump_by ARM64 image_base bases n m position linked p can near small target =
     arm64_jumps image_base position _ linked p near small can.0 (eights bases.addresses n m can.1) target
 
 -- the name of code is one that its member is listed for
-name_listed : (machine : MachineType) (inputs : List LinkInput) (i j : ℕ) (p : LinkInput) (e : ExportView) → AllByRecursion (IsMade machine) inputs →
+pub name_listed : (machine : MachineType) (inputs : List LinkInput) (i j : ℕ) (p : LinkInput) (e : ExportView) → AllByRecursion (IsMade machine) inputs →
     slice_get inputs i ≡ Some p → slice_get (chosen_exports p.definition p.chosen) j ≡ Some e → e.is_data ≡ false → Among e.name (linked_symbols machine inputs)
 unfolding Among
 name_listed machine inputs i j p e made input chosen is =
@@ -203,6 +203,12 @@ name_listed machine inputs i j p e made input chosen is =
     subst (Among e.name) (sym (gnu_inputs_symbols machine inputs made))
     (flat_map_among (λ (k : Block). block_symbols machine k.dll k.exports) e.name (map block_of inputs) (block_of p) (among_map block_of p inputs (among_at p inputs i input))
     (among_later _ _ _ (among_front e.name (flat_map archive_symbols exports) _ (flat_map_among archive_symbols e.name exports e (among_at e exports j chosen) own))))
+
+pub name_once : (machine : MachineType) (bases : Bases) (inputs : List LinkInput) (objects : List Object) (i j : ℕ) (p : LinkInput) (e : ExportView) → AllByRecursion (IsMade machine) inputs →
+    IsProgram machine bases inputs objects → slice_get inputs i ≡ Some p → slice_get (chosen_exports p.definition p.chosen) j ≡ Some e → e.is_data ≡ false → IsDefinedOnce (placed_from bases objects) e.name
+name_once machine bases inputs objects i j p e made program input chosen is =
+    all_among (IsDefinedOnce (placed_from bases objects)) e.name (linked_symbols machine inputs) (name_listed machine inputs i j p e made input chosen is)
+    (program_links machine bases inputs objects made program).listed
 
 pub stubs_jump : (machine : MachineType) (image_base : ℕ) (bases : Bases) (inputs : List LinkInput) (objects : List Object) (i j : ℕ) (p : LinkInput) (e : ExportView) →
     AllByRecursion (IsMade machine) inputs → IsProgram machine bases inputs objects → CanJump machine image_base bases → slice_get inputs i ≡ Some p →
@@ -221,8 +227,7 @@ stubs_jump machine image_base bases inputs objects i j p e made program can inpu
     (subst (λ n. TableAt (image_of machine bases linked) (thunk_width machine) n (map (expected_ask machine) (chosen_exports p.definition p.chosen))) links.table_located links.strictly.loads.plain.address_table)
     (slice_get-map (expected_ask machine) (chosen_exports p.definition p.chosen) j ∙ ap (option_map (expected_ask machine)) chosen) in
     record {
-      once = all_among (IsDefinedOnce linked) e.name (linked_symbols machine inputs) (name_listed machine inputs i j p e made input chosen is)
-          (program_links machine bases inputs objects made program).listed;
+      once = name_once machine bases inputs objects i j p e made program input chosen is;
       from = own;
       held = among_contains own linked (among_filter (λ (q : Placed). has_tables q.object) own linked kept);
       symbol = record { name = e.name; value = 0; section = 1; kind = 0; class = class_external };
@@ -243,6 +248,31 @@ pub same_address : (name : List ℕ) (a b : ℕ) (ds : List SymbolDefinition) �
 same_address name a b ds first second =
     let same : Some a ≡ Some b = ap first_address (sym first ∙ second) in
     cc
+
+-- the entry of an export is the only definition of its symbol
+pub entry_defined : (machine : MachineType) (bases : Bases) (inputs : List LinkInput) (objects : List Object) (i j : ℕ) (p : LinkInput) (e : ExportView) → AllByRecursion (IsMade machine) inputs →
+    IsProgram machine bases inputs objects → slice_get inputs i ≡ Some p → slice_get (chosen_exports p.definition p.chosen) j ≡ Some e →
+    definitions_of (imp_symbol e.name) (placed_from bases objects)
+    ≡ record { name = imp_symbol e.name; address = Some (bases.addresses + thunk_width machine * thunks_before i inputs + thunk_width machine * j) } ∷ []
+entry_defined machine bases inputs objects i j p e made program input chosen =
+    let one = (program_links machine bases inputs objects made program).imports i p input in
+    entry_once (placed_from bases objects) (thunk_width machine) (bases.addresses + thunk_width machine * thunks_before i inputs) (chosen_exports p.definition p.chosen) j e
+    (subst (λ n. EntriesAt (placed_from bases objects) (thunk_width machine) n (chosen_exports p.definition p.chosen)) one.table_located one.strictly.entries) chosen
+
+-- the entry of an export has what its DLL gives
+pub entry_loaded : (machine : MachineType) (bases : Bases) (inputs : List LinkInput) (objects : List Object) (gives : List ℕ → Ask → List ℕ) (written : List Range) (i j : ℕ) (p : LinkInput) (e : ExportView) →
+    AllByRecursion (IsMade machine) inputs → IsProgram machine bases inputs objects → ((dll : List ℕ) (ask : Ask) → length (gives dll ask) ≡ thunk_width machine) →
+    Writes (image_of machine bases (placed_from bases objects)) (thunk_width machine) gives bases.descriptors (map (imported machine) inputs) written →
+    slice_get inputs i ≡ Some p → slice_get (chosen_exports p.definition p.chosen) j ≡ Some e →
+    BytesAt (written ++ image_of machine bases (placed_from bases objects)) (bases.addresses + thunk_width machine * thunks_before i inputs + thunk_width machine * j)
+    (gives p.definition.import_name (expected_ask machine e))
+entry_loaded machine bases inputs objects gives written i j p e made program wide writes input chosen =
+    let linked : List Placed = placed_from bases objects in
+    let place : ℕ = bases.addresses + thunk_width machine * thunks_before i inputs + thunk_width machine * j in
+    let once = entry_defined machine bases inputs objects i j p e made program input chosen in
+    let holds = (program_loads machine bases inputs objects gives written made program wide writes).entries i j p e input chosen in
+    let same : holds.address ≡ place = same_address (imp_symbol e.name) holds.address place (definitions_of (imp_symbol e.name) linked) holds.once once in
+    subst (λ n. BytesAt (written ++ image_of machine bases linked) n (gives p.definition.import_name (expected_ask machine e))) same holds.located
 
 pub calls_reach : (machine : MachineType) (image_base : ℕ) (bases : Bases) (inputs : List LinkInput) (objects : List Object) (gives : List ℕ → Ask → List ℕ) (written : List Range) (i j : ℕ) (p : LinkInput) (e : ExportView) →
     AllByRecursion (IsMade machine) inputs → IsProgram machine bases inputs objects → CanJump machine image_base bases → ((dll : List ℕ) (ask : Ask) → length (gives dll ask) ≡ thunk_width machine) →

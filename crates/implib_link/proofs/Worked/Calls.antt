@@ -1,7 +1,7 @@
 -- The calls that were relocated by hand, and the loader that reads, by computing and by the laws.
 use Rattle.std.proofs.Common.{◌≡◌, ℕ, zero, suc, ◌+◌, ◌^◌, ◌⊎◌, true, false, List, [], ◌∷◌, ◌++◌, codes, length, Some, None, Option, refl, ap, sym, ◌∙◌, subst, inl, inr, arith, true≢false}
 use Rattle.std.specs.Prelude.{Bool, bytes_eq, not, slice_get, ◌&&◌, ◌==◌, if◌then◌else◌}
-use Rattle.std.specs.List.{AllByRecursion, list_all}
+use Rattle.std.specs.List.{list_all}
 use Rattle.std.proofs.lemmas.Bool.{and_from, and_parts, cases_Bool, eq-eqb, eqb-true, not-true}
 use Rattle.implib.proofs.Link.Definitions.{same_text}
 use Rattle.implib_link.proofs.Gnu.DirectCalls.{direct_calls_reach}
@@ -26,7 +26,7 @@ use Rattle.implib.specs.Link.Placement.{Placed, next_multiple}
 use Rattle.implib.specs.Link.Resolution.{address_or_zero, definitions_of, is_undefined_external, symbol_address, target_address}
 use Rattle.implib.specs.Formats.Writer.{long_names, name_location, layout_of, symbol_written, with_long_name, with_name}
 use Rattle.implib.proofs.Link.Loading.{number_once}
-use Rattle.implib.proofs.Link.Ranges.{Among, all_among, among_back, among_front, apart_as_they_rise, ends_below}
+use Rattle.implib.proofs.Link.Ranges.{Among, apart_as_they_rise, ends_below}
 use Rattle.implib.specs.Worked.Statements.{plain_export}
 use Rattle.implib.specs.Members.MsvcMembers.{descriptor_spec, header_specs, null_descriptor_spec, null_thunk_spec, weak_specs}
 use Rattle.implib.specs.Members.MsvcObjects.{base_name, descriptor, descriptor_symbol, null_descriptor, null_descriptor_symbol, null_thunk, null_thunk_symbol}
@@ -43,7 +43,7 @@ use Rattle.implib_link.proofs.Worked.Flavors.{worked_flavors}
 use Rattle.implib_link.specs.Gnu.Calls.{AreBeside, Defines, HasCall, HasDirectCall, PlacedCode, Resolves, code_range, code_ranges}
 use Rattle.implib_link.specs.Gnu.Program.{IsProgram, has_tables, linked_symbols}
 use Rattle.implib_link.specs.Gnu.Reading.{ReadsAndWrites}
-use Rattle.implib_link.specs.Worked.Calls.{WorkedDirectCall, direct_at, direct_calling, direct_objects, direct_placed, direct_targets, is_open, open_or, stub_at, WorkedFlavorCall, calling_flavors, flavor_targets, flavors_placed, WorkedCall, WorkedCalls, WorkedReading, calling, calling_at, calling_memory, calling_objects, calling_placed, first_bytes, given_on, last_bytes, nameless_image, table_targets}
+use Rattle.implib_link.specs.Worked.Calls.{WorkedDirectCall, direct_at, direct_calling, direct_objects, direct_placed, direct_targets, is_open, open_or, open_targets, stub_at, WorkedFlavorCall, calling_flavors, flavor_targets, flavors_placed, WorkedCall, WorkedCalls, WorkedReading, calling, calling_at, calling_memory, calling_objects, calling_placed, first_bytes, given_on, last_bytes, nameless_image, table_targets}
 use Rattle.implib_link.specs.Worked.Programs.{another, both_inputs, foo_input, program_image, program_objects, program_placed, symbol_of_class, symbol_on, touching_4, touching_8}
 use Rattle.implib_link.proofs.Gnu.Calls.{calls_reach_through_entries}
 use Rattle.implib_link.proofs.Gnu.Memory.{holder, not_in_both}
@@ -100,7 +100,7 @@ one_code_resolves linked k m u entries own other differs = record {
       absurd (not_named m u t other differs defines.external (named ∙ ap (λ (x : ObjectSymbol). x.name) s_is) (first_or_second (ASymbol t) (ASymbol m) (ASymbol u) among));
 }
 
-amd64_program : IsProgram AMD64 touching_8 (both_inputs AMD64) (calling_objects AMD64)
+pub amd64_program : IsProgram AMD64 touching_8 (both_inputs AMD64) (calling_objects AMD64)
 unfolding opened refusal renamed_refusal alias_specs encoded_size weak_object has_tables
 amd64_program = record {
   distinct = distinct_by (linked_symbols AMD64 (both_inputs AMD64)) refl;
@@ -129,7 +129,7 @@ amd64_beside = record {
       (symbol_of_class (imp_symbol (symbol_on AMD64 (codes "open"))) 0 class_external) refl refl refl (λ same. cc);
 }
 
-amd64_has : HasCall AMD64 (calling_at AMD64 0x1000) 4 (imp_symbol (symbol_on AMD64 (codes "open")))
+pub amd64_has : HasCall AMD64 (calling_at AMD64 0x1000) 4 (imp_symbol (symbol_on AMD64 (codes "open")))
 amd64_has = record {
   front = first_bytes AMD64;
   back = last_bytes AMD64;
@@ -147,7 +147,7 @@ amd64_has = record {
   named = refl;
 }
 
-i386_program : IsProgram I386 touching_4 (both_inputs I386) (calling_objects I386)
+pub i386_program : IsProgram I386 touching_4 (both_inputs I386) (calling_objects I386)
 unfolding opened refusal renamed_refusal alias_specs encoded_size weak_object has_tables
 i386_program = record {
   distinct = distinct_by (linked_symbols I386 (both_inputs I386)) refl;
@@ -176,7 +176,7 @@ i386_beside = record {
       (symbol_of_class (imp_symbol (symbol_on I386 (codes "open"))) 0 class_external) refl refl refl (λ same. cc);
 }
 
-i386_has : HasCall I386 (calling_at I386 0x1000) 4 (imp_symbol (symbol_on I386 (codes "open")))
+pub i386_has : HasCall I386 (calling_at I386 0x1000) 4 (imp_symbol (symbol_on I386 (codes "open")))
 i386_has = record {
   front = first_bytes I386;
   back = last_bytes I386;
@@ -194,7 +194,7 @@ i386_has = record {
   named = refl;
 }
 
-arm64_program : IsProgram ARM64 touching_8 (both_inputs ARM64) (calling_objects ARM64)
+pub arm64_program : IsProgram ARM64 touching_8 (both_inputs ARM64) (calling_objects ARM64)
 unfolding opened refusal renamed_refusal alias_specs encoded_size weak_object has_tables
 arm64_program = record {
   distinct = distinct_by (linked_symbols ARM64 (both_inputs ARM64)) refl;
@@ -223,7 +223,7 @@ arm64_beside = record {
       (symbol_of_class (imp_symbol (symbol_on ARM64 (codes "open"))) 0 class_external) refl refl refl (λ same. cc);
 }
 
-arm64_has : HasCall ARM64 (calling_at ARM64 0x1000) 4 (imp_symbol (symbol_on ARM64 (codes "open")))
+pub arm64_has : HasCall ARM64 (calling_at ARM64 0x1000) 4 (imp_symbol (symbol_on ARM64 (codes "open")))
 arm64_has = record {
   front = first_bytes ARM64;
   back = last_bytes ARM64;
@@ -241,7 +241,7 @@ arm64_has = record {
   named = refl;
 }
 
-wide : (machine : MachineType) (dll : List ℕ) (ask : Ask) → length (given_on machine dll ask) ≡ thunk_width machine
+pub wide : (machine : MachineType) (dll : List ℕ) (ask : Ask) → length (given_on machine dll ask) ≡ thunk_width machine
 unfolding u32_bytes
 wide I386 dll (Ordinal n) = refl
 wide I386 dll (Name text hint) = refl
@@ -253,7 +253,7 @@ wide ARM64 dll (Ordinal n) = refl
 wide ARM64 dll (Name text hint) = refl
 
 -- the export that is called
-abbrev open_export : MachineType → ExportView
+abbrev pub open_export : MachineType → ExportView
 open_export machine = record (plain_export (symbol_on machine (codes "open"))) { ordinal = 258 }
 
 amd64 : WorkedCall AMD64 0x1_4000_0000 touching_8 (0xFF ∷ 0x15 ∷ 0x76 ∷ 0xF0 ∷ 0xFF ∷ 0xFF ∷ []) 0x80 (0x40 ∷ 0 ∷ 0 ∷ 0x10 ∷ 0 ∷ 0 ∷ 0 ∷ 0 ∷ [])
@@ -352,7 +352,7 @@ worked_reading = record { amd64 = amd64_reading; i386 = i386_reading; flavors = 
 
 -- The program of both flavours.
 
-flavors_program : IsFlavorProgram AMD64 flavor_bases_8 (flavor_inputs AMD64) calling_flavors
+pub flavors_program : IsFlavorProgram AMD64 flavor_bases_8 (flavor_inputs AMD64) calling_flavors
 unfolding opened refusal renamed_refusal alias_specs encoded_size weak_object has_tables expanded_in short_import_in import_object descriptor_symbol_by_name with_section_symbols descriptor null_descriptor null_thunk descriptor_symbol null_descriptor_symbol null_thunk_symbol base_name descriptor_spec null_descriptor_spec null_thunk_spec header_specs weak_specs group_end sections_end
 flavors_program = record {
   held = record {
@@ -385,7 +385,7 @@ flavors_program = record {
   follows = refl;
 }
 
-flavors_beside : AreBeside AMD64 0x1_4000_0000 flavor_bases_8 calling_flavors (calling_at AMD64 0x1000 ∷ []) flavor_targets
+pub flavors_beside : AreBeside AMD64 0x1_4000_0000 flavor_bases_8 calling_flavors (calling_at AMD64 0x1000 ∷ []) flavor_targets
 unfolding opened refusal renamed_refusal alias_specs encoded_size weak_object has_tables expanded_in short_import_in import_object descriptor_symbol_by_name with_section_symbols descriptor null_descriptor null_thunk descriptor_symbol null_descriptor_symbol null_thunk_symbol base_name descriptor_spec null_descriptor_spec null_thunk_spec header_specs weak_specs group_end sections_end
 flavors_beside = record {
   held = ((0, omega arith, refl), tt);
@@ -411,35 +411,34 @@ worked_flavor_call = record {
 
 -- The direct call, its symbols and the stub's.
 
-is_none : Option ℕ → Bool
+abbrev pub is_none : Option ℕ → Bool
 is_none None = true
 is_none (Some n) = false
 
 -- an entry of the name `open` has no address in the tables
-abbrev unplaced : Placed → Entry → Bool
-unplaced p x = if is_open x then is_none (symbol_address direct_placed p x) else true
+abbrev pub unplaced : List Placed → Placed → Entry → Bool
+unplaced linked p x = if is_open x then is_none (symbol_address linked p x) else true
 
-no_address : (p : Placed) (x : Entry) (address : ℕ) → unplaced p x ≡ true → is_open x ≡ true → symbol_address direct_placed p x ≡ Some address → ⊥
-unfolding is_none
-no_address p x address check named is =
-    let none : is_none (symbol_address direct_placed p x) ≡ true = rw named at check in
-    let some : is_none (symbol_address direct_placed p x) ≡ false = ap is_none is in
+no_address : (linked : List Placed) (p : Placed) (x : Entry) (address : ℕ) → unplaced linked p x ≡ true → is_open x ≡ true → symbol_address linked p x ≡ Some address → ⊥
+no_address linked p x address check named is =
+    let none : is_none (symbol_address linked p x) ≡ true = rw named at check in
+    let some : is_none (symbol_address linked p x) ≡ false = ap is_none is in
     true≢false (sym none ∙ some)
 
 -- whether an entry is an undefined symbol of this name
-abbrev is_wanted : List ℕ → Entry → Bool
+abbrev pub is_wanted : List ℕ → Entry → Bool
 is_wanted name (Auxiliary bytes) = false
 is_wanted name (ASymbol s) = is_undefined_external s && bytes_eq s.name name
 
 -- a symbol that code defines is `open` at 0x1010, or no entry wants it
-abbrev fits : List Entry → PlacedCode → Entry → Bool
+abbrev pub fits : List Entry → PlacedCode → Entry → Bool
 fits wanted d (Auxiliary bytes) = true
 fits wanted d (ASymbol t) =
     if is_defined_external t && (t.section == d.number)
     then (if is_open (ASymbol t) then d.position + t.value == 0x1010 else list_all (λ x. not (is_wanted t.name x)) wanted)
     else true
 
-each_of : {X : Type 0} (test : X → Bool) (x : X) (xs : List X) → list_all test xs ≡ true → Among x xs → test x ≡ true
+pub each_of : {X : Type 0} (test : X → Bool) (x : X) (xs : List X) → list_all test xs ≡ true → Among x xs → test x ≡ true
 unfolding Among
 each_of test x [] all m = absurd m
 each_of test x (y ∷ xs) all (inl same) = ap test same ∙ (and_parts (test y) (list_all test xs) all).0
@@ -467,43 +466,37 @@ open_resolves wanted d s t address check external here m undefined named =
           absurd (true≢false (sym wanted_is ∙ not-true (is_wanted t.name (ASymbol s)) one))
     ]
 
-tables_resolve : (c : PlacedCode) (index address : ℕ) (entry : Entry) → unplaced c.from entry ≡ true → slice_get c.from.object.entries index ≡ Some entry → symbol_address direct_placed c.from entry ≡ Some address →
-    direct_targets c index ≡ address
-tables_resolve c index address entry check at is =
+tables_resolve : (linked : List Placed) (c : PlacedCode) (index address : ℕ) (entry : Entry) → unplaced linked c.from entry ≡ true → slice_get c.from.object.entries index ≡ Some entry →
+    symbol_address linked c.from entry ≡ Some address → open_targets linked c index ≡ address
+tables_resolve linked c index address entry check at is =
     elim (cases_Bool (is_open entry)) [
-      | inl called ↦ absurd (no_address c.from entry address check called is)
+      | inl called ↦ absurd (no_address linked c.from entry address check called is)
       | inr other ↦ rw at (rw other (ap address_or_zero is))
     ]
 
-abbrev all_wanted : List Entry
-all_wanted = direct_at.from.object.entries ++ stub_at.from.object.entries
+-- what code leaves to others is `open` at 0x1010, or in the tables
+abbrev pub all_fit : List PlacedCode → List Entry → Bool
+all_fit codes wanted = list_all (λ (d : PlacedCode). list_all (fits wanted d) d.from.object.entries) codes
 
-wanted_held : (c : PlacedCode) (x : Entry) → Among c (direct_at ∷ stub_at ∷ []) → Among x c.from.object.entries → Among x all_wanted
-wanted_held c x m there =
-    all_among (λ (k : PlacedCode). Among x k.from.object.entries → Among x all_wanted) c (direct_at ∷ stub_at ∷ []) m
-    (among_front x direct_at.from.object.entries stub_at.from.object.entries, (among_back x direct_at.from.object.entries stub_at.from.object.entries, tt)) there
-
-codes_unplaced : AllByRecursion (λ (k : PlacedCode). list_all (unplaced k.from) k.from.object.entries ≡ true) (direct_at ∷ stub_at ∷ [])
-unfolding opened refusal renamed_refusal alias_specs encoded_size weak_object has_tables is_none
-codes_unplaced = (refl, (refl, tt))
-
-codes_fit : AllByRecursion (λ (k : PlacedCode). list_all (fits all_wanted k) k.from.object.entries ≡ true) (direct_at ∷ stub_at ∷ [])
-unfolding opened refusal renamed_refusal alias_specs encoded_size weak_object has_tables
-codes_fit = (refl, (refl, tt))
-
-direct_resolved : Resolves direct_placed (direct_at ∷ stub_at ∷ []) direct_targets
-direct_resolved = record {
+pub open_resolved : (linked : List Placed) (codes : List PlacedCode) → list_all (λ (c : PlacedCode). list_all (unplaced linked c.from) c.from.object.entries) codes ≡ true →
+    list_all (λ (c : PlacedCode). all_fit codes c.from.object.entries) codes ≡ true → Resolves linked codes (open_targets linked)
+open_resolved linked codes unplaced_all fit_all = record {
   tables = λ c index address entry held at is.
-      tables_resolve c index address entry (each_of (unplaced c.from) entry c.from.object.entries
-      (all_among (λ (k : PlacedCode). list_all (unplaced k.from) k.from.object.entries ≡ true) c (direct_at ∷ stub_at ∷ []) (contains_among c (direct_at ∷ stub_at ∷ []) held) codes_unplaced)
+      tables_resolve linked c index address entry (each_of (unplaced linked c.from) entry c.from.object.entries
+      (each_of (λ (x : PlacedCode). list_all (unplaced linked x.from) x.from.object.entries) c codes unplaced_all (contains_among c codes held))
       (among_at entry c.from.object.entries index at)) at is;
   code = λ c d index s t c_held d_held at undefined defines named.
-      let check : fits all_wanted d (ASymbol t) ≡ true = each_of (fits all_wanted d) (ASymbol t) d.from.object.entries
-      (all_among (λ (k : PlacedCode). list_all (fits all_wanted k) k.from.object.entries ≡ true) d (direct_at ∷ stub_at ∷ []) (contains_among d (direct_at ∷ stub_at ∷ []) d_held) codes_fit)
-      (contains_among (ASymbol t) d.from.object.entries defines.held) in
-      let there : Among (ASymbol s) all_wanted = wanted_held c (ASymbol s) (contains_among c (direct_at ∷ stub_at ∷ []) c_held) (among_at (ASymbol s) c.from.object.entries index at) in
-      ap (λ o. open_or o (target_address direct_placed c.from index)) at ∙ open_resolves all_wanted d s t (target_address direct_placed c.from index) check defines.external defines.here there undefined named;
+      let wanted : List Entry = c.from.object.entries in
+      let one : all_fit codes wanted ≡ true = each_of (λ (x : PlacedCode). all_fit codes x.from.object.entries) c codes fit_all (contains_among c codes c_held) in
+      let two : list_all (fits wanted d) d.from.object.entries ≡ true = each_of (λ (x : PlacedCode). list_all (fits wanted x) x.from.object.entries) d codes one (contains_among d codes d_held) in
+      let check : fits wanted d (ASymbol t) ≡ true = each_of (fits wanted d) (ASymbol t) d.from.object.entries two (contains_among (ASymbol t) d.from.object.entries defines.held) in
+      ap (λ o. open_or o (target_address linked c.from index)) at
+      ∙ open_resolves wanted d s t (target_address linked c.from index) check defines.external defines.here (among_at (ASymbol s) wanted index at) undefined named;
 }
+
+direct_resolved : Resolves direct_placed (direct_at ∷ stub_at ∷ []) direct_targets
+unfolding opened refusal renamed_refusal alias_specs encoded_size weak_object has_tables
+direct_resolved = open_resolved direct_placed (direct_at ∷ stub_at ∷ []) refl refl
 
 direct_program : IsProgram AMD64 touching_8 (both_inputs AMD64) direct_objects
 unfolding opened refusal renamed_refusal alias_specs encoded_size weak_object has_tables
@@ -537,7 +530,7 @@ direct_defines : Defines stub_at (symbol_of_class (codes "open") 1 class_externa
 unfolding opened refusal renamed_refusal alias_specs encoded_size weak_object has_tables
 direct_defines = record { held = (1, omega arith, refl); external = refl; here = refl }
 
-direct_has : HasDirectCall AMD64 direct_at 4 (codes "open")
+pub direct_has : HasDirectCall AMD64 direct_at 4 (codes "open")
 direct_has = record {
   front = first_bytes AMD64;
   back = last_bytes AMD64;
@@ -568,5 +561,5 @@ worked_direct_call = record {
   reads = refl;
   arrives = λ written writes.
       direct_calls_reach AMD64 0x1_4000_0000 touching_8 (both_inputs AMD64) direct_objects (direct_at ∷ stub_at ∷ []) direct_targets (given_on AMD64) written 0 1 (foo_input AMD64) (open_export AMD64) direct_at stub_at 4
-      (symbol_of_class (codes "open") 1 class_external) worked_programs.amd64.made direct_program tt tt direct_beside (wide AMD64) writes refl refl refl (1, omega arith, refl) direct_defines refl (0, omega arith, refl) direct_has;
+      (symbol_of_class (codes "open") 1 class_external) worked_programs.amd64.made direct_program tt direct_beside (wide AMD64) writes refl refl refl (1, omega arith, refl) direct_defines refl (0, omega arith, refl) direct_has tt;
 }

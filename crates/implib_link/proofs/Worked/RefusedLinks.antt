@@ -22,11 +22,11 @@ pub differ : (n m : ℕ) → n ≡ m → n < m → ⊥
 differ n m same less = omega arith
 
 -- whether bytes are in an image
-abbrev is_byte : Option ℕ → ℕ → Bool
+abbrev pub is_byte : Option ℕ → ℕ → Bool
 is_byte None n = false
 is_byte (Some m) n = nat_eq m n
 
-abbrev is_each_located : List Range → ℕ → List ℕ → Bool
+abbrev pub is_each_located : List Range → ℕ → List ℕ → Bool
 is_each_located image a [] = true
 is_each_located image a (byte ∷ bytes) = is_byte (byte_at image a) byte && is_each_located image (a + 1) bytes
 

@@ -1,6 +1,6 @@
 -- Calls of imports in the code of any object that is linked: by the import's entry of the address table, or by
 -- its stub. Addresses of code count from the image's base.
-use Rattle.std.specs.Prelude.{◌≡◌, ℕ, ◌+◌, ◌-◌, ◌*◌, ◌%◌, ◌^◌, ◌≤◌, ◌⊎◌, ◌&&◌, ◌==◌, true, List, [], ◌∷◌, ◌++◌, bytes_eq, length, map, slice_get, take, Option, Some, None, if◌then◌else◌}
+use Rattle.std.specs.Prelude.{◌≡◌, ℕ, ◌+◌, ◌-◌, ◌*◌, ◌/◌, ◌%◌, ◌^◌, ◌<◌, ◌≤◌, ◌⊎◌, ◌&&◌, ◌==◌, true, List, [], ◌∷◌, ◌++◌, bytes_eq, length, map, slice_get, take, Option, Some, None, if◌then◌else◌}
 use Rattle.std.specs.List.{AllByRecursion, Contains}
 use Rattle.implib.specs.declared.coff.object.Relocation.{Relocation}
 use Rattle.implib.specs.declared.machine.MachineType.{MachineType}
@@ -13,7 +13,7 @@ use Rattle.implib.specs.Link.Image.{AllApart, Range, image_of}
 use Rattle.implib.specs.Link.Load.{BytesAt}
 use Rattle.implib.specs.Link.Placement.{Bases, Placed, placed_from}
 use Rattle.implib.specs.Link.Resolution.{is_undefined_external, symbol_address}
-use Rattle.implib_link.specs.Stub.{adrp_immediate, code_word, jump_reads, ldr_immediate, page, plus_signed, with_adrp, with_bits, with_word, word_at}
+use Rattle.implib_link.specs.Stub.{adrp_immediate, bits_of, code_word, jump_reads, ldr_immediate, page, plus_signed, with_adrp, with_bits, with_word, word_at}
 
 -- a section of a placed object, by its number, which counts from 1, with the address of its code
 pub record PlacedCode : Type 0 where
@@ -27,7 +27,12 @@ pub record PlacedCode : Type 0 where
 abbrev pub i386_rel32 : ℕ
 i386_rel32 = 0x14
 
--- a word that a relocation changes in code: as in a stub's, and on I386 relative to the byte behind the field
+-- ARM64's relocation of a branch by 26 bits, which count in words from the branch itself (IMAGE_REL_ARM64_BRANCH26)
+abbrev pub arm64_branch26 : ℕ
+arm64_branch26 = 3
+
+-- a word that a relocation changes in code: as in a stub's, on I386 relative to the byte behind the field too, and
+-- on ARM64 in a branch
 abbrev pub word_in_code : MachineType → ℕ → ℕ → ℕ → ℕ → ℕ → ℕ
 word_in_code I386 type image_base position target word =
     if type == i386_rel32 then (word + target + (2 ^ 32 - (position + 4) % 2 ^ 32)) % 2 ^ 32
@@ -37,7 +42,9 @@ word_in_code ARMNT type image_base position target word =
 word_in_code AMD64 type image_base position target word =
     code_word AMD64 type image_base position target word
 word_in_code ARM64 type image_base position target word =
-    code_word ARM64 type image_base position target word
+    if type == arm64_branch26
+    then with_bits 0 26 (bits_of 0 26 word + (target + (2 ^ 28 - position % 2 ^ 28)) / 4) word
+    else code_word ARM64 type image_base position target word
 
 -- The bytes of code at an address, relocated by the addresses that a linker takes for the symbols of its
 -- object, by their indices (PE/COFF specification, "COFF Relocations").
@@ -167,32 +174,47 @@ pub record CallArrives (machine : MachineType) (image_base : ℕ) (memory : List
   pub reads : call_reads machine (image_base + address) instructions ≡ Some (image_base + entry)
   pub located : BytesAt memory entry bytes
 
--- `call rel32` of I386 and AMD64, with an empty field
-abbrev pub direct_bytes : List ℕ
-direct_bytes = 0xE8 ∷ 0 ∷ 0 ∷ 0 ∷ 0 ∷ []
+-- A call by a name, with an empty field: I386 and AMD64 `call rel32`; ARM64 `bl`.
+abbrev pub direct_bytes : MachineType → List ℕ
+direct_bytes I386 = 0xE8 ∷ 0 ∷ 0 ∷ 0 ∷ 0 ∷ []
+direct_bytes ARMNT = []
+direct_bytes AMD64 = 0xE8 ∷ 0 ∷ 0 ∷ 0 ∷ 0 ∷ []
+direct_bytes ARM64 = 0 ∷ 0 ∷ 0 ∷ 0x94 ∷ []
 
 -- its relocation against the symbol of an index
 abbrev pub direct_relocations : MachineType → ℕ → List Relocation
 direct_relocations I386 index = record { offset = 1; symbol = index; kind = i386_rel32 } ∷ []
 direct_relocations ARMNT index = []
 direct_relocations AMD64 index = record { offset = 1; symbol = index; kind = amd64_rel32 } ∷ []
-direct_relocations ARM64 index = []
+direct_relocations ARM64 index = record { offset = 0; symbol = index; kind = arm64_branch26 } ∷ []
 
 -- code has such a call of a name at an offset
 abbrev pub HasDirectCall : MachineType → PlacedCode → ℕ → List ℕ → Type 0
-HasDirectCall machine c offset name = HasInstructions c offset name direct_bytes (direct_relocations machine)
+HasDirectCall machine c offset name =
+    HasInstructions c offset name (direct_bytes machine) (direct_relocations machine)
 
--- a machine has this call: I386 and AMD64
-abbrev pub HasRel32 : MachineType → Type 0
-HasRel32 I386 = Unit {0}
-HasRel32 ARMNT = ⊥
-HasRel32 AMD64 = Unit {0}
-HasRel32 ARM64 = ⊥
+-- A call at an address can reach code at another: on ARM64, both are at multiples of 4, and at most 2^27 bytes
+-- apart, as the branch's field has room for. Of ARMNT nothing is claimed.
+abbrev pub CanBranch : MachineType → ℕ → ℕ → Type 0
+CanBranch I386 from to = Unit {0}
+CanBranch ARMNT from to = ⊥
+CanBranch AMD64 from to = Unit {0}
+CanBranch ARM64 from to = (from % 4 ≡ 0) × (to % 4 ≡ 0) × (from ≤ to + 2 ^ 27) × (to < from + 2 ^ 27)
 
--- where it leads, at an address: so far behind the call
-abbrev pub direct_leads : ℕ → List ℕ → Option ℕ
-direct_leads address bytes =
+-- where `call rel32` at an address leads: so far behind it
+abbrev pub rel32_leads : ℕ → List ℕ → Option ℕ
+rel32_leads address bytes =
     if bytes_eq (take 1 bytes) (0xE8 ∷ []) then Some (plus_signed 32 1 (word_at bytes 1) (address + 5)) else None
+
+-- where a direct call leads: ARM64's `bl`, so many words from itself
+abbrev pub direct_leads : MachineType → ℕ → List ℕ → Option ℕ
+direct_leads I386 address bytes = rel32_leads address bytes
+direct_leads ARMNT address bytes = None
+direct_leads AMD64 address bytes = rel32_leads address bytes
+direct_leads ARM64 address bytes =
+    if bits_of 26 6 (word_at bytes 0) == 0x25
+    then Some (plus_signed 26 4 (bits_of 0 26 (word_at bytes 0)) address)
+    else None
 
 -- At an address of memory is a direct call, by the bytes that are there; where it leads is a stub, by the bytes
 -- that are there; and where this reads its target are these bytes.
@@ -200,9 +222,9 @@ pub record DirectCallArrives (machine : MachineType) (image_base : ℕ) (memory 
     (bytes : List ℕ) : Type 0 where
   pub instruction : List ℕ
   pub here : BytesAt memory address instruction
-  pub whole : length instruction ≡ length direct_bytes
+  pub whole : length instruction ≡ length (direct_bytes machine)
   pub stub : ℕ
-  pub leads : direct_leads (image_base + address) instruction ≡ Some (image_base + stub)
+  pub leads : direct_leads machine (image_base + address) instruction ≡ Some (image_base + stub)
   pub code : List ℕ
   pub there : BytesAt memory stub code
   pub whole_stub : length code ≡ length (stub_bytes machine)

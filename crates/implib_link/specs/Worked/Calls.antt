@@ -169,7 +169,7 @@ pub record WorkedFlavorCall : Type 0 where
 -- code that calls `open` by its name, at offset 4: `sub rsp, 40`, `call open`, `add rsp, 40`, `ret`
 abbrev pub direct_code : ObjectSection
 direct_code = section text_name (cnt_code + align_16bytes + mem_execute_read)
-    (first_bytes AMD64 ++ (direct_bytes ++ last_bytes AMD64)) (map (moved_by 4) (direct_relocations AMD64 1))
+    (first_bytes AMD64 ++ (direct_bytes AMD64 ++ last_bytes AMD64)) (map (moved_by 4) (direct_relocations AMD64 1))
 
 -- an object with this code, whose symbol 1 is `open`
 abbrev pub direct_calling : Object
@@ -222,8 +222,11 @@ open_or None address = address
 open_or (Some x) address = if is_open x then 0x1010 else address
 
 -- what the symbols of code are taken to be
+abbrev pub open_targets : List Placed → PlacedCode → ℕ → ℕ
+open_targets linked c index = open_or (slice_get c.from.object.entries index) (target_address linked c.from index)
+
 abbrev pub direct_targets : PlacedCode → ℕ → ℕ
-direct_targets c index = open_or (slice_get c.from.object.entries index) (target_address direct_placed c.from index)
+direct_targets c index = open_targets direct_placed c index
 
 -- The program, the code and the stub meet all that the law of direct calls asks for; they are relocated to these
 -- bytes; the call leads to 0x1010, the jump there reads 0x80, and the call arrives at what foo.dll gives for `open`.
@@ -235,7 +238,7 @@ pub record WorkedDirectCall : Type 0 where
   -- call +7
   pub bytes : (code_range AMD64 0x1_4000_0000 direct_targets direct_at).bytes
       ≡ first_bytes AMD64 ++ (0xE8 ∷ 7 ∷ 0 ∷ 0 ∷ 0 ∷ last_bytes AMD64)
-  pub leads : direct_leads 0x1_4000_1004 (0xE8 ∷ 7 ∷ 0 ∷ 0 ∷ 0 ∷ []) ≡ Some 0x1_4000_1010
+  pub leads : direct_leads AMD64 0x1_4000_1004 (0xE8 ∷ 7 ∷ 0 ∷ 0 ∷ 0 ∷ []) ≡ Some 0x1_4000_1010
   -- jmp [rip - 0xF96]
   pub stub : (code_range AMD64 0x1_4000_0000 direct_targets stub_at).bytes
       ≡ 0xFF ∷ 0x25 ∷ 0x6A ∷ 0xF0 ∷ 0xFF ∷ 0xFF ∷ 0x90 ∷ 0x90 ∷ []

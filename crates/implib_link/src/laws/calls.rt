@@ -8,15 +8,21 @@ ghost use Rattle.implib.specs.Members.ImportTables.{thunk_width};
 ghost use Rattle.implib.specs.Formats.Object.{Object, ObjectSymbol};
 ghost use Rattle.implib.specs.Link.Placement.{Bases, placed_from};
 ghost use Rattle.implib.specs.declared.machine.MachineType.{MachineType};
+ghost use Rattle.implib.specs.declared.machine.MachineType.TheVariants.{ARM64};
 ghost use Rattle.implib_link.specs.Directory.{imported};
-ghost use Rattle.implib_link.specs.Flavors.Program.{FlavorInput, IsFlavorProgram, IsMadeFor, ask_in, dll_of, exports_chosen, imported_in, symbol_in};
-ghost use Rattle.implib_link.specs.Gnu.Calls.{AreBeside, CallArrives, Defines, DirectCallArrives, HasCall, HasDirectCall, HasRel32, PlacedCode, code_ranges};
+ghost use Rattle.implib_link.specs.Flavors.Program.{FlavorInput, IsCode, IsFlavorProgram, IsMadeFor, ask_in, dll_of, exports_chosen, imported_in, symbol_in};
+ghost use Rattle.implib_link.specs.Gnu.Calls.{AreBeside, CallArrives, CanBranch, Defines, DirectCallArrives, HasCall, HasDirectCall, PlacedCode, code_ranges};
 ghost use Rattle.implib_link.specs.Gnu.Loaded.{Writes};
+ghost use Rattle.implib_link.specs.Gnu.Pages.{HasPage, HasPageOffset, PageArrives};
+ghost use Rattle.implib_link.specs.Gnu.Pointers.{HasLoad, LoadArrives};
 ghost use Rattle.implib_link.specs.Gnu.Program.{IsProgram};
 ghost use Rattle.implib_link.specs.Stub.{CanJump};
+ghost use Rattle.implib_link.specs.Worked.DirectCalls.{WorkedBranch, WorkedFlavorDirect};
+ghost use Rattle.implib_link.specs.Worked.Pages.{WorkedPages};
+ghost use Rattle.implib_link.specs.Worked.Pointers.{WorkedPointers};
 ghost use Rattle.implib_link.specs.Worked.Calls.{WorkedCalls, WorkedDirectCall, WorkedFlavorCall, WorkedReading};
 ghost use Rattle.std.specs.List.{AllByRecursion, Contains};
-ghost use Rattle.std.specs.Prelude.{◌≡◌, ◌+◌, ◌++◌, ℕ, List, Some, false, length, map, slice_get};
+ghost use Rattle.std.specs.Prelude.{◌≡◌, ◌<◌, ◌+◌, ◌++◌, ℕ, List, Some, false, length, map, slice_get};
 
 /// In a loaded program, a call through an export's `__imp_` symbol, in the code of any object at
 /// any place, reads the address that the DLL gives for the export.
@@ -69,11 +75,11 @@ pub fn calls_of_flavors_reach_through_entries()
         (c.position + offset) (gives (dll_of p) (ask_in p.flavor machine e)) }
 {}
 
-/// In a loaded program of I386 or AMD64, a direct call of an export of code by its name, in the
-/// code of any object at any place, leads to the export's stub, which reads the address that the
-/// DLL gives for the export.
+/// In a loaded program, a direct call of an export of code by its name, in the code of any object
+/// at any place, leads to the export's stub, which reads the address that the DLL gives for the
+/// export.
 ///
-/// The stub is whatever placed code defines the name.
+/// The stub is whatever placed code defines the name, on ARM64 within the reach of a branch.
 pub fn direct_calls_reach()
     ensures reaches { (machine : MachineType) (image_base : ℕ) (bases : Bases)
         (inputs : List LinkInput) (objects : List Object)
@@ -84,7 +90,6 @@ pub fn direct_calls_reach()
         AllByRecursion (IsMade machine) inputs →
         IsProgram machine bases inputs objects →
         CanJump machine image_base bases →
-        HasRel32 machine →
         AreBeside machine image_base bases objects codes targets →
         ((dll : List ℕ) (ask : Ask) → length (gives dll ask) ≡ thunk_width machine) →
         Writes (image_of machine bases (placed_from bases objects))
@@ -98,10 +103,154 @@ pub fn direct_calls_reach()
         t.name ≡ e.name →
         Contains codes c →
         HasDirectCall machine c offset e.name →
+        CanBranch machine (c.position + offset) d.position →
         DirectCallArrives machine image_base
         (written ++ (image_of machine bases (placed_from bases objects)
         ++ code_ranges machine image_base targets codes))
         (c.position + offset) (gives p.definition.import_name (expected_ask machine e)) }
+{}
+
+/// The same of a program of both flavours.
+pub fn direct_calls_of_flavors_reach()
+    ensures reaches { (machine : MachineType) (image_base : ℕ) (bases : Bases)
+        (inputs : List FlavorInput) (objects : List Object)
+        (codes : List PlacedCode) (targets : PlacedCode → ℕ → ℕ) (gives : List ℕ → Ask →
+        List ℕ) (written : List Range)
+        (i j : ℕ) (p : FlavorInput) (e : ExportView) (c d : PlacedCode) (offset : ℕ)
+        (t : ObjectSymbol) →
+        AllByRecursion (IsMadeFor machine) inputs →
+        IsFlavorProgram machine bases inputs objects →
+        CanJump machine image_base bases →
+        AreBeside machine image_base bases objects codes targets →
+        ((dll : List ℕ) (ask : Ask) → length (gives dll ask) ≡ thunk_width machine) →
+        Writes (image_of machine bases (placed_from bases objects))
+        (thunk_width machine) gives bases.descriptors
+        (map (imported_in machine) inputs) written →
+        slice_get inputs i ≡ Some p →
+        slice_get (exports_chosen p) j ≡ Some e →
+        IsCode p.flavor e →
+        Contains codes d →
+        Defines d t →
+        t.name ≡ symbol_in p.flavor e →
+        Contains codes c →
+        HasDirectCall machine c offset (symbol_in p.flavor e) →
+        CanBranch machine (c.position + offset) d.position →
+        DirectCallArrives machine image_base
+        (written ++ (image_of machine bases (placed_from bases objects)
+        ++ code_ranges machine image_base targets codes))
+        (c.position + offset) (gives (dll_of p) (ask_in p.flavor machine e)) }
+{}
+
+/// In a loaded program, code of any object, at any place, that reads a pointer through an export's
+/// `__imp_` symbol reads what the DLL gives for the export: its address, of data as of code.
+pub fn pointers_are_read_through_entries()
+    ensures reaches { (machine : MachineType) (image_base : ℕ) (bases : Bases)
+        (inputs : List LinkInput) (objects : List Object)
+        (codes : List PlacedCode) (targets : PlacedCode → ℕ → ℕ) (gives : List ℕ → Ask →
+        List ℕ) (written : List Range)
+        (i j : ℕ) (p : LinkInput) (e : ExportView) (c : PlacedCode) (offset : ℕ) →
+        AllByRecursion (IsMade machine) inputs →
+        IsProgram machine bases inputs objects →
+        CanJump machine image_base bases →
+        AreBeside machine image_base bases objects codes targets →
+        ((dll : List ℕ) (ask : Ask) → length (gives dll ask) ≡ thunk_width machine) →
+        Writes (image_of machine bases (placed_from bases objects))
+        (thunk_width machine) gives bases.descriptors
+        (map (imported machine) inputs) written →
+        slice_get inputs i ≡ Some p →
+        slice_get (chosen_exports p.definition p.chosen) j ≡ Some e →
+        Contains codes c →
+        HasLoad machine c offset (imp_symbol e.name) →
+        LoadArrives machine image_base
+        (written ++ (image_of machine bases (placed_from bases objects)
+        ++ code_ranges machine image_base targets codes))
+        (c.position + offset) (gives p.definition.import_name (expected_ask machine e)) }
+{}
+
+/// The same of a program of both flavours.
+pub fn pointers_of_flavors_are_read_through_entries()
+    ensures reaches { (machine : MachineType) (image_base : ℕ) (bases : Bases)
+        (inputs : List FlavorInput) (objects : List Object)
+        (codes : List PlacedCode) (targets : PlacedCode → ℕ → ℕ) (gives : List ℕ → Ask →
+        List ℕ) (written : List Range)
+        (i j : ℕ) (p : FlavorInput) (e : ExportView) (c : PlacedCode) (offset : ℕ) →
+        AllByRecursion (IsMadeFor machine) inputs →
+        IsFlavorProgram machine bases inputs objects →
+        CanJump machine image_base bases →
+        AreBeside machine image_base bases objects codes targets →
+        ((dll : List ℕ) (ask : Ask) → length (gives dll ask) ≡ thunk_width machine) →
+        Writes (image_of machine bases (placed_from bases objects))
+        (thunk_width machine) gives bases.descriptors
+        (map (imported_in machine) inputs) written →
+        slice_get inputs i ≡ Some p →
+        slice_get (exports_chosen p) j ≡ Some e →
+        Contains codes c →
+        HasLoad machine c offset (imp_symbol (symbol_in p.flavor e)) →
+        LoadArrives machine image_base
+        (written ++ (image_of machine bases (placed_from bases objects)
+        ++ code_ranges machine image_base targets codes))
+        (c.position + offset) (gives (dll_of p) (ask_in p.flavor machine e)) }
+{}
+
+/// The same of ARM64's two instructions apart from one another, with any registers: the page that
+/// `adrp` has and the offset by which `ldr` reads lead to what the DLL gives.
+pub fn pages_and_offsets_reach_entries()
+    ensures reaches { (image_base : ℕ) (bases : Bases)
+        (inputs : List LinkInput) (objects : List Object)
+        (codes : List PlacedCode) (targets : PlacedCode → ℕ → ℕ) (gives : List ℕ → Ask →
+        List ℕ) (written : List Range)
+        (i j : ℕ) (p : LinkInput) (e : ExportView) (c : PlacedCode)
+        (first second paged loaded : ℕ) →
+        AllByRecursion (IsMade ARM64) inputs →
+        IsProgram ARM64 bases inputs objects →
+        CanJump ARM64 image_base bases →
+        AreBeside ARM64 image_base bases objects codes targets →
+        ((dll : List ℕ) (ask : Ask) → length (gives dll ask) ≡ thunk_width ARM64) →
+        Writes (image_of ARM64 bases (placed_from bases objects))
+        (thunk_width ARM64) gives bases.descriptors
+        (map (imported ARM64) inputs) written →
+        slice_get inputs i ≡ Some p →
+        slice_get (chosen_exports p.definition p.chosen) j ≡ Some e →
+        Contains codes c →
+        paged < 32 →
+        loaded < 32 →
+        HasPage c first paged (imp_symbol e.name) →
+        HasPageOffset c second paged loaded (imp_symbol e.name) →
+        PageArrives image_base
+        (written ++ (image_of ARM64 bases (placed_from bases objects)
+        ++ code_ranges ARM64 image_base targets codes))
+        (c.position + first) (c.position + second) paged loaded
+        (gives p.definition.import_name (expected_ask ARM64 e)) }
+{}
+
+/// The same of a program of both flavours.
+pub fn pages_and_offsets_of_flavors_reach_entries()
+    ensures reaches { (image_base : ℕ) (bases : Bases)
+        (inputs : List FlavorInput) (objects : List Object)
+        (codes : List PlacedCode) (targets : PlacedCode → ℕ → ℕ) (gives : List ℕ → Ask →
+        List ℕ) (written : List Range)
+        (i j : ℕ) (p : FlavorInput) (e : ExportView) (c : PlacedCode)
+        (first second paged loaded : ℕ) →
+        AllByRecursion (IsMadeFor ARM64) inputs →
+        IsFlavorProgram ARM64 bases inputs objects →
+        CanJump ARM64 image_base bases →
+        AreBeside ARM64 image_base bases objects codes targets →
+        ((dll : List ℕ) (ask : Ask) → length (gives dll ask) ≡ thunk_width ARM64) →
+        Writes (image_of ARM64 bases (placed_from bases objects))
+        (thunk_width ARM64) gives bases.descriptors
+        (map (imported_in ARM64) inputs) written →
+        slice_get inputs i ≡ Some p →
+        slice_get (exports_chosen p) j ≡ Some e →
+        Contains codes c →
+        paged < 32 →
+        loaded < 32 →
+        HasPage c first paged (imp_symbol (symbol_in p.flavor e)) →
+        HasPageOffset c second paged loaded (imp_symbol (symbol_in p.flavor e)) →
+        PageArrives image_base
+        (written ++ (image_of ARM64 bases (placed_from bases objects)
+        ++ code_ranges ARM64 image_base targets codes))
+        (c.position + first) (c.position + second) paged loaded
+        (gives (dll_of p) (ask_in p.flavor ARM64 e)) }
 {}
 
 /// Calls that were relocated by hand arrive, on three machines; a loader that reads the image of a
@@ -111,5 +260,9 @@ pub fn worked_calls()
     ensures calls { WorkedCalls }
     ensures flavors { WorkedFlavorCall }
     ensures direct { WorkedDirectCall }
+    ensures branch { WorkedBranch }
+    ensures flavor_direct { WorkedFlavorDirect }
+    ensures pointers { WorkedPointers }
+    ensures pages { WorkedPages }
     ensures reading { WorkedReading }
 {}

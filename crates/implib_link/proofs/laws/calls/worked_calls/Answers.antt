@@ -1,5 +1,17 @@
+use Rattle.implib_link.proofs.Worked.Pages.{worked_pages}
+use Rattle.implib_link.proofs.Worked.Pointers.{worked_pointers}
+use Rattle.implib_link.proofs.Worked.DirectCalls.{worked_branch, worked_flavor_direct}
 use Rattle.implib_link.proofs.Worked.Calls.{worked_calls, worked_direct_call, worked_flavor_call, worked_reading}
 use Rattle.implib_link.proofs.laws.calls.worked_calls.Goals as goal
 
 pub returns : goal.returns
-returns c = record { calls = worked_calls; flavors = worked_flavor_call; direct = worked_direct_call; reading = worked_reading }
+returns c = record {
+  calls = worked_calls;
+  flavors = worked_flavor_call;
+  direct = worked_direct_call;
+  branch = worked_branch;
+  flavor_direct = worked_flavor_direct;
+  pointers = worked_pointers;
+  pages = worked_pages;
+  reading = worked_reading;
+}
