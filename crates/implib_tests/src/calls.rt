@@ -133,7 +133,7 @@ fn i386_members(def: ModuleDef, flavor: Flavor) -> Result<Vec<Member>, Error> {
 fn an_export_that_gives_a_name_has_members(rt: HostRuntime) -> Result<(), Fail> {
     let alloc = rt.alloc();
     let members = i386_members(asking(alloc, "_F@8", "F@8")?, Flavor::Msvc)?;
-    assert!(rt; have_lengths(&members, &[352, 127, 151, 33]));
+    assert!(rt; have_lengths(&members, &[358, 127, 151, 33]));
     let members = i386_members(asking(alloc, "a", "b")?, Flavor::Gnu)?;
     assert!(rt; have_lengths(&members, &[349, 452, 455]));
     Ok(())

@@ -412,7 +412,7 @@ const ROWS: [Row; 40] = [
             ..PLAIN
         }],
         "foo.dll 31 __imp__J _J; asks foo.dll for J, hint 0\n",
-        "foo_dll_a_s00000.o 463 _J __imp__J; asks foo.dll for J, hint 0\n",
+        "foo_dll_a_s00000.o 462 _J __imp__J; asks foo.dll for J, hint 0\n",
     ),
     (
         "foo.dll",
