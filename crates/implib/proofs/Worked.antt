@@ -11,3 +11,4 @@ pub mod Gnu
 pub mod Links
 pub mod Refused
 pub mod Records
+pub mod Rules

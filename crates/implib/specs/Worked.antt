@@ -13,3 +13,4 @@ pub mod MemberSpecs
 pub mod Layouts
 pub mod Refused
 pub mod Records
+pub mod Rules

@@ -9,6 +9,7 @@ pub mod link;
 pub mod members;
 pub mod objects;
 pub mod renaming;
+pub mod rules;
 pub mod tokens;
 
 pub use asked::{asked_is_word, given_name_is_asked};
