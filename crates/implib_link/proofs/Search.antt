@@ -15,3 +15,6 @@ pub mod Counts
 pub mod Arranged
 pub mod Closed
 pub mod Given
+pub mod Rooms
+pub mod Exists
+pub mod MsvcMembers

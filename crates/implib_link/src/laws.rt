@@ -4,6 +4,7 @@
 pub mod bounds;
 pub mod calls;
 pub mod closed;
+pub mod exists;
 pub mod flavors;
 pub mod loaded;
 pub mod msvc_search;
