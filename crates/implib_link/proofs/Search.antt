@@ -18,3 +18,4 @@ pub mod Given
 pub mod Rooms
 pub mod Exists
 pub mod MsvcMembers
+pub mod MsvcArchives
