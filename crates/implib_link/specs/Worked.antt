@@ -23,3 +23,4 @@ pub mod DirectCalls
 pub mod Pointers
 pub mod Pages
 pub mod Exists
+pub mod MsvcArchives

@@ -303,15 +303,12 @@ module _ (machine : MachineType) (libraries : List Library) (archive : IsMsvcArc
   left_by_descriptor : (names : List (List ℕ)) (l : Library) → Among l libraries → AnyImport (exports_of l) names → (name : List ℕ) → Among name (null_descriptor_symbol ∷ null_thunk_symbol l.definition.import_name ∷ []) →
       (m : MemberView) → first_listed (archive_of libraries) name ≡ Some m → IsNeeded names m
   unfolding Among
-  left_by_descriptor names l held any name (inl is) m at = by (found machine libraries archive name m at)
+  left_by_descriptor names l held any name (inl is) m at = null_by libraries refl held
     where
-      null_by : (name : List ℕ) (m : MemberView) (ls : List Library) → libraries ≡ ls → name ≡ null_descriptor_symbol → first_listed (archive_of libraries) name ≡ Some m → Among l ls → IsNeeded names m
-      null_by name m [] none is at there = absurd there
-      null_by name m (x ∷ rest) is named at there =
-          ForNull x rest is (same_first name m (null_of machine x) at (ap (first_listed (archive_of libraries)) named ∙ null_found machine libraries archive x rest is)) l held any
-
-      by : Found machine libraries archive name m → IsNeeded names m
-      by f = null_by name m libraries refl is at held
+      null_by : (ls : List Library) → libraries ≡ ls → Among l ls → IsNeeded names m
+      null_by [] none there = absurd there
+      null_by (x ∷ rest) first there =
+          ForNull x rest first (same_first name m (null_of machine x) at (ap (first_listed (archive_of libraries)) is ∙ null_found machine libraries archive x rest first)) l held any
   left_by_descriptor names l held any name (inr (inl is)) m at =
       ForImport l held (TheThunk (same_first name m (thunk_of machine l) at (ap (first_listed (archive_of libraries)) is ∙ thunk_found machine libraries archive l held)) any)
   left_by_descriptor names l held any name (inr (inr nothing)) m at = absurd nothing
