@@ -15,3 +15,7 @@ pub mod Counts
 pub mod Arranged
 pub mod Closed
 pub mod Given
+pub mod Rooms
+pub mod Exists
+pub mod MsvcMembers
+pub mod MsvcArchives

@@ -22,3 +22,5 @@ pub mod Rebased
 pub mod DirectCalls
 pub mod Pointers
 pub mod Pages
+pub mod Exists
+pub mod MsvcArchives

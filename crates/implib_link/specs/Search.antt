@@ -4,3 +4,5 @@ pub mod Archives
 pub mod Msvc
 pub mod Closed
 pub mod Given
+pub mod Exists
+pub mod MsvcArchives

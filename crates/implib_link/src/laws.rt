@@ -4,8 +4,10 @@
 pub mod bounds;
 pub mod calls;
 pub mod closed;
+pub mod exists;
 pub mod flavors;
 pub mod loaded;
+pub mod msvc_archives;
 pub mod msvc_search;
 pub mod packed;
 pub mod program;

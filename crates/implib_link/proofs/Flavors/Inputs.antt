@@ -176,7 +176,7 @@ module _ (d : DefinitionView) (machine : MachineType) (members : List MemberView
   pub read_of : (p : MemberSpec) → Among p (member_specs (renamed d) machine Msvc) → file_in (file_bytes p.contents) ≡ Some (file_of p.contents)
   read_of p m = (all_among (λ (q : MemberSpec). ReadsBack q.contents) p (member_specs (renamed d) machine Msvc) m reads).read
 
-  taken_of : (p : MemberSpec) → Among p (member_specs (renamed d) machine Msvc) → expanded_in machine (member_of p).bytes ≡ expanded_as machine (file_of p.contents)
+  pub taken_of : (p : MemberSpec) → Among p (member_specs (renamed d) machine Msvc) → expanded_in machine (member_of p).bytes ≡ expanded_as machine (file_of p.contents)
   taken_of p m = taken_by machine (file_bytes p.contents) (file_of p.contents) (read_of p m)
 
   pub descriptor_taken : expanded_in machine (member_of (descriptor_spec machine d.import_name)).bytes ≡ Some (taken_descriptor machine d.import_name)

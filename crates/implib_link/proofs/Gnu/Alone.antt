@@ -48,7 +48,7 @@ pub all_kept : (objects : List Object) → AllHave objects → filter has_tables
 all_kept [] all = refl
 all_kept (o ∷ objects) all = rw all.0 (ap (λ others. o ∷ others) (all_kept objects all.1))
 
-none_left : (objects : List Object) → AllHave objects → filter (λ o. not (has_tables o)) objects ≡ []
+pub none_left : (objects : List Object) → AllHave objects → filter (λ o. not (has_tables o)) objects ≡ []
 none_left [] all = refl
 none_left (o ∷ objects) all = rw all.0 (none_left objects all.1)
 

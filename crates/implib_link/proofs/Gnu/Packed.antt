@@ -185,6 +185,14 @@ rising_ends low high (r ∷ rs) rise below =
     let end : range_end r ≤ high = rising_reaches (range_end r) high rs rise.1 in
     (omega arith, rising_ends (range_end r) high rs rise.1 below)
 
+rising_within : (low high : ℕ) (rs : List Range) → Rising low high rs → AllByRecursion (λ r. (low ≤ r.start) × (range_end r ≤ high)) rs
+unfolding Rising
+rising_within low high [] rise = tt
+rising_within low high (r ∷ rs) rise =
+    let first : low ≤ r.start = rise.0 in
+    let reaches : range_end r ≤ high = rising_reaches (range_end r) high rs rise.1 in
+    ((first, reaches), rising_within low high rs (rising_from_below low (range_end r) high rs (omega arith) rise.1))
+
 apart_from : (first : Range) (low high : ℕ) (rs : List Range) → range_end first ≤ low → Rising low high rs → AllByRecursion (AreApart first) rs
 unfolding Rising
 apart_from first low high [] past rise = tt
@@ -254,6 +262,9 @@ module _ (machine : MachineType) (first : ℕ) (objects : List Object) (sized : 
   all_rise : Rising (packed_descriptors first) (packed_end first objects) (image_of machine (packed first objects) (placed_from (packed first objects) objects))
   all_rise = rising_next 4 Descriptors _ (rising_next 8 DirectoryEnds _ (rising_next 8 Lookups _ (rising_next 8 Addresses _ (rising_next 8 HintNames _ last_rises))))
 
+  pub lies_within : AllByRecursion (λ r. (packed_descriptors first ≤ r.start) × (range_end r ≤ packed_end first objects)) (image_of machine (packed first objects) (placed_from (packed first objects) objects))
+  lies_within = rising_within (packed_descriptors first) (packed_end first objects) (image_of machine (packed first objects) (placed_from (packed first objects) objects)) all_rise
+
   descriptors_base : IsBase (packed_descriptors first)
   descriptors_base = aligned_base first above
 
@@ -284,14 +295,19 @@ module _ (machine : MachineType) (first : ℕ) (objects : List Object) (sized : 
     apart = rising_apart (packed_descriptors first) (packed_end first objects) (image_of machine (packed first objects) (placed_from (packed first objects) objects)) all_rise;
   }
 
+-- members and the null descriptor, other objects beside or not, have their relocations within their sections
+pub packed_sized : (machine : MachineType) (inputs : List LinkInput) (objects : List Object) → AllByRecursion (IsMade machine) inputs →
+    filter has_tables objects ≡ objects_in (all_linked machine inputs) ++ null_descriptor ∷ [] → AllByRecursion IsSized (filter has_tables objects)
+packed_sized machine inputs objects made tables =
+    subst (AllByRecursion IsSized)
+    (sym (tables ∙ ap (λ members. members ++ null_descriptor ∷ []) (gnu_inputs_objects machine inputs made) ∙ objects_behind machine (map block_of inputs) (null_descriptor ∷ [])))
+    (blocks_sized machine (map block_of inputs))
+
 pub packed_is_admissible : (machine : MachineType) (first : ℕ) (inputs : List LinkInput) (objects : List Object) → AllByRecursion (IsMade machine) inputs →
     filter has_tables objects ≡ objects_in (all_linked machine inputs) ++ null_descriptor ∷ [] → 0 < first → packed_end first objects < 2 ^ 31 →
     IsAdmissible machine (packed first objects) objects
 packed_is_admissible machine first inputs objects made tables above below =
-    admissible machine first objects
-    (subst (AllByRecursion IsSized)
-    (sym (tables ∙ ap (λ members. members ++ null_descriptor ∷ []) (gnu_inputs_objects machine inputs made) ∙ objects_behind machine (map block_of inputs) (null_descriptor ∷ [])))
-    (blocks_sized machine (map block_of inputs))) above below
+    admissible machine first objects (packed_sized machine inputs objects made tables) above below
 
 pub packed_is_program : (machine : MachineType) (first : ℕ) (inputs : List LinkInput) → AllByRecursion (IsMade machine) inputs →
     IsDistinct bytes_eq (linked_symbols machine inputs) → 0 < first → packed_end first (objects_in (all_linked machine inputs) ++ null_descriptor ∷ []) < 2 ^ 31 →

@@ -34,7 +34,7 @@ abbrev pub symbols_of_groups : List Group → List (List ℕ)
 symbols_of_groups groups = flat_map (λ (g : Group). g.symbols) groups
 
 -- a name that no member is listed for is looked up behind
-first_behind : (name : List ℕ) (members rest : List MemberView) → first_listed members name ≡ None → first_listed (members ++ rest) name ≡ first_listed rest name
+pub first_behind : (name : List ℕ) (members rest : List MemberView) → first_listed members name ≡ None → first_listed (members ++ rest) name ≡ first_listed rest name
 first_behind name [] rest none = refl
 first_behind name (m ∷ members) rest none =
     elim (cases_Bool (is_listed_for name m)) [
@@ -42,7 +42,7 @@ first_behind name (m ∷ members) rest none =
       | inr other ↦ rw other (first_behind name members rest (rw other at none))
     ]
 
-first_here : (name : List ℕ) (members rest : List MemberView) (m : MemberView) → first_listed members name ≡ Some m → first_listed (members ++ rest) name ≡ Some m
+pub first_here : (name : List ℕ) (members rest : List MemberView) (m : MemberView) → first_listed members name ≡ Some m → first_listed (members ++ rest) name ≡ Some m
 first_here name [] rest m found = cc
 first_here name (x ∷ members) rest m found =
     elim (cases_Bool (is_listed_for name x)) [

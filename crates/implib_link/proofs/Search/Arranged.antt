@@ -31,7 +31,7 @@ pub all_each : {X : Type 0} (P : X → Type 0) (xs : List X) → ((x : X) → Am
 all_each P [] each = tt
 all_each P (x ∷ xs) each = (each x (among_first x xs), all_each P xs (λ y held. each y (among_later y x xs held)))
 
-flat_among : {X Y : Type 0} (f : X → List Y) (y : Y) (xs : List X) → Among y (flat_map f xs) → (x : X) × Among x xs × Among y (f x)
+pub flat_among : {X Y : Type 0} (f : X → List Y) (y : Y) (xs : List X) → Among y (flat_map f xs) → (x : X) × Among x xs × Among y (f x)
 unfolding Among
 flat_among f y [] held = absurd held
 flat_among f y (x ∷ xs) held =

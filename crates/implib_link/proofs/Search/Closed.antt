@@ -44,7 +44,7 @@ from_not : (b : Bool) → not b ≡ true → b ≡ false
 from_not true is = absurd (true≢false (sym is))
 from_not false is = refl
 
-to_not : (b : Bool) → b ≡ false → not b ≡ true
+pub to_not : (b : Bool) → b ≡ false → not b ≡ true
 to_not b is = rw is refl
 
 -- what passes a test

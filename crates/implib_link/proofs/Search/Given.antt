@@ -157,7 +157,7 @@ module _ (machine : MachineType) (libraries : List Library) (archive : IsArchive
 
   -- Members that are taken in turn for what the objects leave unresolved.
 
-  pulled_by : (taken : List MemberView) → IsTakenInTurn (archive_of libraries) (unresolved own) taken → (m : MemberView) → Among m taken →
+  pub pulled_by : (taken : List MemberView) → IsTakenInTurn (archive_of libraries) (unresolved own) taken → (m : MemberView) → Among m taken →
       (by : List ℕ) × Found machine libraries archive by m
   unfolding Among IsTakenInTurn
   pulled_by [] turn m held = absurd held

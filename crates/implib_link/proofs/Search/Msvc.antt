@@ -36,19 +36,19 @@ use Rattle.implib_link.proofs.Flavors.Expanded.{taken_descriptor, taken_null, ta
 
 -- What the members leave.
 
-left_descriptor : (machine : MachineType) (dll : List ℕ) → undefined_in (taken_descriptor machine dll) ≡ null_descriptor_symbol ∷ null_thunk_symbol dll ∷ []
+pub left_descriptor : (machine : MachineType) (dll : List ℕ) → undefined_in (taken_descriptor machine dll) ≡ null_descriptor_symbol ∷ null_thunk_symbol dll ∷ []
 unfolding undefined_in with_section_symbols object_of descriptor entries_of name_text
 left_descriptor machine dll = refl
 
-left_null : (machine : MachineType) → undefined_in (taken_null machine) ≡ []
+pub left_null : (machine : MachineType) → undefined_in (taken_null machine) ≡ []
 unfolding undefined_in with_section_symbols object_of null_descriptor entries_of name_text
 left_null machine = refl
 
-left_thunk : (machine : MachineType) (dll : List ℕ) → undefined_in (taken_null_thunk machine dll) ≡ []
+pub left_thunk : (machine : MachineType) (dll : List ℕ) → undefined_in (taken_null_thunk machine dll) ≡ []
 unfolding undefined_in with_section_symbols object_of null_thunk entries_of name_text
 left_thunk machine dll = refl
 
-left_asking : (machine : MachineType) (dll symbol : List ℕ) (ask : Ask) (use_kind : Use) → undefined_in (import_object machine dll symbol ask use_kind) ≡ descriptor_symbol_by_name dll ∷ []
+pub left_asking : (machine : MachineType) (dll symbol : List ℕ) (ask : Ask) (use_kind : Use) → undefined_in (import_object machine dll symbol ask use_kind) ≡ descriptor_symbol_by_name dll ∷ []
 unfolding undefined_in import_object
 left_asking machine dll symbol (Ordinal n) Code = refl
 left_asking machine dll symbol (Ordinal n) Data = refl
@@ -63,7 +63,7 @@ in_nothing_of : {X : Type 0} (x : X) → Among x [] → ⊥
 unfolding Among
 in_nothing_of x held = held
 
-passing_among : {X : Type 0} (test : X → Bool) (x : X) (xs : List X) → Among x (filter test xs) → Among x xs × (test x ≡ true)
+pub passing_among : {X : Type 0} (test : X → Bool) (x : X) (xs : List X) → Among x (filter test xs) → Among x xs × (test x ≡ true)
 passing_among test x [] held = absurd (in_nothing_of x held)
 passing_among test x (y ∷ xs) held =
     elim (cases_Bool (test y)) [
@@ -82,12 +82,12 @@ behind_option f name (Some o) objects held = among_back name (f o) (flat_map f o
 
 -- Names of objects that members are taken for.
 
-record TakenName (machine : MachineType) (f : Object → List (List ℕ)) (name : List ℕ) (members : List MemberView) : Type 0 where
-  member : MemberView
-  held : Among member members
-  object : Object
-  taken : expanded_in machine member.bytes ≡ Some object
-  among : Among name (f object)
+pub record TakenName (machine : MachineType) (f : Object → List (List ℕ)) (name : List ℕ) (members : List MemberView) : Type 0 where
+  pub member : MemberView
+  pub held : Among member members
+  pub object : Object
+  pub taken : expanded_in machine member.bytes ≡ Some object
+  pub among : Among name (f object)
 
 later_name : (machine : MachineType) (f : Object → List (List ℕ)) (name : List ℕ) (m : MemberView) (members : List MemberView) → TakenName machine f name members → TakenName machine f name (m ∷ members)
 later_name machine f name m members t = record { member = t.member; held = among_later t.member m members t.held; object = t.object; taken = t.taken; among = t.among }
@@ -101,11 +101,11 @@ first_taken machine f name m members later (Some o) is held =
       | inr behind ↦ later_name machine f name m members (later behind)
     ]
 
-taken_name : (machine : MachineType) (f : Object → List (List ℕ)) (name : List ℕ) (members : List MemberView) → Among name (flat_map f (objects_taken machine members)) → TakenName machine f name members
+pub taken_name : (machine : MachineType) (f : Object → List (List ℕ)) (name : List ℕ) (members : List MemberView) → Among name (flat_map f (objects_taken machine members)) → TakenName machine f name members
 taken_name machine f name [] held = absurd (in_nothing name held)
 taken_name machine f name (m ∷ members) held = first_taken machine f name m members (λ behind. taken_name machine f name members behind) (expanded_in machine m.bytes) refl held
 
-name_taken : (machine : MachineType) (f : Object → List (List ℕ)) (name : List ℕ) (members : List MemberView) (m : MemberView) (o : Object) → Among m members → expanded_in machine m.bytes ≡ Some o →
+pub name_taken : (machine : MachineType) (f : Object → List (List ℕ)) (name : List ℕ) (members : List MemberView) (m : MemberView) (o : Object) → Among m members → expanded_in machine m.bytes ≡ Some o →
     Among name (f o) → Among name (flat_map f (objects_taken machine members))
 unfolding Among
 name_taken machine f name [] m o held is own = absurd held
@@ -400,7 +400,7 @@ at_end : {X : Type 0} (front : List X) (x : X) (xs : List X) → slice_get (fron
 at_end [] x xs = refl
 at_end (y ∷ front) x xs = at_end front x xs
 
-passing_chosen : (test : ExportView → Bool) (front exports : List ExportView) → filter_map (slice_get (front ++ exports)) (numbers_passing test (length front) exports) ≡ filter test exports
+pub passing_chosen : (test : ExportView → Bool) (front exports : List ExportView) → filter_map (slice_get (front ++ exports)) (numbers_passing test (length front) exports) ≡ filter test exports
 passing_chosen test front [] = refl
 passing_chosen test front (e ∷ exports) =
     let later : filter_map (slice_get (front ++ e ∷ exports)) (numbers_passing test (length front + 1) exports) ≡ filter test exports =
@@ -411,7 +411,7 @@ passing_chosen test front (e ∷ exports) =
       | inr is ↦ rw is later
     ]
 
-among_passing : {X : Type 0} (test : X → Bool) (x : X) (xs : List X) → Among x xs → test x ≡ true → Among x (filter test xs)
+pub among_passing : {X : Type 0} (test : X → Bool) (x : X) (xs : List X) → Among x xs → test x ≡ true → Among x (filter test xs)
 unfolding Among
 among_passing test x [] held is = absurd held
 among_passing test x (y ∷ xs) (inl e) is = let here : test y ≡ true = subst (λ z. test z ≡ true) e is in rw here (inl e)
@@ -429,7 +429,7 @@ if_any_is : (d : DefinitionView) (machine : MachineType) (chosen : List ℕ) (e 
 if_any_is d machine [] e held = absurd (in_nothing_of e held)
 if_any_is d machine (n ∷ chosen) e held = refl
 
-some_export : (test : ExportView → Bool) (number : ℕ) (exports : List ExportView) (n : ℕ) (chosen : List ℕ) → numbers_passing test number exports ≡ n ∷ chosen → (e : ExportView) × (Among e exports × (test e ≡ true))
+pub some_export : (test : ExportView → Bool) (number : ℕ) (exports : List ExportView) (n : ℕ) (chosen : List ℕ) → numbers_passing test number exports ≡ n ∷ chosen → (e : ExportView) × (Among e exports × (test e ≡ true))
 some_export test number [] n chosen is = cc
 some_export test number (e ∷ exports) n chosen is =
     elim (cases_Bool (test e)) [

@@ -34,7 +34,7 @@ all_settled P (n ∷ names) name all (inl e) = subst (λ t. P t ≡ true) (sym e
 all_settled P (n ∷ names) name all (inr held) = all_settled P names name (and_parts (P n) (list_all P names) all).1 held
 
 -- a search is at its end where each name is settled
-settled_ends : (machine : MachineType) (archive : List MemberView) (names : List (List ℕ)) (taken : List MemberView) → list_all (is_settled machine archive taken) (names ++ left_in machine taken) ≡ true →
+pub settled_ends : (machine : MachineType) (archive : List MemberView) (names : List (List ℕ)) (taken : List MemberView) → list_all (is_settled machine archive taken) (names ++ left_in machine taken) ≡ true →
     (name : List ℕ) (m : MemberView) → PullsInFor machine archive names taken name m → ⊥
 settled_ends machine archive names taken all name m pulls =
     let settled : is_settled machine archive taken name ≡ true =
@@ -51,7 +51,7 @@ abbrev first_symbol : MemberView → List ℕ
 first_symbol m = first_of m.symbols
 
 -- a name pulls in a member by what is computed
-pulls_in_now : (machine : MachineType) (archive : List MemberView) (names : List (List ℕ)) (taken : List MemberView) (name : List ℕ) (m : MemberView) →
+pub pulls_in_now : (machine : MachineType) (archive : List MemberView) (names : List (List ℕ)) (taken : List MemberView) (name : List ℕ) (m : MemberView) →
     list_any (bytes_eq name) (names ++ left_in machine taken) ≡ true → list_any (bytes_eq name) (claimed_in machine taken) ≡ false → first_listed archive name ≡ Some m →
     list_any (bytes_eq (first_symbol m)) (map first_symbol taken) ≡ false → PullsInFor machine archive names taken name m
 pulls_in_now machine archive names taken name m named undefined listed new = record {
