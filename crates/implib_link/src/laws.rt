@@ -15,3 +15,4 @@ pub mod search;
 pub mod stubs;
 pub mod texts;
 pub mod worked;
+pub mod writing;
