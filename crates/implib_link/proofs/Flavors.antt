@@ -9,6 +9,8 @@ pub mod Program
 pub mod Texts
 pub mod Loaded
 pub mod Reading
+pub mod Beside
+pub mod Writing
 pub mod Stubs
 pub mod Calls
 pub mod Packed

@@ -43,11 +43,11 @@ DirectoryBeside beside width descriptor table (i ∷ others) =
 
 -- The memory that is left.
 
-pub table_filled : ℕ → ℕ → (Ask → List ℕ) → List Ask → List Range → List Range
+unfoldable pub table_filled : ℕ → ℕ → (Ask → List ℕ) → List Ask → List Range → List Range
 table_filled width entry gives [] memory = memory
 table_filled width entry gives (ask ∷ asks) memory = table_filled width (entry + width) gives asks (record { start = entry; bytes = gives ask } ∷ memory)
 
-pub all_filled : ℕ → (List ℕ → Ask → List ℕ) → ℕ → List Imported → List Range → List Range
+unfoldable pub all_filled : ℕ → (List ℕ → Ask → List ℕ) → ℕ → List Imported → List Range → List Range
 all_filled width gives table [] memory = memory
 all_filled width gives table (i ∷ imports) memory =
     all_filled width gives (table + width * (length i.asks + 1)) imports (table_filled width table (gives i.dll) i.asks memory)

@@ -75,7 +75,7 @@ thunks_same machine (suc i) (p ∷ inputs) =
     ap (λ n. n + 1 + thunks_asked i (map (imported machine) inputs)) (length-map (chosen_exports p.definition p.chosen) (expected_ask machine))
     ∙ ap (λ n. length (chosen_exports p.definition p.chosen) + 1 + n) (thunks_same machine i inputs)
 
-keeps_itself : (image : List Range) → Keeps image image
+pub keeps_itself : (image : List Range) → Keeps image image
 unfolding Keeps
 keeps_itself image a byte is = is
 

@@ -14,6 +14,7 @@ ghost use Rattle.implib_link.specs.Gnu.Loaded.{IsLoaded};
 ghost use Rattle.implib_link.specs.Gnu.Program.{IsProgram};
 ghost use Rattle.implib_link.specs.Gnu.Reading.{ReadsAndWrites};
 ghost use Rattle.implib_link.specs.Gnu.Writing.{AreAlike, WritesAsItGoes};
+ghost use Rattle.implib_link.specs.Worked.Writing.{WorkedWritings};
 ghost use Rattle.std.specs.List.{AllByRecursion};
 ghost use Rattle.std.specs.Prelude.{◌≡◌, ◌++◌, ℕ, List, length, map};
 
@@ -45,4 +46,36 @@ pub fn loader_writes()
         ((dll : List ℕ) (ask : Ask) → length (gives dll ask) ≡ thunk_width machine) →
         (after : List Range) × WritesAsItGoes (thunk_width machine) gives bases.descriptors
         (image_of machine bases (placed_from bases objects)) (map (imported machine) inputs) after }
+{}
+
+/// The same of a program of both flavours.
+pub fn loader_of_flavors_writes()
+    ensures loads { (machine : MachineType) (bases : Bases) (inputs : List FlavorInput)
+        (objects : List Object)
+        (gives : List ℕ → Ask → List ℕ) (found : List Imported) (after : List Range) →
+        AllByRecursion (IsMadeFor machine) inputs →
+        IsFlavorProgram machine bases inputs objects →
+        ((dll : List ℕ) (ask : Ask) → length (gives dll ask) ≡ thunk_width machine) →
+        WritesAsItGoes (thunk_width machine) gives bases.descriptors
+        (image_of machine bases (placed_from bases objects)) found after →
+        (found ≡ map (imported_in machine) inputs) × ((written : List Range)
+        × (ReadsAndWrites (image_of machine bases (placed_from bases objects))
+        (thunk_width machine) gives (length inputs) bases.descriptors written
+        × (AreLoaded machine bases inputs objects gives written
+        × AreAlike after (written ++ image_of machine bases (placed_from bases objects))))) }
+    ensures ends { (machine : MachineType) (bases : Bases) (inputs : List FlavorInput)
+        (objects : List Object)
+        (gives : List ℕ → Ask → List ℕ) →
+        AllByRecursion (IsMadeFor machine) inputs →
+        IsFlavorProgram machine bases inputs objects →
+        ((dll : List ℕ) (ask : Ask) → length (gives dll ask) ≡ thunk_width machine) →
+        (after : List Range) × WritesAsItGoes (thunk_width machine) gives bases.descriptors
+        (image_of machine bases (placed_from bases objects)) (map (imported_in machine) inputs) after }
+{}
+
+/// Such a loader leaves just this of the programs that were linked by hand, on each machine. Of an
+/// image whose address table lies on its lookup table it asks less than one that first reads, and
+/// without a null descriptor it does not stop.
+pub fn worked_writings()
+    ensures { WorkedWritings }
 {}
