@@ -17,3 +17,4 @@ pub mod Packed
 pub mod PlacedStubs
 pub mod Steady
 pub mod Rebased
+pub mod MovedPointers

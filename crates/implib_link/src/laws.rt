@@ -11,6 +11,7 @@ pub mod packed;
 pub mod program;
 pub mod reading;
 pub mod rebased;
+pub mod rebased_pointers;
 pub mod search;
 pub mod stubs;
 pub mod texts;
