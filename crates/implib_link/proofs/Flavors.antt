@@ -9,9 +9,12 @@ pub mod Program
 pub mod Texts
 pub mod Loaded
 pub mod Reading
+pub mod Beside
+pub mod Writing
 pub mod Stubs
 pub mod Calls
 pub mod Packed
 pub mod PlacedStubs
 pub mod Steady
 pub mod Rebased
+pub mod MovedPointers

@@ -28,3 +28,8 @@ pub mod MovedCode
 pub mod Rebased
 pub mod Pointers
 pub mod Pages
+pub mod MovedPointers
+pub mod Filling
+pub mod Apart
+pub mod Beside
+pub mod Writing

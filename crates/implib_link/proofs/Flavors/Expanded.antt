@@ -156,7 +156,7 @@ wide_null_thunk machine b even = record {
 -- What is at these positions.
 
 -- a contribution without a gap before it, and what follows
-step : (image : List Range) (a : ℕ) (bytes : List ℕ) (others : List Contribution) (n : ℕ) → length bytes ≡ n →
+pub step : (image : List Range) (a : ℕ) (bytes : List ℕ) (others : List Contribution) (n : ℕ) → length bytes ≡ n →
     BytesAt image a (filled a (record { address = a; bytes = bytes } ∷ others)) → BytesAt image a bytes × BytesAt image (a + n) (filled (a + n) others)
 step image a bytes others n long located =
     let parts = contribution_located image a (record { address = a; bytes = bytes }) others (same_order a) located in
@@ -168,32 +168,32 @@ AskFits (Ordinal n) = n < 2 ^ 16
 AskFits (Name text hint) = (hint < 2 ^ 16) × HasNoNul text
 
 module _ (machine : MachineType) (dll : List ℕ) (linked : List Placed) where
-  thunk_linked : Bases → List ℕ → Ask → Use → List ℕ
+  unfoldable pub thunk_linked : Bases → List ℕ → Ask → Use → List ℕ
   thunk_linked b symbol ask use_kind =
       relocated machine linked (placed_asking machine dll b symbol ask use_kind) (relocations_asking machine ask) (thunk_asking machine ask)
 
-  thunk_of_name : (b : Bases) (symbol text : List ℕ) (hint : ℕ) (use_kind : Use) →
+  pub thunk_of_name : (b : Bases) (symbol text : List ℕ) (hint : ℕ) (use_kind : Use) →
       thunk_linked b symbol (Name text hint) use_kind ≡ u32_bytes ((0 + (next_multiple 2 b.hint_names + 0)) % 2 ^ 32) ++ zeros (thunk_width machine - 4)
   unfolding thunk_linked import_object
   thunk_of_name b symbol text hint use_kind =
       rw (same_number machine) (with_address-zeros machine (next_multiple 2 b.hint_names + 0))
 
-  length-thunk_linked : (b : Bases) (symbol : List ℕ) (ask : Ask) (use_kind : Use) → length (thunk_linked b symbol ask use_kind) ≡ thunk_width machine
+  pub length-thunk_linked : (b : Bases) (symbol : List ℕ) (ask : Ask) (use_kind : Use) → length (thunk_linked b symbol ask use_kind) ≡ thunk_width machine
   unfolding thunk_linked
   length-thunk_linked b symbol (Ordinal n) use_kind = length-thunk_of machine n true
   length-thunk_linked b symbol (Name text hint) use_kind =
       ap length (thunk_of_name b symbol text hint use_kind) ∙ length-address machine ((0 + (next_multiple 2 b.hint_names + 0)) % 2 ^ 32)
 
-  descriptor_linked : Bases → List ℕ
+  unfoldable pub descriptor_linked : Bases → List ℕ
   descriptor_linked b = relocated machine linked (placed_descriptor machine dll b) (relocation machine 12 2 ∷ relocation machine 0 3 ∷ relocation machine 16 4 ∷ []) (zeros 20)
 
-  descriptor_is : (b : Bases) →
+  pub descriptor_is : (b : Bases) →
       descriptor_linked b ≡ u32_bytes ((0 + (b.lookups + 0)) % 2 ^ 32)
       ++ (zeros 4 ++ (zeros 4 ++ (u32_bytes ((0 + (next_multiple 2 b.hint_names + 0)) % 2 ^ 32) ++ u32_bytes ((0 + (b.addresses + 0)) % 2 ^ 32))))
   unfolding descriptor_linked with_section_symbols object_of descriptor entries_of name_text with_address u32_bytes u32_at
   descriptor_is b = rw (same_number machine) refl
 
-  length-descriptor : (b : Bases) → length (descriptor_linked b) ≡ 20
+  pub length-descriptor : (b : Bases) → length (descriptor_linked b) ≡ 20
   unfolding u32_bytes
   length-descriptor b = ap length (descriptor_is b)
 

@@ -70,7 +70,7 @@ unfolding with_section_symbols object_of descriptor entries_of name_text head_ob
 objects_end machine Msvc dll es rest all = ((refl, (refl, (refl, (refl, tt)))), askings_end machine dll es rest all)
 objects_end machine Gnu dll es rest all = ((refl, (refl, (refl, (refl, (refl, (refl, tt)))))), exports_end machine dll es rest all)
 
-blocks_end : (machine : MachineType) (blocks : List FlavorBlock) → AllByRecursion EndsNothing (all_objects machine blocks [])
+pub blocks_end : (machine : MachineType) (blocks : List FlavorBlock) → AllByRecursion EndsNothing (all_objects machine blocks [])
 blocks_end machine [] = tt
 blocks_end machine (k ∷ blocks) = objects_end machine k.flavor k.dll k.exports (all_objects machine blocks []) (blocks_end machine blocks)
 

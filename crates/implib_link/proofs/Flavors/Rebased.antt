@@ -35,7 +35,7 @@ module _ (machine : MachineType) (from to : ℕ) (bases : Bases) (inputs : List 
   abbrev image : List Range
   image = image_of machine bases (placed_from bases objects)
 
-  writes_of : (n : ℕ) (written : List Range) → AllByRecursion (IsMadeFor machine) inputs → IsFlavorProgram machine bases inputs objects → IsAtBase machine from to bases objects codes targets memory →
+  pub writes_of : (n : ℕ) (written : List Range) → AllByRecursion (IsMadeFor machine) inputs → IsFlavorProgram machine bases inputs objects → IsAtBase machine from to bases objects codes targets memory →
       ReadsAndWrites memory (thunk_width machine) gives n bases.descriptors written →
       (n ≡ length inputs) × Writes (image_of machine bases (placed_from bases objects)) (thunk_width machine) gives bases.descriptors (map (imported_in machine) inputs) written
   writes_of n written made program at reads =
@@ -61,7 +61,7 @@ module _ (machine : MachineType) (from to : ℕ) (bases : Bases) (inputs : List 
   abbrev place : ℕ → ℕ → ℕ
   place i j = bases.addresses + thunk_width machine * thunks_of i inputs + thunk_width machine * j
 
-  entry_holds : (written : List Range) (i j : ℕ) (p : FlavorInput) (e : ExportView) → AllByRecursion (IsMadeFor machine) inputs → IsFlavorProgram machine bases inputs objects → slice_get inputs i ≡ Some p →
+  pub entry_holds : (written : List Range) (i j : ℕ) (p : FlavorInput) (e : ExportView) → AllByRecursion (IsMadeFor machine) inputs → IsFlavorProgram machine bases inputs objects → slice_get inputs i ≡ Some p →
       slice_get (exports_chosen p) j ≡ Some e → AreLoaded machine bases inputs objects gives written →
       BytesAt (written ++ image_of machine bases (placed_from bases objects)) (place i j) (gives (dll_of p) (ask_in p.flavor machine e))
   entry_holds written i j p e made program input chosen loaded =

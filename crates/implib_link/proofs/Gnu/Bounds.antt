@@ -214,7 +214,7 @@ module _ (machine : MachineType) (b : Bases) (inputs : List LinkInput) (objects 
       among_flat (λ k. range_of (base_of k b) (contributions machine linked k linked)) group groups (group_range group) m
       (range_there (base_of group b) (contributions machine linked group linked) long)
 
-  table_long : length (group_range Addresses).bytes ≡ thunk_width machine * thunks_before (length inputs) inputs
+  pub table_long : length (group_range Addresses).bytes ≡ thunk_width machine * thunks_before (length inputs) inputs
   table_long = ap (λ cs. length (filled b.addresses cs)) (contributed Addresses) ∙ addresses_long machine linked inputs b aligned_bases
 
   directory_size : length (group_range Descriptors).bytes ≡ 20 * (length inputs + 1)

@@ -34,7 +34,7 @@ pub record Lies (memory : List Range) (address size : ℕ) (reads : List ℕ →
   pub whole : length code ≡ size
   pub leads : reads code ≡ Some target
 
-joined : (memory : List Range) (xs ys : List ℕ) (a : ℕ) → BytesAt memory a xs → BytesAt memory (a + length xs) ys → BytesAt memory a (xs ++ ys)
+pub joined : (memory : List Range) (xs ys : List ℕ) (a : ℕ) → BytesAt memory a xs → BytesAt memory (a + length xs) ys → BytesAt memory a (xs ++ ys)
 unfolding BytesAt
 joined memory [] ys a first second = let plain : a + 0 ≡ a = omega arith in subst (λ n. BytesAt memory n ys) plain second
 joined memory (x ∷ xs) ys a first second =
@@ -59,7 +59,7 @@ jump_field address (a ∷ b ∷ c ∷ []) four = absurd (omega arith)
 jump_field address (a ∷ b ∷ c ∷ d ∷ []) four = refl
 jump_field address (a ∷ b ∷ c ∷ d ∷ e ∷ rest) four = absurd (omega arith)
 
-field_value : (from to target : ℕ) → to + 2 ^ 31 ≤ 2 ^ 32 → target < 2 ^ 31 → moved_number 4 from to ((0 + (from + target)) % 2 ^ 32 % 2 ^ 32) ≡ to + target
+pub field_value : (from to target : ℕ) → to + 2 ^ 31 ≤ 2 ^ 32 → target < 2 ^ 31 → moved_number 4 from to ((0 + (from + target)) % 2 ^ 32 % 2 ^ 32) ≡ to + target
 field_value from to target fits small = omega arith
 
 -- The words of ARM64's instructions: pages and offsets are the same where the bases differ by whole pages.
@@ -81,24 +81,24 @@ pages_move a b u v = omega arith
 split_page : (base rest n : ℕ) → base % 4096 ≡ rest → page (base + n) ≡ base / 4096 + (rest + n) / 4096
 split_page base rest n is = omega arith
 
-apart_same : (from to position target : ℕ) → from % 4096 ≡ to % 4096 →
+pub apart_same : (from to position target : ℕ) → from % 4096 ≡ to % 4096 →
     (page (from + target) + (2 ^ 21 - page (from + position) % 2 ^ 21)) % 2 ^ 21 ≡ (page (to + target) + (2 ^ 21 - page (to + position) % 2 ^ 21)) % 2 ^ 21
 apart_same from to position target pages =
     let k : ℕ = to % 4096 in
     rw (split_page from k target pages, split_page from k position pages, split_page to k target refl, split_page to k position refl)
     (pages_move (from / 4096) (to / 4096) ((k + target) / 4096) ((k + position) / 4096))
 
-high_same : (n m : ℕ) → n % 2 ^ 21 ≡ m % 2 ^ 21 → n / 4 % 2 ^ 19 ≡ m / 4 % 2 ^ 19
+pub high_same : (n m : ℕ) → n % 2 ^ 21 ≡ m % 2 ^ 21 → n / 4 % 2 ^ 19 ≡ m / 4 % 2 ^ 19
 high_same n m same = omega arith
 
-low_same : (n m : ℕ) → n % 2 ^ 21 ≡ m % 2 ^ 21 → n % 4 ≡ m % 4
+pub low_same : (n m : ℕ) → n % 2 ^ 21 ≡ m % 2 ^ 21 → n % 4 ≡ m % 4
 low_same n m same = omega arith
 
 adrp_same : (n m : ℕ) → n % 2 ^ 21 ≡ m % 2 ^ 21 → with_adrp n 0x9000_0010 ≡ with_adrp m 0x9000_0010
 adrp_same n m same =
     adrp_is n (m / 4 % 2 ^ 19) (m % 4) (high_same n m same) (low_same n m same) ∙ sym (adrp_is m (m / 4 % 2 ^ 19) (m % 4) refl refl)
 
-offset_same : (from to target : ℕ) → from % 4096 ≡ to % 4096 → (from + target) % 4096 ≡ (to + target) % 4096
+pub offset_same : (from to target : ℕ) → from % 4096 ≡ to % 4096 → (from + target) % 4096 ≡ (to + target) % 4096
 offset_same from to target pages = omega arith
 
 arm64_same : (from to position target index : ℕ) (tail : List ℕ) (targets : ℕ → ℕ) → from % 4096 ≡ to % 4096 → targets index ≡ target →
@@ -128,7 +128,7 @@ module _ (machine : MachineType) (from to : ℕ) (bases : Bases) (objects : List
       (λ x low high. window_clear machine c offset (length bytes) x own w low high (ap (list_any (covers x)) own_none)) located
 
 -- an address beside a field is not in its place
-beside_field : (a address : ℕ) → (a < address) ⊎ (address + 4 ≤ a) → list_any (covers a) (record { address = address; width = 4 } ∷ []) ≡ false
+pub beside_field : (a address : ℕ) → (a < address) ⊎ (address + 4 ≤ a) → list_any (covers a) (record { address = address; width = 4 } ∷ []) ≡ false
 beside_field a address beside =
     let p : Place = record { address = address; width = 4 } in
     let clear : covers a p ≡ false = false_from_ne_true (covers a p) (λ covered.

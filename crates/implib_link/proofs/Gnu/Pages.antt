@@ -39,7 +39,7 @@ use Rattle.implib_link.proofs.Search.Lists.{contains_among}
 abbrev paged_word : ℕ → ℕ → ℕ → ℕ
 paged_word paged high low = 0x9000_0000 + paged + high * 32 + low * 0x2000_0000
 
-adrp_is : (paged n : ℕ) → paged < 32 → with_adrp n (0x9000_0000 + paged) ≡ paged_word paged (n / 4 % 2 ^ 19) (n % 4)
+pub adrp_is : (paged n : ℕ) → paged < 32 → with_adrp n (0x9000_0000 + paged) ≡ paged_word paged (n / 4 % 2 ^ 19) (n % 4)
 adrp_is paged n small = omega arith
 
 adrp_cleared : (paged high low : ℕ) → paged < 32 → high < 2 ^ 19 → low < 4 → with_adrp 0 (paged_word paged high low) ≡ 0x9000_0000 + paged
@@ -99,7 +99,7 @@ page_small paged small = omega arith
 offset_small : (k : ℕ) → k < 1024 → (0xF940_0000 + k) % 2 ^ 32 ≡ 0xF940_0000 + k
 offset_small k small = omega arith
 
-adrp_code : (image_base position target index paged : ℕ) (targets : ℕ → ℕ) → paged < 32 → targets index ≡ target →
+pub adrp_code : (image_base position target index paged : ℕ) (targets : ℕ → ℕ) → paged < 32 → targets index ≡ target →
     code_relocated_by ARM64 image_base targets position (record { offset = 0; symbol = index; kind = arm64_pagebase_rel21 } ∷ []) (u32_bytes (0x9000_0000 + paged))
     ≡ u32_bytes (with_adrp (page (image_base + target) + (2 ^ 21 - page (image_base + position) % 2 ^ 21)) (0x9000_0000 + paged))
 unfolding u32_bytes
@@ -112,7 +112,7 @@ adrp_code image_base position target index paged targets small is =
     (ap (λ z. image_base + targets index + z) (adrp_none paged small) ∙ plain)
     ∙ ap (λ q. u32_bytes (with_adrp (page (image_base + target) + (2 ^ 21 - page q % 2 ^ 21)) (0x9000_0000 + paged))) here
 
-ldr_code : (image_base position target index k : ℕ) (targets : ℕ → ℕ) → k < 1024 → targets index ≡ target →
+pub ldr_code : (image_base position target index k : ℕ) (targets : ℕ → ℕ) → k < 1024 → targets index ≡ target →
     code_relocated_by ARM64 image_base targets position (record { offset = 0; symbol = index; kind = arm64_pageoffset_12l } ∷ []) (u32_bytes (0xF940_0000 + k))
     ≡ u32_bytes (with_ldr ((image_base + target) % 4096) (0xF940_0000 + k))
 unfolding u32_bytes
@@ -134,11 +134,11 @@ page_leads image_base position entry paged small near low n is =
     ∙ pages_add (page (image_base + position)) (page (image_base + entry)) pages.0 pages.1
 
 -- what a word of code is, once it is relocated
-record AdrpIs (image_base position entry paged : ℕ) (code : List ℕ) : Type 0 where
-  cleared : with_adrp 0 (word_at code 0) ≡ page_word paged
-  leads : plus_signed 21 4096 (adrp_immediate (word_at code 0)) (page (image_base + position) * 4096) ≡ page (image_base + entry) * 4096
+pub record AdrpIs (image_base position entry paged : ℕ) (code : List ℕ) : Type 0 where
+  pub cleared : with_adrp 0 (word_at code 0) ≡ page_word paged
+  pub leads : plus_signed 21 4096 (adrp_immediate (word_at code 0)) (page (image_base + position) * 4096) ≡ page (image_base + entry) * 4096
 
-adrp_by : (image_base position entry index paged : ℕ) (targets : ℕ → ℕ) → paged < 32 → position + 16 ≤ 2 ^ 31 → entry < 2 ^ 31 → targets index ≡ entry →
+pub adrp_by : (image_base position entry index paged : ℕ) (targets : ℕ → ℕ) → paged < 32 → position + 16 ≤ 2 ^ 31 → entry < 2 ^ 31 → targets index ≡ entry →
     AdrpIs image_base position entry paged (code_relocated_by ARM64 image_base targets position (record { offset = 0; symbol = index; kind = arm64_pagebase_rel21 } ∷ []) (u32_bytes (page_word paged)))
 adrp_by image_base position entry index paged targets small near low is =
     let n : ℕ = page (image_base + entry) + (2 ^ 21 - page (image_base + position) % 2 ^ 21) in
@@ -152,11 +152,11 @@ adrp_by image_base position entry index paged targets small near low is =
       leads = ap (λ w. plus_signed 21 4096 (adrp_immediate w) (page (image_base + position) * 4096)) read ∙ page_leads image_base position entry paged small near low n refl;
     }
 
-record LdrIs (image_base entry k : ℕ) (code : List ℕ) : Type 0 where
-  cleared : with_bits 10 12 0 (word_at code 0) ≡ 0xF940_0000 + k
-  reads : ldr_immediate (word_at code 0) ≡ (image_base + entry) % 4096
+pub record LdrIs (image_base entry k : ℕ) (code : List ℕ) : Type 0 where
+  pub cleared : with_bits 10 12 0 (word_at code 0) ≡ 0xF940_0000 + k
+  pub reads : ldr_immediate (word_at code 0) ≡ (image_base + entry) % 4096
 
-ldr_by : (image_base position entry index k : ℕ) (targets : ℕ → ℕ) → k < 1024 → (image_base + entry) % 8 ≡ 0 → targets index ≡ entry →
+pub ldr_by : (image_base position entry index k : ℕ) (targets : ℕ → ℕ) → k < 1024 → (image_base + entry) % 8 ≡ 0 → targets index ≡ entry →
     LdrIs image_base entry k (code_relocated_by ARM64 image_base targets position (record { offset = 0; symbol = index; kind = arm64_pageoffset_12l } ∷ []) (u32_bytes (0xF940_0000 + k)))
 ldr_by image_base position entry index k targets small even is =
     let n : ℕ = (image_base + entry) % 4096 in
@@ -169,10 +169,10 @@ ldr_by image_base position entry index k targets small even is =
       reads = ap ldr_immediate read ∙ ldr_read k (n / 8) small eighth ∙ whole_eights (image_base + entry) even;
     }
 
-one_within : (n index type : ℕ) → AllByRecursion (λ (r : Relocation). r.offset + 4 ≤ length (u32_bytes n)) (record { offset = 0; symbol = index; kind = type } ∷ [])
+pub one_within : (n index type : ℕ) → AllByRecursion (λ (r : Relocation). r.offset + 4 ≤ length (u32_bytes n)) (record { offset = 0; symbol = index; kind = type } ∷ [])
 one_within n index type = let long : length (u32_bytes n) ≡ 4 = length-u32_bytes n in (omega arith, tt)
 
-near_in : (c : PlacedCode) (offset : ℕ) (name bytes : List ℕ) (relocations : ℕ → List Relocation) → HasInstructions c offset name bytes relocations → c.position + length c.code.bytes + 16 ≤ 2 ^ 31 →
+pub near_in : (c : PlacedCode) (offset : ℕ) (name bytes : List ℕ) (relocations : ℕ → List Relocation) → HasInstructions c offset name bytes relocations → c.position + length c.code.bytes + 16 ≤ 2 ^ 31 →
     c.position + offset + 16 ≤ 2 ^ 31
 near_in c offset name bytes relocations has end =
     let here : length has.front ≡ offset = has.here in

@@ -51,7 +51,7 @@ adrp_word high low = 0x9000_0008 + high * 32 + low * 0x2000_0000
 abbrev ldr_word : ℕ → ℕ
 ldr_word n = 0xF940_0108 + n * 1024
 
-adrp_is : (n high low : ℕ) → n / 4 % 2 ^ 19 ≡ high → n % 4 ≡ low → with_adrp n 0x9000_0008 ≡ adrp_word high low
+pub adrp_is : (n high low : ℕ) → n / 4 % 2 ^ 19 ≡ high → n % 4 ≡ low → with_adrp n 0x9000_0008 ≡ adrp_word high low
 adrp_is n high low first second = omega arith
 
 adrp_cleared : (high low : ℕ) → high < 2 ^ 19 → low < 4 → with_adrp 0 (adrp_word high low) ≡ 0x9000_0008
@@ -98,7 +98,7 @@ words_read address first second low high =
 tests_pass : (first second value : ℕ) → first ≡ 0x9000_0008 → second ≡ 0xF940_0108 → (if (first == 0x9000_0008) && (second == 0xF940_0108) then Some value else None) ≡ Some value
 tests_pass first second value first_is second_is = rw (first_is, second_is) refl
 
-arm64_code : (image_base position entry index : ℕ) (targets : ℕ → ℕ) → targets index ≡ entry →
+pub arm64_code : (image_base position entry index : ℕ) (targets : ℕ → ℕ) → targets index ≡ entry →
     code_relocated_by ARM64 image_base targets position (load_relocations ARM64 index) (load_bytes ARM64)
     ≡ u32_bytes (with_adrp (page (image_base + entry) + (2 ^ 21 - page (image_base + position) % 2 ^ 21)) 0x9000_0008) ++ (u32_bytes (with_ldr ((image_base + entry) % 4096) 0xF940_0108) ++ [])
 unfolding u32_bytes
@@ -128,7 +128,7 @@ arm64_leads image_base position entry near small even n is =
     ∙ ap Some (page_and_offset target)
 
 -- by the machine's instructions
-load_by : (machine : MachineType) (image_base position entry index : ℕ) (targets : ℕ → ℕ) → CanReach machine image_base entry → position + 16 ≤ 2 ^ 31 → entry < 2 ^ 31 → targets index ≡ entry →
+pub load_by : (machine : MachineType) (image_base position entry index : ℕ) (targets : ℕ → ℕ) → CanReach machine image_base entry → position + 16 ≤ 2 ^ 31 → entry < 2 ^ 31 → targets index ≡ entry →
     load_reads machine (image_base + position) (code_relocated_by machine image_base targets position (load_relocations machine index) (load_bytes machine)) ≡ Some (image_base + entry)
 unfolding u32_bytes
 load_by I386 image_base position entry index targets can near small target =
@@ -150,7 +150,7 @@ load_by ARM64 image_base position entry index targets can near small target =
     (adrp_small (n / 4 % 2 ^ 19) (n % 4) high_small low_small) (ldr_small ((image_base + entry) % 4096 / 8) eighth_small)
     ∙ arm64_leads image_base position entry near small (sum_of_eights image_base entry can.0 can.1) n refl
 
-load_within : (machine : MachineType) (index : ℕ) → AllByRecursion (λ (r : Relocation). r.offset + 4 ≤ length (load_bytes machine)) (load_relocations machine index)
+pub load_within : (machine : MachineType) (index : ℕ) → AllByRecursion (λ (r : Relocation). r.offset + 4 ≤ length (load_bytes machine)) (load_relocations machine index)
 load_within I386 index = (omega arith, tt)
 load_within ARMNT index = tt
 load_within AMD64 index = (omega arith, tt)

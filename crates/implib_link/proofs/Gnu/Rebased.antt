@@ -160,7 +160,7 @@ module _ (machine : MachineType) (from to : ℕ) (bases : Bases) (inputs : List 
   abbrev image : List Range
   image = image_of machine bases (placed_from bases objects)
 
-  writes_of : (n : ℕ) (written : List Range) → AllByRecursion (IsMade machine) inputs → IsProgram machine bases inputs objects → IsAtBase machine from to bases objects codes targets memory →
+  pub writes_of : (n : ℕ) (written : List Range) → AllByRecursion (IsMade machine) inputs → IsProgram machine bases inputs objects → IsAtBase machine from to bases objects codes targets memory →
       ReadsAndWrites memory (thunk_width machine) gives n bases.descriptors written →
       (n ≡ length inputs) × Writes (image_of machine bases (placed_from bases objects)) (thunk_width machine) gives bases.descriptors (map (imported machine) inputs) written
   writes_of n written made program at reads =
@@ -186,7 +186,7 @@ module _ (machine : MachineType) (from to : ℕ) (bases : Bases) (inputs : List 
   abbrev place : ℕ → ℕ → ℕ
   place i j = bases.addresses + thunk_width machine * thunks_before i inputs + thunk_width machine * j
 
-  entry_defined : (i j : ℕ) (p : LinkInput) (e : ExportView) → AllByRecursion (IsMade machine) inputs → IsProgram machine bases inputs objects → slice_get inputs i ≡ Some p →
+  pub entry_defined : (i j : ℕ) (p : LinkInput) (e : ExportView) → AllByRecursion (IsMade machine) inputs → IsProgram machine bases inputs objects → slice_get inputs i ≡ Some p →
       slice_get (chosen_exports p.definition p.chosen) j ≡ Some e →
       definitions_of (imp_symbol e.name) (placed_from bases objects) ≡ record { name = imp_symbol e.name; address = Some (place i j) } ∷ []
   entry_defined i j p e made program input chosen =
@@ -194,7 +194,7 @@ module _ (machine : MachineType) (from to : ℕ) (bases : Bases) (inputs : List 
       entry_once (placed_from bases objects) (thunk_width machine) (bases.addresses + thunk_width machine * thunks_before i inputs) (chosen_exports p.definition p.chosen) j e
       (subst (λ n. EntriesAt (placed_from bases objects) (thunk_width machine) n (chosen_exports p.definition p.chosen)) one.table_located one.strictly.entries) chosen
 
-  entry_holds : (written : List Range) (i j : ℕ) (p : LinkInput) (e : ExportView) → AllByRecursion (IsMade machine) inputs → IsProgram machine bases inputs objects → slice_get inputs i ≡ Some p →
+  pub entry_holds : (written : List Range) (i j : ℕ) (p : LinkInput) (e : ExportView) → AllByRecursion (IsMade machine) inputs → IsProgram machine bases inputs objects → slice_get inputs i ≡ Some p →
       slice_get (chosen_exports p.definition p.chosen) j ≡ Some e → IsLoaded machine bases inputs objects gives written →
       BytesAt (written ++ image_of machine bases (placed_from bases objects)) (place i j) (gives p.definition.import_name (expected_ask machine e))
   entry_holds written i j p e made program input chosen loaded =

@@ -1,0 +1,300 @@
+-- The import tables of both flavours without the address tables: what a loader reads that writes there.
+use Rattle.std.proofs.Common.{◌≡◌, ℕ, suc, ◌+◌, ◌*◌, ◌<◌, ◌^◌, List, [], ◌∷◌, ◌++◌, length, map, refl, ap, sym, ◌∙◌, subst, arith}
+use Rattle.std.specs.List.{AllByRecursion}
+use Rattle.std.proofs.Math.Nat.{mul-add, mul-suc}
+use Rattle.std.proofs.lemmas.List.{length-append, length-map, length-replicate}
+use Rattle.implib.specs.declared.machine.MachineType.{MachineType}
+use Rattle.implib.specs.declared.flavor.Flavor.TheVariants.{Gnu, Msvc}
+use Rattle.implib.specs.declared.flavor.Flavor.{Flavor}
+use Rattle.implib.specs.Definition.{ExportView}
+use Rattle.implib.specs.Formats.Layout.{HasNoNul, entries_of, name_text, object_of}
+use Rattle.implib.specs.Formats.Object.{Object}
+use Rattle.implib.specs.Import.{Ask, Name, Ordinal}
+use Rattle.implib.specs.Link.Image.{Contribution, Range, contributions, filled, range_end}
+use Rattle.implib.specs.Link.Load.{BytesAt, TableAt, ThunkAt}
+use Rattle.implib.specs.Link.Placement.{Addresses, Bases, Descriptors, DllNames, HintNames, Lookups, Placed, next_multiple, placed_from}
+use Rattle.implib.specs.Link.Resolution.{SymbolDefinition, definitions, definitions_of}
+use Rattle.implib.specs.Members.Gnu.{head_object}
+use Rattle.implib.specs.Members.ImportTables.{thunk_width, zeros}
+use Rattle.implib.specs.Members.Msvc.{short_import_symbol}
+use Rattle.implib.specs.Members.MsvcObjects.{descriptor, null_thunk}
+use Rattle.implib.proofs.Link.Linked.{contribution_located, ends_of_block}
+use Rattle.implib.proofs.Link.Placement.{after_head, aligned_head, at_least, ends_of_all, ends_of_head, placed-head}
+use Rattle.implib.proofs.Link.Ranges.{Among, among_back, among_front}
+use Rattle.implib.proofs.Link.Tables.{addresses_end, addresses_filled, filled_first, thunk_bytes}
+use Rattle.implib.proofs.Link.Thunks.{name_located, ordinal_located, zeros_number}
+use Rattle.implib_link.specs.Flavors.Expansion.{Use, hint_and_name, import_object}
+use Rattle.implib_link.specs.Flavors.Program.{ask_in}
+use Rattle.implib_link.specs.Flavors.SectionSymbols.{with_section_symbols}
+use Rattle.implib_link.proofs.Gnu.Beside.{LocatedBeside, bounds_of, block_beside, fields_beside, rest_beside, table_bounds}
+use Rattle.implib_link.proofs.Gnu.Blocks.{addresses_after}
+use Rattle.implib_link.proofs.Gnu.Filling.{DescriptorBeside, DirectoryBeside}
+use Rattle.implib_link.proofs.Flavors.Block.{FitsIn, behind_descriptor, definitions-in, definitions_in, ends_in, ends_of_askings, objects_of, use_for, wide_in}
+use Rattle.implib_link.proofs.Flavors.Blocks.{BlocksIn, CanLink, FlavorBlock, addresses_one, all_objects, descriptors_one, ends_all, ends_one, imported_of, thunks_in}
+use Rattle.implib_link.proofs.Flavors.Expanded.{AreWide, AskFits, descriptor_is, descriptor_linked, ends_of_asking, ends_of_descriptor, ends_of_null_thunk, length-descriptor, length-thunk_linked, placed-asking, placed-descriptor, placed-null_thunk, placed_asking, placed_descriptor, plus_none, step, taken_descriptor, taken_null_thunk, thunk_linked, thunk_of_name, wide_aligned, wide_asking, wide_descriptor}
+
+module _ (machine : MachineType) (dll : List ℕ) (linked : List Placed) (beside : List Range)
+    (starts : AllByRecursion (λ r. 0 < r.start) beside) (ends : AllByRecursion (λ r. range_end r < 2 ^ 31) beside) where
+  -- the descriptor and the DLL's name, and what follows
+  record DescriptorStands (b : Bases) (rest : List Object) : Type 0 where
+    bytes : BytesAt beside b.descriptors (descriptor_linked machine dll linked b)
+    name : BytesAt beside (next_multiple 2 b.hint_names) (dll ++ 0 ∷ [])
+    behind : LocatedBeside machine linked beside (ends_of_descriptor dll b) rest
+
+  descriptor_stands : (b : Bases) (rest : List Object) → AreWide machine b → LocatedBeside machine linked beside b (taken_descriptor machine dll ∷ rest) → DescriptorStands b rest
+  unfolding with_section_symbols object_of descriptor entries_of name_text descriptor_linked
+  descriptor_stands b rest even located =
+      let later : Bases = ends_of_descriptor dll b in
+      let placed_is : placed_from b (taken_descriptor machine dll ∷ rest) ≡ placed_descriptor machine dll b ∷ placed_from later rest = placed-descriptor machine dll b rest even in
+      let descriptors = step beside b.descriptors (descriptor_linked machine dll linked b) (contributions machine linked Descriptors (placed_from later rest)) 20 (length-descriptor machine dll linked b)
+      (subst (λ ps. BytesAt beside b.descriptors (filled b.descriptors (contributions machine linked Descriptors ps))) placed_is located.descriptors) in
+      let lookups = step beside b.lookups [] (contributions machine linked Lookups (placed_from later rest)) 0 refl
+      (subst (λ ps. BytesAt beside b.lookups (filled b.lookups (contributions machine linked Lookups ps))) placed_is located.lookups) in
+      let names = contribution_located beside b.hint_names (record { address = next_multiple 2 b.hint_names; bytes = dll ++ 0 ∷ [] }) (contributions machine linked HintNames (placed_from later rest))
+      (at_least 2 b.hint_names)
+      (subst (λ ps. BytesAt beside b.hint_names (filled b.hint_names (contributions machine linked HintNames ps))) placed_is located.hint_names) in
+      record {
+        bytes = descriptors.0;
+        name = names.0;
+        behind = record {
+          descriptors = descriptors.1;
+          lookups = subst (λ n. BytesAt beside n (filled n (contributions machine linked Lookups (placed_from later rest)))) (plus_none b.lookups) lookups.1;
+          hint_names = names.1;
+          dll_names = subst (λ ps. BytesAt beside b.dll_names (filled b.dll_names (contributions machine linked DllNames ps))) placed_is located.dll_names;
+        };
+      }
+
+  -- a thunk of the lookup table that asks so, and what follows
+  record AskingStands (b : Bases) (ask : Ask) (rest : List Object) : Type 0 where
+    lookup : ThunkAt beside (thunk_width machine) b.lookups ask
+    behind : LocatedBeside machine linked beside (ends_of_asking machine b ask) rest
+
+  asking_stands : (b : Bases) (symbol : List ℕ) (ask : Ask) (use_kind : Use) (rest : List Object) → AskFits ask → AreWide machine b →
+      LocatedBeside machine linked beside b (import_object machine dll symbol ask use_kind ∷ rest) → AskingStands b ask rest
+  unfolding import_object thunk_linked AskFits
+  asking_stands b symbol (Ordinal n) use_kind rest fits even located =
+      let later : Bases = ends_of_asking machine b (Ordinal n) in
+      let placed_is : placed_from b (import_object machine dll symbol (Ordinal n) use_kind ∷ rest) ≡ placed_asking machine dll b symbol (Ordinal n) use_kind ∷ placed_from later rest =
+      placed-asking machine dll b symbol (Ordinal n) use_kind rest even in
+      let lookups = step beside b.lookups (thunk_linked machine dll linked b symbol (Ordinal n) use_kind) (contributions machine linked Lookups (placed_from later rest)) (thunk_width machine)
+      (length-thunk_linked machine dll linked b symbol (Ordinal n) use_kind)
+      (subst (λ ps. BytesAt beside b.lookups (filled b.lookups (contributions machine linked Lookups ps))) placed_is located.lookups) in
+      record {
+        lookup = (ordinal_located machine beside n b.lookups fits lookups.0).plain;
+        behind = record {
+          descriptors = subst (λ ps. BytesAt beside b.descriptors (filled b.descriptors (contributions machine linked Descriptors ps))) placed_is located.descriptors;
+          lookups = lookups.1;
+          hint_names = subst (λ ps. BytesAt beside b.hint_names (filled b.hint_names (contributions machine linked HintNames ps))) placed_is located.hint_names;
+          dll_names = subst (λ ps. BytesAt beside b.dll_names (filled b.dll_names (contributions machine linked DllNames ps))) placed_is located.dll_names;
+        };
+      }
+  asking_stands b symbol (Name text hint) use_kind rest fits even located =
+      let later : Bases = ends_of_asking machine b (Name text hint) in
+      let placed_is : placed_from b (import_object machine dll symbol (Name text hint) use_kind ∷ rest) ≡ placed_asking machine dll b symbol (Name text hint) use_kind ∷ placed_from later rest =
+      placed-asking machine dll b symbol (Name text hint) use_kind rest even in
+      let lookups = step beside b.lookups (thunk_linked machine dll linked b symbol (Name text hint) use_kind) (contributions machine linked Lookups (placed_from later rest)) (thunk_width machine)
+      (length-thunk_linked machine dll linked b symbol (Name text hint) use_kind)
+      (subst (λ ps. BytesAt beside b.lookups (filled b.lookups (contributions machine linked Lookups ps))) placed_is located.lookups) in
+      let hints = contribution_located beside b.hint_names (record { address = next_multiple 2 b.hint_names; bytes = hint_and_name text hint })
+      (contributions machine linked HintNames (placed_from later rest)) (at_least 2 b.hint_names)
+      (subst (λ ps. BytesAt beside b.hint_names (filled b.hint_names (contributions machine linked HintNames ps))) placed_is located.hint_names) in
+      record {
+        lookup = (name_located machine beside starts ends text hint (next_multiple 2 b.hint_names) b.lookups fits.0 fits.1
+            (subst (BytesAt beside b.lookups) (thunk_of_name machine dll linked b symbol text hint use_kind) lookups.0) hints.0).plain;
+        behind = record {
+          descriptors = subst (λ ps. BytesAt beside b.descriptors (filled b.descriptors (contributions machine linked Descriptors ps))) placed_is located.descriptors;
+          lookups = lookups.1;
+          hint_names = hints.1;
+          dll_names = subst (λ ps. BytesAt beside b.dll_names (filled b.dll_names (contributions machine linked DllNames ps))) placed_is located.dll_names;
+        };
+      }
+
+  -- the thunk of zeros at the end of the lookup table, and what follows
+  null_thunk_stands : (b : Bases) (rest : List Object) → AreWide machine b → LocatedBeside machine linked beside b (taken_null_thunk machine dll ∷ rest) →
+      BytesAt beside b.lookups (zeros (thunk_width machine)) × LocatedBeside machine linked beside (ends_of_null_thunk machine b) rest
+  unfolding with_section_symbols object_of null_thunk entries_of name_text
+  null_thunk_stands b rest even located =
+      let later : Bases = ends_of_null_thunk machine b in
+      let placed_is = placed-null_thunk machine dll b rest even in
+      let lookups = step beside b.lookups (zeros (thunk_width machine)) (contributions machine linked Lookups (placed_from later rest)) (thunk_width machine) (length-replicate {A = ℕ} (thunk_width machine) 0)
+      (subst (λ ps. BytesAt beside b.lookups (filled b.lookups (contributions machine linked Lookups ps))) placed_is located.lookups) in (
+        lookups.0,
+        record {
+          descriptors = subst (λ ps. BytesAt beside b.descriptors (filled b.descriptors (contributions machine linked Descriptors ps))) placed_is located.descriptors;
+          lookups = lookups.1;
+          hint_names = subst (λ ps. BytesAt beside b.hint_names (filled b.hint_names (contributions machine linked HintNames ps))) placed_is located.hint_names;
+          dll_names = subst (λ ps. BytesAt beside b.dll_names (filled b.dll_names (contributions machine linked DllNames ps))) placed_is located.dll_names;
+        },
+      )
+
+  askings_stand : (es : List ExportView) (b : Bases) (rest : List Object) → AllByRecursion (FitsIn Msvc machine) es → AreWide machine b →
+      LocatedBeside machine linked beside b (behind_descriptor machine dll es rest) →
+      TableAt beside (thunk_width machine) b.lookups (map (ask_in Msvc machine) es) × LocatedBeside machine linked beside (ends_of_askings machine b es) rest
+  unfolding TableAt ends_of_askings FitsIn
+  askings_stand [] b rest fit even located =
+      let null = null_thunk_stands b rest even located in
+      (record { bytes = zeros (thunk_width machine); located = null.0; count = length-replicate {A = ℕ} (thunk_width machine) 0; value = zeros_number machine }, null.1)
+  askings_stand (e ∷ es) b rest fit even located =
+      let ask : Ask = ask_in Msvc machine e in
+      let one = asking_stands b (short_import_symbol e) ask (use_for e) (behind_descriptor machine dll es rest) fit.0 even located in
+      let others = askings_stand es (ends_of_asking machine b ask) rest fit.1 (wide_asking machine b ask even) one.behind in
+      ((one.lookup, others.0), others.1)
+
+  -- one DLL's members for Microsoft's linker
+  msvc_beside : (es : List ExportView) (b : Bases) (rest : List Object) → HasNoNul dll → AllByRecursion (FitsIn Msvc machine) es → AreWide machine b → (0 < b.addresses) → (b.addresses < 2 ^ 31) →
+      LocatedBeside machine linked beside b (objects_of machine Msvc dll es rest) →
+      DescriptorBeside beside (thunk_width machine) b.descriptors b.addresses (record { dll = dll; asks = map (ask_in Msvc machine) es })
+      × LocatedBeside machine linked beside (ends_in machine Msvc dll b es) rest
+  msvc_beside es b rest dll_text fit even above below located =
+      let one = descriptor_stands b (behind_descriptor machine dll es rest) even located in
+      let tables = askings_stand es (ends_of_descriptor dll b) rest fit (wide_descriptor machine dll b even) one.behind in
+      let place : ℕ = next_multiple 2 b.hint_names in
+      let lookups_bounds = table_bounds machine beside starts ends (map (ask_in Msvc machine) es) b.lookups tables.0 in
+      let long : 0 < length (dll ++ 0 ∷ []) = rw (length-append dll (0 ∷ [])) (omega arith) in
+      let name_bounds = bounds_of beside starts ends (dll ++ 0 ∷ []) place one.name long in
+      let fields = fields_beside beside b.descriptors b.lookups place b.addresses lookups_bounds.1 name_bounds.1 below
+      (subst (BytesAt beside b.descriptors) (descriptor_is machine dll linked b) one.bytes) in (
+        record {
+          lookups = b.lookups;
+          lookups_field = fields.lookups_field;
+          lookup_table = tables.0;
+          name = place;
+          name_field = fields.name_field;
+          has_name = name_bounds.0;
+          name_text = record { no_nul = dll_text; located = one.name };
+          addresses_field = fields.addresses_field;
+          has_addresses = above;
+        },
+        tables.1,
+      )
+
+  -- one DLL's members in a flavour
+  one_beside : (flavor : Flavor) (es : List ExportView) (b : Bases) (rest : List Object) → HasNoNul dll → AllByRecursion (FitsIn flavor machine) es → AreWide machine b → (0 < b.addresses) → (b.addresses < 2 ^ 31) →
+      ((d : SymbolDefinition) → Among d (definitions_in machine flavor dll b es) → definitions_of d.name linked ≡ d ∷ []) →
+      LocatedBeside machine linked beside b (objects_of machine flavor dll es rest) →
+      DescriptorBeside beside (thunk_width machine) b.descriptors b.addresses (record { dll = dll; asks = map (ask_in flavor machine) es })
+      × LocatedBeside machine linked beside (ends_in machine flavor dll b es) rest
+  unfolding FitsIn
+  one_beside Msvc es b rest dll_text fit even above below only located = msvc_beside es b rest dll_text fit even above below located
+  one_beside Gnu es b rest dll_text fit even above below only located = (
+    block_beside machine dll es b rest linked beside starts ends dll_text fit (wide_aligned machine b even) only located above below,
+    rest_beside machine dll es b rest linked beside starts ends dll_text fit (wide_aligned machine b even) only located,
+  )
+
+-- The objects of several DLLs, and zeros behind their descriptors.
+module _ (machine : MachineType) (linked : List Placed) (image beside : List Range)
+    (image_starts : AllByRecursion (λ r. 0 < r.start) image) (image_ends : AllByRecursion (λ r. range_end r < 2 ^ 31) image)
+    (starts : AllByRecursion (λ r. 0 < r.start) beside) (ends : AllByRecursion (λ r. range_end r < 2 ^ 31) beside) where
+  pub all_beside : (blocks : List FlavorBlock) (b : Bases) → AllByRecursion (CanLink machine) blocks → AreWide machine b →
+      ((d : SymbolDefinition) → Among d (definitions (placed_from b (all_objects machine blocks []))) → definitions_of d.name linked ≡ d ∷ []) →
+      BlocksIn machine linked image [] b blocks → LocatedBeside machine linked beside b (all_objects machine blocks []) →
+      BytesAt beside (ends_all machine b blocks).descriptors (zeros 20) →
+      DirectoryBeside beside (thunk_width machine) b.descriptors b.addresses (map (imported_of machine) blocks)
+  unfolding DirectoryBeside BlocksIn ends_all
+  all_beside [] b fit even only links located null = null
+  all_beside (k ∷ blocks) b fit even only links located null =
+      let es : List ExportView = k.exports in
+      let behind : List Object = all_objects machine blocks [] in
+      let last : Bases = ends_one machine b k in
+      let own : List SymbolDefinition = definitions_in machine k.flavor k.dll b k.exports in
+      let are : definitions (placed_from b (objects_of machine k.flavor k.dll es behind)) ≡ own ++ definitions (placed_from last behind) = definitions-in machine k.flavor k.dll b es behind even in
+      let every : (d : SymbolDefinition) → Among d (own ++ definitions (placed_from last behind)) → definitions_of d.name linked ≡ d ∷ [] = λ d m. only d (subst (Among d) (sym are) m) in
+      let bounds = table_bounds machine image image_starts image_ends (map (ask_in k.flavor machine) es) links.0.loads.plain.addresses links.0.loads.plain.address_table in
+      let begins : links.0.loads.plain.addresses ≡ b.addresses = links.0.table_located in
+      let one = one_beside machine k.dll linked beside starts ends k.flavor es b behind fit.0.dll fit.0.exports even
+      (subst (λ n. 0 < n) begins bounds.0) (subst (λ n. n < 2 ^ 31) begins bounds.1)
+      (λ d m. every d (among_front d own (definitions (placed_from last behind)) m)) located in
+      let others = all_beside blocks last fit.1 (wide_in machine k.flavor k.dll b es even)
+      (λ d m. every d (among_back d own (definitions (placed_from last behind)) m)) links.1 one.1 null in
+      let table : last.addresses ≡ b.addresses + thunk_width machine * (length (map (ask_in k.flavor machine) es) + 1) =
+      addresses_one machine k.flavor k.dll b es ∙ ap (λ n. b.addresses + thunk_width machine * (n + 1)) (sym (length-map es (ask_in k.flavor machine))) in (
+        one.0,
+        subst (λ n. DirectoryBeside beside (thunk_width machine) (b.descriptors + 20) n (map (imported_of machine) blocks)) table
+            (subst (λ n. DirectoryBeside beside (thunk_width machine) n last.addresses (map (imported_of machine) blocks)) (sym (descriptors_one machine k.flavor k.dll b es)) others),
+      )
+
+-- How long the address tables are.
+
+count_on : (w n m : ℕ) → w + (w * (n + 1) + m) ≡ w * (suc n + 1) + m
+count_on w n m =
+    let one : suc n + 1 ≡ suc (n + 1) = omega arith in
+    let product : w * (suc n + 1) ≡ w * (n + 1) + w = ap (λ k. w * k) one ∙ mul-suc w (n + 1) in
+    omega arith
+
+module _ (machine : MachineType) (linked : List Placed) where
+  abbrev table_from : Bases → List Object → List ℕ
+  table_from b objects = filled b.addresses (contributions machine linked Addresses (placed_from b objects))
+
+  first_long : (a n : ℕ) (bytes : List ℕ) (others : List Contribution) → length bytes ≡ n →
+      length (filled a (record { address = a; bytes = bytes } ∷ others)) ≡ n + length (filled (a + n) others)
+  first_long a n bytes others long =
+      ap length (filled_first a n bytes others long) ∙ length-append bytes (filled (a + n) others) ∙ ap (λ m. m + length (filled (a + n) others)) long
+
+  asking_long : (dll : List ℕ) (b : Bases) (symbol : List ℕ) (ask : Ask) (use_kind : Use) (rest : List Object) → AreWide machine b →
+      length (table_from b (import_object machine dll symbol ask use_kind ∷ rest)) ≡ thunk_width machine + length (table_from (ends_of_asking machine b ask) rest)
+  unfolding import_object thunk_linked
+  asking_long dll b symbol (Ordinal n) use_kind rest even =
+      ap (λ ps. length (filled b.addresses (contributions machine linked Addresses ps))) (placed-asking machine dll b symbol (Ordinal n) use_kind rest even)
+      ∙ first_long b.addresses (thunk_width machine) (thunk_linked machine dll linked b symbol (Ordinal n) use_kind) (contributions machine linked Addresses (placed_from (ends_of_asking machine b (Ordinal n)) rest))
+      (length-thunk_linked machine dll linked b symbol (Ordinal n) use_kind)
+  asking_long dll b symbol (Name text hint) use_kind rest even =
+      ap (λ ps. length (filled b.addresses (contributions machine linked Addresses ps))) (placed-asking machine dll b symbol (Name text hint) use_kind rest even)
+      ∙ first_long b.addresses (thunk_width machine) (thunk_linked machine dll linked b symbol (Name text hint) use_kind) (contributions machine linked Addresses (placed_from (ends_of_asking machine b (Name text hint)) rest))
+      (length-thunk_linked machine dll linked b symbol (Name text hint) use_kind)
+
+  askings_long : (dll : List ℕ) (es : List ExportView) (b : Bases) (rest : List Object) → AreWide machine b →
+      length (table_from b (behind_descriptor machine dll es rest)) ≡ thunk_width machine * (length es + 1) + length (table_from (ends_of_askings machine b es) rest)
+  unfolding ends_of_askings with_section_symbols object_of null_thunk entries_of name_text
+  askings_long dll [] b rest even =
+      ap (λ ps. length (filled b.addresses (contributions machine linked Addresses ps))) (placed-null_thunk machine dll b rest even)
+      ∙ first_long b.addresses (thunk_width machine) (zeros (thunk_width machine)) (contributions machine linked Addresses (placed_from (ends_of_null_thunk machine b) rest)) (length-replicate {A = ℕ} (thunk_width machine) 0)
+      ∙ (let one : thunk_width machine * (0 + 1) ≡ thunk_width machine = omega arith in ap (λ n. n + length (table_from (ends_of_null_thunk machine b) rest)) (sym one))
+  askings_long dll (e ∷ es) b rest even =
+      let ask : Ask = ask_in Msvc machine e in
+      let later : Bases = ends_of_asking machine b ask in
+      asking_long dll b (short_import_symbol e) ask (use_for e) (behind_descriptor machine dll es rest) even
+      ∙ ap (λ n. thunk_width machine + n) (askings_long dll es later rest (wide_asking machine b ask even))
+      ∙ count_on (thunk_width machine) (length es) (length (table_from (ends_of_askings machine later es) rest))
+
+  msvc_long : (dll : List ℕ) (es : List ExportView) (b : Bases) (rest : List Object) → AreWide machine b →
+      length (table_from b (objects_of machine Msvc dll es rest)) ≡ thunk_width machine * (length es + 1) + length (table_from (ends_in machine Msvc dll b es) rest)
+  unfolding with_section_symbols object_of descriptor entries_of name_text
+  msvc_long dll es b rest even =
+      let later : Bases = ends_of_descriptor dll b in
+      let others : List Contribution = contributions machine linked Addresses (placed_from later (behind_descriptor machine dll es rest)) in
+      ap (λ ps. length (filled b.addresses (contributions machine linked Addresses ps))) (placed-descriptor machine dll b (behind_descriptor machine dll es rest) even)
+      ∙ ap length (filled_first b.addresses 0 [] others refl ∙ ap (λ n. filled n others) (plus_none b.addresses))
+      ∙ askings_long dll es later rest (wide_descriptor machine dll b even)
+
+  gnu_block_long : (dll : List ℕ) (es : List ExportView) (b : Bases) (rest : List Object) → AreWide machine b →
+      length (table_from b (objects_of machine Gnu dll es rest)) ≡ thunk_width machine * (length es + 1) + length (table_from (ends_in machine Gnu dll b es) rest)
+  unfolding head_object
+  gnu_block_long dll es b rest even =
+      let later : Bases = ends_of_head machine dll b in
+      let last : Bases = ends_of_block machine dll b es in
+      let others : List Contribution = contributions machine linked Addresses (placed_from later (after_head machine dll es rest)) in
+      let thunks : List ℕ = thunk_bytes machine dll linked later es in
+      let ends_at : later.addresses + length thunks ≡ (ends_of_all machine dll later es).addresses = addresses_end machine dll linked later es in
+      let counted : (ends_of_all machine dll later es).addresses ≡ later.addresses + thunk_width machine * (length es + 1) = addresses_after machine dll later es in
+      let long : length thunks ≡ thunk_width machine * (length es + 1) = omega arith in
+      ap (λ ps. length (filled b.addresses (contributions machine linked Addresses ps))) (placed-head machine dll b (after_head machine dll es rest) (wide_aligned machine b even))
+      ∙ ap length (filled_first b.addresses 0 [] others refl ∙ ap (λ n. filled n others) (plus_none b.addresses)
+      ∙ addresses_filled machine dll linked later es rest (aligned_head machine dll b (wide_aligned machine b even)))
+      ∙ length-append thunks (table_from last rest)
+      ∙ ap (λ n. n + length (table_from last rest)) long
+
+  one_long : (flavor : Flavor) (dll : List ℕ) (es : List ExportView) (b : Bases) (rest : List Object) → AreWide machine b →
+      length (table_from b (objects_of machine flavor dll es rest)) ≡ thunk_width machine * (length es + 1) + length (table_from (ends_in machine flavor dll b es) rest)
+  one_long Msvc dll es b rest even = msvc_long dll es b rest even
+  one_long Gnu dll es b rest even = gnu_block_long dll es b rest even
+
+  pub all_long : (blocks : List FlavorBlock) (b : Bases) → AreWide machine b →
+      length (filled b.addresses (contributions machine linked Addresses (placed_from b (all_objects machine blocks [])))) ≡ thunk_width machine * thunks_in (length blocks) blocks
+  all_long [] b even = omega arith
+  all_long (k ∷ blocks) b even =
+      let later : Bases = ends_one machine b k in
+      let split : thunk_width machine * (length k.exports + 1 + thunks_in (length blocks) blocks) ≡ thunk_width machine * (length k.exports + 1) + thunk_width machine * thunks_in (length blocks) blocks =
+      mul-add (thunk_width machine) (length k.exports + 1) (thunks_in (length blocks) blocks) in
+      one_long k.flavor k.dll k.exports b (all_objects machine blocks []) even
+      ∙ ap (λ n. thunk_width machine * (length k.exports + 1) + n) (all_long blocks later (wide_in machine k.flavor k.dll b k.exports even))
+      ∙ sym split

@@ -1,0 +1,310 @@
+-- A loader that writes as it goes finds what was linked, where what it reads is nowhere that it writes.
+use Rattle.std.proofs.Common.{◌≡◌, ℕ, ◌+◌, ◌*◌, ◌-◌, ◌^◌, ◌%◌, ◌<◌, ◌≤◌, false, List, [], ◌∷◌, ◌++◌, length, Some, refl, ap, sym, ◌∙◌, subst, inl, inr, arith, if◌then◌else◌}
+use Rattle.std.specs.Prelude.{slice_index}
+use Rattle.std.specs.List.{AllByRecursion}
+use Rattle.std.proofs.Math.Nat.{mul-add}
+use Rattle.std.proofs.lemmas.Bool.{cases_Bool, false_from_ne_true}
+use Rattle.std.proofs.lemmas.List.{append_assoc}
+use Rattle.implib.specs.Import.{Ask, Name, Ordinal}
+use Rattle.implib.specs.Link.Image.{Range, byte_at, is_in, range_end}
+use Rattle.implib.specs.Link.Load.{BytesAt, NumberAt, TableAt, TextAt, ThunkAsksFor, ThunkAt}
+use Rattle.implib.specs.Members.ImportTables.{zeros}
+use Rattle.implib.proofs.Link.Linked.{all_append}
+use Rattle.implib.proofs.Link.Loading.{number_once, text_led_to, text_once}
+use Rattle.implib_link.specs.Directory.{DirectoryAt, Imported, StopsAt, WalkFinds}
+use Rattle.implib_link.specs.Gnu.Loaded.{Writes, entries_written}
+use Rattle.implib_link.specs.Gnu.Writing.{AreAlike, FillsTable, WritesAsItGoes}
+use Rattle.implib_link.proofs.Gnu.Directory.{directory_walk}
+use Rattle.implib_link.proofs.Gnu.Keeps.{Keeps, number_kept, text_kept, thunk_kept}
+use Rattle.implib_link.proofs.Gnu.Loaded.{entries_within, thunks_asked, times_next}
+use Rattle.implib_link.proofs.Gnu.Memory.{within_bounds}
+
+-- no byte of these ranges is from one address to another
+unfoldable pub Avoids : List Range → ℕ → ℕ → Type 0
+Avoids beside low high = (a byte : ℕ) → byte_at beside a ≡ Some byte → low ≤ a → a < high → ⊥
+
+-- What a descriptor leads to, and where the address table is that it has.
+pub record DescriptorBeside (beside : List Range) (width descriptor table : ℕ) (i : Imported) : Type 0 where
+  pub lookups : ℕ
+  pub lookups_field : NumberAt beside 4 descriptor lookups
+  pub lookup_table : TableAt beside width lookups i.asks
+  pub name : ℕ
+  pub name_field : NumberAt beside 4 (descriptor + 12) name
+  pub has_name : 0 < name
+  pub name_text : TextAt beside name i.dll
+  pub addresses_field : NumberAt beside 4 (descriptor + 16) table
+  pub has_addresses : 0 < table
+
+-- descriptors of these imports, whose address tables are one behind another
+unfoldable pub DirectoryBeside : List Range → ℕ → ℕ → ℕ → List Imported → Type 0
+DirectoryBeside beside width descriptor table [] = BytesAt beside descriptor (zeros 20)
+DirectoryBeside beside width descriptor table (i ∷ others) =
+    DescriptorBeside beside width descriptor table i × DirectoryBeside beside width (descriptor + 20) (table + width * (length i.asks + 1)) others
+
+-- The memory that is left.
+
+unfoldable pub table_filled : ℕ → ℕ → (Ask → List ℕ) → List Ask → List Range → List Range
+table_filled width entry gives [] memory = memory
+table_filled width entry gives (ask ∷ asks) memory = table_filled width (entry + width) gives asks (record { start = entry; bytes = gives ask } ∷ memory)
+
+unfoldable pub all_filled : ℕ → (List ℕ → Ask → List ℕ) → ℕ → List Imported → List Range → List Range
+all_filled width gives table [] memory = memory
+all_filled width gives table (i ∷ imports) memory =
+    all_filled width gives (table + width * (length i.asks + 1)) imports (table_filled width table (gives i.dll) i.asks memory)
+
+ask_once : (image : List Range) (width thunk : ℕ) (first second : Ask) → ThunkAsksFor image width thunk first → ThunkAsksFor image width thunk second → first ≡ second
+unfolding ThunkAsksFor
+ask_once image width thunk (Ordinal n) (Ordinal m) first second = ap Ordinal (sym first.1 ∙ second.1)
+ask_once image width thunk (Ordinal n) (Name text hint) first second = let high = first.0 in let low = second.0 in absurd (omega arith)
+ask_once image width thunk (Name text hint) (Ordinal n) first second = let low = first.0 in let high = second.0 in absurd (omega arith)
+ask_once image width thunk (Name text hint) (Name other number) first second =
+    let same_text : text ≡ other = text_once image text other (thunk % 2 ^ 31 + 2) first.2.no_nul second.2.no_nul first.2.located second.2.located in
+    let same_hint : hint ≡ number = number_once image 2 (thunk % 2 ^ 31) hint number first.1 second.1 in
+    cc
+
+-- a thunk asks for one thing
+thunk_once : (image : List Range) (width a : ℕ) (first second : Ask) → ThunkAt image width a first → ThunkAt image width a second → first ≡ second
+thunk_once image width a first second x y =
+    let thunks : x.thunk ≡ y.thunk = number_once image width a x.thunk y.thunk x.located y.located in
+    ask_once image width y.thunk first second (subst (λ t. ThunkAsksFor image width t first) thunks x.asks) y.asks
+
+same_asks : (x y : Ask) (xs ys : List Ask) → x ≡ y → xs ≡ ys → x ∷ xs ≡ y ∷ ys
+same_asks x y xs ys first rest = cc
+
+same_imports : (first second : Imported) (firsts seconds : List Imported) → first.dll ≡ second.dll → first.asks ≡ second.asks → firsts ≡ seconds →
+    first ∷ firsts ≡ second ∷ seconds
+same_imports first second firsts seconds dll asks others =
+    ap (λ d. record { dll = d; asks = first.asks } ∷ firsts) dll
+    ∙ ap (λ a. record { dll = second.dll; asks = a } ∷ firsts) asks
+    ∙ ap (λ rest. second ∷ rest) others
+
+not_zero : (n m : ℕ) → n ≡ m → 0 < n → m ≡ 0 → ⊥
+not_zero n m same above none = omega arith
+
+table_next : (a w n m : ℕ) → a + w * (n + 1) + w * m ≡ a + w * (n + 1 + m)
+table_next a w n m = let split : w * (n + 1 + m) ≡ w * (n + 1) + w * m = mul-add w (n + 1) m in omega arith
+
+before_next : (a w n : ℕ) → a + w * n ≤ a + w * (n + 1)
+before_next a w n = let split : w * (n + 1) ≡ w * n + w * 1 = mul-add w n 1 in omega arith
+
+module _ (beside : List Range) (low high width : ℕ) (avoids : Avoids beside low high) where
+  -- what is written between the two addresses leaves these ranges as they are
+  keeps_behind : (memory : List Range) (r : Range) → Keeps beside memory → low ≤ r.start → range_end r ≤ high → Keeps beside (r ∷ memory)
+  unfolding Keeps Avoids
+  keeps_behind memory r keeps from to a byte is =
+      elim (cases_Bool (is_in a r)) [
+        | inl within ↦
+            let bounds = within_bounds a r within in
+            let above : r.start ≤ a = bounds.0 in
+            let below : a < range_end r = bounds.1 in
+            absurd (avoids a byte is (omega arith) (omega arith))
+        | inr outside ↦ rw outside (keeps a byte is)
+      ]
+
+  module _ (gives : Ask → List ℕ) (wide : (ask : Ask) → length (gives ask) ≡ width) where
+    table_keeps : (asks : List Ask) (entry : ℕ) (memory : List Range) → Keeps beside memory → low ≤ entry → entry + width * length asks ≤ high →
+        Keeps beside (table_filled width entry gives asks memory)
+    unfolding table_filled
+    table_keeps [] entry memory keeps from to = keeps
+    table_keeps (x ∷ asks) entry memory keeps from to =
+        let long : length (gives x) ≡ width = wide x in
+        let product : entry + width + width * length asks ≡ entry + width * length (x ∷ asks) = times_next entry width (length asks) in
+        table_keeps asks (entry + width) (record { start = entry; bytes = gives x } ∷ memory)
+        (keeps_behind memory (record { start = entry; bytes = gives x }) keeps from (omega arith)) (omega arith) (omega arith)
+
+    fills_once : (asks found : List Ask) (thunk entry : ℕ) (memory after : List Range) → Keeps beside memory → low ≤ entry → entry + width * length asks ≤ high →
+        TableAt beside width thunk asks → FillsTable width gives thunk entry memory found after →
+        (found ≡ asks) × (after ≡ table_filled width entry gives asks memory)
+    unfolding TableAt FillsTable table_filled
+    fills_once [] [] thunk entry memory after keeps from to table fills = (refl, fills.1)
+    fills_once [] (y ∷ found) thunk entry memory after keeps from to table fills =
+        absurd (fills.0.not_zero (number_once memory width thunk fills.0.thunk 0 fills.0.located (number_kept beside memory keeps width thunk 0 table)))
+    fills_once (x ∷ asks) [] thunk entry memory after keeps from to table fills =
+        let kept = thunk_kept beside memory keeps width thunk x table.0 in
+        absurd (kept.not_zero (number_once memory width thunk kept.thunk 0 kept.located fills.0))
+    fills_once (x ∷ asks) (y ∷ found) thunk entry memory after keeps from to table fills =
+        let same : y ≡ x = thunk_once memory width thunk y x fills.0 (thunk_kept beside memory keeps width thunk x table.0) in
+        let long : length (gives x) ≡ width = wide x in
+        let product : entry + width + width * length asks ≡ entry + width * length (x ∷ asks) = times_next entry width (length asks) in
+        let later = fills_once asks found (thunk + width) (entry + width) (record { start = entry; bytes = gives x } ∷ memory) after
+        (keeps_behind memory (record { start = entry; bytes = gives x }) keeps from (omega arith)) (omega arith) (omega arith) table.1
+        (subst (λ (z : Ask). FillsTable width gives (thunk + width) (entry + width) (record { start = entry; bytes = gives z } ∷ memory) found after) same fills.1) in
+        (same_asks y x found asks same later.0, later.1)
+
+    can_fill : (asks : List Ask) (thunk entry : ℕ) (memory : List Range) → Keeps beside memory → low ≤ entry → entry + width * length asks ≤ high →
+        TableAt beside width thunk asks → FillsTable width gives thunk entry memory asks (table_filled width entry gives asks memory)
+    unfolding TableAt FillsTable table_filled
+    can_fill [] thunk entry memory keeps from to table = (number_kept beside memory keeps width thunk 0 table, refl)
+    can_fill (x ∷ asks) thunk entry memory keeps from to table =
+        let long : length (gives x) ≡ width = wide x in
+        let product : entry + width + width * length asks ≡ entry + width * length (x ∷ asks) = times_next entry width (length asks) in (
+          thunk_kept beside memory keeps width thunk x table.0,
+          can_fill asks (thunk + width) (entry + width) (record { start = entry; bytes = gives x } ∷ memory)
+              (keeps_behind memory (record { start = entry; bytes = gives x }) keeps from (omega arith)) (omega arith) (omega arith) table.1,
+        )
+
+  -- the null descriptor stops the loader
+  null_stops : (descriptor : ℕ) → BytesAt beside descriptor (zeros 20) → StopsAt beside descriptor
+  unfolding DirectoryAt WalkFinds
+  null_stops descriptor null = directory_walk beside width descriptor [] null
+
+  module _ (gives : List ℕ → Ask → List ℕ) (wide : (dll : List ℕ) (ask : Ask) → length (gives dll ask) ≡ width) where
+    pub runs_once : (imports found : List Imported) (descriptor table : ℕ) (memory after : List Range) → Keeps beside memory → low ≤ table →
+        table + width * thunks_asked (length imports) imports ≤ high → DirectoryBeside beside width descriptor table imports →
+        WritesAsItGoes width gives descriptor memory found after → (found ≡ imports) × (after ≡ all_filled width gives table imports memory)
+    unfolding DirectoryBeside WritesAsItGoes all_filled
+    runs_once [] [] descriptor table memory after keeps from to directory runs = (refl, runs.1)
+    runs_once [] (y ∷ found) descriptor table memory after keeps from to directory (between, (by, later)) =
+        let stops : StopsAt beside descriptor = null_stops descriptor directory in
+        elim stops [
+          | inl none ↦ absurd (not_zero by.name by.name refl by.has_name (number_once memory 4 (descriptor + 12) by.name 0 by.name_field (number_kept beside memory keeps 4 (descriptor + 12) 0 none)))
+          | inr none ↦ absurd (not_zero by.addresses by.addresses refl by.has_addresses (number_once memory 4 (descriptor + 16) by.addresses 0 by.addresses_field (number_kept beside memory keeps 4 (descriptor + 16) 0 none)))
+        ]
+    runs_once (i ∷ imports) [] descriptor table memory after keeps from to (own, others) runs =
+        elim runs.0 [
+          | inl none ↦ absurd (not_zero own.name own.name refl own.has_name (number_once memory 4 (descriptor + 12) own.name 0 (number_kept beside memory keeps 4 (descriptor + 12) own.name own.name_field) none))
+          | inr none ↦ absurd (not_zero table table refl own.has_addresses (number_once memory 4 (descriptor + 16) table 0 (number_kept beside memory keeps 4 (descriptor + 16) table own.addresses_field) none))
+        ]
+    runs_once (i ∷ imports) (y ∷ found) descriptor table memory after keeps from to (own, others) (between, (by, later)) =
+        let dll : y.dll ≡ i.dll =
+        text_led_to memory (descriptor + 12) by.name own.name y.dll i.dll by.name_field (number_kept beside memory keeps 4 (descriptor + 12) own.name own.name_field) by.name_text
+        (text_kept beside memory keeps own.name i.dll own.name_text) in
+        let begins : by.addresses ≡ table =
+        number_once memory 4 (descriptor + 16) by.addresses table by.addresses_field (number_kept beside memory keeps 4 (descriptor + 16) table own.addresses_field) in
+        let reads : by.lookups ≡ own.lookups =
+        number_once memory 4 descriptor by.lookups own.lookups by.lookups_field (number_kept beside memory keeps 4 descriptor own.lookups own.lookups_field) in
+        let fills : FillsTable width (gives i.dll) own.lookups table memory y.asks between =
+        subst (λ d. FillsTable width (gives d) own.lookups table memory y.asks between) dll
+        (subst (λ n. FillsTable width (gives y.dll) own.lookups n memory y.asks between) begins
+        (subst (λ n. FillsTable width (gives y.dll) n by.addresses memory y.asks between) reads by.fills)) in
+        let next = table_next table width (length i.asks) (thunks_asked (length imports) imports) in
+        let before = before_next table width (length i.asks) in
+        let filled = fills_once (gives i.dll) (wide i.dll) i.asks y.asks own.lookups table memory between keeps from (omega arith) own.lookup_table fills in
+        let rest = runs_once imports found (descriptor + 20) (table + width * (length i.asks + 1)) (table_filled width table (gives i.dll) i.asks memory) after
+        (table_keeps (gives i.dll) (wide i.dll) i.asks table memory keeps from (omega arith)) (omega arith) (omega arith) others
+        (subst (λ m. WritesAsItGoes width gives (descriptor + 20) m found after) filled.1 later) in
+        (same_imports y i found imports dll filled.0 rest.0, rest.1)
+
+    pub can_run : (imports : List Imported) (descriptor table : ℕ) (memory : List Range) → Keeps beside memory → low ≤ table →
+        table + width * thunks_asked (length imports) imports ≤ high → DirectoryBeside beside width descriptor table imports →
+        WritesAsItGoes width gives descriptor memory imports (all_filled width gives table imports memory)
+    unfolding DirectoryBeside WritesAsItGoes all_filled
+    can_run [] descriptor table memory keeps from to directory =
+        let stops : StopsAt beside descriptor = null_stops descriptor directory in (
+          elim stops [
+            | inl none ↦ inl (number_kept beside memory keeps 4 (descriptor + 12) 0 none)
+            | inr none ↦ inr (number_kept beside memory keeps 4 (descriptor + 16) 0 none)
+          ],
+          refl,
+        )
+    can_run (i ∷ imports) descriptor table memory keeps from to (own, others) =
+        let next = table_next table width (length i.asks) (thunks_asked (length imports) imports) in
+        let before = before_next table width (length i.asks) in (
+          table_filled width table (gives i.dll) i.asks memory,
+          (
+            record {
+              name = own.name;
+              name_field = number_kept beside memory keeps 4 (descriptor + 12) own.name own.name_field;
+              has_name = own.has_name;
+              name_text = text_kept beside memory keeps own.name i.dll own.name_text;
+              addresses = table;
+              addresses_field = number_kept beside memory keeps 4 (descriptor + 16) table own.addresses_field;
+              has_addresses = own.has_addresses;
+              lookups = own.lookups;
+              lookups_field = number_kept beside memory keeps 4 descriptor own.lookups own.lookups_field;
+              fills = can_fill (gives i.dll) (wide i.dll) i.asks own.lookups table memory keeps from (omega arith) own.lookup_table;
+            },
+            can_run imports (descriptor + 20) (table + width * (length i.asks + 1)) (table_filled width table (gives i.dll) i.asks memory)
+                (table_keeps (gives i.dll) (wide i.dll) i.asks table memory keeps from (omega arith)) (omega arith) (omega arith) others,
+          ),
+        )
+
+-- What is written in the order of the entries is what is written all at once.
+
+before_start : (a : ℕ) (r : Range) → a < r.start → is_in a r ≡ false
+before_start a r before =
+    false_from_ne_true (is_in a r) (λ within.
+    let bounds = within_bounds a r within in
+    let above : r.start ≤ a = bounds.0 in
+    omega arith)
+
+-- a range in front of later ones, or behind them
+swapped : (low high : ℕ) (xs memory : List Range) (r : Range) (a : ℕ) → range_end r ≤ low → AllByRecursion (λ x. (low ≤ x.start) × (range_end x ≤ high)) xs →
+    byte_at (xs ++ (r ∷ memory)) a ≡ byte_at (r ∷ (xs ++ memory)) a
+swapped low high [] memory r a before within = refl
+swapped low high (x ∷ xs) memory r a before within =
+    let later = swapped low high xs memory r a before within.1 in
+    elim (cases_Bool (is_in a r)) [
+      | inl is ↦
+          let bounds = within_bounds a r is in
+          let below : a < range_end r = bounds.1 in
+          let from : low ≤ x.start = within.0.0 in
+          rw (before_start a x (omega arith)) later
+      | inr not ↦
+          let same : byte_at (xs ++ (r ∷ memory)) a ≡ byte_at (xs ++ memory) a = rw not at later in
+          rw not (ap (λ o. if is_in a x then Some (slice_index x.bytes (a - x.start)) else o) same)
+    ]
+
+pub same_behind : (xs first second : List Range) (a : ℕ) → byte_at first a ≡ byte_at second a → byte_at (xs ++ first) a ≡ byte_at (xs ++ second) a
+same_behind [] first second a same = same
+same_behind (x ∷ xs) first second a same = ap (λ o. if is_in a x then Some (slice_index x.bytes (a - x.start)) else o) (same_behind xs first second a same)
+
+module _ (width : ℕ) (gives : Ask → List ℕ) (wide : (ask : Ask) → length (gives ask) ≡ width) where
+  table_alike : (asks : List Ask) (entry : ℕ) (memory : List Range) (a : ℕ) →
+      byte_at (table_filled width entry gives asks memory) a ≡ byte_at (entries_written width entry gives asks ++ memory) a
+  unfolding table_filled entries_written
+  table_alike [] entry memory a = refl
+  table_alike (x ∷ asks) entry memory a =
+      let r : Range = record { start = entry; bytes = gives x } in
+      let long : length (gives x) ≡ width = wide x in
+      table_alike asks (entry + width) (r ∷ memory) a
+      ∙ swapped (entry + width) (entry + width + width * length asks) (entries_written width (entry + width) gives asks) memory r a (omega arith)
+      (entries_within width gives wide asks (entry + width) (entry + width) (entry + width + width * length asks) (omega arith) (omega arith))
+
+-- tables in front of later ones, or behind them
+all_swapped : (first middle high : ℕ) (xs ys memory : List Range) (a : ℕ) → AllByRecursion (λ x. (first ≤ x.start) × (range_end x ≤ middle)) xs →
+    AllByRecursion (λ x. (middle ≤ x.start) × (range_end x ≤ high)) ys → byte_at (ys ++ (xs ++ memory)) a ≡ byte_at (xs ++ (ys ++ memory)) a
+all_swapped first middle high [] ys memory a before behind = refl
+all_swapped first middle high (x ∷ xs) ys memory a before behind =
+    swapped middle high ys (xs ++ memory) x a before.0.1 behind
+    ∙ ap (λ o. if is_in a x then Some (slice_index x.bytes (a - x.start)) else o) (all_swapped first middle high xs ys memory a before.1 behind)
+
+-- what a loader writes all at once that is given the directory's imports: within these tables, and alike
+record WrittenAlike (width : ℕ) (gives : List ℕ → Ask → List ℕ) (imports : List Imported) (table : ℕ) (written : List Range) : Type 0 where
+  within : AllByRecursion (λ x. (table ≤ x.start) × (range_end x ≤ table + width * thunks_asked (length imports) imports)) written
+  alike : (memory : List Range) → AreAlike (all_filled width gives table imports memory) (written ++ memory)
+
+low_before : (low next high : ℕ) (xs : List Range) → low ≤ next → AllByRecursion (λ x. (next ≤ x.start) × (range_end x ≤ high)) xs → AllByRecursion (λ x. (low ≤ x.start) × (range_end x ≤ high)) xs
+low_before low next high [] before all = tt
+low_before low next high (x ∷ xs) before all = let from : next ≤ x.start = all.0.0 in ((omega arith, all.0.1), low_before low next high xs before all.1)
+
+module _ (beside image : List Range) (keeps : Keeps beside image) (width : ℕ) (gives : List ℕ → Ask → List ℕ) (wide : (dll : List ℕ) (ask : Ask) → length (gives dll ask) ≡ width) where
+  alike_by : (imports : List Imported) (descriptor table : ℕ) (written : List Range) → DirectoryBeside beside width descriptor table imports → Writes image width gives descriptor imports written →
+      WrittenAlike width gives imports table written
+  unfolding DirectoryBeside Writes all_filled
+  alike_by [] descriptor table written directory writes =
+      subst (WrittenAlike width gives [] table) (sym writes) (record { within = tt; alike = λ memory a. refl })
+  alike_by (i ∷ imports) descriptor table written (own, others) (begin, (field, (behind, (is, later)))) =
+      let same : begin ≡ table = number_once image 4 (descriptor + 16) begin table field (number_kept beside image keeps 4 (descriptor + 16) table own.addresses_field) in
+      let next : ℕ = table + width * (length i.asks + 1) in
+      let high : ℕ = table + width * (length i.asks + 1 + thunks_asked (length imports) imports) in
+      let before = before_next table width (length i.asks) in
+      let sum : next + width * thunks_asked (length imports) imports ≡ high = table_next table width (length i.asks) (thunks_asked (length imports) imports) in
+      let entries : List Range = entries_written width table (gives i.dll) i.asks in
+      let rest = alike_by imports (descriptor + 20) next behind others later in
+      let within : AllByRecursion (λ x. (next ≤ x.start) × (range_end x ≤ high)) behind = subst (λ h. AllByRecursion (λ x. (next ≤ x.start) × (range_end x ≤ h)) behind) sum rest.within in
+      subst (WrittenAlike width gives (i ∷ imports) table) (sym (is ∙ ap (λ n. entries_written width n (gives i.dll) i.asks ++ behind) same)) (record {
+        within = all_append (λ x. (table ≤ x.start) × (range_end x ≤ high)) entries behind
+            (entries_within width (gives i.dll) (wide i.dll) i.asks table table high (omega arith) (omega arith))
+            (low_before table next high behind (omega arith) within);
+        alike = λ memory a.
+            rest.alike (table_filled width table (gives i.dll) i.asks memory) a
+            ∙ same_behind behind (table_filled width table (gives i.dll) i.asks memory) (entries ++ memory) a (table_alike width (gives i.dll) (wide i.dll) i.asks table memory a)
+            ∙ all_swapped table next high entries behind memory a
+            (entries_within width (gives i.dll) (wide i.dll) i.asks table table next (omega arith) (omega arith)) within
+            ∙ ap (λ rs. byte_at rs a) (sym (append_assoc entries behind memory));
+      })
+
+  pub left_alike : (imports : List Imported) (descriptor table : ℕ) (written memory : List Range) → DirectoryBeside beside width descriptor table imports → Writes image width gives descriptor imports written →
+      AreAlike (all_filled width gives table imports memory) (written ++ memory)
+  left_alike imports descriptor table written memory directory writes = (alike_by imports descriptor table written directory writes).alike memory

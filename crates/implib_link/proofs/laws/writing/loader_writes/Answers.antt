@@ -1,0 +1,5 @@
+use Rattle.implib_link.proofs.Gnu.Writing.{writer_ends, writer_loads}
+use Rattle.implib_link.proofs.laws.writing.loader_writes.Goals as goal
+
+pub returns : goal.returns
+returns c = record { loads = writer_loads; ends = writer_ends }

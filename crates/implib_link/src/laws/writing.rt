@@ -1,0 +1,81 @@
+//! The law of loaders that write as they go.
+
+ghost use Rattle.implib.specs.Link.Image.{Range, image_of};
+ghost use Rattle.implib.specs.Import.{Ask};
+ghost use Rattle.implib.specs.Link.LinkedMembers.{IsMade, LinkInput};
+ghost use Rattle.implib.specs.Members.ImportTables.{thunk_width};
+ghost use Rattle.implib.specs.Formats.Object.{Object};
+ghost use Rattle.implib.specs.Link.Placement.{Bases, placed_from};
+ghost use Rattle.implib.specs.declared.machine.MachineType.{MachineType};
+ghost use Rattle.implib_link.specs.Directory.{Imported, imported};
+ghost use Rattle.implib_link.specs.Flavors.Loaded.{AreLoaded};
+ghost use Rattle.implib_link.specs.Flavors.Program.{FlavorInput, IsFlavorProgram, IsMadeFor, imported_in};
+ghost use Rattle.implib_link.specs.Gnu.Loaded.{IsLoaded};
+ghost use Rattle.implib_link.specs.Gnu.Program.{IsProgram};
+ghost use Rattle.implib_link.specs.Gnu.Reading.{ReadsAndWrites};
+ghost use Rattle.implib_link.specs.Gnu.Writing.{AreAlike, WritesAsItGoes};
+ghost use Rattle.implib_link.specs.Worked.Writing.{WorkedWritings};
+ghost use Rattle.std.specs.List.{AllByRecursion};
+ghost use Rattle.std.specs.Prelude.{◌≡◌, ◌++◌, ℕ, List, length, map};
+
+/// A loader that reads a program's image by the lookup tables, and writes each entry of the address
+/// tables before it reads on, stops at the null descriptor. It has asked for just the imports of
+/// the program, each once and in their order, and it leaves, byte for byte, what a loader leaves
+/// that first reads and then writes. There is such a loader.
+///
+/// What a DLL gives has as many bytes as an entry.
+pub fn loader_writes()
+    ensures loads { (machine : MachineType) (bases : Bases) (inputs : List LinkInput)
+        (objects : List Object)
+        (gives : List ℕ → Ask → List ℕ) (found : List Imported) (after : List Range) →
+        AllByRecursion (IsMade machine) inputs →
+        IsProgram machine bases inputs objects →
+        ((dll : List ℕ) (ask : Ask) → length (gives dll ask) ≡ thunk_width machine) →
+        WritesAsItGoes (thunk_width machine) gives bases.descriptors
+        (image_of machine bases (placed_from bases objects)) found after →
+        (found ≡ map (imported machine) inputs) × ((written : List Range)
+        × (ReadsAndWrites (image_of machine bases (placed_from bases objects))
+        (thunk_width machine) gives (length inputs) bases.descriptors written
+        × (IsLoaded machine bases inputs objects gives written
+        × AreAlike after (written ++ image_of machine bases (placed_from bases objects))))) }
+    ensures ends { (machine : MachineType) (bases : Bases) (inputs : List LinkInput)
+        (objects : List Object)
+        (gives : List ℕ → Ask → List ℕ) →
+        AllByRecursion (IsMade machine) inputs →
+        IsProgram machine bases inputs objects →
+        ((dll : List ℕ) (ask : Ask) → length (gives dll ask) ≡ thunk_width machine) →
+        (after : List Range) × WritesAsItGoes (thunk_width machine) gives bases.descriptors
+        (image_of machine bases (placed_from bases objects)) (map (imported machine) inputs) after }
+{}
+
+/// The same of a program of both flavours.
+pub fn loader_of_flavors_writes()
+    ensures loads { (machine : MachineType) (bases : Bases) (inputs : List FlavorInput)
+        (objects : List Object)
+        (gives : List ℕ → Ask → List ℕ) (found : List Imported) (after : List Range) →
+        AllByRecursion (IsMadeFor machine) inputs →
+        IsFlavorProgram machine bases inputs objects →
+        ((dll : List ℕ) (ask : Ask) → length (gives dll ask) ≡ thunk_width machine) →
+        WritesAsItGoes (thunk_width machine) gives bases.descriptors
+        (image_of machine bases (placed_from bases objects)) found after →
+        (found ≡ map (imported_in machine) inputs) × ((written : List Range)
+        × (ReadsAndWrites (image_of machine bases (placed_from bases objects))
+        (thunk_width machine) gives (length inputs) bases.descriptors written
+        × (AreLoaded machine bases inputs objects gives written
+        × AreAlike after (written ++ image_of machine bases (placed_from bases objects))))) }
+    ensures ends { (machine : MachineType) (bases : Bases) (inputs : List FlavorInput)
+        (objects : List Object)
+        (gives : List ℕ → Ask → List ℕ) →
+        AllByRecursion (IsMadeFor machine) inputs →
+        IsFlavorProgram machine bases inputs objects →
+        ((dll : List ℕ) (ask : Ask) → length (gives dll ask) ≡ thunk_width machine) →
+        (after : List Range) × WritesAsItGoes (thunk_width machine) gives bases.descriptors
+        (image_of machine bases (placed_from bases objects)) (map (imported_in machine) inputs) after }
+{}
+
+/// Such a loader leaves just this of the programs that were linked by hand, on each machine. Of an
+/// image whose address table lies on its lookup table it asks less than one that first reads, and
+/// without a null descriptor it does not stop.
+pub fn worked_writings()
+    ensures { WorkedWritings }
+{}
