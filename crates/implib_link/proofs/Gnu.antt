@@ -28,3 +28,6 @@ pub mod MovedCode
 pub mod Rebased
 pub mod Pointers
 pub mod Pages
+pub mod Runs
+pub mod Whole
+pub mod Beside
