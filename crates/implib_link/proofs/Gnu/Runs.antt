@@ -1,7 +1,7 @@
 -- Objects behind others, of which is known only that their relocations are within their sections.
-use Rattle.std.proofs.Common.{◌≡◌, ℕ, ◌+◌, ◌-◌, List, [], ◌∷◌, ◌++◌, length, map, Option, Some, None, refl, ap, sym, ◌∙◌, subst, inl, inr, false, true, arith}
+use Rattle.std.proofs.Common.{◌≡◌, ℕ, ◌+◌, ◌-◌, List, [], ◌∷◌, ◌++◌, length, Option, Some, None, refl, ap, sym, ◌∙◌, subst, inl, inr, false, arith}
 use Rattle.std.specs.Prelude.{bytes_eq}
-use Rattle.std.specs.List.{AllByRecursion, filter, filter_map, flat_map, list_any}
+use Rattle.std.specs.List.{AllByRecursion, filter_map, list_any}
 use Rattle.std.proofs.lemmas.Bool.{cases_Bool}
 use Rattle.std.proofs.lemmas.Grind.{flat_map-append}
 use Rattle.std.proofs.lemmas.List.{append_assoc}
@@ -13,7 +13,7 @@ use Rattle.implib.specs.Members.ImportTables.{thunk_width, zeros}
 use Rattle.implib.specs.Formats.Object.{Object, ObjectSection}
 use Rattle.implib.specs.Link.Image.{Contribution, Range, contribution_at, contributions, contributions_in, contributions_of, filled, relocated}
 use Rattle.implib.specs.Link.Load.{BytesAt}
-use Rattle.implib.specs.Link.Placement.{Addresses, Bases, Descriptors, DllNames, Group, HintNames, Lookups, Placed, address_after, alignment, base_of, end_after, ends_after, group_named, next_multiple, placed_from, same_group, section_address_of, section_addresses_of}
+use Rattle.implib.specs.Link.Placement.{Addresses, Bases, Descriptors, DllNames, Group, HintNames, Lookups, Placed, address_after, base_of, end_after, ends_after, group_named, placed_from, same_group, section_address_of, section_addresses_of}
 use Rattle.implib.specs.Link.Resolution.{SymbolDefinition, defined_by_entry, definitions, definitions_of}
 use Rattle.implib.proofs.Link.Linked.{LocatedFrom, aligned_block, ends_of_block}
 use Rattle.implib.proofs.Link.LinkedBlocks.{Block, blocks_objects, ends_of_blocks}

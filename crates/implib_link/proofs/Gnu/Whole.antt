@@ -1,10 +1,10 @@
 -- What the objects of other libraries leave behind them, by their own contributions.
-use Rattle.std.proofs.Common.{◌≡◌, ℕ, ◌+◌, ◌*◌, ◌%◌, true, List, [], ◌∷◌, ◌++◌, length, Option, Some, None, refl, ap, sym, ◌∙◌, inl, inr, arith}
-use Rattle.std.specs.Prelude.{◌==◌, ◌&&◌, ◌||◌}
-use Rattle.std.specs.List.{AllByRecursion, list_all}
+use Rattle.std.proofs.Common.{◌≡◌, ℕ, ◌+◌, ◌*◌, ◌%◌, true, List, [], ◌∷◌, length, Option, Some, None, ap, sym, ◌∙◌, inl, inr, arith}
+use Rattle.std.specs.Prelude.{◌==◌, ◌||◌}
+use Rattle.std.specs.List.{list_all}
 use Rattle.std.proofs.lemmas.Bool.{and_parts, cases_Bool, eqb-true}
 use Rattle.implib.specs.Formats.Object.{Object, ObjectSection}
-use Rattle.implib.specs.Link.Placement.{Addresses, Bases, Descriptors, DirectoryEnds, DllNames, Group, HintNames, Lookups, alignment, group_named, next_multiple, same_group}
+use Rattle.implib.specs.Link.Placement.{Addresses, Bases, Descriptors, DirectoryEnds, DllNames, Group, HintNames, Lookups, alignment, group_named, next_multiple}
 use Rattle.implib.proofs.Link.Placement.{AreAligned}
 use Rattle.implib_link.specs.Directory.{Imported}
 use Rattle.implib_link.specs.Gnu.Beside.{AreWhole, ends_behind, keeps_fours, keeps_table, row_bytes, rows_of_objects, rows_of_sections}
@@ -18,9 +18,9 @@ stays step n one even =
     elim (cases_Bool (step == 1)) [
       | inl is ↦ rw (eqb-true step 1 is) (omega arith)
       | inr is ↦ elim (cases_Bool (step == 2)) [
-          | inl is_2 ↦ rw (eqb-true step 2 is_2) (omega arith)
-          | inr is_2 ↦ rw (eqb-true step 4 (rw (is, is_2) at one)) (omega arith)
-        ]
+        | inl is_2 ↦ rw (eqb-true step 2 is_2) (omega arith)
+        | inr is_2 ↦ rw (eqb-true step 4 (rw (is, is_2) at one)) (omega arith)
+      ]
     ]
 
 -- the next multiple of 1, 2, 4 or 8 behind a multiple of 4 is one
@@ -30,12 +30,12 @@ goes_on step n one even =
     elim (cases_Bool (step == 1)) [
       | inl is ↦ rw (eqb-true step 1 is) (omega arith)
       | inr is ↦ elim (cases_Bool (step == 2)) [
-          | inl is_2 ↦ rw (eqb-true step 2 is_2) (omega arith)
-          | inr is_2 ↦ elim (cases_Bool (step == 4)) [
-              | inl is_4 ↦ rw (eqb-true step 4 is_4) (omega arith)
-              | inr is_4 ↦ rw (eqb-true step 8 (rw (is, is_2, is_4) at one)) (omega arith)
-            ]
+        | inl is_2 ↦ rw (eqb-true step 2 is_2) (omega arith)
+        | inr is_2 ↦ elim (cases_Bool (step == 4)) [
+          | inl is_4 ↦ rw (eqb-true step 4 is_4) (omega arith)
+          | inr is_4 ↦ rw (eqb-true step 8 (rw (is, is_2, is_4) at one)) (omega arith)
         ]
+      ]
     ]
 
 sum_even : (n m : ℕ) → n % 4 ≡ 0 → m % 4 ≡ 0 → (n + m) % 4 ≡ 0

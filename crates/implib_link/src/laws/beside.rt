@@ -6,6 +6,7 @@ ghost use Rattle.implib.specs.Formats.Object.{Object};
 ghost use Rattle.implib.specs.declared.machine.MachineType.{MachineType};
 ghost use Rattle.implib_link.specs.Gnu.Beside.{IsProgramBeside, LinksBeside, Run};
 ghost use Rattle.implib_link.specs.Gnu.Program.{IsProgram};
+ghost use Rattle.implib_link.specs.Worked.Beside.{WorkedBeside};
 ghost use Rattle.std.specs.List.{AllByRecursion};
 ghost use Rattle.std.specs.Prelude.{◌∷◌, List, []};
 
@@ -26,4 +27,9 @@ pub fn programs_are_beside_none()
         IsProgram machine bases inputs objects →
         IsProgramBeside machine bases
         (record { objects = []; imports = []; inputs = inputs } ∷ []) objects }
+{}
+
+/// A program of members between two libraries of GNU dlltool, as GNU `ld` wrote it.
+pub fn worked_beside()
+    ensures { WorkedBeside }
 {}
