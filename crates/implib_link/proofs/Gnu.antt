@@ -30,4 +30,4 @@ pub mod Pointers
 pub mod Pages
 pub mod Runs
 pub mod Whole
-pub mod Beside
+pub mod OtherLibraries

@@ -9,4 +9,4 @@ pub mod Bounds
 pub mod Rebased
 pub mod Pointers
 pub mod Pages
-pub mod Beside
+pub mod OtherLibraries

@@ -22,4 +22,4 @@ pub mod Rebased
 pub mod DirectCalls
 pub mod Pointers
 pub mod Pages
-pub mod Beside
+pub mod OtherLibraries

@@ -1,13 +1,13 @@
 //! Laws: what a caller may conclude from the definitions, each as the contract of an empty
 //! function.
 
-pub mod beside;
 pub mod bounds;
 pub mod calls;
 pub mod closed;
 pub mod flavors;
 pub mod loaded;
 pub mod msvc_search;
+pub mod other_libraries;
 pub mod packed;
 pub mod program;
 pub mod reading;

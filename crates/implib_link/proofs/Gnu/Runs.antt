@@ -20,7 +20,7 @@ use Rattle.implib.proofs.Link.LinkedBlocks.{Block, blocks_objects, ends_of_block
 use Rattle.implib.proofs.Link.Placement.{AreAligned, after_head, aligned, aligned_after, aligned_head, ends_of_all, ends_of_export, ends_of_exports, ends_of_head, ends_of_tail, export, head, length-thunk, tail}
 use Rattle.implib.proofs.Link.Ranges.{located_parts}
 use Rattle.std.proofs.lemmas.List.{length-replicate}
-use Rattle.implib_link.specs.Gnu.Beside.{ends_behind}
+use Rattle.implib_link.specs.Gnu.OtherLibraries.{ends_behind}
 use Rattle.implib_link.specs.Gnu.Packed.{end_with, group_end, sections_end}
 use Rattle.implib_link.specs.Gnu.Program.{claimed_names}
 use Rattle.implib_link.proofs.Gnu.Others.{defines_none}

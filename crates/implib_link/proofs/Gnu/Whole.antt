@@ -7,7 +7,7 @@ use Rattle.implib.specs.Formats.Object.{Object, ObjectSection}
 use Rattle.implib.specs.Link.Placement.{Addresses, Bases, Descriptors, DirectoryEnds, DllNames, Group, HintNames, Lookups, alignment, group_named, next_multiple}
 use Rattle.implib.proofs.Link.Placement.{AreAligned}
 use Rattle.implib_link.specs.Directory.{Imported}
-use Rattle.implib_link.specs.Gnu.Beside.{AreWhole, ends_behind, keeps_fours, keeps_table, row_bytes, rows_of_objects, rows_of_sections}
+use Rattle.implib_link.specs.Gnu.OtherLibraries.{AreWhole, ends_behind, keeps_fours, keeps_table, row_bytes, rows_of_objects, rows_of_sections}
 use Rattle.implib_link.specs.Gnu.Packed.{end_with, group_end, sections_end}
 use Rattle.implib_link.proofs.Gnu.Runs.{end_behind}
 

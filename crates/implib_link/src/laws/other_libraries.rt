@@ -4,9 +4,9 @@ ghost use Rattle.implib.specs.Link.LinkedMembers.{IsMade, LinkInput};
 ghost use Rattle.implib.specs.Link.Placement.{Bases};
 ghost use Rattle.implib.specs.Formats.Object.{Object};
 ghost use Rattle.implib.specs.declared.machine.MachineType.{MachineType};
-ghost use Rattle.implib_link.specs.Gnu.Beside.{IsProgramBeside, LinksBeside, Run};
+ghost use Rattle.implib_link.specs.Gnu.OtherLibraries.{IsProgramBeside, LinksBeside, Run};
 ghost use Rattle.implib_link.specs.Gnu.Program.{IsProgram};
-ghost use Rattle.implib_link.specs.Worked.Beside.{WorkedBeside};
+ghost use Rattle.implib_link.specs.Worked.OtherLibraries.{WorkedBeside};
 ghost use Rattle.std.specs.List.{AllByRecursion};
 ghost use Rattle.std.specs.Prelude.{◌∷◌, List, []};
 

@@ -24,7 +24,7 @@ use Rattle.implib.proofs.Link.LinkedMembers.{among_map}
 use Rattle.implib.proofs.Link.Placement.{AreAligned}
 use Rattle.implib.proofs.Link.Ranges.{Among, among_back, among_front}
 use Rattle.implib_link.specs.Directory.{DirectoryAt, Imported, imported}
-use Rattle.implib_link.specs.Gnu.Beside.{AllTaken, AreWhole, DescriptorsAt, IsProgramBeside, LinksBeside, Run, RunLinks, behind_run, ends_behind, imports_of_runs, inputs_of_runs, members_from, members_of_run, objects_of_runs, others_of_runs, rows_before}
+use Rattle.implib_link.specs.Gnu.OtherLibraries.{AllTaken, AreWhole, DescriptorsAt, IsProgramBeside, LinksBeside, Run, RunLinks, behind_run, ends_behind, imports_of_runs, inputs_of_runs, members_from, members_of_run, objects_of_runs, others_of_runs, rows_before}
 use Rattle.implib_link.specs.Gnu.Program.{ClaimsNone, IsProgram, claimed_names, has_tables, linked_symbols, null_descriptor, thunks_before}
 use Rattle.implib_link.proofs.Gnu.Blocks.{aligned_blocks, descriptors_after, nth_block, null_located}
 use Rattle.implib_link.proofs.Gnu.Others.{contributions_kept, definitions_kept}

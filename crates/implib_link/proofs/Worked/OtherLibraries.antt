@@ -18,10 +18,10 @@ use Rattle.implib.specs.Members.Members.{refusal, renamed_refusal}
 use Rattle.implib.specs.Members.WeakExternal.{weak_object}
 use Rattle.implib.proofs.Link.Ranges.{apart_as_they_rise, ends_below}
 use Rattle.implib_link.specs.Directory.{DirectoryAt}
-use Rattle.implib_link.specs.Gnu.Beside.{AllTaken, DescriptorsAt, HoldsFields, IsProgramBeside, imports_of_runs, inputs_of_runs}
+use Rattle.implib_link.specs.Gnu.OtherLibraries.{AllTaken, DescriptorsAt, HoldsFields, IsProgramBeside, imports_of_runs, inputs_of_runs}
 use Rattle.implib_link.specs.Gnu.Program.{ClaimsNone, claimed_names, has_tables, linked_symbols, null_descriptor}
-use Rattle.implib_link.specs.Worked.Beside.{WorkedBeside, aaa, aaa_objects, beside_image, beside_objects, both_runs, caller_bytes, image_written, linker_bases, objects_of, torn_objects, zzz, zzz_objects}
-use Rattle.implib_link.proofs.Gnu.Beside.{links_beside}
+use Rattle.implib_link.specs.Worked.OtherLibraries.{WorkedBeside, aaa, aaa_objects, beside_image, beside_objects, both_runs, caller_bytes, image_written, linker_bases, objects_of, torn_objects, zzz, zzz_objects}
+use Rattle.implib_link.proofs.Gnu.OtherLibraries.{links_beside}
 use Rattle.implib_link.proofs.Worked.Programs.{claims_none_by, distinct_by, opened}
 use Rattle.implib_link.proofs.Worked.RefusedLinks.{are_located, number}
 

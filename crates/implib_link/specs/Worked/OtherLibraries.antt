@@ -13,7 +13,7 @@ use Rattle.implib.specs.Worked.Links.{addresses_of, numbers_from}
 use Rattle.implib.specs.Worked.Members.{of_dll}
 use Rattle.implib.specs.Worked.Statements.{plain_export}
 use Rattle.implib_link.specs.Directory.{DirectoryAt, Imported}
-use Rattle.implib_link.specs.Gnu.Beside.{IsProgramBeside, Run}
+use Rattle.implib_link.specs.Gnu.OtherLibraries.{IsProgramBeside, Run}
 use Rattle.implib_link.specs.Gnu.Program.{null_descriptor}
 use Rattle.implib_link.specs.Worked.Programs.{chosen_input, input_objects}
 
