@@ -33,3 +33,6 @@ pub mod Filling
 pub mod Apart
 pub mod Beside
 pub mod Writing
+pub mod Runs
+pub mod Whole
+pub mod OtherLibraries

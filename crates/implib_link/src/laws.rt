@@ -9,6 +9,7 @@ pub mod flavors;
 pub mod loaded;
 pub mod msvc_archives;
 pub mod msvc_search;
+pub mod other_libraries;
 pub mod packed;
 pub mod program;
 pub mod reading;

@@ -92,7 +92,7 @@ claims_fewer name s entries none =
       | inr is ↦ rw is at none
     ]
 
-defines_none : (name : List ℕ) (section_addresses : List SectionAddress) (entries : List Entry) → list_any (bytes_eq name) (filter_map claimed_name entries) ≡ false →
+pub defines_none : (name : List ℕ) (section_addresses : List SectionAddress) (entries : List Entry) → list_any (bytes_eq name) (filter_map claimed_name entries) ≡ false →
     filter (λ (d : SymbolDefinition). bytes_eq name d.name) (filter_map (defined_by_entry section_addresses) entries) ≡ []
 defines_none name section_addresses [] none = refl
 defines_none name section_addresses (Auxiliary bytes ∷ entries) none = defines_none name section_addresses entries none

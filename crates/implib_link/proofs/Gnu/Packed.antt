@@ -30,7 +30,7 @@ base_with HintNames Descriptors n b = refl
 base_with DllNames Descriptors n b = refl
 base_with group other n b = refl
 
-same_base : (group other : Group) (b : Bases) → same_group group other ≡ true → base_of other b ≡ base_of group b
+pub same_base : (group other : Group) (b : Bases) → same_group group other ≡ true → base_of other b ≡ base_of group b
 same_base Descriptors Descriptors b is = refl
 same_base DirectoryEnds DirectoryEnds b is = refl
 same_base Lookups Lookups b is = refl
@@ -40,7 +40,7 @@ same_base DllNames DllNames b is = refl
 same_base group other b is = cc
 
 -- the end of a group behind a section
-end_of_section : (group : Group) (b : Bases) (s : ObjectSection) (named : Option Group) →
+pub end_of_section : (group : Group) (b : Bases) (s : ObjectSection) (named : Option Group) →
     base_of group (end_after b (address_after b s.flags named) (length s.bytes)) ≡ end_with group (base_of group b) s named
 end_of_section group b s None = refl
 end_of_section group b s (Some other) =
@@ -50,7 +50,7 @@ end_of_section group b s (Some other) =
       | inr is ↦ rw is refl
     ]
 
-end_of_sections : (group : Group) (b : Bases) (sections : List ObjectSection) → base_of group (ends_after b sections) ≡ sections_end group (base_of group b) sections
+pub end_of_sections : (group : Group) (b : Bases) (sections : List ObjectSection) → base_of group (ends_after b sections) ≡ sections_end group (base_of group b) sections
 unfolding sections_end
 end_of_sections group b [] = refl
 end_of_sections group b (s ∷ sections) =
@@ -60,7 +60,7 @@ end_of_sections group b (s ∷ sections) =
 -- Where contributions end.
 
 -- the end of what is filled in from a base on
-span : ℕ → List Contribution → ℕ
+unfoldable pub span : ℕ → List Contribution → ℕ
 span base cs = base + length (filled base cs)
 
 span_nil : (base : ℕ) → span base [] ≡ base
@@ -108,7 +108,7 @@ module _ (machine : MachineType) (linked : List Placed) (group : Group) where
       ∙ span_sections p later sections cs sized.1
       ∙ ap (λ n. span (sections_end group n sections) cs) (end_of_section group b s (group_named s.name))
 
-  span_objects : (b : Bases) (objects : List Object) → AllByRecursion IsSized objects →
+  pub span_objects : (b : Bases) (objects : List Object) → AllByRecursion IsSized objects →
       span (base_of group b) (contributions machine linked group (placed_from b objects)) ≡ group_end group (base_of group b) objects
   unfolding group_end
   span_objects b [] sized = span_nil (base_of group b)

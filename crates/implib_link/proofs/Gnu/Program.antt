@@ -52,7 +52,7 @@ each_gets linked width address [] entries = tt
 each_gets linked width address (e ∷ exports) entries =
     (gets_address linked (imp_symbol e.name) address entries.0, each_gets linked width (address + width) exports entries.1)
 
-imports_by : (machine : MachineType) (image : List Range) (linked : List Placed) (own descriptor begin table : ℕ) (dll : List ℕ) (exports : List ExportView) →
+pub imports_by : (machine : MachineType) (image : List Range) (linked : List Placed) (own descriptor begin table : ℕ) (dll : List ℕ) (exports : List ExportView) →
     own ≡ descriptor → begin ≡ table → (strictly : LinksStrictlyAt machine image linked own dll exports) → strictly.loads.plain.addresses ≡ begin →
     ImportsBy machine image linked descriptor table dll exports
 imports_by machine image linked own descriptor begin table dll exports position begins strictly addresses =
