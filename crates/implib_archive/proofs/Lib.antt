@@ -1,5 +1,8 @@
 pub mod Appended
 pub mod Chosen
+pub mod FoundMembers
+pub mod FoundNames
+pub mod LaidOut
 pub mod Listed
 pub mod Named
 pub mod Numbered

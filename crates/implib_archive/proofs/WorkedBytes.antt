@@ -1,12 +1,15 @@
 -- The worked archives, by computing.
-use Rattle.std.proofs.Common.{refl}
+use Rattle.std.proofs.Common.{◌≡◌, ◌++◌, [], ◌∷◌, length, refl, subst, arith}
 use Rattle.std.specs.Fmt.{digits}
 use Rattle.implib.specs.Worked.Digits.{bytes_of_digits}
 use Rattle.implib_archive.specs.Archive.{archive_of, end_from, entries_from, entries_of, first_linker, first_linker_size, first_place, front, front_of, front_size, is_long, linker_label, linkers, long_names, member_label, member_part, name_end, name_field, names_bytes, names_label, names_part, names_size, offset_of, place_of, places_from, second_linker, second_linker_size, sorted_entries, strings_of, with_first, with_name}
 use Rattle.implib_archive.specs.Parts.{field, header_bytes, padded_part_bytes, padding, part_bytes, signature, u16_le, u32_be, u32_le}
 use Rattle.implib_archive.specs.Reader.{data_at, first_in, linker_in, long_name, long_name_at, long_names_in, long_names_or, before_others, member_at, members_among, members_in, name_in, number_in, numbers_in, paired, read_as, second_in, stored_at, stored_from, stored_in, texts_in, trimmed}
 use Rattle.implib_archive.specs.Refusal.{has_short_places, has_too_many, member_refusal, members_refusal, name_refusal, places_refusal, refusal_of, symbol_refusal, symbols_refusal}
-use Rattle.implib_archive.specs.Worked.{WorkedArchives, WorkedReadings, WorkedRefusals, worked_coff, worked_gnu}
+use Rattle.implib_archive.specs.Worked.{WorkedArchives, WorkedReadBack, WorkedReadings, WorkedRefusals, worked_coff, worked_gnu, worked_members}
+use Rattle.implib_archive.specs.ReadBack.{AreLaidOut, AreReadBack}
+use Rattle.implib_archive.specs.declared.kind.Kind.TheVariants.{Coff, Gnu}
+use Rattle.implib_archive.proofs.FoundMembers.{members_read_back}
 
 pub worked_archives : WorkedArchives
 unfolding bytes_of_digits worked_coff worked_gnu archive_of end_from entries_from entries_of first_linker first_linker_size first_place front front_of front_size is_long linker_label linkers long_names member_label member_part name_end name_field names_bytes names_label names_part names_size offset_of place_of places_from second_linker second_linker_size sorted_entries strings_of with_first with_name field header_bytes padded_part_bytes padding part_bytes signature u16_le u32_be u32_le digits
@@ -37,4 +40,18 @@ worked_refusals = record {
   line_end_in_coff = refl;
   empty_symbol = refl;
   nul_in_symbol = refl;
+}
+
+pub worked_read_back : WorkedReadBack
+unfolding AreLaidOut bytes_of_digits worked_coff worked_gnu archive_of end_from entries_from entries_of first_linker first_linker_size first_place front front_of front_size is_long linker_label linkers long_names member_label member_part name_end name_field names_bytes names_label names_part names_size offset_of place_of places_from second_linker second_linker_size sorted_entries strings_of with_first with_name field header_bytes padded_part_bytes padding part_bytes signature u16_le u32_be u32_le digits data_at long_name long_name_at long_names_in long_names_or before_others members_among members_in name_in number_in read_as stored_at stored_from stored_in trimmed
+worked_read_back = record {
+  coff = subst (AreReadBack Coff worked_members) worked_archives.coff (members_read_back Coff worked_members worked_refusals.none_of_coff);
+  gnu = subst (AreReadBack Gnu worked_members) worked_archives.gnu (members_read_back Gnu worked_members worked_refusals.none_of_gnu);
+  gnu_parts = (refl, (refl, (refl, (refl, refl))));
+  gnu_long_names = (refl, (refl, (refl, refl)));
+  coff_long_names = refl;
+  coff_members = (refl, (refl, refl));
+  byte_more = λ all. let last : 308 ≡ 309 = all.1.1.1.1 in absurd (omega (arith, last));
+  none_more = refl;
+  unnamed = refl;
 }
