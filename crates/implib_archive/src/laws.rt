@@ -1,7 +1,9 @@
 //! Laws of archives. The functions do nothing: their contracts are the laws.
 
+ghost use Rattle.implib_archive.specs.Leads.{EachIndexLeads, EachSecondLeads};
 ghost use Rattle.implib_archive.specs.ReadBack.{MembersReadBack, PartsReadBack};
-ghost use Rattle.implib_archive.specs.Worked.{WorkedArchives, WorkedReadBack, WorkedReadings, WorkedRefusals};
+ghost use Rattle.implib_archive.specs.Worked.{WorkedArchives, WorkedIndexes, WorkedReadBack};
+ghost use Rattle.implib_archive.specs.Worked.{WorkedReadings, WorkedRefusals};
 
 /// Two members, and none, have these archives in both kinds.
 pub fn worked_archives()
@@ -36,4 +38,19 @@ pub fn members_read_back()
 /// where a member has no name.
 pub fn worked_read_back()
     ensures { WorkedReadBack }
+{}
+
+/// The index of each archive leads each symbol to the header of the first member that lists it, and
+/// finds a symbol exactly if a member lists it.
+///
+/// In the COFF kind the second linker member leads each symbol where the first does, and its symbols
+/// rise strictly, by the order of their bytes.
+pub fn index_leads()
+    ensures first { EachIndexLeads }
+    ensures second { EachSecondLeads }
+{}
+
+/// The indexes of the worked archives lead to these offsets; and what is no index of members.
+pub fn worked_indexes()
+    ensures { WorkedIndexes }
 {}
