@@ -1,6 +1,12 @@
 pub mod Appended
 pub mod Chosen
+pub mod FoundIndex
+pub mod FoundMembers
+pub mod FoundNames
+pub mod LaidOut
+pub mod Leading
 pub mod Listed
+pub mod Lookups
 pub mod Named
 pub mod Numbered
 pub mod Ordered

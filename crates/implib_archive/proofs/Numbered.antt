@@ -135,7 +135,7 @@ or_ends true false = refl
 or_ends false true = refl
 or_ends false false = refl
 
-sorted_push : (entries : List (List ℕ × ℕ)) (e : List ℕ × ℕ) → sorted_entries (entries ++ e ∷ []) ≡ insert_entry (slice_cmp nat_cmp) (sorted_entries entries) e.0 e.1
+pub sorted_push : (entries : List (List ℕ × ℕ)) (e : List ℕ × ℕ) → sorted_entries (entries ++ e ∷ []) ≡ insert_entry (slice_cmp nat_cmp) (sorted_entries entries) e.0 e.1
 unfolding sorted_entries
 sorted_push entries e = fold_push (λ s x. insert_entry (slice_cmp nat_cmp) s x.0 x.1) [] entries e
 

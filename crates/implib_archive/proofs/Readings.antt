@@ -34,9 +34,9 @@ regroup a b c d e f g = simp append_assoc
 
 -- Decimal numbers.
 
-record IsRead (n : ℕ) (digits : List ℕ) : Type 0 where
-  all : list_all is_digit digits ≡ true
-  value : fold (λ n c. 10 * n + (c - 48)) 0 digits ≡ n
+pub record IsRead (n : ℕ) (digits : List ℕ) : Type 0 where
+  pub all : list_all is_digit digits ≡ true
+  pub value : fold (λ n c. 10 * n + (c - 48)) 0 digits ≡ n
 
 digit : (n : ℕ) → n < 10 → is_digit (48 + n) ≡ true
 digit n small = rw (le-leb 48 (48 + n) (omega arith), le-leb (48 + n) 57 (omega (arith, small))) refl
@@ -50,7 +50,7 @@ read_more n digits large r = record {
   value = fold_push (λ n c. 10 * n + (c - 48)) 0 digits (48 + n % 10) ∙ ap (λ k. 10 * k + ((48 + n % 10) - 48)) r.value ∙ omega arith;
 }
 
-read_decimal : (n : ℕ) → n < 2 ^ 64 → IsRead n (decimal n)
+pub read_decimal : (n : ℕ) → n < 2 ^ 64 → IsRead n (decimal n)
 read_decimal n small = decimal_by_steps IsRead read_one read_more n small
 
 spaces_only : (k : ℕ) → list_all (λ c. nat_eq c 32) (replicate k 32) ≡ true

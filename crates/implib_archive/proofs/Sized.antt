@@ -9,23 +9,23 @@ use Rattle.implib_archive.specs.declared.kind.Kind.{Kind}
 use Rattle.implib_archive.specs.declared.kind.Kind.TheVariants.{Coff, Gnu}
 use Rattle.implib_archive.proofs.Appended.{on_as, on_then, pushes_then}
 
-length_fours : {X : Type 0} (f : X → List ℕ) → ((x : X) → length (f x) ≡ 4) → (xs : List X) → length (flat_map f xs) ≡ 4 * length xs
+pub length_fours : {X : Type 0} (f : X → List ℕ) → ((x : X) → length (f x) ≡ 4) → (xs : List X) → length (flat_map f xs) ≡ 4 * length xs
 length_fours f four [] = refl
 length_fours f four (x ∷ xs) = omega (arith, length-append (f x) (flat_map f xs), four x, length_fours f four xs)
 
-length_twos : {X : Type 0} (f : X → List ℕ) → ((x : X) → length (f x) ≡ 2) → (xs : List X) → length (flat_map f xs) ≡ 2 * length xs
+pub length_twos : {X : Type 0} (f : X → List ℕ) → ((x : X) → length (f x) ≡ 2) → (xs : List X) → length (flat_map f xs) ≡ 2 * length xs
 length_twos f two [] = refl
 length_twos f two (x ∷ xs) = omega (arith, length-append (f x) (flat_map f xs), two x, length_twos f two xs)
 
-length-u32_be : (n : ℕ) → length (u32_be n) ≡ 4
+pub length-u32_be : (n : ℕ) → length (u32_be n) ≡ 4
 unfolding u32_be
 length-u32_be n = refl
 
-length-u32_le : (n : ℕ) → length (u32_le n) ≡ 4
+pub length-u32_le : (n : ℕ) → length (u32_le n) ≡ 4
 unfolding u32_le
 length-u32_le n = refl
 
-length-u16_le : (n : ℕ) → length (u16_le n) ≡ 2
+pub length-u16_le : (n : ℕ) → length (u16_le n) ≡ 2
 unfolding u16_le
 length-u16_le n = refl
 

@@ -243,7 +243,7 @@ length-members names near place (m ∷ members) short =
     let rest = length-members names near (place + part_size (length m.bytes)) members short.1 in
     omega (arith, length-append (part_bytes (member_label names m.name) m.bytes) (flat_map (member_part names) members), one, rest)
 
-length-places : (place : ℕ) (members : List MemberView) → length (places_from place members) ≡ length members
+pub length-places : (place : ℕ) (members : List MemberView) → length (places_from place members) ≡ length members
 unfolding places_from
 length-places place [] = refl
 length-places place (m ∷ members) = ap (λ n. suc n) (length-places (place + part_size (length m.bytes)) members)
@@ -254,7 +254,7 @@ linker_some : (e s : ℕ) → 0 < e → first_linker_size Gnu e s ≡ part_size 
 unfolding first_linker_size
 linker_some e s some = ap (λ b. if b then part_size (4 + 4 * e + s) else 0) (lt-ltb 0 e some)
 
-names_some : (n : ℕ) → 0 < n → names_size n ≡ part_size n
+pub names_some : (n : ℕ) → 0 < n → names_size n ≡ part_size n
 unfolding names_size
 names_some n some = ap (λ b. if b then part_size n else 0) (lt-ltb 0 n some)
 
@@ -306,7 +306,7 @@ many_if_coff : (kind : Kind) (members : List MemberView) → kind ≡ Coff → (
 many_if_coff Coff members is = sorted_as_many members
 many_if_coff Gnu members is = absurd (cc)
 
-few_if_coff : (kind : Kind) (members : List MemberView) → has_too_many kind members ≡ false → kind ≡ Coff → length members < 65535
+pub few_if_coff : (kind : Kind) (members : List MemberView) → has_too_many kind members ≡ false → kind ≡ Coff → length members < 65535
 unfolding has_too_many
 few_if_coff Coff members few is = by_test (nat_le 65535 (length members)) refl few
   where
@@ -318,7 +318,7 @@ sum_front : (kind : Kind) (m e s n : ℕ) → front_size kind m e s n ≡ 8 + fi
 unfolding front_size
 sum_front kind m e s n = refl
 
-sum_first : (kind : Kind) (members : List MemberView) → first_place kind members ≡ 8 + first_linker_size kind (length (entries_of kind members)) (length (strings_of (entries_of kind members)))
+pub sum_first : (kind : Kind) (members : List MemberView) → first_place kind members ≡ 8 + first_linker_size kind (length (entries_of kind members)) (length (strings_of (entries_of kind members)))
     + second_linker_size kind (length members) (length (entries_of kind members)) (length (strings_of (entries_of kind members))) + names_size (length (names_bytes kind (long_names kind members)))
 unfolding first_place
 sum_first kind members = sum_front kind (length members) (length (entries_of kind members)) (length (strings_of (entries_of kind members))) (length (names_bytes kind (long_names kind members)))

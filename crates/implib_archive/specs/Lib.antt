@@ -1,4 +1,5 @@
 pub mod Archive
+pub mod Leads
 pub mod Parts
 pub mod Pushed
 pub mod ReadBack

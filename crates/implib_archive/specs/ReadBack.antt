@@ -1,9 +1,9 @@
 -- What a reader of archives finds in the archives of members.
-use Rattle.std.specs.Prelude.{◌≡◌, ℕ, List, [], ◌∷◌, ◌++◌, None, Some, codes, if◌then◌else◌, length, map, nat_lt}
+use Rattle.std.specs.Prelude.{◌≡◌, ℕ, ◌+◌, ◌%◌, List, [], ◌∷◌, ◌++◌, None, Some, codes, if◌then◌else◌, length, map, nat_lt, take}
 use Rattle.implib.specs.Members.MemberSpec.{MemberView}
 use Rattle.implib_archive.specs.Archive.{archive_of, entries_of, first_linker, long_names, name_field, names_bytes, places_of, second_linker, sorted_entries}
 use Rattle.implib_archive.specs.Parts.{field, padding}
-use Rattle.implib_archive.specs.Reader.{Stored, stored_in}
+use Rattle.implib_archive.specs.Reader.{Read, Stored, members_in, stored_at, stored_in}
 use Rattle.implib_archive.specs.Refusal.{refusal_of}
 use Rattle.implib_archive.specs.declared.kind.Kind.{Kind}
 use Rattle.implib_archive.specs.declared.kind.Kind.TheVariants.{Coff, Gnu}
@@ -41,3 +41,30 @@ parts_of kind members =
 abbrev pub PartsReadBack : Type 0
 PartsReadBack = (kind : Kind) (members : List MemberView) → refusal_of kind members ≡ None
     → stored_in (archive_of kind members) ≡ Some (parts_of kind members)
+
+-- Parts stand in the bytes from an offset on, one behind another, up to the end: each is found by its header at its
+-- offset, and the next header begins where the data and its padding end.
+unfoldable pub AreLaidOut : List ℕ → ℕ → List Stored → Type 0
+AreLaidOut bytes place [] = place ≡ length bytes
+AreLaidOut bytes place (s ∷ parts) =
+    (stored_at bytes place ≡ Some s)
+    × AreLaidOut bytes (place + (60 + length s.contents + length s.contents % 2)) parts
+
+-- a member as a reader finds it: its name and its bytes
+abbrev pub read_view : MemberView → Read
+read_view m = record { name = m.name; bytes = m.bytes }
+
+-- What a reader finds in the bytes of an archive:
+-- `signed`: they begin with the signature;
+-- `laid_out`: from there to the end stand the linker members, the long names and the members; so no two headers
+-- overlap, and nothing else is in the bytes;
+-- `in_order`: the members, in order, each with its whole name and its bytes.
+pub record AreReadBack (kind : Kind) (members : List MemberView) (bytes : List ℕ) : Type 0 where
+  pub signed : take 8 bytes ≡ codes "!<arch>\n"
+  pub laid_out : AreLaidOut bytes 8 (parts_of kind members)
+  pub in_order : members_in kind bytes ≡ Some (map read_view members)
+
+-- so it is in every archive
+abbrev pub MembersReadBack : Type 0
+MembersReadBack = (kind : Kind) (members : List MemberView) → refusal_of kind members ≡ None
+    → AreReadBack kind members (archive_of kind members)

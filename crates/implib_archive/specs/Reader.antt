@@ -139,15 +139,16 @@ member_at kind bytes place = option_and_then
 
 -- The indexes.
 
+-- data, if a name is that of a linker member
+unfoldable pub linker_data : Name → List ℕ → Option (List ℕ)
+linker_data Linker contents = Some contents
+linker_data _ contents = None
+
 -- the data of the linker member that is the part of this position
 unfoldable pub linker_in : ℕ → List ℕ → Option (List ℕ)
 linker_in position bytes = option_and_then
-    (λ parts. option_and_then (λ s. by_name (name_in s.field) s.contents) (slice_get parts position))
+    (λ parts. option_and_then (λ s. linker_data (name_in s.field) s.contents) (slice_get parts position))
     (stored_in bytes)
-  where
-    by_name : Name → List ℕ → Option (List ℕ)
-    by_name Linker contents = Some contents
-    by_name _ contents = None
 
 -- `count` numbers of 4 bytes
 unfoldable pub numbers_in : (List ℕ → ℕ) → ℕ → ℕ → List ℕ → List ℕ

@@ -1,10 +1,15 @@
 -- Whole archives of both kinds with every byte written out, worked by hand: a second statement of the tables
 -- and of the reader.
-use Rattle.std.specs.Prelude.{◌≡◌, ℕ, List, [], ◌∷◌, ◌++◌, None, Some, codes, replicate}
+use Rattle.std.specs.Prelude.{◌≡◌, ℕ, List, [], ◌∷◌, ◌++◌, None, Some, codes, drop, replicate, reverse}
+use Rattle.std.specs.Cmp.Lexicographic.{slice_cmp}
+use Rattle.std.specs.List.Sorted.{IsStrictlySortedBy}
+use Rattle.std.specs.Ordering.{nat_cmp}
 use Rattle.implib.specs.Members.MemberSpec.{MemberView}
 use Rattle.implib.specs.Worked.Digits.{hex}
 use Rattle.implib_archive.specs.Archive.{archive_of}
-use Rattle.implib_archive.specs.Reader.{Read, first_in, member_at, members_in, second_in}
+use Rattle.implib_archive.specs.Leads.{IndexLeads, SecondLeads, header_for, headers_in, second_header_for}
+use Rattle.implib_archive.specs.ReadBack.{AreLaidOut, AreReadBack}
+use Rattle.implib_archive.specs.Reader.{Read, Stored, first_in, member_at, members_in, second_in, stored_at, stored_in}
 use Rattle.implib_archive.specs.Refusal.{member_refusal, refusal_of}
 use Rattle.implib_archive.specs.declared.kind.Kind.TheVariants.{Coff, Gnu}
 use Rattle.implib_archive.specs.declared.error.Fault.TheVariants.{EmptyName, EmptySymbol, LineEndInName, NulInName, NulInSymbol}
@@ -84,3 +89,53 @@ pub record WorkedRefusals : Type 0 where
   pub line_end_in_coff : member_refusal Coff (member (97 ∷ 10 ∷ []) [] []) ≡ None
   pub empty_symbol : refusal_of Coff (member (codes "a") [] ([] ∷ []) ∷ []) ≡ Some EmptySymbol
   pub nul_in_symbol : refusal_of Coff (member (codes "a") [] (codes "f" ∷ (102 ∷ 0 ∷ []) ∷ []) ∷ []) ≡ Some NulInSymbol
+
+-- the parts of the worked archive of the GNU kind, by hand
+abbrev pub worked_parts : List Stored
+worked_parts =
+    record {
+      field = codes "/               ";
+      contents =
+          0 ∷ 0 ∷ 0 ∷ 4 ∷ 0 ∷ 0 ∷ 0 ∷ 182 ∷ 0 ∷ 0 ∷ 0 ∷ 182 ∷ 0 ∷ 0 ∷ 0 ∷ 246 ∷ 0 ∷ 0 ∷ 0 ∷ 246 ∷ []
+          ++ codes "f" ++ 0 ∷ [] ++ codes "__imp_f" ++ 0 ∷ [] ++ codes "f" ++ 0 ∷ [] ++ codes "g" ++ 0 ∷ [];
+    }
+    ∷ record { field = codes "//              "; contents = codes "long_member_name.o/\n" }
+    ∷ record { field = codes "a.o/            "; contents = 1 ∷ 2 ∷ 3 ∷ [] }
+    ∷ record { field = codes "/0              "; contents = 4 ∷ 5 ∷ [] } ∷ []
+
+-- The worked archives are read back so. The GNU kind's has four parts, with headers at 8, 102, 182 and 246, and the
+-- COFF kind's has its long names and its members at 190, 270 and 334. With one byte more nothing is read. A member
+-- without a name, which is refused, would be taken for a linker member.
+pub record WorkedReadBack : Type 0 where
+  pub coff : AreReadBack Coff worked_members worked_coff
+  pub gnu : AreReadBack Gnu worked_members worked_gnu
+  pub gnu_parts : AreLaidOut worked_gnu 8 worked_parts
+  pub gnu_long_names : AreLaidOut worked_gnu 102 (drop 1 worked_parts)
+  pub coff_long_names : stored_at worked_coff 190
+      ≡ Some (record { field = codes "//              "; contents = codes "long_member_name.o" ++ 0 ∷ 10 ∷ [] })
+  pub coff_members : AreLaidOut worked_coff 270 (drop 2 worked_parts)
+  pub byte_more : AreLaidOut (worked_gnu ++ 0 ∷ []) 8 worked_parts → ⊥
+  pub none_more : stored_in (worked_gnu ++ 0 ∷ []) ≡ None
+  pub unnamed : members_in Gnu (archive_of Gnu (member [] (1 ∷ []) [] ∷ [])) ≡ Some []
+
+-- In the worked archives the members' headers are at these offsets. `f`, which both members list, leads to the first
+-- one's header, and `g` to the second one's; `h` leads nowhere. Of the members in the other order they are no
+-- archive: there the second one lists `g`, too. Symbols in the members' order do not rise.
+pub record WorkedIndexes : Type 0 where
+  pub coff : IndexLeads Coff worked_members worked_coff
+  pub gnu : IndexLeads Gnu worked_members worked_gnu
+  pub second : SecondLeads worked_coff
+  pub coff_headers : headers_in worked_coff ≡ Some (270 ∷ 334 ∷ [])
+  pub gnu_headers : headers_in worked_gnu ≡ Some (182 ∷ 246 ∷ [])
+  pub coff_f : header_for worked_coff (codes "f") ≡ Some 270
+  pub coff_g : header_for worked_coff (codes "g") ≡ Some 334
+  pub coff_h : header_for worked_coff (codes "h") ≡ None
+  pub second_f : second_header_for worked_coff (codes "f") ≡ Some 270
+  pub second_g : second_header_for worked_coff (codes "g") ≡ Some 334
+  pub second_h : second_header_for worked_coff (codes "h") ≡ None
+  pub gnu_f : header_for worked_gnu (codes "f") ≡ Some 182
+  pub gnu_g : header_for worked_gnu (codes "g") ≡ Some 246
+  pub gnu_h : header_for worked_gnu (codes "h") ≡ None
+  pub no_gnu_second : second_header_for worked_gnu (codes "f") ≡ None
+  pub turned : IndexLeads Gnu (reverse worked_members) worked_gnu → ⊥
+  pub unsorted : IsStrictlySortedBy (slice_cmp nat_cmp) (codes "f" ∷ codes "__imp_f" ∷ codes "g" ∷ []) → ⊥

@@ -1,0 +1,249 @@
+-- Looking symbols up among entries.
+use Rattle.std.proofs.Common.{◌≡◌, ℕ, zero, suc, ◌+◌, ◌-◌, ◌^◌, ◌<◌, ◌≤◌, Bool, true, false, ◌||◌, cond, List, [], ◌∷◌, ◌++◌, Option, Some, None, bytes_eq, fold, get_or, if◌then◌else◌, is_some, length, map, refl, sym, ap, subst, ◌∙◌, append_assoc, length-append, arith}
+use Rattle.std.specs.declared.cmp.Ordering.{Ordering}
+use Rattle.std.specs.declared.cmp.Ordering.TheVariants.{Less, Equal, Greater}
+use Rattle.std.specs.BTreeMap.{insert_entry}
+use Rattle.std.specs.Cmp.{IsTotalOrder}
+use Rattle.std.specs.Cmp.Lexicographic.{slice_cmp}
+use Rattle.std.specs.List.{AllByRecursion, list_any}
+use Rattle.std.specs.List.Sorted.{IsStrictlySortedBy}
+use Rattle.std.specs.Map.{lookup}
+use Rattle.std.specs.Option.{option_map}
+use Rattle.std.specs.Ordering.{is_eq, match_ordering, nat_cmp, ordering_reverse}
+use Rattle.std.proofs.lemmas.Bool.{true≢false}
+use Rattle.std.proofs.lemmas.Cmp.{nat_list_cmp_total}
+use Rattle.std.proofs.lemmas.Map.Text.{is_eq-slice_cmp}
+use Rattle.std.proofs.lemmas.Slice.Eq.{bytes_eq-Decides}
+use Rattle.implib.specs.Members.MemberSpec.{MemberView}
+use Rattle.implib_archive.specs.Archive.{entries_from, entries_of, is_listed, place_of, sorted_entries, with_first}
+use Rattle.implib_archive.specs.Leads.{first_lister, lists}
+use Rattle.implib_archive.specs.declared.kind.Kind.{Kind}
+use Rattle.implib_archive.specs.declared.kind.Kind.TheVariants.{Coff, Gnu}
+use Rattle.implib_archive.proofs.Numbered.{sorted_push}
+
+-- One list behind another.
+
+-- the first of two that is there
+abbrev or_else : {X : Type 0} → Option X → Option X → Option X
+or_else (Some x) other = Some x
+or_else None other = other
+
+lookup_both : (s : List ℕ) (xs ys : List (List ℕ × ℕ)) → lookup (bytes_eq s) (xs ++ ys) ≡ or_else (lookup (bytes_eq s) xs) (lookup (bytes_eq s) ys)
+lookup_both s [] ys = refl
+lookup_both s (x ∷ xs) ys = by_test (bytes_eq s x.0) (lookup_both s xs ys)
+  where
+    by_test : (b : Bool) → lookup (bytes_eq s) (xs ++ ys) ≡ or_else (lookup (bytes_eq s) xs) (lookup (bytes_eq s) ys)
+        → cond b (Some x.1) (lookup (bytes_eq s) (xs ++ ys)) ≡ or_else (cond b (Some x.1) (lookup (bytes_eq s) xs)) (lookup (bytes_eq s) ys)
+    by_test true rest = refl
+    by_test false rest = rest
+
+pub lookup_mapped : (s : List ℕ) (g : ℕ → ℕ) (entries : List (List ℕ × ℕ)) → lookup (bytes_eq s) (map (λ e. (e.0, g e.1)) entries) ≡ option_map g (lookup (bytes_eq s) entries)
+lookup_mapped s g [] = refl
+lookup_mapped s g (e ∷ entries) = by_test (bytes_eq s e.0) (lookup_mapped s g entries)
+  where
+    by_test : (b : Bool) → lookup (bytes_eq s) (map (λ e. (e.0, g e.1)) entries) ≡ option_map g (lookup (bytes_eq s) entries)
+        → cond b (Some (g e.1)) (lookup (bytes_eq s) (map (λ e. (e.0, g e.1)) entries)) ≡ option_map g (cond b (Some e.1) (lookup (bytes_eq s) entries))
+    by_test true rest = refl
+    by_test false rest = rest
+
+lookup_listed : (s : List ℕ) (entries : List (List ℕ × ℕ)) → is_some (lookup (bytes_eq s) entries) ≡ is_listed entries s
+lookup_listed s [] = refl
+lookup_listed s (e ∷ entries) = by_test (bytes_eq s e.0) (lookup_listed s entries)
+  where
+    by_test : (b : Bool) → is_some (lookup (bytes_eq s) entries) ≡ is_listed entries s → is_some (cond b (Some e.1) (lookup (bytes_eq s) entries)) ≡ (b || is_listed entries s)
+    by_test true rest = refl
+    by_test false rest = rest
+
+-- All entries of members.
+
+one_member : (s : List ℕ) (number : ℕ) (symbols : List (List ℕ)) (rest : List (List ℕ × ℕ))
+    → lookup (bytes_eq s) (map (λ symbol. (symbol, number)) symbols ++ rest) ≡ (if list_any (bytes_eq s) symbols then Some number else lookup (bytes_eq s) rest)
+one_member s number [] rest = refl
+one_member s number (x ∷ symbols) rest = by_test (bytes_eq s x) (one_member s number symbols rest)
+  where
+    by_test : (b : Bool) → lookup (bytes_eq s) (map (λ symbol. (symbol, number)) symbols ++ rest) ≡ (if list_any (bytes_eq s) symbols then Some number else lookup (bytes_eq s) rest)
+        → cond b (Some number) (lookup (bytes_eq s) (map (λ symbol. (symbol, number)) symbols ++ rest)) ≡ (if b || list_any (bytes_eq s) symbols then Some number else lookup (bytes_eq s) rest)
+    by_test true more = refl
+    by_test false more = more
+
+place_next : (before places : List ℕ) (p : ℕ) → place_of (before ++ p ∷ places) (length before + 1) ≡ p
+unfolding place_of
+place_next before places p = let n : length before + 1 - 1 ≡ length before = omega arith in ap (λ k. get_or (before ++ p ∷ places) k 0) n ∙ at_end before places p
+  where
+    at_end : (before places : List ℕ) (p : ℕ) → get_or (before ++ p ∷ places) (length before) 0 ≡ p
+    at_end [] places p = refl
+    at_end (x ∷ before) places p = at_end before places p
+
+-- the header that an entry leads to is that of the first member that lists the symbol
+entries_lead : (s : List ℕ) (before places : List ℕ) (members : List MemberView) → length places ≡ length members
+    → option_map (place_of (before ++ places)) (lookup (bytes_eq s) (entries_from (length before + 1) members)) ≡ option_map (λ f. f.0) (first_lister places members s)
+unfolding entries_from
+entries_lead s before [] [] same = refl
+entries_lead s before [] (m ∷ members) same = absurd (omega (arith, same))
+entries_lead s before (p ∷ places) [] same = absurd (omega (arith, same))
+entries_lead s before (p ∷ places) (m ∷ members) same =
+    let rest = entries_from (length before + 1 + 1) members in
+    let shorter : length places ≡ length members = omega (arith, same) in
+    let more = length-append before (p ∷ []) in
+    let later = ap (λ t. option_map (place_of t) (lookup (bytes_eq s) rest)) (sym (append_assoc before (p ∷ []) places))
+    ∙ (ap (λ n. option_map (place_of ((before ++ p ∷ []) ++ places)) (lookup (bytes_eq s) (entries_from (n + 1) members))) (sym more) ∙ entries_lead s (before ++ p ∷ []) places members shorter) in
+    ap (option_map (place_of (before ++ p ∷ places))) (one_member s (length before + 1) m.symbols rest) ∙ by_test (lists s m) later
+  where
+    by_test : (b : Bool) → option_map (place_of (before ++ p ∷ places)) (lookup (bytes_eq s) (entries_from (length before + 1 + 1) members)) ≡ option_map (λ f. f.0) (first_lister places members s)
+        → option_map (place_of (before ++ p ∷ places)) (if b then Some (length before + 1) else lookup (bytes_eq s) (entries_from (length before + 1 + 1) members))
+        ≡ option_map (λ f. f.0) (if b then Some (p, m) else first_lister places members s)
+    by_test true later = ap (λ n. Some n) (place_next before places p)
+    by_test false later = later
+
+-- The first entry of each symbol.
+
+same_some : {X : Type 0} (r a b : Option X) → is_some r ≡ true → or_else r a ≡ or_else r b
+same_some (Some x) a b some = refl
+same_some None a b some = absurd (true≢false (sym some))
+
+module _ (s : List ℕ) (e : List ℕ × ℕ) (found entries : List (List ℕ × ℕ)) where
+  listed_already : (b : Bool) → bytes_eq s e.0 ≡ b → is_listed found e.0 ≡ true
+      → or_else (lookup (bytes_eq s) found) (lookup (bytes_eq s) entries) ≡ or_else (lookup (bytes_eq s) found) (cond b (Some e.1) (lookup (bytes_eq s) entries))
+  listed_already true same here =
+      let is = (bytes_eq-Decides s e.0).0 same in
+      same_some (lookup (bytes_eq s) found) (lookup (bytes_eq s) entries) (Some e.1) (lookup_listed s found ∙ (ap (is_listed found) is ∙ here))
+  listed_already false other here = refl
+
+  listed_last : (r : Option ℕ) (b : Bool) → or_else (or_else r (cond b (Some e.1) None)) (lookup (bytes_eq s) entries) ≡ or_else r (cond b (Some e.1) (lookup (bytes_eq s) entries))
+  listed_last (Some n) b = refl
+  listed_last None true = refl
+  listed_last None false = refl
+
+  first_step : (b : Bool) → is_listed found e.0 ≡ b
+      → or_else (lookup (bytes_eq s) (if b then found else found ++ e ∷ [])) (lookup (bytes_eq s) entries) ≡ or_else (lookup (bytes_eq s) found) (lookup (bytes_eq s) (e ∷ entries))
+  first_step true here = listed_already (bytes_eq s e.0) refl here
+  first_step false new =
+      ap (λ r. or_else r (lookup (bytes_eq s) entries)) (lookup_both s found (e ∷ [])) ∙ listed_last (lookup (bytes_eq s) found) (bytes_eq s e.0)
+
+firsts_lookup : (s : List ℕ) (found entries : List (List ℕ × ℕ)) → lookup (bytes_eq s) (fold with_first found entries) ≡ or_else (lookup (bytes_eq s) found) (lookup (bytes_eq s) entries)
+unfolding with_first
+firsts_lookup s found [] = nothing (lookup (bytes_eq s) found)
+  where
+    nothing : (r : Option ℕ) → r ≡ or_else r None
+    nothing (Some n) = refl
+    nothing None = refl
+firsts_lookup s found (e ∷ entries) = firsts_lookup s (with_first found e) entries ∙ first_step s e found entries (is_listed found e.0) refl
+
+-- a search of the index is one through all entries
+entries_lookup : (kind : Kind) (members : List MemberView) (s : List ℕ) → lookup (bytes_eq s) (entries_of kind members) ≡ lookup (bytes_eq s) (entries_from 1 members)
+unfolding entries_of
+entries_lookup Gnu members s = refl
+entries_lookup Coff members s = firsts_lookup s [] (entries_from 1 members)
+
+-- each text leads to the header of the first member that lists it
+pub index_lookup : (kind : Kind) (members : List MemberView) (places : List ℕ) (s : List ℕ) → length places ≡ length members
+    → lookup (bytes_eq s) (map (λ e. (e.0, place_of places e.1)) (entries_of kind members)) ≡ option_map (λ f. f.0) (first_lister places members s)
+index_lookup kind members places s same =
+    lookup_mapped s (place_of places) (entries_of kind members) ∙ (ap (option_map (place_of places)) (entries_lookup kind members s) ∙ entries_lead s [] places members same)
+
+-- a text leads somewhere exactly if a member lists it
+pub listed_somewhere : (places : List ℕ) (members : List MemberView) (s : List ℕ) → length places ≡ length members → is_some (option_map (λ f. f.0) (first_lister places members s)) ≡ list_any (lists s) members
+listed_somewhere [] [] s same = refl
+listed_somewhere [] (m ∷ members) s same = absurd (omega (arith, same))
+listed_somewhere (p ∷ places) [] s same = absurd (omega (arith, same))
+listed_somewhere (p ∷ places) (m ∷ members) s same = by_test (lists s m) (listed_somewhere places members s (omega (arith, same)))
+  where
+    by_test : (b : Bool) → is_some (option_map (λ f. f.0) (first_lister places members s)) ≡ list_any (lists s) members
+        → is_some (option_map (λ f. f.0) (if b then Some (p, m) else first_lister places members s)) ≡ (b || list_any (lists s) members)
+    by_test true rest = refl
+    by_test false rest = rest
+
+-- Entries in order.
+
+module _ (k : List ℕ) (v : ℕ) where
+  both_same : (s : List ℕ) (e : List ℕ × ℕ) (rest : Option ℕ) (a b : Bool) → bytes_eq s e.0 ≡ a → bytes_eq s k ≡ b → bytes_eq k e.0 ≡ false
+      → cond a (Some e.1) (cond b (Some v) rest) ≡ cond b (Some v) (cond a (Some e.1) rest)
+  both_same s e rest true true x y other =
+      let same : k ≡ e.0 = sym ((bytes_eq-Decides s k).0 y) ∙ (bytes_eq-Decides s e.0).0 x in
+      absurd (true≢false (sym ((bytes_eq-Decides k e.0).1 same) ∙ other))
+  both_same s e rest true false x y other = refl
+  both_same s e rest false b x y other = refl
+
+  by_order : (s : List ℕ) (o : Ordering) (e : List ℕ × ℕ) (entries : List (List ℕ × ℕ)) → is_eq o ≡ bytes_eq k e.0
+      → lookup (bytes_eq s) (insert_entry (slice_cmp nat_cmp) entries k v) ≡ cond (bytes_eq s k) (Some v) (lookup (bytes_eq s) entries)
+      → lookup (bytes_eq s) (match_ordering o ((k, v) ∷ e ∷ entries) ((e.0, v) ∷ entries) (e ∷ insert_entry (slice_cmp nat_cmp) entries k v)) ≡ cond (bytes_eq s k) (Some v) (lookup (bytes_eq s) (e ∷ entries))
+  by_order s Less e entries is rest = refl
+  by_order s Equal e entries is rest =
+      let same = (bytes_eq-Decides k e.0).0 (sym is) in
+      ap (λ t. cond (bytes_eq s t) (Some v) (lookup (bytes_eq s) entries)) (sym same)
+      ∙ (twice (bytes_eq s k) ∙ ap (λ t. cond (bytes_eq s k) (Some v) (cond (bytes_eq s t) (Some e.1) (lookup (bytes_eq s) entries))) same)
+    where
+      twice : (b : Bool) → cond b (Some v) (lookup (bytes_eq s) entries) ≡ cond b (Some v) (cond b (Some e.1) (lookup (bytes_eq s) entries))
+      twice true = refl
+      twice false = refl
+  by_order s Greater e entries is rest =
+      ap (λ r. cond (bytes_eq s e.0) (Some e.1) r) rest ∙ both_same s e (lookup (bytes_eq s) entries) (bytes_eq s e.0) (bytes_eq s k) refl refl (sym is)
+
+  inserted_lookup : (s : List ℕ) (entries : List (List ℕ × ℕ)) → lookup (bytes_eq s) (insert_entry (slice_cmp nat_cmp) entries k v) ≡ cond (bytes_eq s k) (Some v) (lookup (bytes_eq s) entries)
+  inserted_lookup s [] = refl
+  inserted_lookup s (e ∷ entries) = by_order s (slice_cmp nat_cmp k e.0) e entries (is_eq-slice_cmp k e.0) (inserted_lookup s entries)
+
+  keys_above : (x : List ℕ) (entries : List (List ℕ × ℕ)) → slice_cmp nat_cmp x k ≡ Less → AllByRecursion (λ y. slice_cmp nat_cmp x y ≡ Less) (map (λ e. e.0) entries)
+      → AllByRecursion (λ y. slice_cmp nat_cmp x y ≡ Less) (map (λ e. e.0) (insert_entry (slice_cmp nat_cmp) entries k v))
+  keys_above x [] new all = (new, tt)
+  keys_above x (e ∷ entries) new all = by_place (slice_cmp nat_cmp k e.0) (keys_above x entries new all.1)
+    where
+      by_place : (o : Ordering) → AllByRecursion (λ y. slice_cmp nat_cmp x y ≡ Less) (map (λ e. e.0) (insert_entry (slice_cmp nat_cmp) entries k v))
+          → AllByRecursion (λ y. slice_cmp nat_cmp x y ≡ Less) (map (λ e. e.0) (match_ordering o ((k, v) ∷ e ∷ entries) ((e.0, v) ∷ entries) (e ∷ insert_entry (slice_cmp nat_cmp) entries k v)))
+      by_place Less rest = (new, all)
+      by_place Equal rest = all
+      by_place Greater rest = (all.0, rest)
+
+  above_all : (x : List ℕ) (ys : List (List ℕ)) → slice_cmp nat_cmp k x ≡ Less → AllByRecursion (λ y. slice_cmp nat_cmp x y ≡ Less) ys → AllByRecursion (λ y. slice_cmp nat_cmp k y ≡ Less) ys
+  above_all x [] below all = tt
+  above_all x (y ∷ ys) below all = (nat_list_cmp_total.trans k x y below all.0, above_all x ys below all.1)
+
+  inserted_rises : (entries : List (List ℕ × ℕ)) → IsStrictlySortedBy (slice_cmp nat_cmp) (map (λ e. e.0) entries) → IsStrictlySortedBy (slice_cmp nat_cmp) (map (λ e. e.0) (insert_entry (slice_cmp nat_cmp) entries k v))
+  unfolding IsStrictlySortedBy
+  inserted_rises [] rises = (tt, tt)
+  inserted_rises (e ∷ entries) rises = by_place (slice_cmp nat_cmp k e.0) refl (inserted_rises entries rises.1)
+    where
+      by_place : (o : Ordering) → slice_cmp nat_cmp k e.0 ≡ o → IsStrictlySortedBy (slice_cmp nat_cmp) (map (λ e. e.0) (insert_entry (slice_cmp nat_cmp) entries k v))
+          → IsStrictlySortedBy (slice_cmp nat_cmp) (map (λ e. e.0) (match_ordering o ((k, v) ∷ e ∷ entries) ((e.0, v) ∷ entries) (e ∷ insert_entry (slice_cmp nat_cmp) entries k v)))
+      by_place Less is rest = ((is, above_all e.0 (map (λ e. e.0) entries) is rises.0), rises)
+      by_place Equal is rest = rises
+      by_place Greater is rest = (keys_above e.0 entries (nat_list_cmp_total.antisymm e.0 k ∙ ap ordering_reverse is) rises.0, rest)
+
+-- sorting does not change what is found
+sorted_found : (found entries : List (List ℕ × ℕ)) (s : List ℕ) → ((t : List ℕ) → lookup (bytes_eq t) (sorted_entries found) ≡ lookup (bytes_eq t) found)
+    → lookup (bytes_eq s) (sorted_entries (fold with_first found entries)) ≡ lookup (bytes_eq s) (fold with_first found entries)
+unfolding with_first
+sorted_found found [] s same = same s
+sorted_found found (e ∷ entries) s same = sorted_found (with_first found e) entries s (λ t. one_more t (is_listed found e.0) refl)
+  where
+    last : (t : List ℕ) (r : Option ℕ) (b : Bool) → (b ≡ true → r ≡ None) → cond b (Some e.1) r ≡ or_else r (cond b (Some e.1) None)
+    last t (Some n) true none = absurd (let no : Some n ≡ None = none refl in cc)
+    last t (Some n) false none = refl
+    last t None b none = refl
+
+    absent : (t : List ℕ) (r : Option ℕ) → lookup (bytes_eq t) found ≡ r → is_listed found e.0 ≡ false → bytes_eq t e.0 ≡ true → r ≡ None
+    absent t None is new same = refl
+    absent t (Some n) is new same =
+        let some : is_some (lookup (bytes_eq t) found) ≡ true = ap is_some is in
+        absurd (true≢false (sym some ∙ (lookup_listed t found ∙ (ap (is_listed found) ((bytes_eq-Decides t e.0).0 same) ∙ new))))
+
+    one_more : (t : List ℕ) (b : Bool) → is_listed found e.0 ≡ b → lookup (bytes_eq t) (sorted_entries (if b then found else found ++ e ∷ [])) ≡ lookup (bytes_eq t) (if b then found else found ++ e ∷ [])
+    one_more t true here = same t
+    one_more t false new =
+        ap (lookup (bytes_eq t)) (sorted_push found e) ∙ (inserted_lookup e.0 e.1 t (sorted_entries found)
+        ∙ (ap (cond (bytes_eq t e.0) (Some e.1)) (same t)
+        ∙ (last t (lookup (bytes_eq t) found) (bytes_eq t e.0) (absent t (lookup (bytes_eq t) found) refl new) ∙ sym (lookup_both t found (e ∷ [])))))
+
+pub sorted_lookup : (members : List MemberView) (s : List ℕ) → lookup (bytes_eq s) (sorted_entries (entries_of Coff members)) ≡ lookup (bytes_eq s) (entries_of Coff members)
+unfolding entries_of sorted_entries
+sorted_lookup members s = sorted_found [] (entries_from 1 members) s (λ t. refl)
+
+sorted_rise : (sorted entries : List (List ℕ × ℕ)) → IsStrictlySortedBy (slice_cmp nat_cmp) (map (λ e. e.0) sorted)
+    → IsStrictlySortedBy (slice_cmp nat_cmp) (map (λ e. e.0) (fold (λ sorted e. insert_entry (slice_cmp nat_cmp) sorted e.0 e.1) sorted entries))
+sorted_rise sorted [] rises = rises
+sorted_rise sorted (e ∷ entries) rises = sorted_rise (insert_entry (slice_cmp nat_cmp) sorted e.0 e.1) entries (inserted_rises e.0 e.1 sorted rises)
+
+-- the symbols of sorted entries rise strictly
+pub entries_rise : (entries : List (List ℕ × ℕ)) → IsStrictlySortedBy (slice_cmp nat_cmp) (map (λ e. e.0) (sorted_entries entries))
+unfolding sorted_entries IsStrictlySortedBy
+entries_rise entries = sorted_rise [] entries tt

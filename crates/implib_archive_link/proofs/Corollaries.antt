@@ -1,0 +1,162 @@
+-- The laws of searches, of bytes.
+use Rattle.std.proofs.Common.{◌≡◌, ℕ, List, [], ◌∷◌, ◌++◌, bytes_eq, map, sym, subst}
+use Rattle.std.specs.List.{AllByRecursion, Contains, IsDistinct, filter_map, flat_map}
+use Rattle.implib.specs.declared.flavor.Flavor.TheVariants.{Gnu as GnuFlavor, Msvc}
+use Rattle.implib.specs.declared.machine.MachineType.{MachineType}
+use Rattle.implib.specs.Definition.{DefinitionView}
+use Rattle.implib.specs.Formats.Object.{Object, object_in}
+use Rattle.implib.specs.Link.LinkedMembers.{objects_in}
+use Rattle.implib.specs.Link.Placement.{Bases}
+use Rattle.implib.specs.Members.Members.{AreMembersOf}
+use Rattle.implib.specs.Members.MemberSpec.{MemberView}
+use Rattle.implib.specs.Members.MsvcObjects.{descriptor_symbol}
+use Rattle.implib_archive.specs.declared.kind.Kind.{Kind}
+use Rattle.implib_archive_link.specs.InBytes.{LinkerMember, asks_for, asks_on, asks_with, is_undefined, objects_for, objects_of}
+use Rattle.implib_archive_link.specs.Results.{AreSearched, HaveArchive, TakesJust}
+use Rattle.implib_archive_link.proofs.InBytes.{AreTakenBy, PullsBy, TakesBy, kept_of_map, leads_to_first, takes_just}
+use Rattle.implib_link.specs.Flavors.Expansion.{descriptor_symbol_by_name, expanded_in}
+use Rattle.implib_link.specs.Gnu.Program.{ClaimsNone}
+use Rattle.implib_link.specs.Search.Archives.{IsArchive, Library, NamesNoHeadOrTailOf, TakesOfLibraries, archive_of, wanted_with}
+use Rattle.implib_link.specs.Search.Closed.{AreLinkedFor, AreTakenInto, LinksClosed, PullsInto, TakesInto, listed_in, unresolved, wanted_in}
+use Rattle.implib_link.specs.Search.Given.{AreGiven}
+use Rattle.implib_link.specs.Search.Msvc.{AreTakenInTurn, NamesNoHeader, PullsInFor, TakesFor, claimed_in, left_in, msvc_if_any, shorts_wanted}
+use Rattle.implib_link.specs.Search.Search.{HaveSame, IsTakenInTurn, NamesNoHeadOrTail, PullsIn, Takes, exports_wanted, linked_if_any, names_claimed, names_undefined}
+use Rattle.implib_link.proofs.Search.Archives.{libraries_taken}
+use Rattle.implib_link.proofs.Search.Closed.{closed_links}
+use Rattle.implib_link.proofs.Search.Given.{given_closes}
+use Rattle.implib_link.proofs.Search.Msvc.{search_takes}
+use Rattle.implib_link.proofs.Search.One.{takes_wanted}
+
+-- The three searches, by what they look at.
+
+same_objects : (members : List MemberView) → objects_of (map (λ m. m.bytes) members) ≡ objects_in members
+same_objects members = kept_of_map object_in (λ m. m.bytes) members
+
+module _ (archive : List MemberView) (wanted : List (List ℕ)) where
+  pulls_wanted : (taken : List MemberView) (name : List ℕ) (m : MemberView) → PullsBy archive (asks_for wanted) taken name m → PullsIn archive wanted taken name m
+  unfolding names_undefined names_claimed
+  pulls_wanted taken name m pulls =
+      let asked = subst (λ objects. is_undefined wanted objects name) (same_objects taken) pulls.asked in
+      record { named = asked.0; undefined = asked.1; listed = pulls.listed; new = pulls.new }
+
+  by_wanted : (taken : List MemberView) (name : List ℕ) (m : MemberView) → PullsIn archive wanted taken name m → PullsBy archive (asks_for wanted) taken name m
+  unfolding names_undefined names_claimed
+  by_wanted taken name m pulls = record {
+    asked = subst (λ objects. is_undefined wanted objects name) (sym (same_objects taken)) (pulls.named, pulls.undefined);
+    listed = pulls.listed;
+    new = pulls.new;
+  }
+
+  turn_wanted : (taken : List MemberView) → AreTakenBy archive (asks_for wanted) taken → IsTakenInTurn archive wanted taken
+  unfolding AreTakenBy IsTakenInTurn
+  turn_wanted [] turn = tt
+  turn_wanted (m ∷ taken) turn = ((turn.0.0, pulls_wanted taken turn.0.0 m turn.0.1), turn_wanted taken turn.1)
+
+  pub wanted_taken : (taken : List MemberView) → TakesBy archive (asks_for wanted) taken → Takes archive wanted taken
+  wanted_taken taken takes = record {
+    in_turn = turn_wanted taken takes.in_turn;
+    ended = λ name m pulls. takes.ended name m (by_wanted taken name m pulls);
+  }
+
+module _ (archive : List MemberView) (own : List Object) where
+  pulls_given : (taken : List MemberView) (name : List ℕ) (m : MemberView) → PullsBy archive (asks_with own) taken name m → PullsInto archive own taken name m
+  pulls_given taken name m pulls = record {
+    named = subst (λ objects. Contains (unresolved (own ++ objects)) name) (same_objects taken) pulls.asked;
+    listed = pulls.listed;
+    new = pulls.new;
+  }
+
+  by_given : (taken : List MemberView) (name : List ℕ) (m : MemberView) → PullsInto archive own taken name m → PullsBy archive (asks_with own) taken name m
+  by_given taken name m pulls = record {
+    asked = subst (λ objects. Contains (unresolved (own ++ objects)) name) (sym (same_objects taken)) pulls.named;
+    listed = pulls.listed;
+    new = pulls.new;
+  }
+
+  turn_given : (taken : List MemberView) → AreTakenBy archive (asks_with own) taken → AreTakenInto archive own taken
+  unfolding AreTakenBy AreTakenInto
+  turn_given [] turn = tt
+  turn_given (m ∷ taken) turn = ((turn.0.0, pulls_given taken turn.0.0 m turn.0.1), turn_given taken turn.1)
+
+  pub given_taken : (taken : List MemberView) → TakesBy archive (asks_with own) taken → TakesInto archive own taken
+  given_taken taken takes = record {
+    in_turn = turn_given taken takes.in_turn;
+    ended = λ name m pulls. takes.ended name m (by_given taken name m pulls);
+  }
+
+module _ (machine : MachineType) (archive : List MemberView) (wanted : List (List ℕ)) where
+  expanded_same : (members : List MemberView) → objects_for machine (map (λ m. m.bytes) members) ≡ filter_map (λ m. expanded_in machine m.bytes) members
+  expanded_same members = kept_of_map (expanded_in machine) (λ m. m.bytes) members
+
+  pulls_short : (taken : List MemberView) (name : List ℕ) (m : MemberView) → PullsBy archive (asks_on machine wanted) taken name m → PullsInFor machine archive wanted taken name m
+  unfolding left_in claimed_in
+  pulls_short taken name m pulls =
+      let asked = subst (λ objects. is_undefined wanted objects name) (expanded_same taken) pulls.asked in
+      record { named = asked.0; undefined = asked.1; listed = pulls.listed; new = pulls.new }
+
+  by_short : (taken : List MemberView) (name : List ℕ) (m : MemberView) → PullsInFor machine archive wanted taken name m → PullsBy archive (asks_on machine wanted) taken name m
+  unfolding left_in claimed_in
+  by_short taken name m pulls = record {
+    asked = subst (λ objects. is_undefined wanted objects name) (sym (expanded_same taken)) (pulls.named, pulls.undefined);
+    listed = pulls.listed;
+    new = pulls.new;
+  }
+
+  turn_short : (taken : List MemberView) → AreTakenBy archive (asks_on machine wanted) taken → AreTakenInTurn machine archive wanted taken
+  unfolding AreTakenBy AreTakenInTurn
+  turn_short [] turn = tt
+  turn_short (m ∷ taken) turn = ((turn.0.0, pulls_short taken turn.0.0 m turn.0.1), turn_short taken turn.1)
+
+  pub short_taken : (taken : List MemberView) → TakesBy archive (asks_on machine wanted) taken → TakesFor machine archive wanted taken
+  short_taken taken takes = record {
+    in_turn = turn_short taken takes.in_turn;
+    ended = λ name m pulls. takes.ended name m (by_short taken name m pulls);
+  }
+
+-- The laws.
+
+pub are_searched : (kind : Kind) (linker : LinkerMember) (members : List MemberView) → HaveArchive kind linker members → AreSearched kind linker members
+are_searched kind linker members ready = record {
+  leads = leads_to_first kind linker members ready;
+  wanted = λ wanted. takes_just kind linker members (asks_for wanted) (Takes members wanted) ready (wanted_taken members wanted);
+  given = λ own. takes_just kind linker members (asks_with own) (TakesInto members own) ready (given_taken members own);
+  short = λ machine wanted. takes_just kind linker members (asks_on machine wanted) (TakesFor machine members wanted) ready (short_taken machine members wanted);
+}
+
+pub bytes_take_wanted : (kind : Kind) (linker : LinkerMember) (machine : MachineType) (d : DefinitionView) (members : List MemberView) (wanted : List (List ℕ)) → HaveArchive kind linker members
+    → AreMembersOf d machine GnuFlavor members → IsDistinct bytes_eq (flat_map (λ m. m.symbols) members) → NamesNoHeadOrTail machine d.import_name wanted
+    → TakesJust kind linker members (asks_for wanted) (λ taken. HaveSame taken (linked_if_any d machine (exports_wanted d wanted)))
+bytes_take_wanted kind linker machine d members wanted ready made distinct plain =
+    takes_just kind linker members (asks_for wanted) (λ taken. HaveSame taken (linked_if_any d machine (exports_wanted d wanted))) ready
+    (λ taken takes. takes_wanted machine d members taken wanted made distinct plain (wanted_taken members wanted taken takes))
+
+pub bytes_of_libraries : (kind : Kind) (linker : LinkerMember) (machine : MachineType) (libraries : List Library) (wanted : List (List ℕ)) → HaveArchive kind linker (archive_of libraries) → IsArchive machine libraries
+    → TakesJust kind linker (archive_of libraries) (asks_for wanted) (λ taken. NamesNoHeadOrTailOf machine libraries (wanted_with wanted taken) → TakesOfLibraries machine libraries wanted taken)
+bytes_of_libraries kind linker machine libraries wanted ready archive =
+    takes_just kind linker (archive_of libraries) (asks_for wanted) (λ taken. NamesNoHeadOrTailOf machine libraries (wanted_with wanted taken) → TakesOfLibraries machine libraries wanted taken) ready
+    (λ taken takes plain. libraries_taken machine libraries taken wanted archive plain (wanted_taken (archive_of libraries) wanted taken takes))
+
+pub bytes_close : (kind : Kind) (linker : LinkerMember) (machine : MachineType) (libraries : List Library) (own : List Object) → HaveArchive kind linker (archive_of libraries) → IsArchive machine libraries
+    → TakesJust kind linker (archive_of libraries) (asks_with own) (λ taken. (arranged : List Library) (bases : Bases) (objects : List Object) → AreLinkedFor machine libraries own taken arranged bases objects
+    → AllByRecursion (ClaimsNone (listed_in taken ++ names_undefined taken)) own → NamesNoHeadOrTailOf machine libraries (wanted_in own taken) → LinksClosed machine libraries own taken arranged bases objects)
+bytes_close kind linker machine libraries own ready archive =
+    takes_just kind linker (archive_of libraries) (asks_with own) (λ taken. (arranged : List Library) (bases : Bases) (objects : List Object) → AreLinkedFor machine libraries own taken arranged bases objects
+    → AllByRecursion (ClaimsNone (listed_in taken ++ names_undefined taken)) own → NamesNoHeadOrTailOf machine libraries (wanted_in own taken) → LinksClosed machine libraries own taken arranged bases objects) ready
+    (λ taken takes arranged bases objects linked claims names. closed_links machine libraries own taken arranged bases objects archive
+    (record { takes = given_taken (archive_of libraries) own taken takes; linked = linked; claims = claims; names = names }))
+
+pub bytes_close_given : (kind : Kind) (linker : LinkerMember) (machine : MachineType) (libraries : List Library) (own : List Object) → HaveArchive kind linker (archive_of libraries) → IsArchive machine libraries → AreGiven machine libraries own
+    → TakesJust kind linker (archive_of libraries) (asks_with own) (λ taken. (arranged : List Library) (bases : Bases) (objects : List Object) → AreLinkedFor machine libraries own taken arranged bases objects
+    → LinksClosed machine libraries own taken arranged bases objects)
+bytes_close_given kind linker machine libraries own ready archive given =
+    takes_just kind linker (archive_of libraries) (asks_with own) (λ taken. (arranged : List Library) (bases : Bases) (objects : List Object) → AreLinkedFor machine libraries own taken arranged bases objects
+    → LinksClosed machine libraries own taken arranged bases objects) ready
+    (λ taken takes arranged bases objects linked. closed_links machine libraries own taken arranged bases objects archive
+    (given_closes machine libraries own taken arranged bases objects archive given (given_taken (archive_of libraries) own taken takes) linked))
+
+pub bytes_take_short : (kind : Kind) (linker : LinkerMember) (machine : MachineType) (d : DefinitionView) (members : List MemberView) (wanted : List (List ℕ)) → HaveArchive kind linker members
+    → AreMembersOf d machine Msvc members → IsDistinct bytes_eq (flat_map (λ m. m.symbols) members) → descriptor_symbol_by_name d.import_name ≡ descriptor_symbol d.import_name → NamesNoHeader d.import_name wanted
+    → TakesJust kind linker members (asks_on machine wanted) (λ taken. HaveSame taken (msvc_if_any d machine (shorts_wanted d wanted)))
+bytes_take_short kind linker machine d members wanted ready made distinct found plain =
+    takes_just kind linker members (asks_on machine wanted) (λ taken. HaveSame taken (msvc_if_any d machine (shorts_wanted d wanted))) ready
+    (λ taken takes. search_takes machine d members taken wanted made distinct found plain (short_taken machine members wanted taken takes))

@@ -1,0 +1,100 @@
+//! Laws of archive search in bytes. The functions do nothing: their contracts are the laws.
+
+ghost use Rattle.implib.specs.Definition.{DefinitionView};
+ghost use Rattle.implib.specs.Formats.Object.{Object};
+ghost use Rattle.implib.specs.Link.Placement.{Bases};
+ghost use Rattle.implib.specs.Members.MemberSpec.{MemberView};
+ghost use Rattle.implib.specs.Members.Members.{AreMembersOf};
+ghost use Rattle.implib.specs.Members.MsvcObjects.{descriptor_symbol};
+ghost use Rattle.implib.specs.declared.flavor.Flavor.TheVariants.{Gnu, Msvc};
+ghost use Rattle.implib.specs.declared.machine.MachineType.{MachineType};
+ghost use Rattle.implib_archive.specs.declared.kind.Kind.{Kind};
+ghost use Rattle.implib_archive_link.specs.InBytes.{LinkerMember, asks_for, asks_on, asks_with};
+ghost use Rattle.implib_archive_link.specs.Results.{AreSearched, HaveArchive, TakesJust};
+ghost use Rattle.implib_link.specs.Flavors.Expansion.{descriptor_symbol_by_name};
+ghost use Rattle.implib_link.specs.Gnu.Program.{ClaimsNone};
+ghost use Rattle.implib_link.specs.Search.Archives.{IsArchive, Library, NamesNoHeadOrTailOf};
+ghost use Rattle.implib_link.specs.Search.Archives.{TakesOfLibraries, archive_of, wanted_with};
+ghost use Rattle.implib_link.specs.Search.Closed.{AreLinkedFor, LinksClosed, listed_in, wanted_in};
+ghost use Rattle.implib_link.specs.Search.Given.{AreGiven};
+ghost use Rattle.implib_link.specs.Search.Msvc.{NamesNoHeader, msvc_if_any, shorts_wanted};
+ghost use Rattle.implib_link.specs.Search.Search.{HaveSame, NamesNoHeadOrTail, exports_wanted};
+ghost use Rattle.implib_link.specs.Search.Search.{linked_if_any, names_undefined};
+ghost use Rattle.std.specs.List.{AllByRecursion, IsDistinct, flat_map};
+ghost use Rattle.std.specs.Prelude.{◌≡◌, ◌++◌, ℕ, List, bytes_eq};
+
+/// The bytes of the archive of members are an archive in the sense of searches: a name leads to the
+/// first member that it is listed for, by either linker member, and what a linker takes in the
+/// bytes are members that it takes of the list.
+pub fn archives_are_searched()
+    ensures { (kind : Kind) (linker : LinkerMember) (members : List MemberView) →
+        HaveArchive kind linker members → AreSearched kind linker members }
+{}
+
+/// In the bytes of the archive of a definition's members for GNU's linker a linker takes just the
+/// head, the members of the exports that are wanted and the tail; nothing, where no export is
+/// wanted.
+///
+/// All listed symbols differ, so no export has an alias.
+pub fn search_takes_wanted()
+    ensures { (kind : Kind) (linker : LinkerMember) (machine : MachineType) (d : DefinitionView)
+        (members : List MemberView) (wanted : List (List ℕ)) →
+        HaveArchive kind linker members →
+        AreMembersOf d machine Gnu members →
+        IsDistinct bytes_eq (flat_map (λ m. m.symbols) members) →
+        NamesNoHeadOrTail machine d.import_name wanted →
+        TakesJust kind linker members (asks_for wanted)
+        (λ taken. HaveSame taken (linked_if_any d machine (exports_wanted d wanted))) }
+{}
+
+/// In the bytes of an archive of the members of several libraries a linker takes just what is
+/// linked of the wanted exports of each, and weak externals, whose targets are then wanted, too.
+pub fn libraries_are_searched()
+    ensures { (kind : Kind) (linker : LinkerMember) (machine : MachineType)
+        (libraries : List Library) (wanted : List (List ℕ)) →
+        HaveArchive kind linker (archive_of libraries) →
+        IsArchive machine libraries →
+        TakesJust kind linker (archive_of libraries) (asks_for wanted)
+        (λ taken. NamesNoHeadOrTailOf machine libraries (wanted_with wanted taken) →
+        TakesOfLibraries machine libraries wanted taken) }
+{}
+
+/// In the bytes of an archive of libraries a linker takes for given objects what closes the
+/// program, if the objects claim none of its symbols, and no head's or tail's symbol is wanted; or,
+/// asked of the objects alone, if they may be given.
+pub fn closed_program_links()
+    ensures closed { (kind : Kind) (linker : LinkerMember) (machine : MachineType)
+        (libraries : List Library) (own : List Object) →
+        HaveArchive kind linker (archive_of libraries) →
+        IsArchive machine libraries →
+        TakesJust kind linker (archive_of libraries) (asks_with own)
+        (λ taken. (arranged : List Library) (bases : Bases) (objects : List Object) →
+        AreLinkedFor machine libraries own taken arranged bases objects →
+        AllByRecursion (ClaimsNone (listed_in taken ++ names_undefined taken)) own →
+        NamesNoHeadOrTailOf machine libraries (wanted_in own taken) →
+        LinksClosed machine libraries own taken arranged bases objects) }
+    ensures given { (kind : Kind) (linker : LinkerMember) (machine : MachineType)
+        (libraries : List Library) (own : List Object) →
+        HaveArchive kind linker (archive_of libraries) →
+        IsArchive machine libraries →
+        AreGiven machine libraries own →
+        TakesJust kind linker (archive_of libraries) (asks_with own)
+        (λ taken. (arranged : List Library) (bases : Bases) (objects : List Object) →
+        AreLinkedFor machine libraries own taken arranged bases objects →
+        LinksClosed machine libraries own taken arranged bases objects) }
+{}
+
+/// In the bytes of the archive of a definition's members for Microsoft's linker a linker takes just
+/// the short imports that are wanted, the import descriptor, the null descriptor and the null
+/// thunk; nothing, where no export is wanted.
+pub fn search_takes_short_imports()
+    ensures { (kind : Kind) (linker : LinkerMember) (machine : MachineType) (d : DefinitionView)
+        (members : List MemberView) (wanted : List (List ℕ)) →
+        HaveArchive kind linker members →
+        AreMembersOf d machine Msvc members →
+        IsDistinct bytes_eq (flat_map (λ m. m.symbols) members) →
+        descriptor_symbol_by_name d.import_name ≡ descriptor_symbol d.import_name →
+        NamesNoHeader d.import_name wanted →
+        TakesJust kind linker members (asks_on machine wanted)
+        (λ taken. HaveSame taken (msvc_if_any d machine (shorts_wanted d wanted))) }
+{}
