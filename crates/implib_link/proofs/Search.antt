@@ -19,3 +19,5 @@ pub mod Rooms
 pub mod Exists
 pub mod MsvcMembers
 pub mod MsvcArchives
+pub mod MsvcArranged
+pub mod MsvcClosed

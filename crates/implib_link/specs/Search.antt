@@ -6,3 +6,4 @@ pub mod Closed
 pub mod Given
 pub mod Exists
 pub mod MsvcArchives
+pub mod MsvcClosed

@@ -8,6 +8,7 @@ pub mod exists;
 pub mod flavors;
 pub mod loaded;
 pub mod msvc_archives;
+pub mod msvc_closed;
 pub mod msvc_search;
 pub mod packed;
 pub mod program;
