@@ -21,3 +21,4 @@ pub mod MsvcMembers
 pub mod MsvcArchives
 pub mod MsvcArranged
 pub mod MsvcClosed
+pub mod MsvcGiven

@@ -7,3 +7,4 @@ pub mod Given
 pub mod Exists
 pub mod MsvcArchives
 pub mod MsvcClosed
+pub mod MsvcGiven

@@ -85,6 +85,24 @@ weak_by : (machine : MachineType) (m x : MemberView) (o : Object) (b : Bool) →
 unfolding is_weak_in
 weak_by machine m x o b same is weak = ap has_weak (ap (λ (y : MemberView). expanded_in machine y.bytes) same ∙ is) ∙ weak
 
+-- the members of a library that are none
+module _ (machine : MachineType) (m : MemberView) (l : Library) (made : IsMsvcLibrary machine l) where
+  pub descriptor_plain : m ≡ descriptor_of machine l → is_weak_in machine m ≡ false
+  descriptor_plain same =
+      weak_by machine m (descriptor_of machine l) (taken_descriptor machine l.definition.import_name) false same (descriptor_is machine l made) (descriptor_not_weak machine l.definition.import_name)
+
+  pub null_plain : m ≡ null_of machine l → is_weak_in machine m ≡ false
+  null_plain same = weak_by machine m (null_of machine l) (taken_null machine) false same (null_is machine l made) (null_not_weak machine)
+
+  pub thunk_plain : m ≡ thunk_of machine l → is_weak_in machine m ≡ false
+  thunk_plain same =
+      weak_by machine m (thunk_of machine l) (taken_null_thunk machine l.definition.import_name) false same (thunk_is machine l made) (thunk_not_weak machine l.definition.import_name)
+
+  pub short_plain : (e : ExportView) → Among e (exports_of l) → m ≡ short_of machine l e → is_weak_in machine m ≡ false
+  short_plain e there same =
+      weak_by machine m (short_of machine l e) (asking machine l.definition.import_name e) false same (short_is machine l made e there)
+      (asking_not_weak machine l.definition.import_name (short_import_symbol e) (ask_in Msvc machine e) (use_for e))
+
 -- What is linked of libraries.
 
 abbrev pub shorts_if_any : MachineType → Library → List ℕ → List MemberView
@@ -277,16 +295,12 @@ module _ (machine : MachineType) (libraries : List Library) (archive : IsMsvcArc
 
   -- Whether a needed member is a weak external.
   import_not_weak : (names : List (List ℕ)) (m : MemberView) (l : Library) → Among l libraries → Linked machine l names m → is_weak_in machine m ≡ false
-  import_not_weak names m l held (TheDescriptor same any) =
-      weak_by machine m (descriptor_of machine l) (taken_descriptor machine l.definition.import_name) false same (descriptor_is machine l (made_of l held)) (descriptor_not_weak machine l.definition.import_name)
-  import_not_weak names m l held (TheThunk same any) =
-      weak_by machine m (thunk_of machine l) (taken_null_thunk machine l.definition.import_name) false same (thunk_is machine l (made_of l held)) (thunk_not_weak machine l.definition.import_name)
-  import_not_weak names m l held (AShort e there same want) =
-      weak_by machine m (short_of machine l e) (asking machine l.definition.import_name e) false same (short_is machine l (made_of l held) e there)
-      (asking_not_weak machine l.definition.import_name (short_import_symbol e) (ask_in Msvc machine e) (use_for e))
+  import_not_weak names m l held (TheDescriptor same any) = descriptor_plain machine m l (made_of l held) same
+  import_not_weak names m l held (TheThunk same any) = thunk_plain machine m l (made_of l held) same
+  import_not_weak names m l held (AShort e there same want) = short_plain machine m l (made_of l held) e there same
 
   null_is_not : (m : MemberView) (l : Library) (rest : List Library) → libraries ≡ l ∷ rest → m ≡ null_of machine l → is_weak_in machine m ≡ false
-  null_is_not m l rest is same = weak_by machine m (null_of machine l) (taken_null machine) false same (null_is machine l (made_of l (first_made l rest is))) (null_not_weak machine)
+  null_is_not m l rest is same = null_plain machine m l (made_of l (first_made l rest is)) same
 
   pub alias_is_weak : (m : MemberView) (l : Library) → Among l libraries → (e : ExportView) → Among e (exports_of l) → is_short_alias e ≡ true → (weak target : List ℕ) → IsPair e weak target →
       m ≡ weak_of machine l weak target → is_weak_in machine m ≡ true

@@ -28,7 +28,7 @@ use Rattle.implib_link.specs.Search.Archives.{Library, archive_of, exports_of}
 use Rattle.implib_link.specs.Search.Closed.{claims_of, listed_in, references_of, unresolved}
 use Rattle.implib_link.specs.Search.Msvc.{AreTakenInTurn, NamesNoHeader, PullsInFor, TakesFor, claimed_in, left_in}
 use Rattle.implib_link.specs.Search.MsvcArchives.{IsMsvcArchive, IsMsvcLibrary, TakesOfShorts, first_null, imports_wanted, is_import_wanted, is_short_alias, is_weak_in, others_in, short_inputs, shorts_linked, weak_in, with_first_null}
-use Rattle.implib_link.specs.Search.MsvcClosed.{AreLinkedForMsvc, AreTakenIntoFor, IsClosedForMsvc, IsImportedShort, IsUsedShort, IsWeakTaken, LinksClosedForMsvc, PullsIntoFor, TakesIntoFor, inputs_for, wanted_for}
+use Rattle.implib_link.specs.Search.MsvcClosed.{AreClosedForMsvc, AreTakenIntoFor, IsClosedForMsvc, IsImportedShort, IsUsedShort, IsWeakTaken, LinksClosedForMsvc, PullsIntoFor, TakesIntoFor, inputs_for, wanted_for}
 use Rattle.implib_link.specs.Search.Search.{first_listed, is_listed_for, undefined_in}
 use Rattle.implib_link.proofs.Flavors.Block.{asking}
 use Rattle.implib_link.proofs.Flavors.Claims.{claims_asking, claims_descriptor, claims_null, claims_thunk}
@@ -149,7 +149,7 @@ no_library l held = held
 none_below : (n : ℕ) → n < 0 → ⊥
 none_below n less = omega arith
 
-first_one : {X : Type 0} (xs : List X) → 0 < length xs → (x : X) × Among x xs
+pub first_one : {X : Type 0} (xs : List X) → 0 < length xs → (x : X) × Among x xs
 unfolding Among
 first_one [] some = absurd (none_below 0 some)
 first_one (x ∷ xs) some = (x, inl refl)
@@ -210,8 +210,8 @@ module _ (machine : MachineType) (libraries : List Library) (archive : IsMsvcArc
           objects_with_null machine before behind (null_member machine x.definition.import_name) (null_is machine x (made_of x (first_held x rest same)))
           ∙ sym (objects_with_null machine before behind (null_member machine dll) is)
 
-  module _ (own : List Object) (taken : List MemberView) (arranged : List Library) (bases : Bases) (objects : List Object)
-      (is : IsClosedForMsvc machine libraries own taken arranged bases objects) where
+  module _ (own : List Object) (taken : List MemberView) (arranged : List Library) (objects : List Object)
+      (is : AreClosedForMsvc machine libraries own taken arranged objects) where
     abbrev wanted : List (List ℕ)
     wanted = wanted_for machine own taken
 
@@ -365,14 +365,14 @@ module _ (machine : MachineType) (libraries : List Library) (archive : IsMsvcArc
           | inr weak ↦ weak_apart name m (among_flat claimed_names o weak_objects name weak claimed)
         ]))
 
-    abbrev inputs_are_made : AllByRecursion (IsMadeFor machine) inputs
+    inputs_are_made : AllByRecursion (IsMadeFor machine) inputs
     inputs_are_made = short_inputs_made machine arranged wanted arranged_archive
 
     null_read : expanded_in machine (null_member machine (dll_of one_input.0)).bytes ≡ Some (taken_null machine)
     null_read =
         null_object machine one_input.0 (all_among (IsMadeFor machine) one_input.0 inputs one_input.1 inputs_are_made) (ap (λ (p : FlavorInput). p.flavor) one_library.2)
 
-    held : AreFlavorObjects machine (inputs_for machine arranged own taken) objects
+    pub held : AreFlavorObjects machine (inputs_for machine arranged own taken) objects
     held = record {
       distinct = shorts_distinct machine arranged wanted arranged_archive;
       null_from = one_input.0;
@@ -386,205 +386,211 @@ module _ (machine : MachineType) (libraries : List Library) (archive : IsMsvcArc
       found = short_inputs_found machine arranged wanted arranged_archive;
     }
 
-    program : IsFlavorProgram machine bases (inputs_for machine arranged own taken) objects
-    program = record { held = held; admissible = is.linked.admissible; lookups = is.linked.lookups; addresses = is.linked.addresses; follows = is.linked.follows }
+    -- placed at bases
+    module _ (bases : Bases) (program : IsFlavorProgram machine bases (inputs_for machine arranged own taken) objects) where
+      links : FlavorsLink machine bases (inputs_for machine arranged own taken) objects
+      links = flavors_link machine bases inputs objects inputs_are_made program
 
-    links : FlavorsLink machine bases (inputs_for machine arranged own taken) objects
-    links = flavors_link machine bases inputs objects inputs_are_made program
+      -- each import is used
+      used : (i j : ℕ) (p : FlavorInput) (e : ExportView) → slice_get inputs i ≡ Some p → slice_get (exports_chosen p) j ≡ Some e → IsUsedShort wanted e
+      used i j p e at there =
+          let from = short_input_is arranged wanted p (among_at p inputs i at) in
+          let chosen : exports_chosen p ≡ filter (is_import_wanted wanted) (exports_of from.0) = ap exports_chosen from.2 ∙ imports_are from.0 wanted in
+          let kept = passing (is_import_wanted wanted) e (exports_of from.0) (subst (Among e) chosen (among_at e (exports_chosen p) j there)) in
+          let name = wanted_name wanted (short_import_symbols e) (import_parts wanted e kept.1).0 in
+          (name.0, among_contains name.0 (short_import_symbols e) name.1, among_contains name.0 wanted name.2)
 
-    -- each import is used
-    used : (i j : ℕ) (p : FlavorInput) (e : ExportView) → slice_get inputs i ≡ Some p → slice_get (exports_chosen p) j ≡ Some e → IsUsedShort wanted e
-    used i j p e at there =
-        let from = short_input_is arranged wanted p (among_at p inputs i at) in
-        let chosen : exports_chosen p ≡ filter (is_import_wanted wanted) (exports_of from.0) = ap exports_chosen from.2 ∙ imports_are from.0 wanted in
-        let kept = passing (is_import_wanted wanted) e (exports_of from.0) (subst (Among e) chosen (among_at e (exports_chosen p) j there)) in
-        let name = wanted_name wanted (short_import_symbols e) (import_parts wanted e kept.1).0 in
-        (name.0, among_contains name.0 (short_import_symbols e) name.1, among_contains name.0 wanted name.2)
+      -- A name that is wanted and listed.
 
-    -- A name that is wanted and listed.
-
-    still_named : (name : List ℕ) → Among name wanted → Among name (unresolved own ++ left_in machine taken)
-    unfolding left_in
-    still_named name want =
-        elim (among_either name (unresolved own) (flat_map undefined_in weak_objects) want) [
-          | inl given ↦ among_front name (unresolved own) (flat_map undefined_in (objects_taken machine taken)) given
-          | inr left ↦
-              let by = taken_name machine undefined_in name (weak_in machine taken) left in
-              among_back name (unresolved own) (flat_map undefined_in (objects_taken machine taken))
-              (name_taken machine undefined_in name taken by.member by.object (passing (is_weak_in machine) by.member taken by.held).0 by.taken by.among)
-        ]
-
-    -- the first member that is listed for it is taken
-    reached : (name : List ℕ) (m : MemberView) → Among name wanted → first_listed (archive_of libraries) name ≡ Some m → Among m taken
-    unfolding claimed_in
-    reached name m want at =
-        elim (cases_Bool (list_any (is_listed_for name) taken)) [
-          | inl some ↦
-              let t = any_member name taken some in
-              subst (λ x. Among x taken) (same_first t.0 m (first_listed (archive_of libraries) name) ((each_first t.0 t.1).first name t.2) at) t.1
-          | inr none ↦ absurd (takes.ended name m (record {
-            named = among_contains name (unresolved own ++ left_in machine taken) (still_named name want);
-            undefined = not_there name (flat_map claimed_names (objects_taken machine taken)) (λ claimed.
-                let by = claimed_listed name taken (λ y held. held) claimed in
-                none_listed name by.0 taken none by.1 by.2);
-            listed = at;
-            new = λ has. none_listed name m taken none (contains_among m taken has) (listed_is (archive_of libraries) name m at).1;
-          }))
-        ]
-
-    abbrev ByName : ℕ → ℕ → List ℕ → ExportView → Type 0
-    ByName i j name e =
-        ((name ≡ imp_symbol (short_import_symbol e))
-        × (definitions_of name (placed_from bases objects)
-        ≡ record { name = name; address = Some (bases.addresses + thunk_width machine * thunks_of i inputs + thunk_width machine * j) } ∷ []))
-        ⊎ ((name ≡ short_import_symbol e) × (e.is_data ≡ false) × IsDefinedOnce (placed_from bases objects) name)
-
-    of_export : (l : Library) (e : ExportView) (name : List ℕ) → Among l libraries → Among e (exports_of l) → is_short_alias e ≡ false → Among name (short_import_symbols e) → Among name wanted →
-        IsImportedShort machine (placed_from bases objects) bases inputs name
-    of_export l e name held there none listed want =
-        let is_want : is_import_wanted wanted e ≡ true = both_parts wanted e (wants wanted (short_import_symbols e) name listed want) none in
-        let in_order : Among l arranged = among_moved l libraries arranged is.linked.order held in
-        let p : FlavorInput = short_input_for l wanted in
-        let input : Among p inputs = short_input_held arranged wanted l e in_order there is_want in
-        let i = at_index p inputs input in
-        let chosen : Among e (exports_chosen p) = subst (Among e) (sym (imports_are l wanted)) (passes (is_import_wanted wanted) e (exports_of l) there is_want) in
-        let j = at_index e (exports_chosen p) chosen in
-        let member : Among (short_of machine l e) (all_members machine inputs) =
-        of_linked machine arranged wanted (short_of machine l e) l in_order (linked_there machine l wanted (short_of machine l e) (AShort e there refl is_want)) in
-        record {
-          number = i.0;
-          input = p;
-          input_is = i.1;
-          index = j.0;
-          export = e;
-          export_is = j.1;
-          by = elim (by_symbol e name listed) [
-            | inl same ↦ inl (
-              same,
-              subst (λ x. definitions_of x (placed_from bases objects)
-                  ≡ record { name = x; address = Some (bases.addresses + thunk_width machine * thunks_of i.0 inputs + thunk_width machine * j.0) } ∷ []) (sym same)
-                  (entry_of machine bases inputs objects i.0 j.0 p e links i.1 j.1),
-            )
-            | inr bare ↦ inr (
-              bare.0,
-              bare.1,
-              all_among (IsDefinedOnce (placed_from bases objects)) name (symbols_listed (all_members machine inputs))
-                  (among_flat (λ (m : MemberView). m.symbols) (short_of machine l e) (all_members machine inputs) name member listed) links.listed,
-            )
-          ];
-        }
-
-    first_of : (name : List ℕ) (members : List MemberView) → Among name (listed_in members) → (m : MemberView) × (first_listed members name ≡ Some m)
-    unfolding Among
-    first_of name [] held = absurd held
-    first_of name (m ∷ members) held =
-        elim (cases_Bool (is_listed_for name m)) [
-          | inl own_name ↦ (m, rw own_name refl)
-          | inr other ↦ elim (among_either name m.symbols (listed_in members) held) [
-            | inl here ↦ absurd (true≢false (sym (among_any name m.symbols here) ∙ other))
-            | inr behind ↦ let later = first_of name members behind in (later.0, rw other later.1)
+      still_named : (name : List ℕ) → Among name wanted → Among name (unresolved own ++ left_in machine taken)
+      unfolding left_in
+      still_named name want =
+          elim (among_either name (unresolved own) (flat_map undefined_in weak_objects) want) [
+            | inl given ↦ among_front name (unresolved own) (flat_map undefined_in (objects_taken machine taken)) given
+            | inr left ↦
+                let by = taken_name machine undefined_in name (weak_in machine taken) left in
+                among_back name (unresolved own) (flat_map undefined_in (objects_taken machine taken))
+                (name_taken machine undefined_in name taken by.member by.object (passing (is_weak_in machine) by.member taken by.held).0 by.taken by.among)
           ]
-        ]
 
-    plain_of : (l : Library) → Among l libraries → NamesNoHeader l.definition.import_name wanted
-    plain_of l there = all_among (λ (x : Library). NamesNoHeader x.definition.import_name (wanted_for machine own taken)) l libraries there is.names
+      -- the first member that is listed for it is taken
+      reached : (name : List ℕ) (m : MemberView) → Among name wanted → first_listed (archive_of libraries) name ≡ Some m → Among m taken
+      unfolding claimed_in
+      reached name m want at =
+          elim (cases_Bool (list_any (is_listed_for name) taken)) [
+            | inl some ↦
+                let t = any_member name taken some in
+                subst (λ x. Among x taken) (same_first t.0 m (first_listed (archive_of libraries) name) ((each_first t.0 t.1).first name t.2) at) t.1
+            | inr none ↦ absurd (takes.ended name m (record {
+              named = among_contains name (unresolved own ++ left_in machine taken) (still_named name want);
+              undefined = not_there name (flat_map claimed_names (objects_taken machine taken)) (λ claimed.
+                  let by = claimed_listed name taken (λ y held. held) claimed in
+                  none_listed name by.0 taken none by.1 by.2);
+              listed = at;
+              new = λ has. none_listed name m taken none (contains_among m taken has) (listed_is (archive_of libraries) name m at).1;
+            }))
+          ]
 
-    resolved_by : (name : List ℕ) (m : MemberView) → Among name wanted → first_listed (archive_of libraries) name ≡ Some m → Found machine libraries archive name m →
-        IsImportedShort machine (placed_from bases objects) bases inputs name ⊎ IsWeakTaken machine taken name
-    resolved_by name m want at (FoundDescriptor l there same named) =
-        absurd (there_not (descriptor_symbol l.definition.import_name) wanted (plain_of l there).descriptor (subst (λ n. Among n wanted) named want))
-    resolved_by name m want at (FoundNull l rest first same named) =
-        absurd (there_not null_descriptor_symbol wanted (plain_of l (first_held l rest first)).null_descriptor (subst (λ n. Among n wanted) named want))
-    resolved_by name m want at (FoundThunk l there same named) =
-        absurd (there_not (null_thunk_symbol l.definition.import_name) wanted (plain_of l there).null_thunk (subst (λ n. Among n wanted) named want))
-    resolved_by name m want at (FoundShort l there e among none same listed) = inl (of_export l e name there among none listed want)
-    resolved_by name m want at (FoundWeak l there e among alias weak target pair same named) = inr (
-      m,
-      among_contains m (weak_in machine taken) (passes (is_weak_in machine) m taken (reached name m want at) (alias_is_weak machine libraries archive m l there e among alias weak target pair same)),
-      ap (λ (y : MemberView). y.symbols) same ∙ ap (λ n. n ∷ []) (sym named),
-    )
+      abbrev ByName : ℕ → ℕ → List ℕ → ExportView → Type 0
+      ByName i j name e =
+          ((name ≡ imp_symbol (short_import_symbol e))
+          × (definitions_of name (placed_from bases objects)
+          ≡ record { name = name; address = Some (bases.addresses + thunk_width machine * thunks_of i inputs + thunk_width machine * j) } ∷ []))
+          ⊎ ((name ≡ short_import_symbol e) × (e.is_data ≡ false) × IsDefinedOnce (placed_from bases objects) name)
 
-    resolved : (name : List ℕ) → Contains wanted name → Contains (listed_in (archive_of libraries)) name →
-        IsImportedShort machine (placed_from bases objects) bases inputs name ⊎ IsWeakTaken machine taken name
-    resolved name want listed =
-        let at = first_of name (archive_of libraries) (contains_among name (listed_in (archive_of libraries)) listed) in
-        resolved_by name at.0 (contains_among name wanted want) at.1 (found machine libraries archive name at.0 at.1)
+      of_export : (l : Library) (e : ExportView) (name : List ℕ) → Among l libraries → Among e (exports_of l) → is_short_alias e ≡ false → Among name (short_import_symbols e) → Among name wanted →
+          IsImportedShort machine (placed_from bases objects) bases inputs name
+      of_export l e name held there none listed want =
+          let is_want : is_import_wanted wanted e ≡ true = both_parts wanted e (wants wanted (short_import_symbols e) name listed want) none in
+          let in_order : Among l arranged = among_moved l libraries arranged is.linked.order held in
+          let p : FlavorInput = short_input_for l wanted in
+          let input : Among p inputs = short_input_held arranged wanted l e in_order there is_want in
+          let i = at_index p inputs input in
+          let chosen : Among e (exports_chosen p) = subst (Among e) (sym (imports_are l wanted)) (passes (is_import_wanted wanted) e (exports_of l) there is_want) in
+          let j = at_index e (exports_chosen p) chosen in
+          let member : Among (short_of machine l e) (all_members machine inputs) =
+          of_linked machine arranged wanted (short_of machine l e) l in_order (linked_there machine l wanted (short_of machine l e) (AShort e there refl is_want)) in
+          record {
+            number = i.0;
+            input = p;
+            input_is = i.1;
+            index = j.0;
+            export = e;
+            export_is = j.1;
+            by = elim (by_symbol e name listed) [
+              | inl same ↦ inl (
+                same,
+                subst (λ x. definitions_of x (placed_from bases objects)
+                    ≡ record { name = x; address = Some (bases.addresses + thunk_width machine * thunks_of i.0 inputs + thunk_width machine * j.0) } ∷ []) (sym same)
+                    (entry_of machine bases inputs objects i.0 j.0 p e links i.1 j.1),
+              )
+              | inr bare ↦ inr (
+                bare.0,
+                bare.1,
+                all_among (IsDefinedOnce (placed_from bases objects)) name (symbols_listed (all_members machine inputs))
+                    (among_flat (λ (m : MemberView). m.symbols) (short_of machine l e) (all_members machine inputs) name member listed) links.listed,
+              )
+            ];
+          }
 
-    -- Each object of the program is given, or what a member that is taken is taken for; and the other way round.
+      first_of : (name : List ℕ) (members : List MemberView) → Among name (listed_in members) → (m : MemberView) × (first_listed members name ≡ Some m)
+      unfolding Among
+      first_of name [] held = absurd held
+      first_of name (m ∷ members) held =
+          elim (cases_Bool (is_listed_for name m)) [
+            | inl own_name ↦ (m, rw own_name refl)
+            | inr other ↦ elim (among_either name m.symbols (listed_in members) held) [
+              | inl here ↦ absurd (true≢false (sym (among_any name m.symbols here) ∙ other))
+              | inr behind ↦ let later = first_of name members behind in (later.0, rw other later.1)
+            ]
+          ]
 
-    abbrev sources : List Object
-    sources = own ++ objects_taken machine taken
+      plain_of : (l : Library) → Among l libraries → NamesNoHeader l.definition.import_name wanted
+      plain_of l there = all_among (λ (x : Library). NamesNoHeader x.definition.import_name (wanted_for machine own taken)) l libraries there is.names
 
-    same_names : (f : Object → List (List ℕ)) (name : List ℕ) (members : List MemberView) → ((m : MemberView) → Among m members → Among m taken) → Among name (flat_map f (objects_taken machine members)) →
-        Among name (flat_map f (objects_taken machine taken))
-    same_names f name members there named =
-        let by = taken_name machine f name members named in
-        name_taken machine f name taken by.member by.object (there by.member by.held) by.taken by.among
+      resolved_by : (name : List ℕ) (m : MemberView) → Among name wanted → first_listed (archive_of libraries) name ≡ Some m → Found machine libraries archive name m →
+          IsImportedShort machine (placed_from bases objects) bases inputs name ⊎ IsWeakTaken machine taken name
+      resolved_by name m want at (FoundDescriptor l there same named) =
+          absurd (there_not (descriptor_symbol l.definition.import_name) wanted (plain_of l there).descriptor (subst (λ n. Among n wanted) named want))
+      resolved_by name m want at (FoundNull l rest first same named) =
+          absurd (there_not null_descriptor_symbol wanted (plain_of l (first_held l rest first)).null_descriptor (subst (λ n. Among n wanted) named want))
+      resolved_by name m want at (FoundThunk l there same named) =
+          absurd (there_not (null_thunk_symbol l.definition.import_name) wanted (plain_of l there).null_thunk (subst (λ n. Among n wanted) named want))
+      resolved_by name m want at (FoundShort l there e among none same listed) = inl (of_export l e name there among none listed want)
+      resolved_by name m want at (FoundWeak l there e among alias weak target pair same named) = inr (
+        m,
+        among_contains m (weak_in machine taken) (passes (is_weak_in machine) m taken (reached name m want at) (alias_is_weak machine libraries archive m l there e among alias weak target pair same)),
+        ap (λ (y : MemberView). y.symbols) same ∙ ap (λ n. n ∷ []) (sym named),
+      )
 
-    from_sources : (f : Object → List (List ℕ)) (name : List ℕ) → Among name (flat_map f objects) → Among name (flat_map f sources)
-    from_sources f name named =
-        let by = among_flat_map f name objects named in
-        subst (Among name) (sym (flat_map-append f own (objects_taken machine taken)))
-        (elim (cases_Bool (has_tables by.0)) [
-          | inl tables ↦ among_back name (flat_map f own) (flat_map f (objects_taken machine taken)) (
-              let kept : Among by.0 (objects_taken machine (is.linked.before ++ (first_null machine libraries ++ is.linked.behind))) =
-              subst (Among by.0) is.linked.tables (passes has_tables by.0 objects by.1 tables) in
-              same_names f name (is.linked.before ++ (first_null machine libraries ++ is.linked.behind)) (λ m there. (passing (λ x. not (is_weak_in machine x)) m taken (linked_other m there)).0)
-              (among_flat f by.0 (objects_taken machine (is.linked.before ++ (first_null machine libraries ++ is.linked.behind))) name kept by.2))
-          | inr plain ↦ (
-              let kept : Among by.0 others = passes (λ o. not (has_tables o)) by.0 objects by.1 (to_not (has_tables by.0) plain) in
-              elim (among_either by.0 own weak_objects (contains_among by.0 (own ++ weak_objects) ((is.linked.others by.0).0 (among_contains by.0 others kept)))) [
-                | inl given ↦ among_front name (flat_map f own) (flat_map f (objects_taken machine taken)) (among_flat f by.0 own name given by.2)
-                | inr weak ↦ among_back name (flat_map f own) (flat_map f (objects_taken machine taken))
-                    (same_names f name (weak_in machine taken) (λ m there. (passing (is_weak_in machine) m taken there).0) (among_flat f by.0 weak_objects name weak by.2))
-              ])
-        ])
+      resolved : (name : List ℕ) → Contains wanted name → Contains (listed_in (archive_of libraries)) name →
+          IsImportedShort machine (placed_from bases objects) bases inputs name ⊎ IsWeakTaken machine taken name
+      resolved name want listed =
+          let at = first_of name (archive_of libraries) (contains_among name (listed_in (archive_of libraries)) listed) in
+          resolved_by name at.0 (contains_among name wanted want) at.1 (found machine libraries archive name at.0 at.1)
 
-    other_held : (o : Object) → Among o others → Among o objects
-    other_held o there = (passing (λ x. not (has_tables x)) o objects there).0
+      -- Each object of the program is given, or what a member that is taken is taken for; and the other way round.
 
-    member_object : (f : Object → List (List ℕ)) (name : List ℕ) (m : MemberView) (o : Object) → Among m taken → expanded_in machine m.bytes ≡ Some o → Among name (f o) → Among name (flat_map f objects)
-    member_object f name m o there read named =
-        elim (cases_Bool (is_weak_in machine m)) [
-          | inl weak ↦
-              let x = among_flat_map f name weak_objects (name_taken machine f name (weak_in machine taken) m o (passes (is_weak_in machine) m taken there weak) read named) in
-              among_flat f x.0 objects name
-              (other_held x.0 (contains_among x.0 others ((is.linked.others x.0).1 (among_contains x.0 (own ++ weak_objects) (among_back x.0 own weak_objects x.1))))) x.2
-          | inr plain ↦
-              let all : Among m (is.linked.before ++ (first_null machine libraries ++ is.linked.behind)) = other_linked m (passes (λ x. not (is_weak_in machine x)) m taken there (to_not (is_weak_in machine m) plain)) in
-              let x = among_flat_map f name (objects_taken machine (is.linked.before ++ (first_null machine libraries ++ is.linked.behind)))
-              (name_taken machine f name (is.linked.before ++ (first_null machine libraries ++ is.linked.behind)) m o all read named) in
-              among_flat f x.0 objects name (passing has_tables x.0 objects (subst (Among x.0) (sym is.linked.tables) x.1)).0 x.2
-        ]
+      abbrev sources : List Object
+      sources = own ++ objects_taken machine taken
 
-    into_objects : (f : Object → List (List ℕ)) (name : List ℕ) → Among name (flat_map f sources) → Among name (flat_map f objects)
-    into_objects f name named =
-        elim (among_either name (flat_map f own) (flat_map f (objects_taken machine taken)) (subst (Among name) (flat_map-append f own (objects_taken machine taken)) named)) [
-          | inl given ↦
-              let by = among_flat_map f name own given in
-              among_flat f by.0 objects name
-              (other_held by.0 (contains_among by.0 others ((is.linked.others by.0).1 (among_contains by.0 (own ++ weak_objects) (among_front by.0 own weak_objects by.1))))) by.2
-          | inr member ↦
-              let by = taken_name machine f name taken member in
-              member_object f name by.member by.object by.held by.taken by.among
-        ]
+      same_names : (f : Object → List (List ℕ)) (name : List ℕ) (members : List MemberView) → ((m : MemberView) → Among m members → Among m taken) → Among name (flat_map f (objects_taken machine members)) →
+          Among name (flat_map f (objects_taken machine taken))
+      same_names f name members there named =
+          let by = taken_name machine f name members named in
+          name_taken machine f name taken by.member by.object (there by.member by.held) by.taken by.among
 
-    closed : (name : List ℕ) → Contains (unresolved objects) name → Contains (listed_in (archive_of libraries)) name → ⊥
-    closed name left listed =
-        let parts = unresolved_parts objects name (contains_among name (unresolved objects) left) in
-        let at = first_of name (archive_of libraries) (contains_among name (listed_in (archive_of libraries)) listed) in
-        let none : Among name (flat_map claimed_names sources) → ⊥ = λ claimed. parts.1 (into_objects claimed_names name claimed) in
-        is.takes.ended name at.0 (record {
-          named = among_contains name (unresolved sources) (unresolved_from sources name (from_sources undefined_in name parts.0) none);
-          listed = at.1;
-          new = λ has. none (subst (Among name) (sym (flat_map-append claimed_names own (objects_taken machine taken)))
-              (among_back name (flat_map claimed_names own) (flat_map claimed_names (objects_taken machine taken))
-              (listed_claimed name at.0 (contains_among at.0 taken has) (listed_is (archive_of libraries) name at.0 at.1).1)));
-        })
+      from_sources : (f : Object → List (List ℕ)) (name : List ℕ) → Among name (flat_map f objects) → Among name (flat_map f sources)
+      from_sources f name named =
+          let by = among_flat_map f name objects named in
+          subst (Among name) (sym (flat_map-append f own (objects_taken machine taken)))
+          (elim (cases_Bool (has_tables by.0)) [
+            | inl tables ↦ among_back name (flat_map f own) (flat_map f (objects_taken machine taken)) (
+                let kept : Among by.0 (objects_taken machine (is.linked.before ++ (first_null machine libraries ++ is.linked.behind))) =
+                subst (Among by.0) is.linked.tables (passes has_tables by.0 objects by.1 tables) in
+                same_names f name (is.linked.before ++ (first_null machine libraries ++ is.linked.behind)) (λ m there. (passing (λ x. not (is_weak_in machine x)) m taken (linked_other m there)).0)
+                (among_flat f by.0 (objects_taken machine (is.linked.before ++ (first_null machine libraries ++ is.linked.behind))) name kept by.2))
+            | inr plain ↦ (
+                let kept : Among by.0 others = passes (λ o. not (has_tables o)) by.0 objects by.1 (to_not (has_tables by.0) plain) in
+                elim (among_either by.0 own weak_objects (contains_among by.0 (own ++ weak_objects) ((is.linked.others by.0).0 (among_contains by.0 others kept)))) [
+                  | inl given ↦ among_front name (flat_map f own) (flat_map f (objects_taken machine taken)) (among_flat f by.0 own name given by.2)
+                  | inr weak ↦ among_back name (flat_map f own) (flat_map f (objects_taken machine taken))
+                      (same_names f name (weak_in machine taken) (λ m there. (passing (is_weak_in machine) m taken there).0) (among_flat f by.0 weak_objects name weak by.2))
+                ])
+          ])
 
-    pub links_closed : LinksClosedForMsvc machine libraries own taken arranged bases objects
-    links_closed = record { taken_is = taken_is; program = program; links = links; used = used; resolved = resolved; closed = closed }
+      other_held : (o : Object) → Among o others → Among o objects
+      other_held o there = (passing (λ x. not (has_tables x)) o objects there).0
+
+      member_object : (f : Object → List (List ℕ)) (name : List ℕ) (m : MemberView) (o : Object) → Among m taken → expanded_in machine m.bytes ≡ Some o → Among name (f o) → Among name (flat_map f objects)
+      member_object f name m o there read named =
+          elim (cases_Bool (is_weak_in machine m)) [
+            | inl weak ↦
+                let x = among_flat_map f name weak_objects (name_taken machine f name (weak_in machine taken) m o (passes (is_weak_in machine) m taken there weak) read named) in
+                among_flat f x.0 objects name
+                (other_held x.0 (contains_among x.0 others ((is.linked.others x.0).1 (among_contains x.0 (own ++ weak_objects) (among_back x.0 own weak_objects x.1))))) x.2
+            | inr plain ↦
+                let all : Among m (is.linked.before ++ (first_null machine libraries ++ is.linked.behind)) = other_linked m (passes (λ x. not (is_weak_in machine x)) m taken there (to_not (is_weak_in machine m) plain)) in
+                let x = among_flat_map f name (objects_taken machine (is.linked.before ++ (first_null machine libraries ++ is.linked.behind)))
+                (name_taken machine f name (is.linked.before ++ (first_null machine libraries ++ is.linked.behind)) m o all read named) in
+                among_flat f x.0 objects name (passing has_tables x.0 objects (subst (Among x.0) (sym is.linked.tables) x.1)).0 x.2
+          ]
+
+      into_objects : (f : Object → List (List ℕ)) (name : List ℕ) → Among name (flat_map f sources) → Among name (flat_map f objects)
+      into_objects f name named =
+          elim (among_either name (flat_map f own) (flat_map f (objects_taken machine taken)) (subst (Among name) (flat_map-append f own (objects_taken machine taken)) named)) [
+            | inl given ↦
+                let by = among_flat_map f name own given in
+                among_flat f by.0 objects name
+                (other_held by.0 (contains_among by.0 others ((is.linked.others by.0).1 (among_contains by.0 (own ++ weak_objects) (among_front by.0 own weak_objects by.1))))) by.2
+            | inr member ↦
+                let by = taken_name machine f name taken member in
+                member_object f name by.member by.object by.held by.taken by.among
+          ]
+
+      closed : (name : List ℕ) → Contains (unresolved objects) name → Contains (listed_in (archive_of libraries)) name → ⊥
+      closed name left listed =
+          let parts = unresolved_parts objects name (contains_among name (unresolved objects) left) in
+          let at = first_of name (archive_of libraries) (contains_among name (listed_in (archive_of libraries)) listed) in
+          let none : Among name (flat_map claimed_names sources) → ⊥ = λ claimed. parts.1 (into_objects claimed_names name claimed) in
+          is.takes.ended name at.0 (record {
+            named = among_contains name (unresolved sources) (unresolved_from sources name (from_sources undefined_in name parts.0) none);
+            listed = at.1;
+            new = λ has. none (subst (Among name) (sym (flat_map-append claimed_names own (objects_taken machine taken)))
+                (among_back name (flat_map claimed_names own) (flat_map claimed_names (objects_taken machine taken))
+                (listed_claimed name at.0 (contains_among at.0 taken has) (listed_is (archive_of libraries) name at.0 at.1).1)));
+          })
+
+      pub links_closed : LinksClosedForMsvc machine libraries own taken arranged bases objects
+      links_closed = record { taken_is = taken_is; program = program; links = links; used = used; resolved = resolved; closed = closed }
 
 pub closed_links_for : (machine : MachineType) (libraries : List Library) (own : List Object) (taken : List MemberView) (arranged : List Library) (bases : Bases) (objects : List Object) →
     IsMsvcArchive machine libraries → IsClosedForMsvc machine libraries own taken arranged bases objects → LinksClosedForMsvc machine libraries own taken arranged bases objects
-closed_links_for machine libraries own taken arranged bases objects archive is = links_closed machine libraries archive own taken arranged bases objects is
+closed_links_for machine libraries own taken arranged bases objects archive is =
+    links_closed machine libraries archive own taken arranged objects is.closed bases (record {
+      held = held machine libraries archive own taken arranged objects is.closed;
+      admissible = is.admissible;
+      lookups = is.lookups;
+      addresses = is.addresses;
+      follows = is.follows;
+    })

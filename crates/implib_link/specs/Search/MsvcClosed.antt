@@ -54,15 +54,13 @@ wanted_for machine own taken = wanted_with_weak machine (unresolved own) taken
 abbrev pub inputs_for : MachineType → List Library → List Object → List MemberView → List FlavorInput
 inputs_for machine arranged own taken = short_inputs arranged (wanted_for machine own taken)
 
--- What is linked for given objects and members that are taken of libraries:
+-- What is linked for given objects and members that are taken of libraries, wherever it is placed:
 -- `order`: the libraries are linked in this order, which may be another than that of the archive;
 -- `others`: the objects without import tables are those that are given and the weak externals that are taken;
 -- `members`, `tables`: those with import tables are what the other members are taken for, with the first library's
--- null descriptor anywhere among them;
--- the others: as in a program of both flavours.
+-- null descriptor anywhere among them.
 pub record AreLinkedForMsvc (machine : MachineType) (libraries : List Library) (own : List Object)
-    (taken : List MemberView) (arranged : List Library) (bases : Bases) (objects : List Object)
-    : Type 0 where
+    (taken : List MemberView) (arranged : List Library) (objects : List Object) : Type 0 where
   pub order : IsPermutation libraries arranged
   pub others : HaveSame (filter (λ o. not (has_tables o)) objects)
       (own ++ objects_taken machine (weak_in machine taken))
@@ -71,26 +69,31 @@ pub record AreLinkedForMsvc (machine : MachineType) (libraries : List Library) (
   pub members : before ++ behind ≡ all_members machine (inputs_for machine arranged own taken)
   pub tables : filter has_tables objects
       ≡ objects_taken machine (before ++ (first_null machine libraries ++ behind))
-  pub admissible : IsAdmissible machine bases objects
-  pub lookups : bases.lookups % thunk_width machine ≡ 0
-  pub addresses : bases.addresses % thunk_width machine ≡ 0
-  pub follows : bases.directory_ends ≡ group_end Descriptors bases.descriptors objects
 
--- A closed program of given objects and what is taken of libraries:
+-- Objects that close a program, wherever they are placed:
 -- `takes`: a linker takes these members for the given objects;
 -- `some`: among them short imports, and so a null descriptor;
 -- `linked`: both are linked;
 -- `claims`: the given objects claim no name that members which are taken are listed for or leave to others; of
 -- the libraries' other symbols they may;
 -- `names`: no symbol is wanted by which only members name each other.
+pub record AreClosedForMsvc (machine : MachineType) (libraries : List Library) (own : List Object)
+    (taken : List MemberView) (arranged : List Library) (objects : List Object) : Type 0 where
+  pub takes : TakesIntoFor machine (archive_of libraries) own taken
+  pub some : 0 < length (inputs_for machine arranged own taken)
+  pub linked : AreLinkedForMsvc machine libraries own taken arranged objects
+  pub claims : AllByRecursion (ClaimsNone (listed_in taken ++ left_in machine taken)) own
+  pub names : NamesNoHeaderOf libraries (wanted_for machine own taken)
+
+-- A closed program of such objects: its bases are those of a program of both flavours.
 pub record IsClosedForMsvc (machine : MachineType) (libraries : List Library) (own : List Object)
     (taken : List MemberView) (arranged : List Library) (bases : Bases) (objects : List Object)
     : Type 0 where
-  pub takes : TakesIntoFor machine (archive_of libraries) own taken
-  pub some : 0 < length (inputs_for machine arranged own taken)
-  pub linked : AreLinkedForMsvc machine libraries own taken arranged bases objects
-  pub claims : AllByRecursion (ClaimsNone (listed_in taken ++ left_in machine taken)) own
-  pub names : NamesNoHeaderOf libraries (wanted_for machine own taken)
+  pub closed : AreClosedForMsvc machine libraries own taken arranged objects
+  pub admissible : IsAdmissible machine bases objects
+  pub lookups : bases.lookups % thunk_width machine ≡ 0
+  pub addresses : bases.addresses % thunk_width machine ≡ 0
+  pub follows : bases.directory_ends ≡ group_end Descriptors bases.descriptors objects
 
 -- A name is that of an import of a linked program: `__imp_T`, which is defined once, at T's own entry of its
 -- DLL's address table; or T itself, which is no data, and is defined once.
