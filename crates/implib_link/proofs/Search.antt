@@ -22,3 +22,4 @@ pub mod MsvcArchives
 pub mod MsvcArranged
 pub mod MsvcClosed
 pub mod MsvcGiven
+pub mod MsvcExists

@@ -24,3 +24,4 @@ pub mod Pointers
 pub mod Pages
 pub mod Exists
 pub mod MsvcArchives
+pub mod MsvcClosed
