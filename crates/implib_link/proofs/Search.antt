@@ -22,4 +22,5 @@ pub mod MsvcArchives
 pub mod MsvcArranged
 pub mod MsvcClosed
 pub mod MsvcGiven
+pub mod MsvcRooms
 pub mod MsvcExists

@@ -8,3 +8,4 @@ pub mod Exists
 pub mod MsvcArchives
 pub mod MsvcClosed
 pub mod MsvcGiven
+pub mod MsvcExists

@@ -9,6 +9,7 @@ pub mod flavors;
 pub mod loaded;
 pub mod msvc_archives;
 pub mod msvc_closed;
+pub mod msvc_exists;
 pub mod msvc_given;
 pub mod msvc_search;
 pub mod packed;
