@@ -19,3 +19,8 @@ pub mod Rooms
 pub mod Exists
 pub mod MsvcMembers
 pub mod MsvcArchives
+pub mod MsvcArranged
+pub mod MsvcClosed
+pub mod MsvcGiven
+pub mod MsvcRooms
+pub mod MsvcExists

@@ -71,7 +71,7 @@ null_sized : (machine : MachineType) → IsSized (taken_null machine)
 unfolding with_section_symbols object_of null_descriptor entries_of name_text
 null_sized machine = (tt, tt)
 
-kept_sized : (machine : MachineType) (inputs : List FlavorInput) (objects : List Object) → AllByRecursion (IsMadeFor machine) inputs → AreFlavorObjects machine inputs objects →
+pub kept_sized : (machine : MachineType) (inputs : List FlavorInput) (objects : List Object) → AllByRecursion (IsMadeFor machine) inputs → AreFlavorObjects machine inputs objects →
     AllByRecursion IsSized (filter has_tables objects)
 kept_sized machine inputs objects made held =
     subst (AllByRecursion IsSized) (sym (kept_are machine inputs objects made held))

@@ -104,11 +104,11 @@ some_input : (l : Library) (chosen : List ℕ) (k : ℕ) → Among k chosen → 
 some_input l [] k held = absurd (in_nothing k held)
 some_input l (n ∷ chosen) k held = refl
 
-input_front : {X : Type 0} (o : Option X) (x : X) (xs : List X) → o ≡ Some x → Among x (cons_option o xs)
+pub input_front : {X : Type 0} (o : Option X) (x : X) (xs : List X) → o ≡ Some x → Among x (cons_option o xs)
 input_front None x xs is = cc
 input_front (Some y) x xs is = (let same : x ≡ y = cc in subst (λ z. Among x (z ∷ xs)) same (among_first x xs))
 
-input_behind : {X : Type 0} (o : Option X) (x : X) (xs : List X) → Among x xs → Among x (cons_option o xs)
+pub input_behind : {X : Type 0} (o : Option X) (x : X) (xs : List X) → Among x xs → Among x (cons_option o xs)
 input_behind None x xs held = held
 input_behind (Some y) x xs held = among_later x y xs held
 
@@ -122,7 +122,7 @@ input_held (x ∷ libraries) names l k (inl e) some =
 input_held (x ∷ libraries) names l k (inr held) some =
     input_behind (input_if_any x (exports_wanted x.definition names)) (input_for l names) (inputs_wanted libraries names) (input_held libraries names l k held some)
 
-input_from : {X : Type 0} (o : Option X) (x : X) (xs : List X) → Among x (cons_option o xs) → (o ≡ Some x) ⊎ Among x xs
+pub input_from : {X : Type 0} (o : Option X) (x : X) (xs : List X) → Among x (cons_option o xs) → (o ≡ Some x) ⊎ Among x xs
 unfolding Among
 input_from None x xs held = inr held
 input_from (Some y) x xs (inl e) = inl (ap Some (sym e))

@@ -40,7 +40,7 @@ use Rattle.implib_link.proofs.Search.Search.{in_nothing, listed_export, listed_h
 
 -- Lists.
 
-from_not : (b : Bool) → not b ≡ true → b ≡ false
+pub from_not : (b : Bool) → not b ≡ true → b ≡ false
 from_not true is = absurd (true≢false (sym is))
 from_not false is = refl
 
@@ -72,7 +72,7 @@ passes test x (y ∷ xs) (inr held) is =
       | inr none ↦ rw none (passes test x xs held is)
     ]
 
-at_index : {X : Type 0} (x : X) (xs : List X) → Among x xs → (n : ℕ) × (slice_get xs n ≡ Some x)
+pub at_index : {X : Type 0} (x : X) (xs : List X) → Among x xs → (n : ℕ) × (slice_get xs n ≡ Some x)
 unfolding Among
 at_index x [] held = absurd held
 at_index x (y ∷ xs) (inl e) = (0, ap Some (sym e))

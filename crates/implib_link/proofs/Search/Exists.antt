@@ -34,7 +34,7 @@ use Rattle.implib_link.proofs.Search.Rooms.{tables_near}
 
 -- Packed tables lie within the room of the libraries.
 
-within_by : (first low high end : ℕ) (rs : List Range) → first ≤ low → high ≤ end → AllByRecursion (λ r. (low ≤ r.start) × (range_end r ≤ high)) rs → LieWithin first end rs
+pub within_by : (first low high end : ℕ) (rs : List Range) → first ≤ low → high ≤ end → AllByRecursion (λ r. (low ≤ r.start) × (range_end r ≤ high)) rs → LieWithin first end rs
 within_by first low high end [] above below all = tt
 within_by first low high end (r ∷ rs) above below all =
     let starts : low ≤ r.start = all.0.0 in
@@ -78,27 +78,27 @@ packed_closes machine libraries own taken arranged first objects archive given t
 
 -- What is given and what is taken, in one order.
 
-abbrev NoneHave : List Object → Type 0
+abbrev pub NoneHave : List Object → Type 0
 NoneHave objects = AllByRecursion (λ o. has_tables o ≡ false) objects
 
-first_object : (read : Option Object) (objects : List Object) → ((o : Object) → read ≡ Some o → has_tables o ≡ false) → NoneHave objects → NoneHave (cons_option read objects)
+pub first_object : (read : Option Object) (objects : List Object) → ((o : Object) → read ≡ Some o → has_tables o ≡ false) → NoneHave objects → NoneHave (cons_option read objects)
 first_object None objects own none = none
 first_object (Some o) objects own none = (own o refl, none)
 
-no_objects : (members : List MemberView) → ((m : MemberView) (o : Object) → Among m members → object_in m.bytes ≡ Some o → has_tables o ≡ false) → NoneHave (objects_in members)
+pub no_objects : (members : List MemberView) → ((m : MemberView) (o : Object) → Among m members → object_in m.bytes ≡ Some o → has_tables o ≡ false) → NoneHave (objects_in members)
 no_objects [] own = tt
 no_objects (m ∷ members) own =
     first_object (object_in m.bytes) (objects_in members) (λ o is. own m o (among_first m members) is) (no_objects members (λ x o held is. own x o (among_later x m members held) is))
 
-both_none : (xs ys : List Object) → NoneHave xs → NoneHave ys → NoneHave (xs ++ ys)
+pub both_none : (xs ys : List Object) → NoneHave xs → NoneHave ys → NoneHave (xs ++ ys)
 both_none [] ys own behind = behind
 both_none (x ∷ xs) ys own behind = (own.0, both_none xs ys own.1 behind)
 
-plain_left : (objects : List Object) → NoneHave objects → filter (λ o. not (has_tables o)) objects ≡ objects
+pub plain_left : (objects : List Object) → NoneHave objects → filter (λ o. not (has_tables o)) objects ≡ objects
 plain_left [] none = refl
 plain_left (o ∷ objects) none = rw none.0 (ap (λ others. o ∷ others) (plain_left objects none.1))
 
-none_kept : (objects : List Object) → NoneHave objects → filter has_tables objects ≡ []
+pub none_kept : (objects : List Object) → NoneHave objects → filter has_tables objects ≡ []
 none_kept [] none = refl
 none_kept (o ∷ objects) none = rw none.0 (none_kept objects none.1)
 

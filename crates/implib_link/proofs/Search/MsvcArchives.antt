@@ -42,7 +42,7 @@ pub record AnyImport (exports : List ExportView) (names : List (List ℕ)) : Typ
   pub held : Among export exports
   pub want : is_import_wanted names export ≡ true
 
-import_parts : (names : List (List ℕ)) (e : ExportView) → is_import_wanted names e ≡ true → (is_short_wanted names e ≡ true) × (is_short_alias e ≡ false)
+pub import_parts : (names : List (List ℕ)) (e : ExportView) → is_import_wanted names e ≡ true → (is_short_wanted names e ≡ true) × (is_short_alias e ≡ false)
 import_parts names e want =
     let parts = and_parts (is_short_wanted names e) (not (is_short_alias e)) want in
     (parts.0, from_not (is_short_alias e) parts.1)
@@ -51,7 +51,7 @@ import_parts names e want =
     from_not true is = absurd (true≢false (sym is))
     from_not false is = refl
 
-both_parts : (names : List (List ℕ)) (e : ExportView) → is_short_wanted names e ≡ true → is_short_alias e ≡ false → is_import_wanted names e ≡ true
+pub both_parts : (names : List (List ℕ)) (e : ExportView) → is_short_wanted names e ≡ true → is_short_alias e ≡ false → is_import_wanted names e ≡ true
 both_parts names e want none = rw (want, none) refl
 
 -- Which members are weak externals.
@@ -85,9 +85,27 @@ weak_by : (machine : MachineType) (m x : MemberView) (o : Object) (b : Bool) →
 unfolding is_weak_in
 weak_by machine m x o b same is weak = ap has_weak (ap (λ (y : MemberView). expanded_in machine y.bytes) same ∙ is) ∙ weak
 
+-- the members of a library that are none
+module _ (machine : MachineType) (m : MemberView) (l : Library) (made : IsMsvcLibrary machine l) where
+  pub descriptor_plain : m ≡ descriptor_of machine l → is_weak_in machine m ≡ false
+  descriptor_plain same =
+      weak_by machine m (descriptor_of machine l) (taken_descriptor machine l.definition.import_name) false same (descriptor_is machine l made) (descriptor_not_weak machine l.definition.import_name)
+
+  pub null_plain : m ≡ null_of machine l → is_weak_in machine m ≡ false
+  null_plain same = weak_by machine m (null_of machine l) (taken_null machine) false same (null_is machine l made) (null_not_weak machine)
+
+  pub thunk_plain : m ≡ thunk_of machine l → is_weak_in machine m ≡ false
+  thunk_plain same =
+      weak_by machine m (thunk_of machine l) (taken_null_thunk machine l.definition.import_name) false same (thunk_is machine l made) (thunk_not_weak machine l.definition.import_name)
+
+  pub short_plain : (e : ExportView) → Among e (exports_of l) → m ≡ short_of machine l e → is_weak_in machine m ≡ false
+  short_plain e there same =
+      weak_by machine m (short_of machine l e) (asking machine l.definition.import_name e) false same (short_is machine l made e there)
+      (asking_not_weak machine l.definition.import_name (short_import_symbol e) (ask_in Msvc machine e) (use_for e))
+
 -- What is linked of libraries.
 
-abbrev shorts_if_any : MachineType → Library → List ℕ → List MemberView
+abbrev pub shorts_if_any : MachineType → Library → List ℕ → List MemberView
 shorts_if_any machine l [] = []
 shorts_if_any machine l (n ∷ chosen) = map member_of (specs_in Msvc l.definition machine (n ∷ chosen))
 
@@ -105,7 +123,7 @@ unfolding Among
 if_any_is machine l [] e held = absurd held
 if_any_is machine l (n ∷ chosen) e held = refl
 
-linked_of : (machine : MachineType) (libraries : List Library) (names : List (List ℕ)) (m : MemberView) → Among m (all_members machine (short_inputs libraries names)) →
+pub linked_of : (machine : MachineType) (libraries : List Library) (names : List (List ℕ)) (m : MemberView) → Among m (all_members machine (short_inputs libraries names)) →
     (l : Library) × Among l libraries × Among m (shorts_if_any machine l (imports_wanted l names))
 unfolding Among
 linked_of machine [] names m held = absurd held
@@ -116,7 +134,7 @@ linked_of machine (l ∷ libraries) names m held =
       | inr behind ↦ let later = linked_of machine libraries names m behind in (later.0, inr later.1, later.2)
     ]
 
-of_linked : (machine : MachineType) (libraries : List Library) (names : List (List ℕ)) (m : MemberView) (l : Library) → Among l libraries →
+pub of_linked : (machine : MachineType) (libraries : List Library) (names : List (List ℕ)) (m : MemberView) (l : Library) → Among l libraries →
     Among m (shorts_if_any machine l (imports_wanted l names)) → Among m (all_members machine (short_inputs libraries names))
 unfolding Among
 of_linked machine [] names m l held linked = absurd held
@@ -181,13 +199,13 @@ module _ (machine : MachineType) (l : Library) (names : List (List ℕ)) where
   pub there_linked : (m : MemberView) → Among m (shorts_if_any machine l (imports_wanted l names)) → Linked machine l names m
   there_linked m held = of_chosen m (imports_wanted l names) refl held
 
-any_of : (machine : MachineType) (l : Library) (names : List (List ℕ)) (m : MemberView) → Linked machine l names m → AnyImport (exports_of l) names
+pub any_of : (machine : MachineType) (l : Library) (names : List (List ℕ)) (m : MemberView) → Linked machine l names m → AnyImport (exports_of l) names
 any_of machine l names m (TheDescriptor same any) = any
 any_of machine l names m (TheThunk same any) = any
 any_of machine l names m (AShort e held same want) = record { export = e; held = held; want = want }
 
 -- members with the first library's null descriptor
-null_or_member : (machine : MachineType) (libraries : List Library) (m : MemberView) (members : List MemberView) → Among m (with_first_null machine libraries members) →
+pub null_or_member : (machine : MachineType) (libraries : List Library) (m : MemberView) (members : List MemberView) → Among m (with_first_null machine libraries members) →
     (Among m (first_null machine libraries) × ((x : MemberView) × Among x members)) ⊎ Among m members
 unfolding Among
 null_or_member machine libraries m [] held = absurd held
@@ -197,12 +215,12 @@ null_or_member machine libraries m (x ∷ members) held =
       | inr own ↦ inr own
     ]
 
-member_with : (machine : MachineType) (libraries : List Library) (m : MemberView) (members : List MemberView) → Among m members → Among m (with_first_null machine libraries members)
+pub member_with : (machine : MachineType) (libraries : List Library) (m : MemberView) (members : List MemberView) → Among m members → Among m (with_first_null machine libraries members)
 unfolding Among
 member_with machine libraries m [] held = absurd held
 member_with machine libraries m (x ∷ members) held = among_back m (first_null machine libraries) (x ∷ members) held
 
-null_with : (machine : MachineType) (libraries : List Library) (m x : MemberView) (members : List MemberView) → Among m (first_null machine libraries) → Among x members →
+pub null_with : (machine : MachineType) (libraries : List Library) (m x : MemberView) (members : List MemberView) → Among m (first_null machine libraries) → Among x members →
     Among m (with_first_null machine libraries members)
 unfolding Among
 null_with machine libraries m x [] null held = absurd held
@@ -277,16 +295,12 @@ module _ (machine : MachineType) (libraries : List Library) (archive : IsMsvcArc
 
   -- Whether a needed member is a weak external.
   import_not_weak : (names : List (List ℕ)) (m : MemberView) (l : Library) → Among l libraries → Linked machine l names m → is_weak_in machine m ≡ false
-  import_not_weak names m l held (TheDescriptor same any) =
-      weak_by machine m (descriptor_of machine l) (taken_descriptor machine l.definition.import_name) false same (descriptor_is machine l (made_of l held)) (descriptor_not_weak machine l.definition.import_name)
-  import_not_weak names m l held (TheThunk same any) =
-      weak_by machine m (thunk_of machine l) (taken_null_thunk machine l.definition.import_name) false same (thunk_is machine l (made_of l held)) (thunk_not_weak machine l.definition.import_name)
-  import_not_weak names m l held (AShort e there same want) =
-      weak_by machine m (short_of machine l e) (asking machine l.definition.import_name e) false same (short_is machine l (made_of l held) e there)
-      (asking_not_weak machine l.definition.import_name (short_import_symbol e) (ask_in Msvc machine e) (use_for e))
+  import_not_weak names m l held (TheDescriptor same any) = descriptor_plain machine m l (made_of l held) same
+  import_not_weak names m l held (TheThunk same any) = thunk_plain machine m l (made_of l held) same
+  import_not_weak names m l held (AShort e there same want) = short_plain machine m l (made_of l held) e there same
 
   null_is_not : (m : MemberView) (l : Library) (rest : List Library) → libraries ≡ l ∷ rest → m ≡ null_of machine l → is_weak_in machine m ≡ false
-  null_is_not m l rest is same = weak_by machine m (null_of machine l) (taken_null machine) false same (null_is machine l (made_of l (first_made l rest is))) (null_not_weak machine)
+  null_is_not m l rest is same = null_plain machine m l (made_of l (first_made l rest is)) same
 
   pub alias_is_weak : (m : MemberView) (l : Library) → Among l libraries → (e : ExportView) → Among e (exports_of l) → is_short_alias e ≡ true → (weak target : List ℕ) → IsPair e weak target →
       m ≡ weak_of machine l weak target → is_weak_in machine m ≡ true

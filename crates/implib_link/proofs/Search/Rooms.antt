@@ -42,7 +42,7 @@ pub next_within : (step n : ℕ) → 0 < step → next_multiple step n < n + ste
 unfolding next_multiple
 next_within step n above = (let less : (step - n % step) % step < step = mod-lt (step - n % step) above in omega arith)
 
-abbrev room_with : Group → ℕ → Option Group → ℕ
+abbrev pub room_with : Group → ℕ → Option Group → ℕ
 room_with group n None = 0
 room_with group n (Some other) = if same_group group other then n else 0
 
@@ -127,7 +127,7 @@ packed_end_kept first objects =
 
 -- The rooms of members.
 
-width_near : (machine : MachineType) → thunk_width machine ≤ 8
+pub width_near : (machine : MachineType) → thunk_width machine ≤ 8
 width_near I386 = omega arith
 width_near ARMNT = omega arith
 width_near AMD64 = omega arith
@@ -137,7 +137,7 @@ head_near : (machine : MachineType) (dll : List ℕ) → own_rooms (head machine
 unfolding own_rooms sections_room head_object
 head_near machine dll = refl
 
-without_near : (name : List ℕ) → length (without_first name) ≤ length name
+pub without_near : (name : List ℕ) → length (without_first name) ≤ length name
 without_near [] = omega arith
 without_near (x ∷ name) = omega arith
 
@@ -171,7 +171,7 @@ null_near : own_rooms null_descriptor ≡ 24
 unfolding own_rooms sections_room
 null_near = refl
 
-sum_next : {X : Type 0} (f : X → ℕ) (x : X) (xs : List X) → sum_by f (x ∷ xs) ≡ f x + sum_by f xs
+pub sum_next : {X : Type 0} (f : X → ℕ) (x : X) (xs : List X) → sum_by f (x ∷ xs) ≡ f x + sum_by f xs
 sum_next f x xs = (let both : sum_by f (x ∷ xs) ≡ 0 + f x + sum_by f xs = sum_by-append f (x ∷ []) xs in omega arith)
 
 exports_near : (machine : MachineType) (dll : List ℕ) (es : List ExportView) (rest : List Object) → all_rooms (map (export machine dll) es ++ rest) ≤ sum_by export_room es + all_rooms rest

@@ -13,7 +13,7 @@ ghost use Rattle.implib_link.specs.Search.Exists.{AreChosenFor, HasClosed, LieWi
 ghost use Rattle.implib_link.specs.Search.Given.{AreGiven};
 ghost use Rattle.implib_link.specs.Worked.Exists.{WorkedExists};
 ghost use Rattle.std.specs.List.{AllByRecursion};
-ghost use Rattle.std.specs.Prelude.{◌≡◌, ◌<◌, ◌^◌, ℕ, List, false, true};
+ghost use Rattle.std.specs.Prelude.{◌≡◌, ◌<◌, ◌^◌, ℕ, List, false};
 
 /// For objects that may be given to a linker with libraries, none of which holds a part of the
 /// import tables, there is a closed program: whatever the search takes, its packed placement from

@@ -1,0 +1,172 @@
+-- How far packed import tables of libraries for Microsoft's linker reach, by the definitions alone.
+use Rattle.std.proofs.Common.{◌≡◌, ℕ, zero, suc, take, ◌+◌, ◌-◌, ◌<◌, ◌≤◌, Bool, true, false, List, [], ◌∷◌, ◌++◌, length, map, Option, Some, None, refl, ap, sym, ◌∙◌, subst, inl, inr, arith, if◌then◌else◌}
+use Rattle.std.specs.Prelude.{IsPermutation, ◌==◌}
+use Rattle.std.specs.List.{AllByRecursion, before_first, cons_option, filter, position_or_len, sum_by}
+use Rattle.std.proofs.lemmas.Bool.{cases_Bool}
+use Rattle.std.proofs.lemmas.List.{length-append, length-replicate}
+use Rattle.std.proofs.lemmas.List.Sorted.{sum_by-IsPermutation}
+use Rattle.implib.specs.declared.flavor.Flavor.TheVariants.{Msvc}
+use Rattle.implib.specs.declared.machine.MachineType.{MachineType}
+use Rattle.implib.specs.declared.machine.MachineType.TheVariants.{I386, ARMNT, AMD64, ARM64}
+use Rattle.implib.specs.Ascii.{at_sign, begins_with, question_mark, underscore, without_first}
+use Rattle.implib.specs.Definition.{ExportView}
+use Rattle.implib.specs.Formats.Bytes.{u16_bytes}
+use Rattle.implib.specs.Formats.Layout.{entries_of, name_text, object_of}
+use Rattle.implib.specs.Formats.Object.{Object}
+use Rattle.implib.specs.Formats.ShortImport.{asked_by_name_type, before_at_sign, import_name, import_name_noprefix, without_prefix}
+use Rattle.implib.specs.Import.{Ask, Name, Ordinal}
+use Rattle.implib.specs.Link.LinkedMembers.{chosen_exports}
+use Rattle.implib.specs.Link.Placement.{next_multiple}
+use Rattle.implib.specs.Members.Msvc.{name_type_of, short_import_symbol}
+use Rattle.implib.specs.Members.MsvcObjects.{descriptor, null_descriptor, null_thunk}
+use Rattle.implib_link.specs.Flavors.Expansion.{Code, Constant, Data, Use, import_object}
+use Rattle.implib_link.specs.Flavors.Program.{AreFlavorObjects, FlavorInput, IsMadeFor, ask_in, exports_chosen, objects_taken}
+use Rattle.implib_link.specs.Flavors.SectionSymbols.{with_section_symbols}
+use Rattle.implib_link.specs.Gnu.Packed.{packed_end}
+use Rattle.implib_link.specs.Gnu.Program.{has_tables}
+use Rattle.implib_link.specs.Search.Archives.{Library, exports_of}
+use Rattle.implib_link.specs.Search.MsvcArchives.{imports_wanted, is_import_wanted, short_input_if_any, short_inputs}
+use Rattle.implib_link.specs.Search.MsvcExists.{msvc_library_room, msvc_tables_end, short_room}
+use Rattle.implib_link.proofs.Flavors.Block.{asking, behind_descriptor, use_for}
+use Rattle.implib_link.proofs.Flavors.Blocks.{FlavorBlock, all_objects}
+use Rattle.implib_link.proofs.Flavors.Expanded.{taken_descriptor, taken_null, taken_null_thunk}
+use Rattle.implib_link.proofs.Flavors.Inputs.{block_in}
+use Rattle.implib_link.proofs.Flavors.Program.{kept_are, parts_are}
+use Rattle.implib_link.proofs.Search.MsvcArchives.{imports_are}
+use Rattle.implib_link.proofs.Search.Rooms.{all_rooms, own_rooms, packed_end_kept, packed_near, sections_room, sum_next, width_near, without_near}
+
+-- The name that is asked for is no longer than the symbol.
+
+take_near : (n : ℕ) (xs : List ℕ) → length (take n xs) ≤ length xs
+take_near zero xs = omega arith
+take_near (suc n) [] = omega arith
+take_near (suc n) (x ∷ xs) = (let behind = take_near n xs in omega arith)
+
+before_near : (p : ℕ → Bool) (name : List ℕ) → length (before_first p name) ≤ length name
+before_near p name = take_near (position_or_len p name) name
+
+prefix_near : (symbol : List ℕ) → length (without_prefix symbol) ≤ length symbol
+prefix_near symbol =
+    let shorter = without_near symbol in
+    elim (cases_Bool (begins_with question_mark symbol)) [
+      | inl is ↦ rw is shorter
+      | inr none ↦ elim (cases_Bool (begins_with at_sign symbol)) [
+        | inl is ↦ rw (none, is) shorter
+        | inr other ↦ elim (cases_Bool (begins_with underscore symbol)) [ inl is ↦ rw (none, other, is) shorter | inr last ↦ rw (none, other, last) (omega arith) ]
+      ]
+    ]
+
+name_near : (name_type : ℕ) (symbol : List ℕ) → length (asked_by_name_type name_type symbol) ≤ length symbol
+name_near name_type symbol =
+    let first = prefix_near symbol in
+    let second = before_near (λ byte. byte == at_sign) (without_prefix symbol) in
+    elim (cases_Bool (name_type == import_name)) [
+      | inl is ↦ rw is (omega arith)
+      | inr none ↦ elim (cases_Bool (name_type == import_name_noprefix)) [ inl is ↦ rw (none, is) first | inr other ↦ rw (none, other) (omega arith) ]
+    ]
+
+-- The rooms of what members are taken for.
+
+abbrev ask_length : Ask → ℕ
+ask_length (Ordinal n) = 0
+ask_length (Name text hint) = length text
+
+either_near : (by_ordinal : Bool) (n : ℕ) (text : List ℕ) (most : ℕ) → length text ≤ most → ask_length (if by_ordinal then Ordinal n else Name text n) ≤ most
+either_near true n text most near = omega arith
+either_near false n text most near = near
+
+ask_near : (machine : MachineType) (e : ExportView) → ask_length (ask_in Msvc machine e) ≤ length (short_import_symbol e)
+ask_near machine e =
+    either_near e.no_name e.ordinal (asked_by_name_type (name_type_of machine e) (short_import_symbol e)) (length (short_import_symbol e)) (name_near (name_type_of machine e) (short_import_symbol e))
+
+asking_near : (machine : MachineType) (dll symbol : List ℕ) (ask : Ask) (use_kind : Use) → own_rooms (import_object machine dll symbol ask use_kind) ≤ 40 + ask_length ask
+unfolding own_rooms sections_room import_object u16_bytes
+asking_near I386 dll symbol (Ordinal n) use_kind = omega arith
+asking_near ARMNT dll symbol (Ordinal n) use_kind = omega arith
+asking_near AMD64 dll symbol (Ordinal n) use_kind = omega arith
+asking_near ARM64 dll symbol (Ordinal n) use_kind = omega arith
+asking_near I386 dll symbol (Name text hint) use_kind = (let all : length (text ++ 0 ∷ []) ≡ length text + 1 = length-append text (0 ∷ []) in omega arith)
+asking_near ARMNT dll symbol (Name text hint) use_kind = (let all : length (text ++ 0 ∷ []) ≡ length text + 1 = length-append text (0 ∷ []) in omega arith)
+asking_near AMD64 dll symbol (Name text hint) use_kind = (let all : length (text ++ 0 ∷ []) ≡ length text + 1 = length-append text (0 ∷ []) in omega arith)
+asking_near ARM64 dll symbol (Name text hint) use_kind = (let all : length (text ++ 0 ∷ []) ≡ length text + 1 = length-append text (0 ∷ []) in omega arith)
+
+descriptor_near : (machine : MachineType) (dll : List ℕ) → own_rooms (taken_descriptor machine dll) ≤ 35 + length dll
+unfolding own_rooms sections_room with_section_symbols object_of descriptor entries_of name_text
+descriptor_near machine dll = (let name : length (dll ++ 0 ∷ []) ≡ length dll + 1 = length-append dll (0 ∷ []) in omega arith)
+
+thunk_near : (machine : MachineType) (dll : List ℕ) → own_rooms (taken_null_thunk machine dll) ≤ 32
+unfolding own_rooms sections_room with_section_symbols object_of null_thunk entries_of name_text
+thunk_near I386 dll = omega arith
+thunk_near ARMNT dll = omega arith
+thunk_near AMD64 dll = omega arith
+thunk_near ARM64 dll = omega arith
+
+null_near : (machine : MachineType) → own_rooms (taken_null machine) ≤ 24
+unfolding own_rooms sections_room with_section_symbols object_of null_descriptor entries_of name_text
+null_near machine = omega arith
+
+askings_near : (machine : MachineType) (dll : List ℕ) (es : List ExportView) (rest : List Object) → all_rooms (behind_descriptor machine dll es rest) ≤ 32 + sum_by short_room es + all_rooms rest
+unfolding all_rooms
+askings_near machine dll [] rest = (let thunk = thunk_near machine dll in omega arith)
+askings_near machine dll (e ∷ es) rest =
+    let first = asking_near machine dll (short_import_symbol e) (ask_in Msvc machine e) (use_for e) in
+    let name = ask_near machine e in
+    let next : sum_by short_room (e ∷ es) ≡ short_room e + sum_by short_room es = sum_next short_room e es in
+    let behind = askings_near machine dll es rest in
+    omega arith
+
+-- The rooms of libraries.
+
+abbrev input_room : FlavorInput → ℕ
+input_room p = 67 + length p.input.definition.import_name + sum_by short_room (exports_chosen p)
+
+library_near : (machine : MachineType) (l : Library) (chosen : List ℕ) (others : List FlavorInput) (n m : ℕ) → all_rooms (all_objects machine (map block_in others) []) ≤ n →
+    67 + length l.definition.import_name + sum_by short_room (chosen_exports l.definition chosen) ≤ m →
+    all_rooms (all_objects machine (map block_in (cons_option (short_input_if_any l chosen) others)) []) ≤ m + n
+unfolding all_rooms
+library_near machine l [] others n m behind own = omega arith
+library_near machine l (c ∷ chosen) others n m behind own =
+    let dll : List ℕ = l.definition.import_name in
+    let first = descriptor_near machine dll in
+    let rest = askings_near machine dll (chosen_exports l.definition (c ∷ chosen)) (all_objects machine (map block_in others) []) in
+    omega arith
+
+some_near : (test : ExportView → Bool) (es : List ExportView) → sum_by short_room (filter test es) ≤ sum_by short_room es
+some_near test [] = omega arith
+some_near test (e ∷ es) =
+    let behind = some_near test es in
+    let all : sum_by short_room (e ∷ es) ≡ short_room e + sum_by short_room es = sum_next short_room e es in
+    let some : sum_by short_room (e ∷ filter test es) ≡ short_room e + sum_by short_room (filter test es) = sum_next short_room e (filter test es) in
+    elim (cases_Bool (test e)) [ inl is ↦ rw is (omega arith) | inr is ↦ rw is (omega arith) ]
+
+libraries_near : (machine : MachineType) (libraries : List Library) (names : List (List ℕ)) → all_rooms (all_objects machine (map block_in (short_inputs libraries names)) []) ≤ sum_by msvc_library_room libraries
+unfolding all_rooms
+libraries_near machine [] names = omega arith
+libraries_near machine (l ∷ libraries) names =
+    let all : sum_by msvc_library_room (l ∷ libraries) ≡ msvc_library_room l + sum_by msvc_library_room libraries = sum_next msvc_library_room l libraries in
+    let some : sum_by short_room (filter (is_import_wanted names) (exports_of l)) ≤ sum_by short_room (exports_of l) = some_near (is_import_wanted names) (exports_of l) in
+    let own : 67 + length l.definition.import_name + sum_by short_room (chosen_exports l.definition (imports_wanted l names)) ≤ msvc_library_room l =
+    subst (λ (es : List ExportView). 67 + length l.definition.import_name + sum_by short_room es ≤ msvc_library_room l) (sym (imports_are l names)) (omega arith) in
+    subst (λ n. all_rooms (all_objects machine (map block_in (short_inputs (l ∷ libraries) names)) []) ≤ n) (sym all)
+    (library_near machine l (imports_wanted l names) (short_inputs libraries names) (sum_by msvc_library_room libraries) (msvc_library_room l) (libraries_near machine libraries names) own)
+
+-- an object put in among others
+rooms_put : (front back : List Object) (o : Object) → all_rooms (front ++ o ∷ back) ≡ own_rooms o + all_rooms (front ++ back)
+unfolding all_rooms
+rooms_put [] back o = refl
+rooms_put (x ∷ front) back o = (let behind = rooms_put front back o in omega arith)
+
+pub msvc_tables_near : (machine : MachineType) (first : ℕ) (libraries arranged : List Library) (names : List (List ℕ)) (objects : List Object) → AllByRecursion (IsMadeFor machine) (short_inputs arranged names) →
+    AreFlavorObjects machine (short_inputs arranged names) objects → IsPermutation libraries arranged → packed_end first objects ≤ msvc_tables_end first libraries
+msvc_tables_near machine first libraries arranged names objects made held order =
+    let front : List Object = objects_taken machine held.before in
+    let back : List Object = objects_taken machine held.behind in
+    let blocks : List Object = all_objects machine (map block_in (short_inputs arranged names)) [] in
+    let near : packed_end first (front ++ taken_null machine ∷ back) ≤ first + 38 + all_rooms (front ++ taken_null machine ∷ back) = packed_near first (front ++ taken_null machine ∷ back) in
+    let put : all_rooms (front ++ taken_null machine ∷ back) ≡ own_rooms (taken_null machine) + all_rooms (front ++ back) = rooms_put front back (taken_null machine) in
+    let parts : all_rooms (front ++ back) ≡ all_rooms blocks = ap all_rooms (parts_are machine (short_inputs arranged names) objects made held) in
+    let null = null_near machine in
+    let rooms : all_rooms blocks ≤ sum_by msvc_library_room arranged = libraries_near machine arranged names in
+    let moved : sum_by msvc_library_room arranged ≡ sum_by msvc_library_room libraries = sum_by-IsPermutation msvc_library_room libraries arranged order in
+    subst (λ n. n ≤ msvc_tables_end first libraries)
+    (sym (packed_end_kept first objects ∙ ap (packed_end first) (kept_are machine (short_inputs arranged names) objects made held))) (omega arith)
