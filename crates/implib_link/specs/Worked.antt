@@ -22,4 +22,5 @@ pub mod Rebased
 pub mod DirectCalls
 pub mod Pointers
 pub mod Pages
+pub mod RebasedPointers
 pub mod Writing
