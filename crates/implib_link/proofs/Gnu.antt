@@ -33,3 +33,4 @@ pub mod Filling
 pub mod Apart
 pub mod Beside
 pub mod Writing
+pub mod Choices

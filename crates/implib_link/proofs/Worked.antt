@@ -24,3 +24,4 @@ pub mod Pointers
 pub mod Pages
 pub mod RebasedPointers
 pub mod Writing
+pub mod Choices

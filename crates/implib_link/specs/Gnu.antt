@@ -10,3 +10,4 @@ pub mod Rebased
 pub mod Pointers
 pub mod Pages
 pub mod Writing
+pub mod Choices
