@@ -33,4 +33,5 @@ pub mod Filling
 pub mod Apart
 pub mod Beside
 pub mod Writing
+pub mod MovedWriting
 pub mod Choices
