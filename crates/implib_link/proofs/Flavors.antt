@@ -11,6 +11,7 @@ pub mod Loaded
 pub mod Reading
 pub mod Beside
 pub mod Writing
+pub mod MovedWriting
 pub mod Stubs
 pub mod Calls
 pub mod Packed

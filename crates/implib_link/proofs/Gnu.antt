@@ -36,3 +36,5 @@ pub mod Writing
 pub mod Runs
 pub mod Whole
 pub mod OtherLibraries
+pub mod MovedWriting
+pub mod Choices

@@ -27,3 +27,5 @@ pub mod MsvcArchives
 pub mod Writing
 pub mod OtherLibraries
 pub mod MsvcClosed
+pub mod RebasedPointers
+pub mod Choices

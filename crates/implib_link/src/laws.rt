@@ -3,6 +3,7 @@
 
 pub mod bounds;
 pub mod calls;
+pub mod choices;
 pub mod closed;
 pub mod exists;
 pub mod flavors;

@@ -27,7 +27,7 @@ use Rattle.implib_link.proofs.Gnu.Memory.{Covers, byte_front, code_untouched, ho
 
 -- Places of a section are in it.
 
-places_from : (machine : MachineType) (position : ℕ) (rs : List Relocation) → AllByRecursion (λ (p : Place). position ≤ p.address) (places_at machine position rs)
+pub places_from : (machine : MachineType) (position : ℕ) (rs : List Relocation) → AllByRecursion (λ (p : Place). position ≤ p.address) (places_at machine position rs)
 places_from machine position [] = tt
 places_from machine position (r ∷ rs) =
     elim (absolute_width machine r.kind) as (λ o. absolute_width machine r.kind ≡ o → AllByRecursion (λ (p : Place). position ≤ p.address) (places_at machine position (r ∷ rs))) [
@@ -152,7 +152,7 @@ among_place machine position r width (y ∷ rs) is (inr m) =
 
 -- Ranges apart.
 
-apart_back : (xs ys : List Range) → AllApart (xs ++ ys) → AllApart ys
+pub apart_back : (xs ys : List Range) → AllApart (xs ++ ys) → AllApart ys
 apart_back [] ys apart = apart
 apart_back (x ∷ xs) ys apart = apart_back xs ys apart.1
 

@@ -16,12 +16,18 @@ use Rattle.implib_link.specs.Gnu.Loaded.{entries_written}
 use Rattle.implib_link.specs.Gnu.Program.{IsProgram, has_tables}
 use Rattle.implib_link.specs.Gnu.Reading.{ReadsAndWrites}
 use Rattle.implib_link.specs.Gnu.Writing.{FillsBy, FillsTable, WritesAsItGoes}
+use Rattle.implib_link.specs.Worked.Calls.{calling_objects, given_on, table_targets}
 use Rattle.implib_link.specs.Worked.Loads.{gives_by_hand}
+use Rattle.implib_link.specs.Worked.Rebased.{i386_memory, moving_codes}
 use Rattle.implib_link.specs.Worked.Programs.{both_inputs, program_image, program_objects, touching_4, touching_8}
 use Rattle.implib_link.specs.Worked.RefusedLinks.{five_and_six, foo, ordinal_8}
 use Rattle.implib_link.specs.Worked.Writing.{WorkedWriting, WorkedWritings, gives_nine, gives_zeros, left_4, left_8, overlapping, without_null}
 use Rattle.implib_link.proofs.Gnu.Filling.{all_filled, table_filled}
 use Rattle.implib_link.proofs.Gnu.Writing.{gnu_beside, gnu_long, keeps_itself, run_can, run_once}
+use Rattle.implib_link.proofs.Gnu.Moved.{image_kept}
+use Rattle.implib_link.proofs.Gnu.Steady.{program_tables_none}
+use Rattle.implib_link.proofs.Worked.Calls.{wide}
+use Rattle.implib_link.proofs.Worked.Rebased.{worked_moves}
 use Rattle.implib_link.proofs.Worked.Loads.{amd64_given, arm64_given, armnt_given, i386_given}
 use Rattle.implib_link.proofs.Worked.Programs.{opened, worked_programs}
 use Rattle.implib_link.proofs.Worked.RefusedLinks.{are_located, number}
@@ -230,6 +236,24 @@ never_stops after (between, (by, later)) =
       | inr table ↦ nothing_at both_written 0x1024 0 refl table
     ]
 
+-- The program at another base.
+
+moved_there : BytesAt (all_filled 4 (given_on I386) 92 (imports I386) (i386_memory (0x60 ∷ 0 ∷ 0 ∷ 0x10 ∷ []))) 0x60 (0x40 ∷ 0 ∷ 0 ∷ 0x10 ∷ [])
+unfolding opened alias_specs encoded_size weak_object has_tables all_filled table_filled
+moved_there = are_located (all_filled 4 (given_on I386) 92 (imports I386) (i386_memory (0x60 ∷ 0 ∷ 0 ∷ 0x10 ∷ []))) (0x40 ∷ 0 ∷ 0 ∷ 0x10 ∷ []) 0x60 refl
+
+moved : (found : List Imported) (after : List Range) → WritesAsItGoes 4 (given_on I386) touching_4.descriptors (i386_memory (0x60 ∷ 0 ∷ 0 ∷ 0x10 ∷ [])) found after →
+    (found ≡ imports I386) × BytesAt after 0x60 (0x40 ∷ 0 ∷ 0 ∷ 0x10 ∷ [])
+moved found after runs =
+    let made = worked_programs.i386.made in
+    let program : IsProgram I386 touching_4 (both_inputs I386) (calling_objects I386) = worked_moves.i386.program in
+    let memory : List Range = i386_memory (0x60 ∷ 0 ∷ 0 ∷ 0x10 ∷ []) in
+    let keeps = image_kept I386 0x40_0000 0x1000_0000 touching_4 (calling_objects I386) (moving_codes I386 touching_4) (table_targets I386 touching_4) memory worked_moves.i386.at
+    (program_tables_none I386 touching_4 (both_inputs I386) (calling_objects I386) made program) in
+    let same = run_once I386 touching_4 (calling_objects I386) program.admissible (imports I386) (gnu_long I386 touching_4 (both_inputs I386) (calling_objects I386) made program)
+    (gnu_beside I386 touching_4 (both_inputs I386) (calling_objects I386) made program) (given_on I386) (wide I386) memory keeps found after runs in
+    (same.0, subst (λ m. BytesAt m 0x60 (0x40 ∷ 0 ∷ 0 ∷ 0x10 ∷ [])) (sym same.1) moved_there)
+
 pub worked_writings : WorkedWritings
 worked_writings = record {
   amd64 = amd64;
@@ -241,4 +265,5 @@ worked_writings = record {
   not_both = not_both;
   not_given = not_given;
   never_stops = never_stops;
+  moved = moved;
 }

@@ -5,13 +5,16 @@ use Rattle.implib.specs.declared.machine.MachineType.{MachineType}
 use Rattle.implib.specs.declared.machine.MachineType.TheVariants.{I386, ARMNT, AMD64, ARM64}
 use Rattle.implib.specs.Import.{Ask, Ordinal}
 use Rattle.implib.specs.Link.Image.{Range}
+use Rattle.implib.specs.Link.Load.{BytesAt}
 use Rattle.implib.specs.Link.Placement.{Bases}
 use Rattle.implib.specs.Members.ImportTables.{thunk_width, zeros}
 use Rattle.implib_link.specs.Directory.{Imported, imported}
 use Rattle.implib_link.specs.Gnu.Reading.{ReadsAndWrites}
 use Rattle.implib_link.specs.Gnu.Writing.{WritesAsItGoes}
+use Rattle.implib_link.specs.Worked.Calls.{given_on}
 use Rattle.implib_link.specs.Worked.Loads.{entry_of, gives_by_hand}
 use Rattle.implib_link.specs.Worked.Programs.{both_inputs, program_image, touching_4, touching_8}
+use Rattle.implib_link.specs.Worked.Rebased.{i386_memory}
 use Rattle.implib_link.specs.Worked.RefusedLinks.{descriptor_bytes, five_and_six, foo, image_by_hand, ordinal_8, table_8}
 
 -- what is left in front of the image, the last entry first: `queue` of zed.dll, and `move`, `stat`, `open` and
@@ -85,3 +88,8 @@ pub record WorkedWritings : Type 0 where
   -- without the null descriptor no loader stops behind the DLL
   pub never_stops : (after : List Range) →
       WritesAsItGoes 8 gives_zeros 0x1000 without_null (record { dll = foo; asks = five_and_six } ∷ []) after → ⊥
+  -- I386's program of Worked/Rebased, linked for 0x400000 and in memory at 0x10000000: at 0x60 is what foo.dll gives
+  -- for `open`
+  pub moved : (found : List Imported) (after : List Range) →
+      WritesAsItGoes 4 (given_on I386) touching_4.descriptors (i386_memory (0x60 ∷ 0 ∷ 0 ∷ 0x10 ∷ [])) found after →
+      (found ≡ map (imported I386) (both_inputs I386)) × BytesAt after 0x60 (0x40 ∷ 0 ∷ 0 ∷ 0x10 ∷ [])

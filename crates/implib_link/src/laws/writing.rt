@@ -10,9 +10,11 @@ ghost use Rattle.implib.specs.declared.machine.MachineType.{MachineType};
 ghost use Rattle.implib_link.specs.Directory.{Imported, imported};
 ghost use Rattle.implib_link.specs.Flavors.Loaded.{AreLoaded};
 ghost use Rattle.implib_link.specs.Flavors.Program.{FlavorInput, IsFlavorProgram, IsMadeFor, imported_in};
+ghost use Rattle.implib_link.specs.Gnu.Calls.{PlacedCode};
 ghost use Rattle.implib_link.specs.Gnu.Loaded.{IsLoaded};
 ghost use Rattle.implib_link.specs.Gnu.Program.{IsProgram};
 ghost use Rattle.implib_link.specs.Gnu.Reading.{ReadsAndWrites};
+ghost use Rattle.implib_link.specs.Gnu.Rebased.{IsAtBase};
 ghost use Rattle.implib_link.specs.Gnu.Writing.{AreAlike, WritesAsItGoes};
 ghost use Rattle.implib_link.specs.Worked.Writing.{WorkedWritings};
 ghost use Rattle.std.specs.List.{AllByRecursion};
@@ -71,6 +73,62 @@ pub fn loader_of_flavors_writes()
         ((dll : List ℕ) (ask : Ask) → length (gives dll ask) ≡ thunk_width machine) →
         (after : List Range) × WritesAsItGoes (thunk_width machine) gives bases.descriptors
         (image_of machine bases (placed_from bases objects)) (map (imported_in machine) inputs) after }
+{}
+
+/// The same at another base than the one that the program was linked for, its base relocations
+/// applied: what the loader leaves has the same bytes as the memory in which calls and pointers
+/// arrive, by the laws of programs at another base.
+pub fn loader_writes_at_base()
+    ensures loads { (machine : MachineType) (from to : ℕ) (bases : Bases)
+        (inputs : List LinkInput) (objects : List Object)
+        (codes : List PlacedCode) (targets : PlacedCode → ℕ → ℕ) (memory : List Range)
+        (gives : List ℕ → Ask → List ℕ) (found : List Imported) (after : List Range) →
+        AllByRecursion (IsMade machine) inputs →
+        IsProgram machine bases inputs objects →
+        IsAtBase machine from to bases objects codes targets memory →
+        ((dll : List ℕ) (ask : Ask) → length (gives dll ask) ≡ thunk_width machine) →
+        WritesAsItGoes (thunk_width machine) gives bases.descriptors memory found after →
+        (found ≡ map (imported machine) inputs) × ((entries : List Range)
+        × (ReadsAndWrites memory (thunk_width machine) gives (length inputs) bases.descriptors
+        entries × (IsLoaded machine bases inputs objects gives entries
+        × AreAlike after (entries ++ memory)))) }
+    ensures ends { (machine : MachineType) (from to : ℕ) (bases : Bases)
+        (inputs : List LinkInput) (objects : List Object)
+        (codes : List PlacedCode) (targets : PlacedCode → ℕ → ℕ) (memory : List Range)
+        (gives : List ℕ → Ask → List ℕ) →
+        AllByRecursion (IsMade machine) inputs →
+        IsProgram machine bases inputs objects →
+        IsAtBase machine from to bases objects codes targets memory →
+        ((dll : List ℕ) (ask : Ask) → length (gives dll ask) ≡ thunk_width machine) →
+        (after : List Range) × WritesAsItGoes (thunk_width machine) gives bases.descriptors
+        memory (map (imported machine) inputs) after }
+{}
+
+/// The same of a program of both flavours at another base.
+pub fn loader_of_flavors_writes_at_base()
+    ensures loads { (machine : MachineType) (from to : ℕ) (bases : Bases)
+        (inputs : List FlavorInput) (objects : List Object)
+        (codes : List PlacedCode) (targets : PlacedCode → ℕ → ℕ) (memory : List Range)
+        (gives : List ℕ → Ask → List ℕ) (found : List Imported) (after : List Range) →
+        AllByRecursion (IsMadeFor machine) inputs →
+        IsFlavorProgram machine bases inputs objects →
+        IsAtBase machine from to bases objects codes targets memory →
+        ((dll : List ℕ) (ask : Ask) → length (gives dll ask) ≡ thunk_width machine) →
+        WritesAsItGoes (thunk_width machine) gives bases.descriptors memory found after →
+        (found ≡ map (imported_in machine) inputs) × ((entries : List Range)
+        × (ReadsAndWrites memory (thunk_width machine) gives (length inputs) bases.descriptors
+        entries × (AreLoaded machine bases inputs objects gives entries
+        × AreAlike after (entries ++ memory)))) }
+    ensures ends { (machine : MachineType) (from to : ℕ) (bases : Bases)
+        (inputs : List FlavorInput) (objects : List Object)
+        (codes : List PlacedCode) (targets : PlacedCode → ℕ → ℕ) (memory : List Range)
+        (gives : List ℕ → Ask → List ℕ) →
+        AllByRecursion (IsMadeFor machine) inputs →
+        IsFlavorProgram machine bases inputs objects →
+        IsAtBase machine from to bases objects codes targets memory →
+        ((dll : List ℕ) (ask : Ask) → length (gives dll ask) ≡ thunk_width machine) →
+        (after : List Range) × WritesAsItGoes (thunk_width machine) gives bases.descriptors
+        memory (map (imported_in machine) inputs) after }
 {}
 
 /// Such a loader leaves just this of the programs that were linked by hand, on each machine. Of an

@@ -1,0 +1,452 @@
+-- There are addresses for the symbols of placed code, and there is memory at any base.
+use Rattle.std.proofs.Common.{◌≡◌, ℕ, zero, suc, ◌+◌, ◌*◌, ◌/◌, ◌%◌, ◌^◌, ◌<◌, ◌≤◌, ◌⊎◌, Bool, true, false, List, [], ◌∷◌, ◌++◌, length, map, Option, None, Some, refl, ap, sym, ◌∙◌, subst, inl, inr, arith, true≢false}
+use Rattle.std.specs.Prelude.{◌&&◌, ◌==◌, bytes_eq, if◌then◌else◌, nat_le, nat_lt, slice_get}
+use Rattle.std.specs.List.{AllByRecursion, Contains, flat_map, list_any}
+use Rattle.std.proofs.lemmas.Bool.{and_from, and_parts, cases_Bool, eq-eqb, eqb-true, false_from_ne_true, or_parts}
+use Rattle.std.proofs.lemmas.Slice.Eq.{bytes_eq-Decides}
+use Rattle.implib.specs.declared.machine.MachineType.{MachineType}
+use Rattle.implib.specs.declared.machine.MachineType.TheVariants.{I386, ARMNT, AMD64, ARM64}
+use Rattle.implib.specs.declared.coff.object.Relocation.{Relocation}
+use Rattle.implib.specs.Formats.Constants.{i386_dir32}
+use Rattle.implib.specs.Formats.File.{is_defined_external}
+use Rattle.implib.specs.Formats.Object.{ASymbol, Auxiliary, Entry, Object, ObjectSymbol}
+use Rattle.implib.specs.Link.Image.{AllApart, AreApart, Range, byte_at, image_of, is_in, range_end}
+use Rattle.implib.specs.Link.Load.{BytesAt, NumberAt, number_in}
+use Rattle.implib.specs.Link.Placement.{Bases, Placed, placed_from}
+use Rattle.implib.specs.Link.Resolution.{is_undefined_external, symbol_address}
+use Rattle.implib.proofs.Link.LinkedMembers.{among_contains, among_map}
+use Rattle.implib.proofs.Link.Ranges.{Among, all_among, among_back, among_front, is_in_from, range_located}
+use Rattle.implib_link.specs.Gnu.Calls.{AreBeside, Defines, PlacedCode, Resolves, code_range, code_ranges}
+use Rattle.implib_link.specs.Gnu.Choices.{AreSections, ArePlacesApart, CanBeRebased, DefineOnce, plain_range}
+use Rattle.implib_link.specs.Gnu.Rebased.{CanMove, IsAtBase, IsRebased, Place, absolute_width, amd64_addr32, amd64_addr64, arm64_addr32, arm64_addr64, base_relocations, code_places, covers, moved_number, places_at, table_places}
+use Rattle.implib_link.proofs.Gnu.CallBytes.{length_within}
+use Rattle.implib_link.proofs.Gnu.Keeps.{Keeps, bytes_kept}
+use Rattle.implib_link.proofs.Gnu.Loaded.{kept_outside}
+use Rattle.implib_link.proofs.Gnu.Memory.{byte_front}
+use Rattle.implib_link.proofs.Gnu.Moved.{apart_back, covered_bounds, grows, places_from}
+use Rattle.implib_link.proofs.Search.Lists.{among_at, among_either, contains_among}
+
+-- Where code defines a name.
+
+abbrev pub is_here : List ℕ → PlacedCode → ObjectSymbol → Bool
+is_here name c t = is_defined_external t && ((t.section == c.number) && bytes_eq t.name name)
+
+unfoldable pub found_in : List ℕ → PlacedCode → List Entry → List ℕ
+found_in name c [] = []
+found_in name c (Auxiliary bytes ∷ entries) = found_in name c entries
+found_in name c (ASymbol t ∷ entries) = if is_here name c t then (c.position + t.value) ∷ found_in name c entries else found_in name c entries
+
+unfoldable pub found : List ℕ → List PlacedCode → List ℕ
+found name [] = []
+found name (c ∷ codes) = found_in name c c.from.object.entries ++ found name codes
+
+abbrev first_or_zero : List ℕ → ℕ
+first_or_zero [] = 0
+first_or_zero (x ∷ xs) = x
+
+first_among : (x : ℕ) (xs : List ℕ) → Among x xs → Among (first_or_zero xs) xs
+unfolding Among
+first_among x [] m = absurd m
+first_among x (y ∷ xs) m = inl refl
+
+-- what an address that is found comes from
+record DefinedAt (name : List ℕ) (codes : List PlacedCode) (address : ℕ) : Type 0 where
+  code : PlacedCode
+  symbol : ObjectSymbol
+  among : Among code codes
+  defines : Defines code symbol
+  named : symbol.name ≡ name
+  is : address ≡ code.position + symbol.value
+
+same_names : (name other : List ℕ) → bytes_eq name other ≡ true → name ≡ other
+same_names name other is = (bytes_eq-Decides name other).0 is
+
+same_text : (name : List ℕ) → bytes_eq name name ≡ true
+same_text name = (bytes_eq-Decides name name).1 refl
+
+defines_from : (name : List ℕ) (c : PlacedCode) (t : ObjectSymbol) → Among (ASymbol t) c.from.object.entries → is_here name c t ≡ true → Defines c t × (t.name ≡ name)
+defines_from name c t m is =
+    let first = and_parts (is_defined_external t) ((t.section == c.number) && bytes_eq t.name name) is in
+    let second = and_parts (t.section == c.number) (bytes_eq t.name name) first.1 in
+    (record { held = among_contains (ASymbol t) c.from.object.entries m; external = first.0; here = eqb-true t.section c.number second.0 }, same_names t.name name second.1)
+
+pub here_from : (name : List ℕ) (c : PlacedCode) (t : ObjectSymbol) → Defines c t → t.name ≡ name → is_here name c t ≡ true
+here_from name c t defines named =
+    and_from (is_defined_external t) ((t.section == c.number) && bytes_eq t.name name) defines.external
+    (and_from (t.section == c.number) (bytes_eq t.name name) (eq-eqb t.section c.number defines.here) (subst (λ n. bytes_eq t.name n ≡ true) named (same_text t.name)))
+
+module _ (name : List ℕ) (c : PlacedCode) where
+  found_from : (entries : List Entry) (address : ℕ) → ((x : Entry) → Among x entries → Among x c.from.object.entries) → Among address (found_in name c entries) →
+      (t : ObjectSymbol) × (Defines c t × ((t.name ≡ name) × (address ≡ c.position + t.value)))
+  unfolding Among found_in
+  found_from [] address within m = absurd m
+  found_from (Auxiliary bytes ∷ entries) address within m = found_from entries address (λ x n. within x (inr n)) m
+  found_from (ASymbol t ∷ entries) address within m =
+      elim (cases_Bool (is_here name c t)) [
+        | inl is ↦
+            let here = defines_from name c t (within (ASymbol t) (inl refl)) is in
+            elim (rw is at m) [
+              | inl same ↦ (t, (here.0, (here.1, same)))
+              | inr later ↦ found_from entries address (λ x n. within x (inr n)) later
+            ]
+        | inr other ↦ found_from entries address (λ x n. within x (inr n)) (rw other at m)
+      ]
+
+  found_there : (entries : List Entry) (t : ObjectSymbol) → Among (ASymbol t) entries → is_here name c t ≡ true → Among (c.position + t.value) (found_in name c entries)
+  unfolding Among found_in
+  found_there [] t m is = absurd m
+  found_there (Auxiliary bytes ∷ entries) t (inl same) is = cc
+  found_there (Auxiliary bytes ∷ entries) t (inr m) is = found_there entries t m is
+  found_there (ASymbol s ∷ entries) t (inl same) is =
+      let symbols : t ≡ s = cc in
+      let own : is_here name c s ≡ true = subst (λ (x : ObjectSymbol). is_here name c x ≡ true) symbols is in
+      rw own (inl (ap (λ (x : ObjectSymbol). c.position + x.value) symbols))
+  found_there (ASymbol s ∷ entries) t (inr m) is =
+      let later = found_there entries t m is in
+      elim (cases_Bool (is_here name c s)) [ inl own ↦ rw own (inr later) | inr other ↦ rw other later ]
+
+found_defined : (name : List ℕ) (codes : List PlacedCode) (address : ℕ) → Among address (found name codes) → DefinedAt name codes address
+unfolding Among found
+found_defined name [] address m = absurd m
+found_defined name (c ∷ codes) address m =
+    elim (among_either address (found_in name c c.from.object.entries) (found name codes) m) [
+      | inl own ↦
+          let one = found_from name c c.from.object.entries address (λ x n. n) own in
+          record { code = c; symbol = one.0; among = inl refl; defines = one.1.0; named = one.1.1.0; is = one.1.1.1 }
+      | inr other ↦
+          let later = found_defined name codes address other in
+          record { code = later.code; symbol = later.symbol; among = inr later.among; defines = later.defines; named = later.named; is = later.is }
+    ]
+
+pub defined_found : (name : List ℕ) (codes : List PlacedCode) (d : PlacedCode) (t : ObjectSymbol) → Among d codes → Defines d t → t.name ≡ name → Among (d.position + t.value) (found name codes)
+unfolding Among found
+defined_found name [] d t m defines named = absurd m
+defined_found name (c ∷ codes) d t (inl same) defines named =
+    let own : is_here name d t ≡ true = here_from name d t defines named in
+    among_front (d.position + t.value) (found_in name c c.from.object.entries) (found name codes)
+    (subst (λ (x : PlacedCode). Among (d.position + t.value) (found_in name x x.from.object.entries)) same
+    (found_there name d d.from.object.entries t (contains_among (ASymbol t) d.from.object.entries defines.held) own))
+defined_found name (c ∷ codes) d t (inr m) defines named =
+    among_back (d.position + t.value) (found_in name c c.from.object.entries) (found name codes) (defined_found name codes d t m defines named)
+
+-- The choice: what the tables say, or where code defines the name.
+
+abbrev by_name : List PlacedCode → Entry → ℕ
+by_name codes (Auxiliary bytes) = 0
+by_name codes (ASymbol s) = first_or_zero (found s.name codes)
+
+abbrev in_tables_or : Option ℕ → ℕ → ℕ
+in_tables_or None other = other
+in_tables_or (Some address) other = address
+
+abbrev of_entry : List Placed → List PlacedCode → PlacedCode → Option Entry → ℕ
+of_entry linked codes c None = 0
+of_entry linked codes c (Some entry) = in_tables_or (symbol_address linked c.from entry) (by_name codes entry)
+
+abbrev choice : List Placed → List PlacedCode → PlacedCode → ℕ → ℕ
+choice linked codes c index = of_entry linked codes c (slice_get c.from.object.entries index)
+
+chosen_by : (linked : List Placed) (codes : List PlacedCode) (once : DefineOnce linked codes) (c d : PlacedCode) (s t : ObjectSymbol) → Contains codes c → Contains codes d →
+    Among (ASymbol s) c.from.object.entries → is_undefined_external s ≡ true → Defines d t → t.name ≡ s.name → (o : Option ℕ) → symbol_address linked c.from (ASymbol s) ≡ o →
+    in_tables_or o (first_or_zero (found s.name codes)) ≡ d.position + t.value
+chosen_by linked codes once c d s t c_held d_held m undefined defines named (Some address) is =
+    absurd (once.tables c d s t address c_held d_held (among_contains (ASymbol s) c.from.object.entries m) undefined is defines named)
+chosen_by linked codes once c d s t c_held d_held m undefined defines named None is =
+    let there = defined_found s.name codes d t (contains_among d codes d_held) defines named in
+    let one = found_defined s.name codes (first_or_zero (found s.name codes)) (first_among (d.position + t.value) (found s.name codes) there) in
+    one.is ∙ once.once one.code d one.symbol t (among_contains one.code codes one.among) d_held one.defines defines (one.named ∙ sym named)
+
+choice_resolves : (linked : List Placed) (codes : List PlacedCode) → DefineOnce linked codes → Resolves linked codes (choice linked codes)
+choice_resolves linked codes once = record {
+  tables = λ c index address entry held at is. rw (at, is) refl;
+  code = λ c d index s t c_held d_held at undefined defines named.
+      ap (of_entry linked codes c) at
+      ∙ chosen_by linked codes once c d s t c_held d_held (among_at (ASymbol s) c.from.object.entries index at) undefined defines named (symbol_address linked c.from (ASymbol s)) refl;
+}
+
+-- Code is as long as before it was relocated.
+
+is_in_same : (a : ℕ) (r s : Range) → r.start ≡ s.start → length r.bytes ≡ length s.bytes → is_in a r ≡ true → is_in a s ≡ true
+is_in_same a r s start long within =
+    let parts = and_parts (nat_le r.start a) (nat_lt a (range_end r)) within in
+    let end : range_end r ≡ range_end s = ap (λ n. n + length r.bytes) start ∙ ap (λ n. s.start + n) long in
+    and_from (nat_le s.start a) (nat_lt a (range_end s)) (subst (λ n. nat_le n a ≡ true) start parts.0) (subst (λ n. nat_lt a n ≡ true) end parts.1)
+
+-- ranges of the same addresses
+abbrev AlikeFor : (PlacedCode → Range) → (PlacedCode → Range) → PlacedCode → Type 0
+AlikeFor f g c = (a : ℕ) → is_in a (g c) ≡ true → is_in a (f c) ≡ true
+
+apart_from_all : (f g : PlacedCode → Range) (x y : Range) → ((a : ℕ) → is_in a y ≡ true → is_in a x ≡ true) → (codes : List PlacedCode) → AllByRecursion (AlikeFor f g) codes →
+    AllByRecursion (AreApart x) (map f codes) → AllByRecursion (AreApart y) (map g codes)
+apart_from_all f g x y within [] alike apart = tt
+apart_from_all f g x y within (c ∷ codes) alike apart =
+    (λ a first second. apart.0 a (within a first) (alike.0 a second), apart_from_all f g x y within codes alike.1 apart.1)
+
+codes_apart : (f g : PlacedCode → Range) (codes : List PlacedCode) → AllByRecursion (AlikeFor f g) codes → AllApart (map f codes) → AllApart (map g codes)
+codes_apart f g [] alike apart = tt
+codes_apart f g (c ∷ codes) alike apart = (apart_from_all f g (f c) (g c) alike.0 codes alike.1 apart.0, codes_apart f g codes alike.1 apart.1)
+
+all_split : (P : Range → Type 0) (xs ys : List Range) → AllByRecursion P (xs ++ ys) → AllByRecursion P xs × AllByRecursion P ys
+all_split P [] ys all = (tt, all)
+all_split P (x ∷ xs) ys all = let later = all_split P xs ys all.1 in ((all.0, later.0), later.1)
+
+all_joined : (P : Range → Type 0) (xs ys : List Range) → AllByRecursion P xs → AllByRecursion P ys → AllByRecursion P (xs ++ ys)
+all_joined P [] ys first second = second
+all_joined P (x ∷ xs) ys first second = (first.0, all_joined P xs ys first.1 second)
+
+memory_apart : (f g : PlacedCode → Range) (codes : List PlacedCode) → AllByRecursion (AlikeFor f g) codes → (image : List Range) → AllApart (image ++ map f codes) → AllApart (image ++ map g codes)
+memory_apart f g codes alike [] apart = codes_apart f g codes alike apart
+memory_apart f g codes alike (r ∷ image) apart =
+    let parts = all_split (AreApart r) image (map f codes) apart.0 in
+    (all_joined (AreApart r) image (map g codes) parts.0 (apart_from_all f g r r (λ a is. is) codes alike parts.1), memory_apart f g codes alike image apart.1)
+
+alike_codes : (machine : MachineType) (image_base : ℕ) (targets : PlacedCode → ℕ → ℕ) (codes : List PlacedCode) →
+    AllByRecursion (λ (c : PlacedCode). AllByRecursion (λ (r : Relocation). r.offset + 4 ≤ length c.code.bytes) c.code.relocations) codes →
+    AllByRecursion (AlikeFor plain_range (code_range machine image_base targets)) codes
+alike_codes machine image_base targets [] fields = tt
+alike_codes machine image_base targets (c ∷ codes) fields = (
+  λ a within. is_in_same a (code_range machine image_base targets c) (plain_range c) refl (length_within machine image_base (targets c) c.position c.code.relocations c.code.bytes fields.0) within,
+  alike_codes machine image_base targets codes fields.1,
+)
+
+pub sections_beside : (machine : MachineType) (image_base : ℕ) (bases : Bases) (objects : List Object) (codes : List PlacedCode) → AreSections machine bases objects codes → DefineOnce (placed_from bases objects) codes →
+    (targets : PlacedCode → ℕ → ℕ) × AreBeside machine image_base bases objects codes targets
+sections_beside machine image_base bases objects codes are once =
+    let targets : PlacedCode → ℕ → ℕ = choice (placed_from bases objects) codes in (
+      targets,
+      record {
+        held = are.held;
+        sections = are.sections;
+        ends = are.ends;
+        apart = memory_apart plain_range (code_range machine image_base targets) codes (alike_codes machine image_base targets codes are.fields) (image_of machine bases (placed_from bases objects)) are.apart;
+        resolved = choice_resolves (placed_from bases objects) codes once;
+      },
+    )
+
+-- Memory at another base: in front of what was linked, the moved numbers.
+
+abbrev low_first : ℕ → ℕ → List ℕ
+low_first zero n = []
+low_first (suc width) n = n % 256 ∷ low_first width (n / 256)
+
+length-low_first : (width n : ℕ) → length (low_first width n) ≡ width
+length-low_first zero n = refl
+length-low_first (suc width) n = ap suc (length-low_first width (n / 256))
+
+four_back : (n : ℕ) → n < 2 ^ 32 → number_in (low_first 4 n) ≡ n
+four_back n small = omega arith
+
+eight_back : (n : ℕ) → n < 2 ^ 64 → number_in (low_first 8 n) ≡ n
+eight_back n small = omega arith
+
+four_small : (from to n : ℕ) → moved_number 4 from to n < 2 ^ 32
+four_small from to n = omega arith
+
+eight_small : (from to n : ℕ) → moved_number 8 from to n < 2 ^ 64
+eight_small from to n = omega arith
+
+moved_back : (width from to n : ℕ) → (width ≡ 4) ⊎ (width ≡ 8) → number_in (low_first width (moved_number width from to n)) ≡ moved_number width from to n
+moved_back width from to n (inl is) =
+    subst (λ w. number_in (low_first w (moved_number w from to n)) ≡ moved_number w from to n) (sym is) (four_back (moved_number 4 from to n) (four_small from to n))
+moved_back width from to n (inr is) =
+    subst (λ w. number_in (low_first w (moved_number w from to n)) ≡ moved_number w from to n) (sym is) (eight_back (moved_number 8 from to n) (eight_small from to n))
+
+true_and_false : (b : Bool) → b ≡ true → b ≡ false → ⊥
+true_and_false b is not = true≢false (sym is ∙ not)
+
+-- the number that memory has at a place
+abbrev byte_or_zero : Option ℕ → ℕ
+byte_or_zero None = 0
+byte_or_zero (Some byte) = byte
+
+number_there : List Range → ℕ → ℕ → ℕ
+number_there memory zero a = 0
+number_there memory (suc width) a = byte_or_zero (byte_at memory a) + 256 * number_there memory width (a + 1)
+
+number_of : (memory : List Range) (bytes : List ℕ) (a : ℕ) → BytesAt memory a bytes → number_there memory (length bytes) a ≡ number_in bytes
+unfolding BytesAt number_there
+number_of memory [] a located = refl
+number_of memory (b ∷ bytes) a located =
+    ap (λ o. byte_or_zero o + 256 * number_there memory (length bytes) (a + 1)) located.0 ∙ ap (λ n. b + 256 * n) (number_of memory bytes (a + 1) located.1)
+
+the_number : (memory : List Range) (width a n : ℕ) → NumberAt memory width a n → number_there memory width a ≡ n
+the_number memory width a n number =
+    ap (λ w. number_there memory w a) (sym number.count) ∙ number_of memory number.bytes a number.located ∙ number.value
+
+module _ (from to : ℕ) (memory : List Range) where
+  abbrev patch : Place → Range
+  patch p = record { start = p.address; bytes = low_first p.width (moved_number p.width from to (number_there memory p.width p.address)) }
+
+  patch_covers : (a : ℕ) (p : Place) → is_in a (patch p) ≡ true → covers a p ≡ true
+  patch_covers a p within =
+      let long : length (low_first p.width (moved_number p.width from to (number_there memory p.width p.address))) ≡ p.width = length-low_first p.width (moved_number p.width from to (number_there memory p.width p.address)) in
+      let parts = and_parts (nat_le p.address a) (nat_lt a (range_end (patch p))) within in
+      and_from (nat_le p.address a) (nat_lt a (p.address + p.width)) parts.0 (subst (λ n. nat_lt a (p.address + n) ≡ true) long parts.1)
+
+  patches_from : (p : Place) (ps : List Place) → AllByRecursion (λ (q : Place). (a : ℕ) → covers a p ≡ true → covers a q ≡ true → ⊥) ps → AllByRecursion (AreApart (patch p)) (map patch ps)
+  patches_from p [] apart = tt
+  patches_from p (q ∷ ps) apart = (λ a first second. apart.0 a (patch_covers a p first) (patch_covers a q second), patches_from p ps apart.1)
+
+  patches_apart : (ps : List Place) → ArePlacesApart ps → AllApart (map patch ps)
+  patches_apart [] apart = tt
+  patches_apart (p ∷ ps) apart = (patches_from p ps apart.0, patches_apart ps apart.1)
+
+  none_patched : (a : ℕ) (ps : List Place) → list_any (covers a) ps ≡ false → list_any (is_in a) (map patch ps) ≡ false
+  none_patched a [] none = refl
+  none_patched a (p ∷ ps) none =
+      let parts = or_parts (covers a p) (list_any (covers a) ps) none in
+      let outside : is_in a (patch p) ≡ false = false_from_ne_true (is_in a (patch p)) (λ within. true_and_false (covers a p) (patch_covers a p within) parts.0) in
+      rw outside (none_patched a ps parts.1)
+
+  front_keeps : (xs ys : List Range) → Keeps xs (xs ++ ys)
+  unfolding Keeps
+  front_keeps xs ys a byte is = byte_front xs ys a byte is
+
+  pub can_rebase : (ps : List Place) → ArePlacesApart ps → AllByRecursion (λ (p : Place). (p.width ≡ 4) ⊎ (p.width ≡ 8)) ps → (rebased : List Range) × IsRebased from to ps memory rebased
+  can_rebase ps apart widths = (
+    map patch ps ++ memory,
+    record {
+      moved = λ p n held number.
+          let m : Among p ps = contains_among p ps held in
+          let is : number_there memory p.width p.address ≡ n = the_number memory p.width p.address n number in
+          let width = all_among (λ (x : Place). (x.width ≡ 4) ⊎ (x.width ≡ 8)) p ps m widths in
+          let bytes : List ℕ = low_first p.width (moved_number p.width from to (number_there memory p.width p.address)) in
+          record {
+            bytes = bytes;
+            located = bytes_kept (map patch ps) (map patch ps ++ memory) (front_keeps (map patch ps) memory) bytes p.address
+                (range_located (patch p) (map patch ps) (among_map patch p ps m) (patches_apart ps apart));
+            count = length-low_first p.width (moved_number p.width from to (number_there memory p.width p.address));
+            value = moved_back p.width from to (number_there memory p.width p.address) width ∙ ap (moved_number p.width from to) is;
+          };
+      kept = λ a byte none is. kept_outside (map patch ps) memory a (none_patched a ps none) ∙ is;
+    },
+  )
+
+-- The places of code.
+
+choice_width : (b : Bool) (w width : ℕ) (o : Option ℕ) → (if b then Some w else o) ≡ Some width → (w ≡ 4) ⊎ (w ≡ 8) → (o ≡ Some width → (width ≡ 4) ⊎ (width ≡ 8)) → (width ≡ 4) ⊎ (width ≡ 8)
+choice_width true w width o is own other = let same : w ≡ width = cc in subst (λ n. (n ≡ 4) ⊎ (n ≡ 8)) same own
+choice_width false w width o is own other = other is
+
+none_width : (width : ℕ) → None ≡ Some width → (width ≡ 4) ⊎ (width ≡ 8)
+none_width width is = cc
+
+four_or_eight : (machine : MachineType) (type width : ℕ) → absolute_width machine type ≡ Some width → (width ≡ 4) ⊎ (width ≡ 8)
+four_or_eight I386 type width is = choice_width (type == i386_dir32) 4 width None is (inl refl) (none_width width)
+four_or_eight ARMNT type width is = none_width width is
+four_or_eight AMD64 type width is =
+    choice_width (type == amd64_addr64) 8 width (if type == amd64_addr32 then Some 4 else None) is (inr refl)
+    (λ later. choice_width (type == amd64_addr32) 4 width None later (inl refl) (none_width width))
+four_or_eight ARM64 type width is =
+    choice_width (type == arm64_addr64) 8 width (if type == arm64_addr32 then Some 4 else None) is (inr refl)
+    (λ later. choice_width (type == arm64_addr32) 4 width None later (inl refl) (none_width width))
+
+places_widths : (machine : MachineType) (position : ℕ) (rs : List Relocation) → AllByRecursion (λ (p : Place). (p.width ≡ 4) ⊎ (p.width ≡ 8)) (places_at machine position rs)
+places_widths machine position [] = tt
+places_widths machine position (r ∷ rs) =
+    elim (absolute_width machine r.kind) as (λ o. absolute_width machine r.kind ≡ o → AllByRecursion (λ (p : Place). (p.width ≡ 4) ⊎ (p.width ≡ 8)) (places_at machine position (r ∷ rs))) [
+      | None ↦ λ is. rw is (places_widths machine position rs)
+      | Some width ↦ λ is. rw is (four_or_eight machine r.kind width is, places_widths machine position rs)
+    ] refl
+
+places_joined : (P : Place → Type 0) (xs ys : List Place) → AllByRecursion P xs → AllByRecursion P ys → AllByRecursion P (xs ++ ys)
+places_joined P [] ys first second = second
+places_joined P (x ∷ xs) ys first second = (first.0, places_joined P xs ys first.1 second)
+
+all_widths : (machine : MachineType) (codes : List PlacedCode) → AllByRecursion (λ (p : Place). (p.width ≡ 4) ⊎ (p.width ≡ 8)) (flat_map (code_places machine) codes)
+all_widths machine [] = tt
+all_widths machine (c ∷ codes) =
+    places_joined (λ (p : Place). (p.width ≡ 4) ⊎ (p.width ≡ 8)) (code_places machine c) (flat_map (code_places machine) codes) (places_widths machine c.position c.code.relocations) (all_widths machine codes)
+
+apart_joined : (xs ys : List Place) → ArePlacesApart xs → ArePlacesApart ys → AllByRecursion (λ (p : Place). AllByRecursion (λ (q : Place). (a : ℕ) → covers a p ≡ true → covers a q ≡ true → ⊥) ys) xs → ArePlacesApart (xs ++ ys)
+apart_joined [] ys first second cross = second
+apart_joined (x ∷ xs) ys first second cross =
+    (places_joined (λ (q : Place). (a : ℕ) → covers a x ≡ true → covers a q ≡ true → ⊥) xs ys first.0 cross.0, apart_joined xs ys first.1 second cross.1)
+
+-- a place of code is in the code's range
+record PlaceIn (r : Range) (p : Place) : Type 0 where
+  in_range : (a : ℕ) → covers a p ≡ true → is_in a r ≡ true
+
+places_in : (r : Range) (ps : List Place) → AllByRecursion (λ (p : Place). r.start ≤ p.address) ps → AllByRecursion (λ (p : Place). p.address + p.width ≤ range_end r) ps → AllByRecursion (PlaceIn r) ps
+places_in r [] above below = tt
+places_in r (p ∷ ps) above below = (
+  record {
+    in_range = λ a covered.
+        let bounds = covered_bounds a p covered in
+        let from : p.address ≤ a = bounds.0 in
+        let to : a < p.address + p.width = bounds.1 in
+        let low : r.start ≤ p.address = above.0 in
+        let high : p.address + p.width ≤ range_end r = below.0 in
+        is_in_from a r (omega arith) (omega arith);
+  },
+  places_in r ps above.1 below.1,
+)
+
+cross_one : (r s : Range) → AreApart r s → (p : Place) → PlaceIn r p → (qs : List Place) → AllByRecursion (PlaceIn s) qs → AllByRecursion (λ (q : Place). (a : ℕ) → covers a p ≡ true → covers a q ≡ true → ⊥) qs
+cross_one r s apart p own [] others = tt
+cross_one r s apart p own (q ∷ qs) others = (λ a first second. apart a (own.in_range a first) (others.0.in_range a second), cross_one r s apart p own qs others.1)
+
+cross_all : (r s : Range) → AreApart r s → (ps qs : List Place) → AllByRecursion (PlaceIn r) ps → AllByRecursion (PlaceIn s) qs →
+    AllByRecursion (λ (p : Place). AllByRecursion (λ (q : Place). (a : ℕ) → covers a p ≡ true → covers a q ≡ true → ⊥) qs) ps
+cross_all r s apart [] qs own others = tt
+cross_all r s apart (p ∷ ps) qs own others = (cross_one r s apart p own.0 qs others, cross_all r s apart ps qs own.1 others)
+
+cross_join : (ps qs rest : List Place) → AllByRecursion (λ (p : Place). AllByRecursion (λ (q : Place). (a : ℕ) → covers a p ≡ true → covers a q ≡ true → ⊥) qs) ps →
+    AllByRecursion (λ (p : Place). AllByRecursion (λ (q : Place). (a : ℕ) → covers a p ≡ true → covers a q ≡ true → ⊥) rest) ps →
+    AllByRecursion (λ (p : Place). AllByRecursion (λ (q : Place). (a : ℕ) → covers a p ≡ true → covers a q ≡ true → ⊥) (qs ++ rest)) ps
+cross_join [] qs rest first second = tt
+cross_join (p ∷ ps) qs rest first second =
+    (places_joined (λ (q : Place). (a : ℕ) → covers a p ≡ true → covers a q ≡ true → ⊥) qs rest first.0 second.0, cross_join ps qs rest first.1 second.1)
+
+none_crossed : (ps : List Place) → AllByRecursion (λ (p : Place). AllByRecursion (λ (q : Place). (a : ℕ) → covers a p ≡ true → covers a q ≡ true → ⊥) []) ps
+none_crossed [] = tt
+none_crossed (p ∷ ps) = (tt, none_crossed ps)
+
+module _ (machine : MachineType) (image_base : ℕ) (targets : PlacedCode → ℕ → ℕ) where
+  below_end : (c : PlacedCode) (ps : List Place) → AllByRecursion (λ (p : Place). p.address + p.width ≤ c.position + length c.code.bytes) ps →
+      AllByRecursion (λ (p : Place). p.address + p.width ≤ range_end (code_range machine image_base targets c)) ps
+  below_end c [] below = tt
+  below_end c (p ∷ ps) below =
+      let long = grows machine image_base (targets c) c.position c.code.relocations c.code.bytes in
+      let end : p.address + p.width ≤ c.position + length c.code.bytes = below.0 in
+      (omega arith, below_end c ps below.1)
+
+  in_code : (c : PlacedCode) → AllByRecursion (λ (p : Place). p.address + p.width ≤ c.position + length c.code.bytes) (code_places machine c) →
+      AllByRecursion (PlaceIn (code_range machine image_base targets c)) (code_places machine c)
+  in_code c within =
+      places_in (code_range machine image_base targets c) (code_places machine c) (places_from machine c.position c.code.relocations) (below_end c (code_places machine c) within)
+
+  cross_codes : (c : PlacedCode) (codes : List PlacedCode) → AllByRecursion (λ (p : Place). p.address + p.width ≤ c.position + length c.code.bytes) (code_places machine c) →
+      AllByRecursion (λ (d : PlacedCode). AllByRecursion (λ (p : Place). p.address + p.width ≤ d.position + length d.code.bytes) (code_places machine d)) codes →
+      AllByRecursion (AreApart (code_range machine image_base targets c)) (code_ranges machine image_base targets codes) →
+      AllByRecursion (λ (p : Place). AllByRecursion (λ (q : Place). (a : ℕ) → covers a p ≡ true → covers a q ≡ true → ⊥) (flat_map (code_places machine) codes)) (code_places machine c)
+  cross_codes c [] own within apart = none_crossed (code_places machine c)
+  cross_codes c (d ∷ codes) own within apart =
+      cross_join (code_places machine c) (code_places machine d) (flat_map (code_places machine) codes)
+      (cross_all (code_range machine image_base targets c) (code_range machine image_base targets d) apart.0 (code_places machine c) (code_places machine d) (in_code c own) (in_code d within.0))
+      (cross_codes c codes own within.1 apart.1)
+
+  places_apart : (codes : List PlacedCode) → AllByRecursion (λ (d : PlacedCode). AllByRecursion (λ (p : Place). p.address + p.width ≤ d.position + length d.code.bytes) (code_places machine d)) codes →
+      AllByRecursion (λ (d : PlacedCode). ArePlacesApart (code_places machine d)) codes → AllApart (code_ranges machine image_base targets codes) → ArePlacesApart (flat_map (code_places machine) codes)
+  places_apart [] within own apart = tt
+  places_apart (c ∷ codes) within own apart =
+      apart_joined (code_places machine c) (flat_map (code_places machine) codes) own.0 (places_apart codes within.1 own.1 apart.1) (cross_codes c codes within.0 within.1 apart.0)
+
+-- So there is memory at another base, where the import tables have no base relocation.
+pub memory_exists : (machine : MachineType) (from to : ℕ) (bases : Bases) (objects : List Object) (codes : List PlacedCode) (targets : PlacedCode → ℕ → ℕ) → table_places machine (placed_from bases objects) ≡ [] →
+    AreBeside machine from bases objects codes targets → CanBeRebased machine codes → CanMove machine from to bases → (memory : List Range) × IsAtBase machine from to bases objects codes targets memory
+memory_exists machine from to bases objects codes targets none beside rebases can =
+    let image : List Range = image_of machine bases (placed_from bases objects) in
+    let ranges : List Range = code_ranges machine from targets codes in
+    let places : List Place = flat_map (code_places machine) codes in
+    let are : base_relocations machine (placed_from bases objects) codes ≡ places = ap (λ ps. ps ++ places) none in
+    let rebased = can_rebase from to (image ++ ranges) places
+    (places_apart machine from targets codes rebases.within rebases.apart (apart_back image ranges beside.apart)) (all_widths machine codes) in (
+      rebased.0,
+      record {
+        beside = beside;
+        within = rebases.within;
+        can = can;
+        rebased = subst (λ ps. IsRebased from to ps (image ++ ranges) rebased.0) (sym are) rebased.1;
+      },
+    )
