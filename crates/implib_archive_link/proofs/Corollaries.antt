@@ -11,9 +11,9 @@ use Rattle.implib.specs.Members.Members.{AreMembersOf}
 use Rattle.implib.specs.Members.MemberSpec.{MemberView}
 use Rattle.implib.specs.Members.MsvcObjects.{descriptor_symbol}
 use Rattle.implib_archive.specs.declared.kind.Kind.{Kind}
-use Rattle.implib_archive_link.specs.InBytes.{LinkerMember, asks_for, asks_on, asks_with, is_undefined, objects_for, objects_of}
-use Rattle.implib_archive_link.specs.Results.{AreSearched, HaveArchive, TakesJust}
-use Rattle.implib_archive_link.proofs.InBytes.{AreTakenBy, PullsBy, TakesBy, kept_of_map, leads_to_first, takes_just}
+use Rattle.implib_archive_link.specs.InBytes.{Asks, LinkerMember, asks_for, asks_on, asks_with, is_undefined, objects_for, objects_of}
+use Rattle.implib_archive_link.specs.Results.{AreFoundInBytes, AreSearched, HaveArchive, IsEnding, IsSearchOf, TakesJust}
+use Rattle.implib_archive_link.proofs.InBytes.{AreTakenBy, PullsBy, TakesBy, kept_of_map, leads_to_first, search_of, takes_just}
 use Rattle.implib_link.specs.Flavors.Expansion.{descriptor_symbol_by_name, expanded_in}
 use Rattle.implib_link.specs.Gnu.Program.{ClaimsNone}
 use Rattle.implib_link.specs.Search.Archives.{IsArchive, Library, NamesNoHeadOrTailOf, TakesOfLibraries, archive_of, wanted_with}
@@ -21,9 +21,11 @@ use Rattle.implib_link.specs.Search.Closed.{AreLinkedFor, AreTakenInto, LinksClo
 use Rattle.implib_link.specs.Search.Given.{AreGiven}
 use Rattle.implib_link.specs.Search.Msvc.{AreTakenInTurn, NamesNoHeader, PullsInFor, TakesFor, claimed_in, left_in, msvc_if_any, shorts_wanted}
 use Rattle.implib_link.specs.Search.Search.{HaveSame, IsTakenInTurn, NamesNoHeadOrTail, PullsIn, Takes, exports_wanted, linked_if_any, names_claimed, names_undefined}
+use Rattle.implib_link.proofs.Search.Ends.{search_ends}
+use Rattle.implib_link.proofs.Search.MsvcEnds.{short_search_ends}
 use Rattle.implib_link.proofs.Search.Archives.{libraries_taken}
 use Rattle.implib_link.proofs.Search.Closed.{closed_links}
-use Rattle.implib_link.proofs.Search.Given.{given_closes}
+use Rattle.implib_link.proofs.Search.Given.{given_closes, given_ends}
 use Rattle.implib_link.proofs.Search.Msvc.{search_takes}
 use Rattle.implib_link.proofs.Search.One.{takes_wanted}
 
@@ -58,6 +60,17 @@ module _ (archive : List MemberView) (wanted : List (List ℕ)) where
     ended = λ name m pulls. takes.ended name m (by_wanted taken name m pulls);
   }
 
+  turn_by_wanted : (taken : List MemberView) → IsTakenInTurn archive wanted taken → AreTakenBy archive (asks_for wanted) taken
+  unfolding AreTakenBy IsTakenInTurn
+  turn_by_wanted [] turn = tt
+  turn_by_wanted (m ∷ taken) turn = ((turn.0.0, by_wanted taken turn.0.0 m turn.0.1), turn_by_wanted taken turn.1)
+
+  pub taken_wanted : (taken : List MemberView) → Takes archive wanted taken → TakesBy archive (asks_for wanted) taken
+  taken_wanted taken takes = record {
+    in_turn = turn_by_wanted taken takes.in_turn;
+    ended = λ name m pulls. takes.ended name m (pulls_wanted taken name m pulls);
+  }
+
 module _ (archive : List MemberView) (own : List Object) where
   pulls_given : (taken : List MemberView) (name : List ℕ) (m : MemberView) → PullsBy archive (asks_with own) taken name m → PullsInto archive own taken name m
   pulls_given taken name m pulls = record {
@@ -82,6 +95,17 @@ module _ (archive : List MemberView) (own : List Object) where
   given_taken taken takes = record {
     in_turn = turn_given taken takes.in_turn;
     ended = λ name m pulls. takes.ended name m (by_given taken name m pulls);
+  }
+
+  turn_by_given : (taken : List MemberView) → AreTakenInto archive own taken → AreTakenBy archive (asks_with own) taken
+  unfolding AreTakenBy AreTakenInto
+  turn_by_given [] turn = tt
+  turn_by_given (m ∷ taken) turn = ((turn.0.0, by_given taken turn.0.0 m turn.0.1), turn_by_given taken turn.1)
+
+  pub taken_given : (taken : List MemberView) → TakesInto archive own taken → TakesBy archive (asks_with own) taken
+  taken_given taken takes = record {
+    in_turn = turn_by_given taken takes.in_turn;
+    ended = λ name m pulls. takes.ended name m (pulls_given taken name m pulls);
   }
 
 module _ (machine : MachineType) (archive : List MemberView) (wanted : List (List ℕ)) where
@@ -111,6 +135,17 @@ module _ (machine : MachineType) (archive : List MemberView) (wanted : List (Lis
   short_taken taken takes = record {
     in_turn = turn_short taken takes.in_turn;
     ended = λ name m pulls. takes.ended name m (by_short taken name m pulls);
+  }
+
+  turn_by_short : (taken : List MemberView) → AreTakenInTurn machine archive wanted taken → AreTakenBy archive (asks_on machine wanted) taken
+  unfolding AreTakenBy AreTakenInTurn
+  turn_by_short [] turn = tt
+  turn_by_short (m ∷ taken) turn = ((turn.0.0, by_short taken turn.0.0 m turn.0.1), turn_by_short taken turn.1)
+
+  pub taken_short : (taken : List MemberView) → TakesFor machine archive wanted taken → TakesBy archive (asks_on machine wanted) taken
+  taken_short taken takes = record {
+    in_turn = turn_by_short taken takes.in_turn;
+    ended = λ name m pulls. takes.ended name m (pulls_short taken name m pulls);
   }
 
 -- The laws.
@@ -160,3 +195,31 @@ pub bytes_take_short : (kind : Kind) (linker : LinkerMember) (machine : MachineT
 bytes_take_short kind linker machine d members wanted ready made distinct found plain =
     takes_just kind linker members (asks_on machine wanted) (λ taken. HaveSame taken (msvc_if_any d machine (shorts_wanted d wanted))) ready
     (λ taken takes. search_takes machine d members taken wanted made distinct found plain (short_taken machine members wanted taken takes))
+
+-- Searches in the bytes exist, and come to an end.
+
+pub are_found_in_bytes : (kind : Kind) (linker : LinkerMember) (members : List MemberView) → HaveArchive kind linker members → AreFoundInBytes kind linker members
+are_found_in_bytes kind linker members ready = record {
+  wanted = λ wanted found takes. search_of kind linker members (asks_for wanted) found ready (taken_wanted members wanted found takes);
+  given = λ own found takes. search_of kind linker members (asks_with own) found ready (taken_given members own found takes);
+  short = λ machine wanted found takes. search_of kind linker members (asks_on machine wanted) found ready (taken_short machine members wanted found takes);
+}
+
+ending : (kind : Kind) (linker : LinkerMember) (members : List MemberView) (asks : Asks) (found : List MemberView) → IsSearchOf kind linker members asks found → IsEnding kind linker members asks
+ending kind linker members asks found search = (search.taken, search.takes)
+
+pub ends_wanted : (kind : Kind) (linker : LinkerMember) (members : List MemberView) (wanted : List (List ℕ)) → HaveArchive kind linker members → IsEnding kind linker members (asks_for wanted)
+ends_wanted kind linker members wanted ready =
+    let found = search_ends members wanted in
+    ending kind linker members (asks_for wanted) found.0 ((are_found_in_bytes kind linker members ready).wanted wanted found.0 found.1)
+
+pub ends_given : (kind : Kind) (linker : LinkerMember) (machine : MachineType) (libraries : List Library) (own : List Object) → HaveArchive kind linker (archive_of libraries) → IsArchive machine libraries → AreGiven machine libraries own
+    → IsEnding kind linker (archive_of libraries) (asks_with own)
+ends_given kind linker machine libraries own ready archive given =
+    let found = given_ends machine libraries own archive given in
+    ending kind linker (archive_of libraries) (asks_with own) found.0 ((are_found_in_bytes kind linker (archive_of libraries) ready).given own found.0 found.1)
+
+pub ends_short : (kind : Kind) (linker : LinkerMember) (machine : MachineType) (members : List MemberView) (wanted : List (List ℕ)) → HaveArchive kind linker members → IsEnding kind linker members (asks_on machine wanted)
+ends_short kind linker machine members wanted ready =
+    let found = short_search_ends machine members wanted in
+    ending kind linker members (asks_on machine wanted) found.0 ((are_found_in_bytes kind linker members ready).short machine wanted found.0 found.1)

@@ -16,7 +16,7 @@ use Rattle.implib_archive.specs.declared.kind.Kind.{Kind}
 use Rattle.implib_archive.specs.declared.kind.Kind.TheVariants.{Coff, Gnu}
 use Rattle.implib_archive.proofs.Leading.{each_index_leads, each_second_leads}
 use Rattle.implib_archive_link.specs.InBytes.{AreTakenAt, Asks, First, LinkerMember, PullsInAt, Second, TakesAt, contents_at, header_by}
-use Rattle.implib_archive_link.specs.Results.{AreHeadersOf, HaveArchive, IsHeaderOf, LeadsToFirst, TakesJust}
+use Rattle.implib_archive_link.specs.Results.{AreHeadersOf, HaveArchive, IsHeaderOf, IsSearchOf, LeadsToFirst, TakesJust}
 use Rattle.implib_link.specs.Search.Search.{first_listed}
 use Rattle.implib_link.proofs.Search.Lists.{contains_among}
 
@@ -420,3 +420,10 @@ leads_to_first kind linker members ready name =
           somewhere = ap is_some header ∙ sym (ap is_some member);
           read = ap (option_and_then (member_at kind (archive_of kind members))) header ∙ (read ∙ sym (ap (option_map read_view) member));
         }
+
+-- a search of the members is one in the bytes
+pub search_of : (kind : Kind) (linker : LinkerMember) (members : List MemberView) (asks : Asks) (found : List MemberView) → HaveArchive kind linker members → TakesBy members asks found → IsSearchOf kind linker members asks found
+search_of kind linker members asks found ready takes =
+    let r = is_ready kind linker members ready in
+    let forth = search_forth kind linker (archive_of kind members) r.headers members r.rising r.find r.many r.read asks found takes in
+    record { headers = r.headers; located = r.located; taken = forth.taken; at = forth.paired; takes = forth.takes }

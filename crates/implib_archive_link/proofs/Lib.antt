@@ -1,2 +1,3 @@
 pub mod Corollaries
 pub mod InBytes
+pub mod WorkedSearches

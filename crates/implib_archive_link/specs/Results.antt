@@ -74,3 +74,25 @@ pub record AreSearched (kind : Kind) (linker : LinkerMember) (members : List Mem
   pub given : (own : List Object) → TakesJust kind linker members (asks_with own) (TakesInto members own)
   pub short : (machine : MachineType) (wanted : List (List ℕ)) →
       TakesJust kind linker members (asks_on machine wanted) (TakesFor machine members wanted)
+
+-- A search of members is one in the bytes of their archive: the headers of the members that are found are taken.
+pub record IsSearchOf (kind : Kind) (linker : LinkerMember) (members : List MemberView) (asks : Asks)
+    (found : List MemberView) : Type 0 where
+  pub headers : List ℕ
+  pub located : headers_in (archive_of kind members) ≡ Some headers
+  pub taken : List ℕ
+  pub at : AreHeadersOf headers members taken found
+  pub takes : TakesAt kind linker (archive_of kind members) asks taken
+
+-- Each search of the members is one in the bytes, for wanted names, for given objects, or of short imports.
+pub record AreFoundInBytes (kind : Kind) (linker : LinkerMember) (members : List MemberView) : Type 0 where
+  pub wanted : (wanted : List (List ℕ)) (found : List MemberView) → Takes members wanted found →
+      IsSearchOf kind linker members (asks_for wanted) found
+  pub given : (own : List Object) (found : List MemberView) → TakesInto members own found →
+      IsSearchOf kind linker members (asks_with own) found
+  pub short : (machine : MachineType) (wanted : List (List ℕ)) (found : List MemberView) →
+      TakesFor machine members wanted found → IsSearchOf kind linker members (asks_on machine wanted) found
+
+-- a search in the bytes comes to an end
+abbrev pub IsEnding : Kind → LinkerMember → List MemberView → Asks → Type 0
+IsEnding kind linker members asks = (taken : List ℕ) × TakesAt kind linker (archive_of kind members) asks taken

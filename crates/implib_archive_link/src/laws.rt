@@ -10,7 +10,9 @@ ghost use Rattle.implib.specs.declared.flavor.Flavor.TheVariants.{Gnu, Msvc};
 ghost use Rattle.implib.specs.declared.machine.MachineType.{MachineType};
 ghost use Rattle.implib_archive.specs.declared.kind.Kind.{Kind};
 ghost use Rattle.implib_archive_link.specs.InBytes.{LinkerMember, asks_for, asks_on, asks_with};
-ghost use Rattle.implib_archive_link.specs.Results.{AreSearched, HaveArchive, TakesJust};
+ghost use Rattle.implib_archive_link.specs.Results.{AreFoundInBytes, AreSearched, HaveArchive};
+ghost use Rattle.implib_archive_link.specs.Results.{IsEnding, TakesJust};
+ghost use Rattle.implib_archive_link.specs.Worked.{WorkedSearches};
 ghost use Rattle.implib_link.specs.Flavors.Expansion.{descriptor_symbol_by_name};
 ghost use Rattle.implib_link.specs.Gnu.Program.{ClaimsNone};
 ghost use Rattle.implib_link.specs.Search.Archives.{IsArchive, Library, NamesNoHeadOrTailOf};
@@ -24,11 +26,31 @@ ghost use Rattle.std.specs.List.{AllByRecursion, IsDistinct, flat_map};
 ghost use Rattle.std.specs.Prelude.{◌≡◌, ◌++◌, ℕ, List, bytes_eq};
 
 /// The bytes of the archive of members are an archive in the sense of searches: a name leads to the
-/// first member that it is listed for, by either linker member, and what a linker takes in the
-/// bytes are members that it takes of the list.
+/// first member that it is listed for, by either linker member; what a linker takes in the bytes are
+/// members that it takes of the list; and each search of the list is one in the bytes.
 pub fn archives_are_searched()
-    ensures { (kind : Kind) (linker : LinkerMember) (members : List MemberView) →
+    ensures bytes { (kind : Kind) (linker : LinkerMember) (members : List MemberView) →
         HaveArchive kind linker members → AreSearched kind linker members }
+    ensures list { (kind : Kind) (linker : LinkerMember) (members : List MemberView) →
+        HaveArchive kind linker members → AreFoundInBytes kind linker members }
+{}
+
+/// A search in the bytes comes to an end, whichever name the linker takes up first: for any names,
+/// also of short imports, and for objects that may be given.
+pub fn searches_end()
+    ensures wanted { (kind : Kind) (linker : LinkerMember) (members : List MemberView)
+        (wanted : List (List ℕ)) →
+        HaveArchive kind linker members → IsEnding kind linker members (asks_for wanted) }
+    ensures given { (kind : Kind) (linker : LinkerMember) (machine : MachineType)
+        (libraries : List Library) (own : List Object) →
+        HaveArchive kind linker (archive_of libraries) →
+        IsArchive machine libraries →
+        AreGiven machine libraries own →
+        IsEnding kind linker (archive_of libraries) (asks_with own) }
+    ensures short { (kind : Kind) (linker : LinkerMember) (machine : MachineType)
+        (members : List MemberView) (wanted : List (List ℕ)) →
+        HaveArchive kind linker members →
+        IsEnding kind linker members (asks_on machine wanted) }
 {}
 
 /// In the bytes of the archive of a definition's members for GNU's linker a linker takes just the
@@ -97,4 +119,9 @@ pub fn search_takes_short_imports()
         NamesNoHeader d.import_name wanted →
         TakesJust kind linker members (asks_on machine wanted)
         (λ taken. HaveSame taken (msvc_if_any d machine (shorts_wanted d wanted))) }
+{}
+
+/// Searches by hand in the bytes of archives of two members, and of a definition's members.
+pub fn worked_searches()
+    ensures { WorkedSearches }
 {}
