@@ -22,3 +22,4 @@ pub mod Rebased
 pub mod DirectCalls
 pub mod Pointers
 pub mod Pages
+pub mod Instructions

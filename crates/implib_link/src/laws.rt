@@ -5,6 +5,7 @@ pub mod bounds;
 pub mod calls;
 pub mod closed;
 pub mod flavors;
+pub mod instructions;
 pub mod loaded;
 pub mod msvc_search;
 pub mod packed;
