@@ -1,9 +1,8 @@
--- What is at the bounds, by computing; of long lists by their lengths.
-use Rattle.std.proofs.Common.{refl, ap, ℕ, ◌-◌, ◌^◌}
+-- What is at the bounds, by computing.
+use Rattle.std.proofs.Common.{refl, ap}
 use Rattle.std.specs.Prelude.{nat_le}
-use Rattle.std.proofs.lemmas.List.{length-replicate}
 use Rattle.std.specs.Fmt.{digits}
-use Rattle.implib_archive.specs.Archive.{end_from, entries_from, entries_of, first_linker_size, first_place, front_size, is_long, long_names, name_end, name_field, names_bytes, names_size, offset_of, places_from, second_linker_size, sorted_entries, strings_of, with_first, with_name}
+use Rattle.implib_archive.specs.Archive.{entries_from, entries_of, first_linker_size, first_place, front_size, is_long, long_names, name_end, name_field, names_bytes, names_size, offset_of, places_from, second_linker_size, sorted_entries, strings_of, with_first, with_name}
 use Rattle.implib_archive.specs.Reader.{data_at, long_name, long_name_at, name_in, number_in, stored_at, stored_from, stored_in, trimmed}
 use Rattle.implib_archive.specs.Refusal.{has_short_places, has_too_many, member_refusal, members_refusal, name_refusal, places_refusal, refusal_of, symbol_refusal, symbols_refusal}
 use Rattle.implib_archive.specs.Refused.{ReadNames, RefusedArchives, WorkedBounds, WorkedFields}
@@ -68,13 +67,13 @@ worked_bounds = record {
   first_member = refl;
   carriage_return = refl;
   line_end_in_symbol = refl;
-  few = λ m. ap (λ n. nat_le 65535 n) (length-replicate 65534 m);
-  too_many = λ m. ap (λ n. nat_le 65535 n) (length-replicate 65535 m);
-  many_of_gnu = λ m. refl;
+  few = λ members e. ap (λ n. nat_le 65535 n) e;
+  too_many = λ members e. ap (λ n. nat_le 65535 n) e;
+  many_of_gnu = λ members. refl;
   last_place = refl;
   first_too_far = refl;
   second_too_far = refl;
   second_last_place = refl;
-  long = rw (length-replicate {A = ℕ} (2 ^ 32 - 1) 0) refl;
-  too_long = rw (length-replicate {A = ℕ} (2 ^ 32) 0) refl;
+  long = λ bytes e. rw e refl;
+  too_long = λ bytes e. rw e refl;
 }

@@ -1,5 +1,5 @@
 -- Names, numbers and archives at the bounds of what is read and what has an archive, worked by hand.
-use Rattle.std.specs.Prelude.{◌≡◌, ℕ, ◌-◌, ◌^◌, true, false, List, [], ◌∷◌, ◌++◌, None, Some, codes, replicate}
+use Rattle.std.specs.Prelude.{◌≡◌, ℕ, ◌-◌, ◌^◌, true, false, List, [], ◌∷◌, ◌++◌, None, Some, codes, length}
 use Rattle.implib.specs.Members.MemberSpec.{MemberView}
 use Rattle.implib_archive.specs.Archive.{is_long, name_field, sorted_entries}
 use Rattle.implib_archive.specs.Reader.{LongAt, LongNames, Linker, Short, Stored, Unknown, long_name, name_in, number_in, stored_in}
@@ -73,12 +73,13 @@ pub record WorkedBounds : Type 0 where
   pub first_member : refusal_of Gnu (member (codes "a") [] ((102 ∷ 0 ∷ []) ∷ []) ∷ member [] [] [] ∷ []) ≡ Some NulInSymbol
   pub carriage_return : refusal_of Gnu (member (97 ∷ 13 ∷ []) [] [] ∷ []) ≡ None
   pub line_end_in_symbol : refusal_of Gnu (member (codes "a") [] ((97 ∷ 10 ∷ []) ∷ []) ∷ []) ≡ None
-  pub few : (m : MemberView) → has_too_many Coff (replicate 65534 m) ≡ false
-  pub too_many : (m : MemberView) → has_too_many Coff (replicate 65535 m) ≡ true
-  pub many_of_gnu : (m : MemberView) → has_too_many Gnu (replicate 65535 m) ≡ false
+  pub few : (members : List MemberView) → length members ≡ 65534 → has_too_many Coff members ≡ false
+  pub too_many : (members : List MemberView) → length members ≡ 65535 → has_too_many Coff members ≡ true
+  pub many_of_gnu : (members : List MemberView) → has_too_many Gnu members ≡ false
   pub last_place : has_short_places (2 ^ 32 - 1) (member (codes "a") [] [] ∷ []) ≡ true
   pub first_too_far : has_short_places (2 ^ 32) [] ≡ false
   pub second_too_far : has_short_places (2 ^ 32 - 60) (member (codes "a") [] [] ∷ member (codes "b") [] [] ∷ []) ≡ false
   pub second_last_place : has_short_places (2 ^ 32 - 62) (member (codes "a") [] [] ∷ member (codes "b") [] [] ∷ []) ≡ true
-  pub long : member_refusal Coff (member (codes "a") (replicate (2 ^ 32 - 1) 0) []) ≡ None
-  pub too_long : member_refusal Coff (member (codes "a") (replicate (2 ^ 32) 0) []) ≡ Some MemberTooLong
+  pub long : (bytes : List ℕ) → length bytes ≡ 2 ^ 32 - 1 → member_refusal Coff (member (codes "a") bytes []) ≡ None
+  pub too_long : (bytes : List ℕ) → length bytes ≡ 2 ^ 32 →
+      member_refusal Coff (member (codes "a") bytes []) ≡ Some MemberTooLong
