@@ -1,6 +1,6 @@
 -- Numbers that are no status, no machine and no flavour, worked by hand: those between the statuses, and greater
 -- ones.
-use Rattle.std.specs.Prelude.{◌≡◌, ℕ, ◌+◌, None, codes}
+use Rattle.std.specs.Prelude.{◌≡◌, ℕ, None, codes}
 use Rattle.implib.specs.Conversions.{machine_numbered}
 use Rattle.implib_c.specs.Answer.{flavor_numbered}
 use Rattle.implib_c.specs.Status.{text_for}
@@ -26,7 +26,10 @@ pub record WorkedGaps : Type 0 where
   pub status_256 : IsUnknown 256
   pub status_0x10000 : IsUnknown 0x10000
   pub greatest_status : IsUnknown 0xFFFFFFFF
-  pub other_flavors : (n : ℕ) → flavor_numbered (n + 2) ≡ None
+  pub flavor_2 : flavor_numbered 2 ≡ None
+  pub flavor_3 : flavor_numbered 3 ≡ None
+  pub flavor_256 : flavor_numbered 256 ≡ None
+  pub greatest_flavor : flavor_numbered 0xFFFFFFFF ≡ None
   pub arm : machine_numbered 0x1C0 ≡ None
   pub arm64ec : machine_numbered 0xA641 ≡ None
   pub ia64 : machine_numbered 0x200 ≡ None
