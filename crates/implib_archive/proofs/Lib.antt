@@ -13,6 +13,7 @@ pub mod Ordered
 pub mod Placed
 pub mod Puts
 pub mod Readings
+pub mod RefusedBytes
 pub mod Sized
 pub mod Whole
 pub mod WorkedBytes

@@ -5,5 +5,6 @@ pub mod Pushed
 pub mod ReadBack
 pub mod Reader
 pub mod Refusal
+pub mod Refused
 pub mod Worked
 pub mod Written

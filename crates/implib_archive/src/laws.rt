@@ -1,5 +1,7 @@
 //! Laws of archives. The functions do nothing: their contracts are the laws.
 
+pub mod refused;
+
 ghost use Rattle.implib_archive.specs.Leads.{EachIndexLeads, EachSecondLeads};
 ghost use Rattle.implib_archive.specs.ReadBack.{MembersReadBack, PartsReadBack};
 ghost use Rattle.implib_archive.specs.Worked.{WorkedArchives, WorkedIndexes, WorkedReadBack};

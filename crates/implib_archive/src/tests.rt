@@ -1,5 +1,7 @@
 //! Archives as literal bytes, and a writer that fails.
 
+mod many;
+
 use crate::{Archive, Error, Fault, Kind, WriteError};
 use implib::Member;
 use std::alloc::{AllocError, Global};

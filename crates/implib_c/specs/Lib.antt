@@ -4,4 +4,5 @@ pub mod Fill
 pub mod Answer
 pub mod Given
 pub mod WorkedEncoding
+pub mod WorkedGaps
 pub mod WorkedStatus

@@ -5,6 +5,7 @@
 
 mod encoding;
 mod exports;
+mod gaps;
 mod laws;
 mod outcome;
 mod status;

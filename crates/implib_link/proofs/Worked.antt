@@ -29,3 +29,4 @@ pub mod OtherLibraries
 pub mod MsvcClosed
 pub mod RebasedPointers
 pub mod Choices
+pub mod Instructions

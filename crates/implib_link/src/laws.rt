@@ -7,6 +7,7 @@ pub mod choices;
 pub mod closed;
 pub mod exists;
 pub mod flavors;
+pub mod instructions;
 pub mod loaded;
 pub mod msvc_archives;
 pub mod msvc_closed;

@@ -3,6 +3,8 @@
 #![tactic(auto)]
 
 #[cfg(test)]
+mod long_names;
+#[cfg(test)]
 mod members;
 #[cfg(test)]
 mod readings;

@@ -9,6 +9,8 @@ mod conversions;
 #[cfg(test)]
 mod displayed;
 #[cfg(test)]
+mod many;
+#[cfg(test)]
 mod memory;
 #[cfg(test)]
 mod objects;
