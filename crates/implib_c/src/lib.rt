@@ -7,6 +7,7 @@ mod encoding;
 mod exports;
 mod laws;
 mod outcome;
+mod place;
 mod status;
 #[cfg(test)]
 mod tests;
