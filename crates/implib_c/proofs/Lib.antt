@@ -4,4 +4,5 @@ pub mod Lengths
 pub mod ReadBack
 pub mod WorkedEncoding
 pub mod WorkedStatus
+pub mod WorkedPlace
 pub mod Answer

@@ -24,6 +24,21 @@ worked_statuses = record {
     empty_asked_name = λ index. refl;
     member_too_long = refl;
   };
+  library_numbers = record {
+    packed = λ kind members. refl;
+    too_long = λ kind members. refl;
+    out_of_memory = refl;
+    not_utf8 = refl;
+    empty_name = λ index. refl;
+    member_too_long = λ kind members. refl;
+    empty_member_name = λ kind members. refl;
+    nul_in_member_name = λ kind members. refl;
+    line_end_in_member_name = λ kind members. refl;
+    empty_symbol = λ kind members. refl;
+    nul_in_symbol = λ kind members. refl;
+    too_many_members = λ kind members. refl;
+    archive_too_long = λ kind members. refl;
+  };
   texts = record {
     text_0 = refl;
     text_1 = refl;
@@ -43,6 +58,14 @@ worked_statuses = record {
     text_25 = refl;
     text_26 = refl;
     text_27 = refl;
+    text_29 = refl;
+    text_30 = refl;
+    text_31 = refl;
+    text_32 = refl;
+    text_33 = refl;
+    text_34 = refl;
+    text_35 = refl;
+    text_36 = refl;
     text_6 = refl;
     text_15 = refl;
     text_28 = refl;
@@ -56,5 +79,8 @@ worked_statuses = record {
     msvc = refl;
     gnu = refl;
     no_flavor = refl;
+    msvc_kind = refl;
+    gnu_kind = refl;
+    version_is = refl;
   };
 }

@@ -8,3 +8,4 @@ pub mod Version
 pub mod Given
 pub mod WorkedEncoding
 pub mod WorkedStatus
+pub mod WorkedPlace
