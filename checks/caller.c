@@ -74,11 +74,11 @@ static void demand(int holds, const char *what)
     }
 }
 
-typedef uint32_t function(const uint8_t *text, size_t text_length, uint16_t machine, uint32_t flavor,
-                          uint8_t *buffer, size_t buffer_length, size_t *length, size_t *place);
+typedef uint32_t callee(const uint8_t *text, size_t text_length, uint16_t machine, uint32_t flavor,
+                        uint8_t *buffer, size_t buffer_length, size_t *length, size_t *place);
 
 struct call {
-    function *function;
+    callee *function;
     struct slice text;
     uint16_t machine;
     uint32_t flavor;
@@ -299,7 +299,7 @@ static int number_read(size_t *number)
     return fread(bytes, 1, 8, stdin) == 8 && read_number(&reader, number);
 }
 
-static int run_next(function *function)
+static int run_next(callee *function)
 {
     size_t machine, flavor, refuses, length;
     if (!number_read(&machine) || !number_read(&flavor) || !number_read(&refuses) || !number_read(&length))
@@ -339,7 +339,7 @@ int main(int count, char *arguments[])
         return 0;
     }
     demand(implib_version() == IMPLIB_VERSION, "the header is of another version than the library");
-    function *function = implib_members;
+    callee *function = implib_members;
     if (count == 2 && strcmp(arguments[1], "library") == 0)
         function = implib_library;
     while (run_next(function))
