@@ -2,11 +2,13 @@
  * Calls the library for checks/c: reads cases from standard input, and writes what came of each.
  *
  * A case is a machine, a flavour, whether allocations are to fail, and the length of a text, each a number of
- * 8 bytes, and then the text. For each case the call is made with buffers of several sizes, whose answers
- * have to agree; where they do not, the program ends. Of each case it writes a line with the status, the
- * place, and the length of what follows: the listing of the members, as implib_tool writes it.
+ * 8 bytes, and then the text. For each case implib_members is called with buffers of several sizes, whose
+ * answers have to agree; where they do not, the program ends. Of each case it writes a line with the status,
+ * the place, its line and column, and the length of what follows: the listing of the members, as implib_tool
+ * writes it.
  *
- * With the argument `texts` it writes a line with the text of each status from 0 to 99 instead.
+ * With the argument `library` it calls implib_library in its stead, and what follows is the archive. With the
+ * argument `texts` it writes a line with the text of each status from 0 to 99 instead.
  *
  * The linker puts __wrap_malloc and its kin in the place of malloc (--wrap).
  */
@@ -72,7 +74,11 @@ static void demand(int holds, const char *what)
     }
 }
 
+typedef uint32_t callee(const uint8_t *text, size_t text_length, uint16_t machine, uint32_t flavor,
+                        uint8_t *buffer, size_t buffer_length, size_t *length, size_t *place);
+
 struct call {
+    callee *function;
     struct slice text;
     uint16_t machine;
     uint32_t flavor;
@@ -100,8 +106,8 @@ static struct answer called(struct call call, size_t room)
     demand(answer.buffer != NULL, "no memory for a buffer");
     memset(answer.buffer, PATTERN, room);
     long before = held;
-    answer.status = implib_members(call.text.bytes, call.text.length, call.machine, call.flavor,
-                                   answer.buffer, room, &answer.length, &answer.place);
+    answer.status = call.function(call.text.bytes, call.text.length, call.machine, call.flavor, answer.buffer,
+                                  room, &answer.length, &answer.place);
     demand(held == before, "memory is not freed");
     size_t written = answer.status == IMPLIB_SUCCESS ? answer.length : 0;
     demand(written <= room, "more is written than there is room");
@@ -118,6 +124,22 @@ static void demand_same(struct answer first, struct answer second)
            "the answer depends on the buffer");
 }
 
+/* The call with null pointers, where the caller has nothing to pass or does not want the answer. */
+static void call_null(struct call call, struct answer expected)
+{
+    const uint8_t *text = call.text.length == 0 ? NULL : call.text.bytes;
+    struct answer answer = {0, 12345, 67890, NULL};
+    answer.status = call.function(text, call.text.length, call.machine, call.flavor, NULL, 0, &answer.length,
+                                  &answer.place);
+    demand_same(expected, answer);
+    answer.length = 12345;
+    answer.status = call.function(text, call.text.length, call.machine, call.flavor, NULL, 0, &answer.length,
+                                  NULL);
+    demand_same(expected, answer);
+    answer.status = call.function(text, call.text.length, call.machine, call.flavor, NULL, 0, NULL, NULL);
+    demand_same(expected, answer);
+}
+
 /* The call with a buffer that is too short: the same length is needed. */
 static void call_short(struct call call, size_t room, size_t needed)
 {
@@ -132,6 +154,7 @@ static struct answer called_with_all(struct call call)
 {
     struct answer empty = called(call, 0);
     free(empty.buffer);
+    call_null(call, empty);
     if (empty.status != IMPLIB_BUFFER_TOO_SMALL) {
         struct answer other = called(call, ROOM);
         demand_same(empty, other);
@@ -159,8 +182,8 @@ static void call_refused(struct call call, struct answer expected)
         has_failed = 0;
         long before = held;
         until_failure = number;
-        answer.status = implib_members(call.text.bytes, call.text.length, call.machine, call.flavor,
-                                       answer.buffer, room, &answer.length, &answer.place);
+        answer.status = call.function(call.text.bytes, call.text.length, call.machine, call.flavor,
+                                      answer.buffer, room, &answer.length, &answer.place);
         until_failure = -1;
         demand(held == before, "memory is not freed after a failed allocation");
         if (!has_failed) {
@@ -250,11 +273,20 @@ static void run(struct call call, int refuses)
 {
     struct answer answer = called_with_all(call);
     struct text listing = {NULL, 0, 0};
+    size_t line = 12345, column = 67890;
     if (refuses)
         call_refused(call, answer);
-    if (answer.status == IMPLIB_SUCCESS)
+    implib_position(call.text.length == 0 ? NULL : call.text.bytes, call.text.length, answer.place, &line,
+                    &column);
+    implib_position(call.text.bytes, call.text.length, answer.place, NULL, NULL);
+    if (answer.status == IMPLIB_SUCCESS && call.function == implib_members)
         listing = listing_of(answer);
-    printf("%u %zu %zu\n", answer.status, answer.place, listing.length);
+    if (answer.status == IMPLIB_SUCCESS && call.function == implib_library) {
+        listing.bytes = (char *)answer.buffer;
+        listing.length = answer.length;
+        answer.buffer = NULL;
+    }
+    printf("%u %zu %zu %zu %zu\n", answer.status, answer.place, line, column, listing.length);
     fwrite(listing.bytes == NULL ? "" : listing.bytes, 1, listing.length, stdout);
     free(listing.bytes);
     free(answer.buffer);
@@ -267,14 +299,14 @@ static int number_read(size_t *number)
     return fread(bytes, 1, 8, stdin) == 8 && read_number(&reader, number);
 }
 
-static int run_next(void)
+static int run_next(callee *function)
 {
     size_t machine, flavor, refuses, length;
     if (!number_read(&machine) || !number_read(&flavor) || !number_read(&refuses) || !number_read(&length))
         return 0;
     uint8_t *text = malloc(length);
     demand(text != NULL && fread(text, 1, length, stdin) == length, "a case is cut short");
-    struct call call = {{text, length}, (uint16_t)machine, (uint32_t)flavor};
+    struct call call = {function, {text, length}, (uint16_t)machine, (uint32_t)flavor};
     run(call, refuses != 0);
     free(text);
     return 1;
@@ -283,8 +315,7 @@ static int run_next(void)
 /* The text of a status, with buffers of each length up to one that is too long. */
 static void run_text(uint32_t status)
 {
-    char none;
-    size_t length = implib_status_text(status, &none, 0);
+    size_t length = implib_status_text(status, NULL, 0);
     demand(length + 1 <= IMPLIB_STATUS_TEXT_SIZE, "a text is too long");
     for (size_t room = 0; room <= IMPLIB_STATUS_TEXT_SIZE; room++) {
         char *buffer = malloc(room);
@@ -307,7 +338,11 @@ int main(int count, char *arguments[])
             run_text(status);
         return 0;
     }
-    while (run_next())
+    demand(implib_version() == IMPLIB_VERSION, "the header is of another version than the library");
+    callee *function = implib_members;
+    if (count == 2 && strcmp(arguments[1], "library") == 0)
+        function = implib_library;
+    while (run_next(function))
         ;
     return 0;
 }

@@ -1,9 +1,9 @@
 /*
- * implib.h: members of import libraries for Windows DLLs, from module definition files (.def).
+ * implib.h: import libraries for Windows DLLs, from module definition files (.def).
  *
- * A call takes the text of a definition, and puts the members of the DLL's import library into a buffer of
- * the caller: objects and short imports, as files, with their names and the symbols that an archive's index
- * lists for them. An archiver, as llvm-ar, packs them. examples/c has a caller.
+ * implib_library takes the text of a definition, and puts the DLL's import library, a .lib or .a, into a
+ * buffer of the caller. implib_members puts the members of this archive there one by one: objects and short
+ * imports, as files, with their names and the symbols that the index lists for them. examples/c has callers.
  *
  * Linking
  *
@@ -11,7 +11,8 @@
  *
  * libimplib_c.a is made by `rt lib` in crates/implib_c. liblibc_c.a comes with the Rattle toolchain, in its
  * folder c; it passes what the library allocates to the program's malloc, realloc and free. There is nothing
- * else to link, and nothing to set up. The library is for x86-64 Linux; size_t has 64 bits.
+ * else to link, and nothing to set up. The library is for x86-64 Linux; size_t has 64 bits. Its code wants a
+ * processor of the level x86-64-v2, with SSE4.2 and POPCNT.
  *
  * Ownership
  *
@@ -20,10 +21,13 @@
  *
  * Pointers
  *
- * No pointer may be null, also where its length is 0. What a call writes to (buffer, *length, *place) must
- * overlap neither each other nor the text, and *length and *place are aligned as a size_t. Nothing else may
- * write to the text, or read or write the other three, during a call. What these three hold before a call
- * does not matter.
+ * A text or a buffer of length 0 may be null, and so may length, place, line and column where the caller does
+ * not want what they get. What a call writes to (the buffer and what these four point to) must overlap
+ * neither each other nor the text, and the four are aligned as a size_t. Nothing else may write to the text,
+ * or read or write the rest, during a call. What is written to may hold anything before a call.
+ *
+ * The library's own functions, which end in _nonnull, take no null pointer, also where a length is 0. Those
+ * without this ending are inline functions of this header, which put a variable of their own in its place.
  *
  * Threads
  *
@@ -51,6 +55,11 @@ extern "C" {
 #define IMPLIB_FLAVOR_MSVC 0 /* Microsoft's: objects for the DLL, and short imports. */
 #define IMPLIB_FLAVOR_GNU 1  /* GNU's: objects alone. */
 
+/* The version of this header, which grows with every change of what it declares or says. implib_version()
+ * gives that of the library. */
+#define IMPLIB_VERSION 1
+uint32_t implib_version(void);
+
 /* What a call answers. New statuses get new numbers; those of faults of the input are 16 and above. */
 enum implib_status {
     IMPLIB_SUCCESS = 0,
@@ -77,22 +86,42 @@ enum implib_status {
     IMPLIB_NUL_IN_EXPORT = 25,      /* of an export: one of its names holds a NUL */
     IMPLIB_EMPTY_ASKED_NAME = 26,   /* of an export: the name that the DLL is asked for is empty */
     IMPLIB_MEMBER_TOO_LONG = 27,    /* a member has more than 2^32 - 1 bytes */
-    IMPLIB_NO_NAME_TYPE = 28        /* of an export, and of no text: no name type makes the asked name */
+    IMPLIB_NO_NAME_TYPE = 28,       /* of an export, and of no text: no name type makes the asked name */
+
+    /* The members have no archive. *place is 0. */
+    IMPLIB_EMPTY_MEMBER_NAME = 29,       /* of a member: its name is empty */
+    IMPLIB_NUL_IN_MEMBER_NAME = 30,      /* of a member: its name holds a NUL */
+    IMPLIB_LINE_END_IN_MEMBER_NAME = 31, /* of a member: its name holds a line feed; for GNU's linker */
+    IMPLIB_EMPTY_SYMBOL = 32,            /* of a member: a symbol is empty */
+    IMPLIB_NUL_IN_SYMBOL = 33,           /* of a member: a symbol holds a NUL */
+    IMPLIB_TOO_MANY_MEMBERS = 34,        /* 65,535 members or more; for Microsoft's linker */
+    IMPLIB_ARCHIVE_TOO_LONG = 35         /* a member would begin at an offset of 2^32 or more */
 };
 
 /*
- * Puts the members of a definition at the beginning of the buffer, and returns a status.
+ * Puts the import library of a definition at the beginning of the buffer, and returns a status: the archive of
+ * the members that implib_members gives, of the COFF kind (as of LIB.EXE, a .lib) for Microsoft's linker, and
+ * of the GNU kind (as of ar, a .a) for GNU's.
  *
  * text         the definition, in UTF-8, without a NUL at its end
  * machine      an IMPLIB_MACHINE_..
  * flavor       an IMPLIB_FLAVOR_..
- * length       gets the length of the members' encoding in bytes, where the status is IMPLIB_SUCCESS or
+ * length       gets the length of the archive in bytes, where the status is IMPLIB_SUCCESS or
  *              IMPLIB_BUFFER_TOO_SMALL; else 0
  * place        gets what the status says of it; else 0
  *
  * Where the status is not IMPLIB_SUCCESS, no byte of the buffer is changed; where it is, those behind the
- * encoding are not. A first call with a buffer of length 0 tells the length that a second one needs; each
+ * archive are not. A first call with a buffer of length 0 tells the length that a second one needs; each
  * makes the members anew.
+ */
+static inline uint32_t implib_library(const uint8_t *text, size_t text_length, uint16_t machine,
+                                      uint32_t flavor, uint8_t *buffer, size_t buffer_length,
+                                      size_t *length, size_t *place);
+
+/*
+ * Puts the members of a definition at the beginning of the buffer, and returns a status.
+ *
+ * The arguments and the buffer are as of implib_library, with the members' encoding in the archive's place.
  *
  * The encoding: a number has 8 bytes, the low one first; a text is its length, a number, and then its bytes,
  * with no NUL at the end.
@@ -105,8 +134,17 @@ enum implib_status {
  *
  * The members are in the order in which an archive has them. Several may have the same name.
  */
-uint32_t implib_members(const uint8_t *text, size_t text_length, uint16_t machine, uint32_t flavor,
-                        uint8_t *buffer, size_t buffer_length, size_t *length, size_t *place);
+static inline uint32_t implib_members(const uint8_t *text, size_t text_length, uint16_t machine,
+                                      uint32_t flavor, uint8_t *buffer, size_t buffer_length,
+                                      size_t *length, size_t *place);
+
+/*
+ * Gives the line and the column of an offset in a text, as *place is one, both from 1. A line ends behind its
+ * line feed, and a column counts bytes. An offset behind the longest beginning of the text that is UTF-8 has
+ * the position of its end.
+ */
+static inline void implib_position(const uint8_t *text, size_t text_length, size_t offset, size_t *line,
+                                   size_t *column);
 
 /* No text of a status is longer than this, its NUL counted. */
 #define IMPLIB_STATUS_TEXT_SIZE 32
@@ -116,7 +154,53 @@ uint32_t implib_members(const uint8_t *text, size_t text_length, uint16_t machin
  * for both; else no byte of the buffer is changed. Returns the length of the text without the NUL. A number
  * that is no status has the text "unknown status".
  */
-size_t implib_status_text(uint32_t status, char *buffer, size_t buffer_length);
+static inline size_t implib_status_text(uint32_t status, char *buffer, size_t buffer_length);
+
+/* The library's own functions: the same, but for null pointers. */
+uint32_t implib_library_nonnull(const uint8_t *text, size_t text_length, uint16_t machine, uint32_t flavor,
+                                uint8_t *buffer, size_t buffer_length, size_t *length, size_t *place);
+uint32_t implib_members_nonnull(const uint8_t *text, size_t text_length, uint16_t machine, uint32_t flavor,
+                                uint8_t *buffer, size_t buffer_length, size_t *length, size_t *place);
+void implib_position_nonnull(const uint8_t *text, size_t text_length, size_t offset, size_t *line,
+                             size_t *column);
+size_t implib_status_text_nonnull(uint32_t status, char *buffer, size_t buffer_length);
+
+static inline uint32_t implib_library(const uint8_t *text, size_t text_length, uint16_t machine,
+                                      uint32_t flavor, uint8_t *buffer, size_t buffer_length,
+                                      size_t *length, size_t *place)
+{
+    uint8_t no_text = 0, no_buffer = 0;
+    size_t no_length, no_place;
+    return implib_library_nonnull(text_length == 0 ? &no_text : text, text_length, machine, flavor,
+                                  buffer_length == 0 ? &no_buffer : buffer, buffer_length,
+                                  length == NULL ? &no_length : length, place == NULL ? &no_place : place);
+}
+
+static inline uint32_t implib_members(const uint8_t *text, size_t text_length, uint16_t machine,
+                                      uint32_t flavor, uint8_t *buffer, size_t buffer_length,
+                                      size_t *length, size_t *place)
+{
+    uint8_t no_text = 0, no_buffer = 0;
+    size_t no_length, no_place;
+    return implib_members_nonnull(text_length == 0 ? &no_text : text, text_length, machine, flavor,
+                                  buffer_length == 0 ? &no_buffer : buffer, buffer_length,
+                                  length == NULL ? &no_length : length, place == NULL ? &no_place : place);
+}
+
+static inline void implib_position(const uint8_t *text, size_t text_length, size_t offset, size_t *line,
+                                   size_t *column)
+{
+    uint8_t no_text = 0;
+    size_t no_line, no_column;
+    implib_position_nonnull(text_length == 0 ? &no_text : text, text_length, offset,
+                            line == NULL ? &no_line : line, column == NULL ? &no_column : column);
+}
+
+static inline size_t implib_status_text(uint32_t status, char *buffer, size_t buffer_length)
+{
+    char no_buffer = 0;
+    return implib_status_text_nonnull(status, buffer_length == 0 ? &no_buffer : buffer, buffer_length);
+}
 
 #ifdef __cplusplus
 }

@@ -5,4 +5,5 @@ pub mod ReadBack
 pub mod WorkedEncoding
 pub mod WorkedGaps
 pub mod WorkedStatus
+pub mod WorkedPlace
 pub mod Answer

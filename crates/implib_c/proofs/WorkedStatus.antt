@@ -25,6 +25,21 @@ worked_statuses = record {
     member_too_long = refl;
     no_name_type = λ index. refl;
   };
+  library_numbers = record {
+    packed = λ kind members. refl;
+    too_long = λ kind members. refl;
+    out_of_memory = refl;
+    not_utf8 = refl;
+    empty_name = λ index. refl;
+    member_too_long = λ kind members. refl;
+    empty_member_name = λ kind members. refl;
+    nul_in_member_name = λ kind members. refl;
+    line_end_in_member_name = λ kind members. refl;
+    empty_symbol = λ kind members. refl;
+    nul_in_symbol = λ kind members. refl;
+    too_many_members = λ kind members. refl;
+    archive_too_long = λ kind members. refl;
+  };
   texts = record {
     text_0 = refl;
     text_1 = refl;
@@ -45,9 +60,16 @@ worked_statuses = record {
     text_26 = refl;
     text_27 = refl;
     text_28 = refl;
+    text_29 = refl;
+    text_30 = refl;
+    text_31 = refl;
+    text_32 = refl;
+    text_33 = refl;
+    text_34 = refl;
+    text_35 = refl;
+    text_36 = refl;
     text_6 = refl;
     text_15 = refl;
-    text_29 = refl;
   };
   arguments = record {
     i386 = refl;
@@ -58,5 +80,8 @@ worked_statuses = record {
     msvc = refl;
     gnu = refl;
     no_flavor = refl;
+    msvc_kind = refl;
+    gnu_kind = refl;
+    version_is = refl;
   };
 }

@@ -59,6 +59,17 @@ EndsSo text machine flavor room (SyntaxError cause offset) =
 EndsSo text machine flavor room (Refused cause) =
     WithInput text machine flavor (λ m f. HasNoMembers text m f cause)
 
+-- a call that ends so has no members to give
+abbrev pub IsFailure : Outcome → Type 0
+IsFailure (Success members) = ⊥
+IsFailure (BufferTooSmall members) = ⊥
+IsFailure OutOfMemory = Unit {0}
+IsFailure NotUtf8 = Unit {0}
+IsFailure UnknownMachine = Unit {0}
+IsFailure UnknownFlavor = Unit {0}
+IsFailure (SyntaxError cause offset) = Unit {0}
+IsFailure (Refused cause) = Unit {0}
+
 -- the status
 abbrev pub status_of : Outcome → Status
 status_of (Success members) = status.Success

@@ -1,5 +1,5 @@
 -- Views: what the functions below the exports give each other. No promise cites them.
-use Rattle.std.specs.Prelude.{◌≡◌, ℕ, ◌<◌, ◌≤◌, ◌^◌, List, ◌++◌, length, drop, Result, Ok, Err}
+use Rattle.std.specs.Prelude.{◌≡◌, ℕ, ◌<◌, ◌≤◌, ◌^◌, List, ◌++◌, length, drop, None, Some, Result, Ok, Err}
 use Rattle.std.specs.Option.{unwrap_or}
 use Rattle.implib.specs.declared.error.Error.{Error}
 use Rattle.implib.specs.declared.error.Error.TheVariants as error
@@ -13,16 +13,28 @@ use Rattle.implib.specs.Text.Parses.{RefusesAt}
 use Rattle.implib_c.specs.declared.outcome.Failure.{Failure}
 use Rattle.implib_c.specs.declared.outcome.Failure.TheVariants.{BufferTooSmall, OutOfMemory, NotUtf8}
 use Rattle.implib_c.specs.declared.outcome.Failure.TheVariants.{UnknownMachine, UnknownFlavor, SyntaxError, Refused}
+use Rattle.implib_c.specs.declared.outcome.Failure.TheVariants.{NoArchive}
+use Rattle.implib_archive.specs.declared.error.Error.{Error as ArchiveError}
+use Rattle.implib_archive.specs.declared.error.Error.TheVariants as archive_error
+use Rattle.implib_archive.specs.declared.kind.Kind.{Kind}
+use Rattle.implib_archive.specs.Archive.{archive_of}
+use Rattle.implib_archive.specs.Refusal.{refusal_of}
 use Rattle.implib_c.specs.declared.status.Status.{Status}
 use Rattle.implib_c.specs.declared.status.Status.TheVariants as status
-use Rattle.implib.specs.Members.OfText.{HasNoMembers}
+use Rattle.implib.specs.Members.OfText.{HasNoMembers, MembersOf}
+use Rattle.implib_c.specs.Answer.{EndsSo, IsFailure, Outcome, WithInput, place_of, status_of}
 use Rattle.implib_c.specs.Encoding.{encoded_members}
-use Rattle.implib_c.specs.Status.{cause_status}
+use Rattle.implib_c.specs.Status.{archive_status, cause_status}
 
 -- what an error of the library becomes
 abbrev pub failure_of : Error → Failure
 failure_of (error.Invalid fault) = Refused fault
 failure_of (error.OutOfMemory refused) = OutOfMemory
+
+-- what an error of an archive becomes
+abbrev pub failure_of_archive : ArchiveError → Failure
+failure_of_archive (archive_error.Invalid fault) = NoArchive fault
+failure_of_archive (archive_error.OutOfMemory refused) = OutOfMemory
 
 -- what an error of the parser becomes
 abbrev pub failure_of_parsing : ParseError → Failure
@@ -38,6 +50,7 @@ failure_status UnknownMachine = status.UnknownMachine
 failure_status UnknownFlavor = status.UnknownFlavor
 failure_status (SyntaxError fault offset) = cause_status (cause_of fault)
 failure_status (Refused fault) = cause_status (cause_of fault)
+failure_status (NoArchive fault) = archive_status fault
 
 -- the status of an answer
 abbrev pub status_given : Result ℕ Failure → Status
@@ -54,6 +67,7 @@ length_given (Err UnknownMachine) = 0
 length_given (Err UnknownFlavor) = 0
 length_given (Err (SyntaxError fault offset)) = 0
 length_given (Err (Refused fault)) = 0
+length_given (Err (NoArchive fault)) = 0
 
 -- the place that an answer tells
 abbrev pub place_given : Result ℕ Failure → ℕ
@@ -65,6 +79,7 @@ place_given (Err UnknownMachine) = 0
 place_given (Err UnknownFlavor) = 0
 place_given (Err (SyntaxError fault offset)) = offset
 place_given (Err (Refused fault)) = unwrap_or (export_index (cause_of fault)) 0
+place_given (Err (NoArchive fault)) = 0
 
 -- the text is refused, or memory was
 abbrev pub OnTextFault : List ℕ → MachineType → Flavor → Failure → Type 0
@@ -75,6 +90,21 @@ OnTextFault text machine flavor UnknownMachine = ⊥
 OnTextFault text machine flavor UnknownFlavor = ⊥
 OnTextFault text machine flavor (SyntaxError fault offset) = RefusesAt text (cause_of fault) offset
 OnTextFault text machine flavor (Refused fault) = HasNoMembers text machine flavor (cause_of fault)
+OnTextFault text machine flavor (NoArchive fault) = ⊥
+
+-- the text has these members for this flavour, by the numbers of a machine and of the flavour
+abbrev pub HasMembers : List ℕ → ℕ → ℕ → Flavor → List MemberView → Type 0
+HasMembers text machine flavor found members =
+    WithInput text machine flavor (λ m f. (f ≡ found) × MembersOf text m f members)
+
+-- a call without members fails so, whatever its buffer
+pub record FailsSo (text : List ℕ) (machine flavor : ℕ) (failure : Failure) : Type 0 where
+  pub outcome : Outcome
+  pub is_failure : IsFailure outcome
+  pub ends : (room : ℕ) → EndsSo text machine flavor room outcome
+  pub status_is : failure_status failure ≡ status_of outcome
+  pub length_is : length_given (Err failure) ≡ 0
+  pub place_is : place_given (Err failure) ≡ place_of text outcome
 
 -- the members' encoding is put at the beginning of the buffer, where there is room; else nothing is
 abbrev pub PutsInto : List MemberView → List ℕ → List ℕ → Result ℕ Failure → Type 0
@@ -89,3 +119,21 @@ PutsInto members old new (Err UnknownMachine) = ⊥
 PutsInto members old new (Err UnknownFlavor) = ⊥
 PutsInto members old new (Err (SyntaxError fault offset)) = ⊥
 PutsInto members old new (Err (Refused fault)) = ⊥
+PutsInto members old new (Err (NoArchive fault)) = ⊥
+
+-- the members' archive is put at the beginning of the buffer, where there is one and room for it; else nothing
+-- is
+abbrev pub PacksInto : Kind → List MemberView → List ℕ → List ℕ → Result ℕ Failure → Type 0
+PacksInto kind members old new (Ok put) =
+    (refusal_of kind members ≡ None) × (put ≡ length (archive_of kind members)) × (put ≤ length old)
+    × (new ≡ archive_of kind members ++ drop (length (archive_of kind members)) old)
+PacksInto kind members old new (Err (BufferTooSmall needed)) =
+    (refusal_of kind members ≡ None) × (needed ≡ length (archive_of kind members)) × (length old < needed)
+    × (new ≡ old)
+PacksInto kind members old new (Err OutOfMemory) = new ≡ old
+PacksInto kind members old new (Err (NotUtf8 offset)) = ⊥
+PacksInto kind members old new (Err UnknownMachine) = ⊥
+PacksInto kind members old new (Err UnknownFlavor) = ⊥
+PacksInto kind members old new (Err (SyntaxError fault offset)) = ⊥
+PacksInto kind members old new (Err (Refused fault)) = ⊥
+PacksInto kind members old new (Err (NoArchive fault)) = (refusal_of kind members ≡ Some fault) × (new ≡ old)

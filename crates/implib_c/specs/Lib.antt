@@ -2,7 +2,11 @@ pub mod Status
 pub mod Encoding
 pub mod Fill
 pub mod Answer
+pub mod Library
+pub mod Place
+pub mod Version
 pub mod Given
 pub mod WorkedEncoding
 pub mod WorkedGaps
 pub mod WorkedStatus
+pub mod WorkedPlace

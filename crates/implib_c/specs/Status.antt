@@ -3,6 +3,8 @@ use Rattle.std.specs.Prelude.{◌≡◌, ℕ, ◌+◌, ◌==◌, nat_lt, List, �
 use Rattle.std.specs.Prelude.{Some, codes, if◌then◌else◌}
 use Rattle.implib.specs.Fault.{Cause}
 use Rattle.implib.specs.Fault as cause
+use Rattle.implib_archive.specs.declared.error.Fault.{Fault}
+use Rattle.implib_archive.specs.declared.error.Fault.TheVariants as archive
 use Rattle.implib_c.specs.declared.status.Status.{Status}
 use Rattle.implib_c.specs.declared.status.Status.TheVariants.{Success, BufferTooSmall, OutOfMemory}
 use Rattle.implib_c.specs.declared.status.Status.TheVariants.{NotUtf8, UnknownMachine, UnknownFlavor}
@@ -11,6 +13,9 @@ use Rattle.implib_c.specs.declared.status.Status.TheVariants.{ExpectedEqual, Exp
 use Rattle.implib_c.specs.declared.status.Status.TheVariants.{InvalidOrdinal, LoneAt, EmptyImportName}
 use Rattle.implib_c.specs.declared.status.Status.TheVariants.{NulInImportName, EmptyName, NulInExport}
 use Rattle.implib_c.specs.declared.status.Status.TheVariants.{EmptyAskedName, MemberTooLong, NoNameType}
+use Rattle.implib_c.specs.declared.status.Status.TheVariants.{EmptyMemberName, NulInMemberName}
+use Rattle.implib_c.specs.declared.status.Status.TheVariants.{LineEndInMemberName, EmptySymbol, NulInSymbol}
+use Rattle.implib_c.specs.declared.status.Status.TheVariants.{TooManyMembers, ArchiveTooLong}
 
 -- the number of a status: those of the call first, and from 16 on those of the input's faults
 abbrev pub status_number : Status → ℕ
@@ -33,6 +38,13 @@ status_number NulInExport = 25
 status_number EmptyAskedName = 26
 status_number MemberTooLong = 27
 status_number NoNameType = 28
+status_number EmptyMemberName = 29
+status_number NulInMemberName = 30
+status_number LineEndInMemberName = 31
+status_number EmptySymbol = 32
+status_number NulInSymbol = 33
+status_number TooManyMembers = 34
+status_number ArchiveTooLong = 35
 
 -- the status with a number
 abbrev pub status_numbered : ℕ → Option Status
@@ -56,6 +68,13 @@ status_numbered number =
     else if number == 26 then Some EmptyAskedName
     else if number == 27 then Some MemberTooLong
     else if number == 28 then Some NoNameType
+    else if number == 29 then Some EmptyMemberName
+    else if number == 30 then Some NulInMemberName
+    else if number == 31 then Some LineEndInMemberName
+    else if number == 32 then Some EmptySymbol
+    else if number == 33 then Some NulInSymbol
+    else if number == 34 then Some TooManyMembers
+    else if number == 35 then Some ArchiveTooLong
     else None
 
 -- the text of a status
@@ -79,6 +98,13 @@ status_text NulInExport = codes "export name contains null byte"
 status_text EmptyAskedName = codes "asked name is empty"
 status_text MemberTooLong = codes "member too long"
 status_text NoNameType = codes "no name type for the asked name"
+status_text EmptyMemberName = codes "member name is empty"
+status_text NulInMemberName = codes "member name contains null byte"
+status_text LineEndInMemberName = codes "member name contains line end"
+status_text EmptySymbol = codes "symbol is empty"
+status_text NulInSymbol = codes "symbol contains null byte"
+status_text TooManyMembers = codes "too many members"
+status_text ArchiveTooLong = codes "archive too long"
 
 -- the status of a fault of the input
 abbrev pub cause_status : Cause → Status
@@ -95,6 +121,17 @@ cause_status (cause.NulInExport index) = NulInExport
 cause_status (cause.EmptyAskedName index) = EmptyAskedName
 cause_status cause.MemberTooLong = MemberTooLong
 cause_status (cause.NoNameType index) = NoNameType
+
+-- the status of members that have no archive
+abbrev pub archive_status : Fault → Status
+archive_status archive.EmptyName = EmptyMemberName
+archive_status archive.NulInName = NulInMemberName
+archive_status archive.LineEndInName = LineEndInMemberName
+archive_status archive.EmptySymbol = EmptySymbol
+archive_status archive.NulInSymbol = NulInSymbol
+archive_status archive.MemberTooLong = MemberTooLong
+archive_status archive.TooManyMembers = TooManyMembers
+archive_status archive.ArchiveTooLong = ArchiveTooLong
 
 -- the text of a status, if there is one
 abbrev pub found_text : Option Status → List ℕ

@@ -1,4 +1,4 @@
--- Statuses, machines and flavours by their numbers, worked by hand: the numbers and texts are those of
+-- Statuses, machines, flavours and the version by their numbers, worked by hand: the numbers and texts are those of
 -- include/implib.h, written out once more (this project's choice; machines: PE/COFF specification, "Machine
 -- Types").
 use Rattle.std.specs.Prelude.{◌≡◌, ℕ, List, None, Some, codes}
@@ -8,9 +8,15 @@ use Rattle.implib.specs.declared.def.lexer.TokenKind.{TokenKind}
 use Rattle.implib.specs.Conversions.{machine_numbered}
 use Rattle.implib.specs.Fault as cause
 use Rattle.implib.specs.Members.MemberSpec.{MemberView}
+use Rattle.implib_archive.specs.declared.kind.Kind.{Kind}
+use Rattle.implib_archive.specs.declared.kind.Kind.TheVariants.{Coff, Gnu as GnuKind}
+use Rattle.implib_archive.specs.declared.error.Fault.TheVariants as archive
 use Rattle.implib_c.specs.Answer.{Outcome, Success, BufferTooSmall, OutOfMemory, NotUtf8, UnknownMachine}
 use Rattle.implib_c.specs.Answer.{UnknownFlavor, SyntaxError, Refused, flavor_numbered, status_of}
+use Rattle.implib_c.specs.Library.{Ending, Failed, Packed, TooLong, Unpacked, kind_for}
+use Rattle.implib_c.specs.Library as library
 use Rattle.implib_c.specs.Status.{status_number, text_for}
+use Rattle.implib_c.specs.Version.{version}
 
 -- the number with which a call ends so
 abbrev pub number_of : Outcome → ℕ
@@ -38,7 +44,27 @@ pub record WorkedNumbers : Type 0 where
   pub member_too_long : number_of (Refused cause.MemberTooLong) ≡ 27
   pub no_name_type : (index : ℕ) → number_of (Refused (cause.NoNameType index)) ≡ 28
 
--- what the texts of numbers are; the last three numbers are no statuses
+-- the number with which a call that packs an archive ends so
+abbrev pub library_number : Ending → ℕ
+library_number ending = status_number (library.status_of ending)
+
+-- what the numbers of these calls are
+pub record WorkedLibraryNumbers : Type 0 where
+  pub packed : (kind : Kind) (members : List MemberView) → library_number (Packed kind members) ≡ 0
+  pub too_long : (kind : Kind) (members : List MemberView) → library_number (TooLong kind members) ≡ 1
+  pub out_of_memory : library_number (Failed OutOfMemory) ≡ 2
+  pub not_utf8 : library_number (Failed NotUtf8) ≡ 3
+  pub empty_name : (index : ℕ) → library_number (Failed (Refused (cause.EmptyName index))) ≡ 24
+  pub member_too_long : (kind : Kind) (members : List MemberView) → library_number (Unpacked kind members archive.MemberTooLong) ≡ 27
+  pub empty_member_name : (kind : Kind) (members : List MemberView) → library_number (Unpacked kind members archive.EmptyName) ≡ 29
+  pub nul_in_member_name : (kind : Kind) (members : List MemberView) → library_number (Unpacked kind members archive.NulInName) ≡ 30
+  pub line_end_in_member_name : (kind : Kind) (members : List MemberView) → library_number (Unpacked kind members archive.LineEndInName) ≡ 31
+  pub empty_symbol : (kind : Kind) (members : List MemberView) → library_number (Unpacked kind members archive.EmptySymbol) ≡ 32
+  pub nul_in_symbol : (kind : Kind) (members : List MemberView) → library_number (Unpacked kind members archive.NulInSymbol) ≡ 33
+  pub too_many_members : (kind : Kind) (members : List MemberView) → library_number (Unpacked kind members archive.TooManyMembers) ≡ 34
+  pub archive_too_long : (kind : Kind) (members : List MemberView) → library_number (Unpacked kind members archive.ArchiveTooLong) ≡ 35
+
+-- what the texts of numbers are; the last four numbers are no statuses
 pub record WorkedTexts : Type 0 where
   pub text_0 : text_for 0 ≡ codes "success"
   pub text_1 : text_for 1 ≡ codes "buffer too small"
@@ -59,9 +85,16 @@ pub record WorkedTexts : Type 0 where
   pub text_26 : text_for 26 ≡ codes "asked name is empty"
   pub text_27 : text_for 27 ≡ codes "member too long"
   pub text_28 : text_for 28 ≡ codes "no name type for the asked name"
+  pub text_29 : text_for 29 ≡ codes "member name is empty"
+  pub text_30 : text_for 30 ≡ codes "member name contains null byte"
+  pub text_31 : text_for 31 ≡ codes "member name contains line end"
+  pub text_32 : text_for 32 ≡ codes "symbol is empty"
+  pub text_33 : text_for 33 ≡ codes "symbol contains null byte"
+  pub text_34 : text_for 34 ≡ codes "too many members"
+  pub text_35 : text_for 35 ≡ codes "archive too long"
+  pub text_36 : text_for 36 ≡ codes "unknown status"
   pub text_6 : text_for 6 ≡ codes "unknown status"
   pub text_15 : text_for 15 ≡ codes "unknown status"
-  pub text_29 : text_for 29 ≡ codes "unknown status"
 
 -- what the numbers of arguments are
 pub record WorkedArguments : Type 0 where
@@ -73,9 +106,13 @@ pub record WorkedArguments : Type 0 where
   pub msvc : flavor_numbered 0 ≡ Some Msvc
   pub gnu : flavor_numbered 1 ≡ Some Gnu
   pub no_flavor : flavor_numbered 2 ≡ None
+  pub msvc_kind : kind_for Msvc ≡ Coff
+  pub gnu_kind : kind_for Gnu ≡ GnuKind
+  pub version_is : version ≡ 1
 
 -- all of them
 pub record WorkedStatuses : Type 0 where
   pub numbers : WorkedNumbers
+  pub library_numbers : WorkedLibraryNumbers
   pub texts : WorkedTexts
   pub arguments : WorkedArguments

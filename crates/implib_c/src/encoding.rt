@@ -51,8 +51,8 @@ pub fn members_length(members: &[Member]) -> Option<usize>
     Some(sum)
 }
 
-// Puts bytes into the buffer from an offset on. Gives the offset behind them.
-fn put_bytes(buffer: &mut [u8], start: usize, bytes: &[u8]) -> usize
+/// Puts bytes into the buffer from an offset on, where there is room. Gives the offset behind them.
+pub fn put_bytes(buffer: &mut [u8], start: usize, bytes: &[u8]) -> usize
     requires { start + length bytes.now ≤ length buffer.old }
     ensures { Fills buffer.old buffer.new start result bytes.now }
 {

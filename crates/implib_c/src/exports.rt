@@ -1,14 +1,36 @@
 //! What C calls (`include/implib.h`).
 //!
-//! C passes nothing for `alloc`, and for a slice a pointer to its first element and its length.
+//! C passes nothing for `alloc`, and for a slice a pointer to its first element and its length. No
+//! pointer may be null: the header has inline functions without the ending `_nonnull`, which put a
+//! variable of their own in a null pointer's place.
 
+ghost use Rattle.implib.specs.Text.Position.{line_and_column};
 ghost use Rattle.implib_c.specs.Answer.{Answers};
-ghost use Rattle.implib_c.specs.Status.{text_for, with_text};
+ghost use Rattle.implib_c.specs.Given.{length_given, place_given, status_given};
+ghost use Rattle.implib_c.specs.Library.{LibraryAnswers};
+ghost use Rattle.implib_c.specs.Place.{text_before};
+ghost use Rattle.implib_c.specs.Status.{status_number, text_for, with_text};
+ghost use Rattle.implib_c.specs.Version.{version};
 ghost use Rattle.std.specs.Prelude.{◌<◌, ◌≡◌, length};
 
-use crate::outcome::{length_of, members_into, place_of, status_of};
+use crate::outcome::{Failure, length_of, library_into, members_into, place_of, status_of};
+use crate::place::position_of;
 use crate::status::status_text;
 use std::alloc::Global;
+
+// `IMPLIB_VERSION` of the header.
+const VERSION: u32 = 1;
+
+// Tells the length and the place of an answer. Gives its status.
+fn tell(answer: &Result<usize, Failure>, length: &mut usize, place: &mut usize) -> u32
+    ensures length { length.new ≡ length_given answer.now }
+    ensures place { place.new ≡ place_given answer.now }
+    ensures status { result ≡ status_number (status_given answer.now) }
+{
+    *length = length_of(answer);
+    *place = place_of(answer);
+    status_of(answer).number()
+}
 
 /// Puts the members of the import library that a text describes at the beginning of `buffer`,
 /// encoded as `specs/Encoding.antt` says, and gives a status: 0 where it is done.
@@ -21,7 +43,7 @@ use std::alloc::Global;
 /// 0. Where the status is not 0 the buffer is as it was, and where it is 0, what follows the
 /// encoding.
 #[unsafe(no_mangle)]
-pub extern "C" fn implib_members(
+pub extern "C" fn implib_members_nonnull(
     alloc: Global,
     text: &[u8],
     machine: u16,
@@ -33,16 +55,66 @@ pub extern "C" fn implib_members(
     ensures { Answers text.now machine flavor buffer.old buffer.new length.new place.new result }
 {
     let answer = members_into(alloc, text, machine, flavor, buffer);
-    *length = length_of(&answer);
-    *place = place_of(&answer);
-    status_of(&answer).number()
+    tell(&answer, length, place)
+}
+
+/// Puts the import library that a text describes at the beginning of `buffer`: the archive of the
+/// members that `implib_members_nonnull` has for the same arguments, of the COFF kind for Microsoft's linker
+/// and of the GNU kind for GNU's. Gives a status: 0 where it is done.
+///
+/// `length` gets the length of the archive in bytes, where the status is 0 or 1 (the buffer is too
+/// small), and otherwise 0. `place` gets what `implib_members_nonnull` says of it, and 0 where the members
+/// have no archive. Where the status is not 0 the buffer is as it was, and where it is 0, what
+/// follows the archive.
+#[unsafe(no_mangle)]
+pub extern "C" fn implib_library_nonnull(
+    alloc: Global,
+    text: &[u8],
+    machine: u16,
+    flavor: u32,
+    buffer: &mut [u8],
+    length: &mut usize,
+    place: &mut usize,
+) -> u32
+    ensures { LibraryAnswers text.now machine flavor buffer.old buffer.new length.new place.new
+        result }
+{
+    let answer = library_into(alloc, text, machine, flavor, buffer);
+    tell(&answer, length, place)
+}
+
+/// Puts the line and the column of an offset in a text into `line` and `column`, both from 1. A line
+/// ends behind its line feed, and a column counts bytes.
+///
+/// The end of the longest beginning of the text that is UTF-8 has a position, too. A greater offset
+/// has the position of this end.
+#[unsafe(no_mangle)]
+pub extern "C" fn implib_position_nonnull(
+    text: &[u8],
+    offset: usize,
+    line: &mut usize,
+    column: &mut usize,
+)
+    ensures { (line.new, column.new) ≡ line_and_column (text_before text.now offset) }
+{
+    let position = position_of(text, offset);
+    *line = position.line;
+    *column = position.column;
+}
+
+/// Gives the version of these functions.
+#[unsafe(no_mangle)]
+pub extern "C" fn implib_version() -> u32
+    ensures { result ≡ version }
+{
+    VERSION
 }
 
 /// Puts the text of a status and a NUL at the beginning of `buffer`, where it has room for both;
 /// otherwise the buffer is as it was. Gives the length of the text without the NUL, less than 32. A
 /// number that is no status has a text, too.
 #[unsafe(no_mangle)]
-pub extern "C" fn implib_status_text(status: u32, buffer: &mut [u8]) -> usize
+pub extern "C" fn implib_status_text_nonnull(status: u32, buffer: &mut [u8]) -> usize
     ensures text { buffer.new ≡ with_text buffer.old (text_for status) }
     ensures length { result ≡ length (text_for status) }
     ensures short { result < 32 }

@@ -1,10 +1,11 @@
-//! What a caller may conclude of encodings and of statuses. These functions do nothing: each
+//! What a caller may conclude of encodings, of statuses and of places. These functions do nothing: each
 //! contract is a law.
 
 ghost use Rattle.implib.specs.Members.MemberSpec.{MemberView};
 ghost use Rattle.implib_c.specs.Encoding.{ReadsBack};
 ghost use Rattle.implib_c.specs.Status.{NumbersReturn};
 ghost use Rattle.implib_c.specs.WorkedEncoding.{WorkedEncodings};
+ghost use Rattle.implib_c.specs.WorkedPlace.{WorkedPlaces};
 ghost use Rattle.implib_c.specs.WorkedStatus.{WorkedStatuses};
 ghost use Rattle.std.specs.Prelude.{List, ℕ};
 
@@ -23,7 +24,12 @@ pub fn numbers_return()
     ensures { NumbersReturn }
 {}
 
-/// Statuses, their texts, machines and flavours have these numbers, each written out.
+/// Offsets in texts that were worked by hand have these lines and columns.
+pub fn worked_places()
+    ensures { WorkedPlaces }
+{}
+
+/// Statuses, their texts, machines, flavours and the version have these numbers, each written out.
 pub fn worked_statuses()
     ensures { WorkedStatuses }
 {}

@@ -8,6 +8,7 @@ mod exports;
 mod gaps;
 mod laws;
 mod outcome;
+mod place;
 mod status;
 #[cfg(test)]
 mod tests;

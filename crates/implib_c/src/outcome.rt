@@ -1,23 +1,25 @@
-//! From a text to members in a buffer, or to what is wrong.
+//! From a text to members or an archive in a buffer, or to what is wrong.
 
 ghost use Rattle.implib.specs.Conversions.{machine_numbered};
 ghost use Rattle.implib.specs.Library.{member_view};
 ghost use Rattle.implib.specs.Members.OfText.{MembersOf};
 ghost use Rattle.implib_c.specs.Answer.{Answers, flavor_numbered};
-ghost use Rattle.implib_c.specs.Given.{OnTextFault, PutsInto, failure_status, length_given, place_given, status_given};
+ghost use Rattle.implib_c.specs.Given.{FailsSo, HasMembers, OnTextFault, PacksInto, PutsInto, failure_status, length_given, place_given, status_given};
+ghost use Rattle.implib_c.specs.Library.{LibraryAnswers, kind_for};
 ghost use Rattle.implib_c.specs.Status.{status_number};
 ghost use Rattle.std.specs.Prelude.{◌≡◌, IfErr, IfOk, map};
 
-use crate::encoding::{members_length, put_members};
+use crate::encoding::{members_length, put_bytes, put_members};
 use crate::status::Status;
 use implib::def::ModuleDef;
 use implib::{Error, Fault, Flavor, ImportLibrary, MachineType, Member, ParseError};
-use std::alloc::Global;
+use implib_archive::{Archive, Kind};
+use std::alloc::{AllocError, Global};
 
-/// Why no members are put into the buffer.
+/// Why nothing is put into the buffer.
 #[derive(Debug, Drop)]
 pub enum Failure {
-    /// The encoding has more bytes than the buffer: this many.
+    /// The encoding, or the archive, has more bytes than the buffer: this many.
     BufferTooSmall(usize),
     /// An allocation failed, or the encoding is longer than any buffer.
     OutOfMemory,
@@ -31,6 +33,8 @@ pub enum Failure {
     SyntaxError(Fault, usize),
     /// The definition has no members.
     Refused(Fault),
+    /// The members have no archive.
+    NoArchive(implib_archive::Fault),
 }
 
 impl From<ParseError> for Failure {
@@ -59,6 +63,29 @@ impl From<Error> for Failure {
     }
 }
 
+impl From<implib_archive::Error> for Failure {
+    ghost use Rattle.implib_c.specs.Given.{failure_of_archive};
+
+    ghost from_gives = { λ error given. given ≡ failure_of_archive error };
+
+    fn from(error: implib_archive::Error) -> Failure {
+        match error {
+            implib_archive::Error::Invalid(fault) => Failure::NoArchive(fault),
+            implib_archive::Error::OutOfMemory(_) => Failure::OutOfMemory,
+        }
+    }
+}
+
+impl From<AllocError> for Failure {
+    ghost use Rattle.implib_c.specs.declared.outcome.Failure.TheVariants.{OutOfMemory};
+
+    ghost from_gives = { λ _ given. given ≡ OutOfMemory };
+
+    fn from(_refused: AllocError) -> Failure {
+        Failure::OutOfMemory
+    }
+}
+
 impl Failure {
     // The status that C gets.
     fn status(&self) -> Status
@@ -71,6 +98,7 @@ impl Failure {
             Failure::UnknownMachine => Status::UnknownMachine,
             Failure::UnknownFlavor => Status::UnknownFlavor,
             Failure::SyntaxError(fault, _) | Failure::Refused(fault) => Status::of_fault(fault),
+            Failure::NoArchive(fault) => Status::of_archive(*fault),
         }
     }
 }
@@ -85,7 +113,7 @@ pub fn status_of(answer: &Result<usize, Failure>) -> Status
     }
 }
 
-/// The length of the encoding that an answer gives; else 0.
+/// The length of the encoding, or of the archive, that an answer gives; else 0.
 pub fn length_of(answer: &Result<usize, Failure>) -> usize
     ensures { result ≡ length_given answer.now }
 {
@@ -154,6 +182,63 @@ fn put_into(buffer: &mut [u8], members: &[Member]) -> Result<usize, Failure>
     Ok(put_members(buffer, members))
 }
 
+// Puts the members' archive at the beginning of the buffer, where there is room. Gives its length.
+//
+// The archive is made beside the buffer, which a failed allocation so leaves as it was.
+fn pack_into(
+    alloc: Global,
+    buffer: &mut [u8],
+    members: &[Member],
+    kind: Kind,
+) -> Result<usize, Failure>
+    ensures { PacksInto kind (map member_view members.now) buffer.old buffer.new result }
+{
+    let archive = Archive::new(alloc, members, kind)?;
+    let needed = archive.len() as usize;
+    if buffer.len() < needed {
+        return Err(Failure::BufferTooSmall(needed));
+    }
+    let bytes = archive.to_vec(alloc)?;
+    Ok(put_bytes(buffer, 0, bytes.as_slice()))
+}
+
+// The kind of archive for a flavour.
+fn kind_for(flavor: Flavor) -> Kind
+    ensures { result ≡ kind_for flavor }
+{
+    match flavor {
+        Flavor::Msvc => Kind::Coff,
+        Flavor::Gnu => Kind::Gnu,
+    }
+}
+
+// The members of the library that a text means, and their flavour.
+fn read_members(
+    alloc: Global,
+    text: &[u8],
+    machine: u16,
+    flavor: u32,
+) -> Result<(Vec<Member>, Flavor), Failure>
+    ensures ok { IfOk result (λ found. HasMembers text.now machine flavor found.1
+        (map member_view found.0.items)) }
+    ensures fault { IfErr result (FailsSo text.now machine flavor) }
+{
+    let Some(machine) = machine_with(machine) else {
+        return Err(Failure::UnknownMachine);
+    };
+    let Some(flavor) = flavor_with(flavor) else {
+        return Err(Failure::UnknownFlavor);
+    };
+    let text = match str::from_utf8(text) {
+        Ok(text) => text,
+        Err(error) => return Err(Failure::NotUtf8(error.valid_up_to())),
+    };
+    match members_of(alloc, text, machine, flavor) {
+        Ok(members) => Ok((members, flavor)),
+        Err(failure) => Err(failure),
+    }
+}
+
 /// Puts the members of the library that a text means at the beginning of the buffer. Gives the
 /// length of their encoding. An error leaves the buffer as it was.
 ///
@@ -171,19 +256,31 @@ pub fn members_into(
     ensures { Answers text.now machine flavor buffer.old buffer.new
         (length_given result) (place_given result) (status_number (status_given result)) }
 {
-    let Some(machine) = machine_with(machine) else {
-        return Err(Failure::UnknownMachine);
-    };
-    let Some(flavor) = flavor_with(flavor) else {
-        return Err(Failure::UnknownFlavor);
-    };
-    let text = match str::from_utf8(text) {
-        Ok(text) => text,
-        Err(error) => return Err(Failure::NotUtf8(error.valid_up_to())),
-    };
-    let members = match members_of(alloc, text, machine, flavor) {
-        Ok(members) => members,
-        Err(failure) => return Err(failure),
-    };
-    put_into(buffer, members.as_slice())
+    match read_members(alloc, text, machine, flavor) {
+        Ok((members, _)) => put_into(buffer, members.as_slice()),
+        Err(failure) => Err(failure),
+    }
+}
+
+/// Puts the archive of the library that a text means at the beginning of the buffer. Gives its
+/// length. An error leaves the buffer as it was.
+///
+/// # Errors
+///
+/// The first that applies: `UnknownMachine`, `UnknownFlavor`, `NotUtf8`, `SyntaxError`, `Refused`,
+/// `NoArchive`, `BufferTooSmall`. `OutOfMemory` can precede the last four, and come after them.
+pub fn library_into(
+    alloc: Global,
+    text: &[u8],
+    machine: u16,
+    flavor: u32,
+    buffer: &mut [u8],
+) -> Result<usize, Failure>
+    ensures { LibraryAnswers text.now machine flavor buffer.old buffer.new
+        (length_given result) (place_given result) (status_number (status_given result)) }
+{
+    match read_members(alloc, text, machine, flavor) {
+        Ok((members, flavor)) => pack_into(alloc, buffer, members.as_slice(), kind_for(flavor)),
+        Err(failure) => Err(failure),
+    }
 }

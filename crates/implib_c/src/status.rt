@@ -1,7 +1,7 @@
 //! The statuses that C gets.
 
 ghost use Rattle.implib.specs.Fault.{cause_of};
-ghost use Rattle.implib_c.specs.Status.{cause_status, status_number, status_numbered, status_text, text_for};
+ghost use Rattle.implib_c.specs.Status.{archive_status, cause_status, status_number, status_numbered, status_text, text_for};
 ghost use Rattle.std.specs.Prelude.{◌<◌, ◌≡◌, length};
 
 use implib::Fault;
@@ -43,10 +43,24 @@ pub enum Status {
     NulInExport,
     /// [`Fault::EmptyAskedName`].
     EmptyAskedName,
-    /// [`Fault::MemberTooLong`].
+    /// [`Fault::MemberTooLong`], of the library and of an archive.
     MemberTooLong,
     /// [`Fault::NoNameType`].
     NoNameType,
+    /// [`implib_archive::Fault::EmptyName`].
+    EmptyMemberName,
+    /// [`implib_archive::Fault::NulInName`].
+    NulInMemberName,
+    /// [`implib_archive::Fault::LineEndInName`].
+    LineEndInMemberName,
+    /// [`implib_archive::Fault::EmptySymbol`], and each further one by its name.
+    EmptySymbol,
+    /// [`implib_archive::Fault::NulInSymbol`].
+    NulInSymbol,
+    /// [`implib_archive::Fault::TooManyMembers`].
+    TooManyMembers,
+    /// [`implib_archive::Fault::ArchiveTooLong`].
+    ArchiveTooLong,
 }
 
 impl Status {
@@ -74,6 +88,13 @@ impl Status {
             Status::EmptyAskedName => 26,
             Status::MemberTooLong => 27,
             Status::NoNameType => 28,
+            Status::EmptyMemberName => 29,
+            Status::NulInMemberName => 30,
+            Status::LineEndInMemberName => 31,
+            Status::EmptySymbol => 32,
+            Status::NulInSymbol => 33,
+            Status::TooManyMembers => 34,
+            Status::ArchiveTooLong => 35,
         }
     }
 
@@ -101,6 +122,13 @@ impl Status {
             26 => Some(Status::EmptyAskedName),
             27 => Some(Status::MemberTooLong),
             28 => Some(Status::NoNameType),
+            29 => Some(Status::EmptyMemberName),
+            30 => Some(Status::NulInMemberName),
+            31 => Some(Status::LineEndInMemberName),
+            32 => Some(Status::EmptySymbol),
+            33 => Some(Status::NulInSymbol),
+            34 => Some(Status::TooManyMembers),
+            35 => Some(Status::ArchiveTooLong),
             _ => None,
         }
     }
@@ -131,6 +159,13 @@ impl Status {
             Status::EmptyAskedName => "asked name is empty",
             Status::MemberTooLong => "member too long",
             Status::NoNameType => "no name type for the asked name",
+            Status::EmptyMemberName => "member name is empty",
+            Status::NulInMemberName => "member name contains null byte",
+            Status::LineEndInMemberName => "member name contains line end",
+            Status::EmptySymbol => "symbol is empty",
+            Status::NulInSymbol => "symbol contains null byte",
+            Status::TooManyMembers => "too many members",
+            Status::ArchiveTooLong => "archive too long",
         }
     }
 
@@ -152,6 +187,22 @@ impl Status {
             Fault::EmptyAskedName(_) => Status::EmptyAskedName,
             Fault::MemberTooLong => Status::MemberTooLong,
             Fault::NoNameType(_) => Status::NoNameType,
+        }
+    }
+
+    /// The status of members that have no archive.
+    pub fn of_archive(fault: implib_archive::Fault) -> Status
+        ensures { result ≡ archive_status fault }
+    {
+        match fault {
+            implib_archive::Fault::EmptyName => Status::EmptyMemberName,
+            implib_archive::Fault::NulInName => Status::NulInMemberName,
+            implib_archive::Fault::LineEndInName => Status::LineEndInMemberName,
+            implib_archive::Fault::EmptySymbol => Status::EmptySymbol,
+            implib_archive::Fault::NulInSymbol => Status::NulInSymbol,
+            implib_archive::Fault::MemberTooLong => Status::MemberTooLong,
+            implib_archive::Fault::TooManyMembers => Status::TooManyMembers,
+            implib_archive::Fault::ArchiveTooLong => Status::ArchiveTooLong,
         }
     }
 }

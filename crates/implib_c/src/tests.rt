@@ -1,8 +1,12 @@
 //! The exports as C calls them: buffers of several lengths, and each status by its number in
 //! `include/implib.h`.
 
-use crate::exports::{implib_members, implib_status_text};
+use crate::exports::{
+    implib_library_nonnull, implib_members_nonnull, implib_position_nonnull,
+    implib_status_text_nonnull, implib_version,
+};
 use implib::{Flavor, ImportLibrary, MachineType};
+use implib_archive::{Archive, Kind};
 use std::alloc::{AllocError, Global};
 use std::process::Abort;
 use std::test::Fail;
@@ -21,6 +25,15 @@ const MACHINES: [(MachineType, u16); 4] = [
     (MachineType::ARM64, 0xAA64),
 ];
 
+// The call for members, and the one for their archive: a test is of both.
+#[derive(Clone, Copy)]
+enum Call {
+    Members,
+    Library,
+}
+
+const CALLS: [Call; 2] = [Call::Members, Call::Library];
+
 // The flavours, with their numbers and with how many members the two exports have.
 const FLAVORS: [(Flavor, u32, u8); 2] = [(Flavor::Msvc, 0, 5), (Flavor::Gnu, 1, 4)];
 
@@ -34,6 +47,7 @@ fn room(alloc: Global, length: usize) -> Result<Vec<u8>, AllocError> {
 // The status, the length and the place of a call.
 fn called(
     alloc: Global,
+    call: Call,
     text: &[u8],
     machine: u16,
     flavor: u32,
@@ -41,15 +55,26 @@ fn called(
 ) -> (u32, usize, usize) {
     let mut length = 12_345;
     let mut place = 67_890;
-    let status = implib_members(
-        alloc,
-        text,
-        machine,
-        flavor,
-        buffer,
-        &mut length,
-        &mut place,
-    );
+    let status = match call {
+        Call::Members => implib_members_nonnull(
+            alloc,
+            text,
+            machine,
+            flavor,
+            buffer,
+            &mut length,
+            &mut place,
+        ),
+        Call::Library => implib_library_nonnull(
+            alloc,
+            text,
+            machine,
+            flavor,
+            buffer,
+            &mut length,
+            &mut place,
+        ),
+    };
     (status, length, place)
 }
 
@@ -85,20 +110,51 @@ fn encoding_of(
     Ok(encoding)
 }
 
+// The archive of the members of a text, by the crate of archives.
+fn archive_of(
+    alloc: Global,
+    text: &str,
+    machine: MachineType,
+    flavor: Flavor,
+) -> Result<Vec<u8>, Fail> {
+    let members = ImportLibrary::new(alloc, text, machine, flavor)?.members()?;
+    let kind = match flavor {
+        Flavor::Msvc => Kind::Coff,
+        Flavor::Gnu => Kind::Gnu,
+    };
+    Ok(Archive::new(alloc, members.as_slice(), kind)?.to_vec(alloc)?)
+}
+
+// What a call has to put into a buffer.
+fn wanted(
+    alloc: Global,
+    call: Call,
+    text: &str,
+    machine: MachineType,
+    flavor: Flavor,
+) -> Result<Vec<u8>, Fail> {
+    match call {
+        Call::Members => encoding_of(alloc, text, machine, flavor),
+        Call::Library => archive_of(alloc, text, machine, flavor),
+    }
+}
+
 // Holds calls with buffers of length 0, of a byte less than the encoding, just as long, and longer.
 fn expect_buffers(
     rt: &impl Abort,
     alloc: Global,
+    call: Call,
     text: &str,
     machine: (MachineType, u16),
     flavor: (Flavor, u32),
 ) -> Result<(), Fail> {
-    let want = encoding_of(alloc, text, machine.0, flavor.0)?;
+    let want = wanted(alloc, call, text, machine.0, flavor.0)?;
     let length = want.len();
     for short in [0, 1, length / 2, length.saturating_sub(1)] {
         let mut buffer = room(alloc, short)?;
         let got = called(
             alloc,
+            call,
             text.as_bytes(),
             machine.1,
             flavor.1,
@@ -111,6 +167,7 @@ fn expect_buffers(
         let mut buffer = room(alloc, length.saturating_add(more))?;
         let got = called(
             alloc,
+            call,
             text.as_bytes(),
             machine.1,
             flavor.1,
@@ -129,10 +186,13 @@ fn expect_buffers(
 fn members_of_both_flavours_fill_a_buffer_on_four_machines(rt: HostRuntime) -> Result<(), Fail> {
     for machine in MACHINES {
         for (flavor, number, count) in FLAVORS {
-            expect_buffers(&rt, rt.alloc(), TWO, machine, (flavor, number))?;
+            for call in CALLS {
+                expect_buffers(&rt, rt.alloc(), call, TWO, machine, (flavor, number))?;
+            }
             let mut buffer = room(rt.alloc(), 4096)?;
             called(
                 rt.alloc(),
+                Call::Members,
                 TWO.as_bytes(),
                 machine.1,
                 number,
@@ -160,11 +220,22 @@ fn a_text_above_64_kib_has_members_and_places(rt: HostRuntime) -> Result<(), Fai
     let text = long_text(rt.alloc(), TWO)?;
     for (flavor, number, _) in FLAVORS {
         let machine = (MachineType::AMD64, 0x8664);
-        expect_buffers(&rt, rt.alloc(), text.as_str(), machine, (flavor, number))?;
+        for call in CALLS {
+            expect_buffers(
+                &rt,
+                rt.alloc(),
+                call,
+                text.as_str(),
+                machine,
+                (flavor, number),
+            )?;
+        }
     }
     let text = long_text(rt.alloc(), "OTHER")?;
-    let got = called(rt.alloc(), text.as_bytes(), 0x8664, 0, &mut []);
-    assert_eq!(rt; got, (16, 0, 70_002));
+    for call in CALLS {
+        let got = called(rt.alloc(), call, text.as_bytes(), 0x8664, 0, &mut []);
+        assert_eq!(rt; got, (16, 0, 70_002));
+    }
     Ok(())
 }
 
@@ -199,18 +270,87 @@ const FAULTS: [(&[u8], u16, u32, u32, usize); 18] = [
 #[test]
 fn faults_have_their_statuses_and_places(rt: HostRuntime) -> Result<(), Fail> {
     for (text, machine, flavor, status, place) in FAULTS {
-        for length in [0, 64] {
-            let mut buffer = room(rt.alloc(), length)?;
-            let got = called(rt.alloc(), text, machine, flavor, buffer.as_mut_slice());
-            assert_eq!(rt; got, (status, 0, place));
-            assert!(rt; is_untouched(buffer.as_slice()));
+        for call in CALLS {
+            for length in [0, 64] {
+                let mut buffer = room(rt.alloc(), length)?;
+                let bytes = buffer.as_mut_slice();
+                let got = called(rt.alloc(), call, text, machine, flavor, bytes);
+                assert_eq!(rt; got, (status, 0, place));
+                assert!(rt; is_untouched(buffer.as_slice()));
+            }
         }
     }
     Ok(())
 }
 
+// How a linker member begins in an archive.
+const LINKER_MEMBER: &[u8] = b"/               0           0     0     0       ";
+
+#[test]
+fn archives_have_the_linker_members_of_their_kind(rt: HostRuntime) -> Result<(), Fail> {
+    for (flavor, count) in [(0, 2), (1, 1)] {
+        let mut buffer = room(rt.alloc(), 8192)?;
+        let bytes = buffer.as_mut_slice();
+        let text = TWO.as_bytes();
+        let got = called(rt.alloc(), Call::Library, text, 0x8664, flavor, bytes);
+        assert_eq!(rt; got.0, 0);
+        assert!(rt; buffer.starts_with(b"!<arch>\n"));
+        let found = buffer
+            .windows(LINKER_MEMBER.len())
+            .filter(|bytes| *bytes == LINKER_MEMBER)
+            .count();
+        assert_eq!(rt; found, count);
+    }
+    Ok(())
+}
+
+// A DLL whose name holds a line feed: archives of the GNU kind end names by it.
+const LINE_FEED: &[u8] = b"LIBRARY \"a\nb.dll\"\nEXPORTS\nbar";
+
+#[test]
+fn a_line_feed_in_a_name_has_no_archive_of_the_gnu_kind(rt: HostRuntime) -> Result<(), Fail> {
+    for (call, flavor, status) in [
+        (Call::Members, 1, 1),
+        (Call::Library, 1, 31),
+        (Call::Members, 0, 1),
+        (Call::Library, 0, 1),
+    ] {
+        let got = called(rt.alloc(), call, LINE_FEED, 0x8664, flavor, &mut []);
+        assert_eq!(rt; (got.0, got.2), (status, 0));
+    }
+    Ok(())
+}
+
+// Texts with an offset, and its line and column.
+const POSITIONS: [(&[u8], usize, usize, usize); 8] = [
+    (b"", 0, 1, 1),
+    (b"", 9, 1, 1),
+    (b"LIBRARY zoo.dll\nOTHER", 16, 2, 1),
+    (b"LIBRARY zoo.dll\r\nEXPORTS\r\n\tfeed ==", 32, 3, 7),
+    (b"LIBRARY zoo.dll\n\xFF", 16, 2, 1),
+    (b"LIBRARY zoo.dll\n\xFF\n\n", 19, 2, 1),
+    (b"\xC3\xA9\nb", 1, 1, 2),
+    (b"\xC3\xA9\nb", 0xFFFF_FFFF_FFFF_FFFF, 2, 2),
+];
+
+#[test]
+fn offsets_have_lines_and_columns(rt: HostRuntime) -> Result<(), Fail> {
+    for (text, offset, line, column) in POSITIONS {
+        let mut got = (12_345, 67_890);
+        implib_position_nonnull(text, offset, &mut got.0, &mut got.1);
+        assert_eq!(rt; got, (line, column));
+    }
+    Ok(())
+}
+
+#[test]
+fn the_version_is_that_of_the_header(rt: HostRuntime) -> Result<(), Fail> {
+    assert_eq!(rt; implib_version(), 1);
+    Ok(())
+}
+
 // The statuses with their texts, and numbers that are none.
-const TEXTS: [(u32, &str); 22] = [
+const TEXTS: [(u32, &str); 30] = [
     (0, "success"),
     (1, "buffer too small"),
     (2, "out of memory"),
@@ -232,7 +372,14 @@ const TEXTS: [(u32, &str); 22] = [
     (26, "asked name is empty"),
     (27, "member too long"),
     (28, "no name type for the asked name"),
-    (29, "unknown status"),
+    (29, "member name is empty"),
+    (30, "member name contains null byte"),
+    (31, "member name contains line end"),
+    (32, "symbol is empty"),
+    (33, "symbol contains null byte"),
+    (34, "too many members"),
+    (35, "archive too long"),
+    (36, "unknown status"),
     (0xFFFF_FFFF, "unknown status"),
 ];
 
@@ -242,11 +389,17 @@ fn statuses_have_their_texts_in_buffers_with_room_for_them(rt: HostRuntime) -> R
         let length = want.len();
         for short in [0, 1, length] {
             let mut buffer = room(rt.alloc(), short)?;
-            assert_eq!(rt; implib_status_text(status, buffer.as_mut_slice()), length);
+            assert_eq!(rt;
+                implib_status_text_nonnull(status, buffer.as_mut_slice()),
+                length
+            );
             assert!(rt; is_untouched(buffer.as_slice()));
         }
         let mut buffer = room(rt.alloc(), 32)?;
-        assert_eq!(rt; implib_status_text(status, buffer.as_mut_slice()), length);
+        assert_eq!(rt;
+            implib_status_text_nonnull(status, buffer.as_mut_slice()),
+            length
+        );
         let text = buffer
             .get(..length)
             .ok_or("the text is longer than the buffer")?;

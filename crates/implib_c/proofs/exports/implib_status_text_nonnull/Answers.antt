@@ -1,7 +1,7 @@
 use Rattle.std.proofs.Common.{ap, ◌∙◌}
 use Rattle.implib_c.specs.Status.{with_text}
 use Rattle.implib_c.proofs.Fill.{text_ended}
-use Rattle.implib_c.proofs.exports.implib_status_text.Goals as goal
+use Rattle.implib_c.proofs.exports.implib_status_text_nonnull.Goals as goal
 
 pub returns-then-end-buffer-clause-text : goal.returns-then-end-buffer-clause-text
 returns-then-end-buffer-clause-text c =

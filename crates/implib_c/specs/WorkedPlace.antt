@@ -1,0 +1,18 @@
+-- Lines and columns for C, worked by hand.
+use Rattle.std.specs.Prelude.{◌≡◌, List, [], ◌∷◌, ◌++◌, codes}
+use Rattle.implib.specs.Text.Position.{line_and_column}
+use Rattle.implib.specs.Worked.Digits.{hex}
+use Rattle.implib_c.specs.Place.{text_before}
+
+-- Offsets in `a`, a line feed and `bc`; in the same with a byte that no text in UTF-8 has before `c`; and in
+-- a letter of two bytes, `é`.
+pub record WorkedPlaces : Type 0 where
+  pub beginning : line_and_column (text_before (codes "a\nbc") 0) ≡ (1, 1)
+  pub line_feed : line_and_column (text_before (codes "a\nbc") 1) ≡ (1, 2)
+  pub second_line : line_and_column (text_before (codes "a\nbc") 2) ≡ (2, 1)
+  pub end : line_and_column (text_before (codes "a\nbc") 4) ≡ (2, 3)
+  pub behind_the_end : line_and_column (text_before (codes "a\nbc") 5) ≡ (2, 3)
+  pub no_text : line_and_column (text_before [] 7) ≡ (1, 1)
+  pub bad_byte : line_and_column (text_before (hex "61 0a 62 ff 63") 3) ≡ (2, 2)
+  pub behind_a_bad_byte : line_and_column (text_before (hex "61 0a 62 ff 63") 5) ≡ (2, 2)
+  pub within_a_letter : line_and_column (text_before (hex "c3 a9") 1) ≡ (1, 2)
