@@ -2,6 +2,8 @@
 //! linker, and in `msvc` those for Microsoft's.
 
 mod bound;
+mod callers;
+mod calls;
 mod loaded;
 mod msvc;
 mod others;
