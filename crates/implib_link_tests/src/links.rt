@@ -4,6 +4,7 @@
 mod bound;
 mod callers;
 mod calls;
+mod closed;
 mod loaded;
 mod msvc;
 mod others;

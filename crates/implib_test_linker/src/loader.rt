@@ -3,14 +3,15 @@
 
 use super::bound::given;
 use super::memory::Memory;
-use super::object::{Flaw, text_in};
+use super::object::Flaw;
 use super::short_import::Ask;
 use std::alloc::{AllocError, Global};
-use std::test::Fail;
+
+const NO_MEMORY: Flaw = "memory is refused";
 
 impl Memory {
     /// Binds the imports of all DLLs, and gives what they were asked for, a line each.
-    pub fn load(&mut self, alloc: Global) -> Result<String, Fail> {
+    pub fn load(&mut self, alloc: Global) -> Result<String, Flaw> {
         let mut asked = String::new(alloc);
         let mut address = self.directory;
         for _ in 0..self.count(address, 20)? {
@@ -19,7 +20,7 @@ impl Memory {
             }
             address = address.saturating_add(20);
         }
-        Err(Fail::new("a directory has no end"))
+        Err("a directory has no end")
     }
 
     /// How many items of a size the image has room for from an address on.
@@ -35,12 +36,12 @@ impl Memory {
         alloc: Global,
         address: usize,
         asked: &mut String,
-    ) -> Result<bool, Fail> {
+    ) -> Result<bool, Flaw> {
         let bytes = self.image.bytes_at(address, 20)?;
         let Some(descriptor) = self.image.descriptor(bytes)? else {
             return Ok(false);
         };
-        let dll = String::from_str(alloc, descriptor.dll)?;
+        let dll = String::from_str(alloc, descriptor.dll).map_err(|_| NO_MEMORY)?;
         let mut lookup = descriptor.lookups;
         let mut entry = descriptor.addresses;
         let size = self.address_size();
@@ -51,7 +52,7 @@ impl Memory {
             lookup = lookup.saturating_add(size);
             entry = entry.saturating_add(size);
         }
-        Err(Fail::new("a table has no end"))
+        Err("a table has no end")
     }
 
     /// Writes what a DLL gives into an entry, and says whether there is one: the null thunk ends
@@ -62,15 +63,15 @@ impl Memory {
         lookup: usize,
         entry: usize,
         asked: &mut String,
-    ) -> Result<bool, Fail> {
+    ) -> Result<bool, Flaw> {
         let size = self.address_size();
         let ask = self.image.ask(self.image.bytes_at(lookup, size)?)?;
         if self.image.ask(self.image.bytes_at(entry, size)?)? != ask {
-            return Err(Fail::new("two tables differ"));
+            return Err("two tables differ");
         }
         let Some(ask) = ask else { return Ok(false) };
-        write!(asked, "{dll}: ")?;
-        show_ask(asked, ask)?;
+        write!(asked, "{dll}: ").map_err(|_| NO_MEMORY)?;
+        show_ask(asked, ask).map_err(|_| NO_MEMORY)?;
         let bytes = given(dll, ask);
         let bytes = bytes.get(..size).ok_or("an entry is too wide")?;
         self.image.write(entry, bytes)?;
