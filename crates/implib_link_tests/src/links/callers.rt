@@ -95,14 +95,24 @@ pub fn caller_for(machine: MachineType, way: Way) -> Caller {
     }
 }
 
+// The same code of a machine of 64 bits, with the lower 4 bytes of the address.
+pub fn with_short_address(machine: MachineType, caller: Caller) -> Caller {
+    let [first, second, (offset, _)] = caller.fields;
+    let kind = if machine == MachineType::AMD64 { 2 } else { 1 };
+    Caller {
+        bytes: caller.bytes,
+        fields: [first, second, (offset, kind)],
+        calls: caller.calls,
+    }
+}
+
 // The object of code for a symbol that it leaves undefined.
 pub fn object_for(
     alloc: Global,
     machine: MachineType,
-    way: Way,
+    caller: &Caller,
     symbol: &str,
 ) -> Result<Vec<u8>, Fail> {
-    let caller = caller_for(machine, way);
     let [first, second, whole] = caller.fields;
     if first.0 > 20 || second.0 > 20 || whole.0 > 20 {
         return Err(Fail::new("a field is not in the section"));

@@ -1,7 +1,7 @@
 //! Calls, at the base that a program was linked for and at another one: relocated, and run to what
 //! the DLL gives.
 
-use super::callers::{WHOLE, Way, caller_for, object_for};
+use super::callers::{WHOLE, Way, caller_for, object_for, with_short_address};
 use super::{FIRST, HEAD, SECOND, TAIL, TWO, WIDE, chosen, members_of, symbols_of};
 use implib::{MachineType, Member};
 use implib_test_linker::{Ask, Flaw, Linked, Memory, given_address, link};
@@ -11,7 +11,7 @@ use std::test::Fail;
 
 const BASE: u64 = 0x40_0000;
 
-// The symbol of the export `bar` by which code reaches it.
+// The symbol by which code reaches an export.
 pub fn symbol_for(
     alloc: Global,
     machine: MachineType,
@@ -34,6 +34,21 @@ fn baz(size: usize) -> u64 {
     given_address("foo.dll", Ask::Ordinal(5), size)
 }
 
+// The object of code for `bar`.
+fn object_of_bar(
+    alloc: Global,
+    machine: MachineType,
+    way: Way,
+    is_short: bool,
+) -> Result<Vec<u8>, Fail> {
+    let symbol = symbol_for(alloc, machine, way, "bar")?;
+    let mut caller = caller_for(machine, way);
+    if is_short {
+        caller = with_short_address(machine, caller);
+    }
+    object_for(alloc, machine, &caller, symbol.as_str())
+}
+
 // Links a caller, at 0x2000, with both exports: the stub of `baz` is at 0x2020, its entry at
 // 0x1060; those of `bar` are behind them.
 fn linked<'a>(
@@ -50,21 +65,23 @@ fn linked<'a>(
 }
 
 // Code for `bar`; its bytes at the base that it was linked for, another base, and its bytes there;
-// the fields with base relocations.
+// the fields with base relocations. A short address has 4 bytes where others have 8.
 #[derive(Drop)]
 struct Row {
     machine: MachineType,
     way: Way,
+    is_short: bool,
     linked: [u8; 24],
     base: u64,
     moved: [u8; 24],
     fields: &'static [(usize, usize)],
 }
 
-const ROWS: [Row; 6] = [
+const ROWS: [Row; 7] = [
     Row {
         machine: MachineType::I386,
         way: Way::Entry,
+        is_short: false,
         linked: *b"\x90\xFF\x15\x64\x10\x40\0\x90\xFF\x15\x64\x10\x40\0\x90\x90\
             \x64\x10\x40\0\0\0\0\0",
         base: 0x1234_0000,
@@ -81,6 +98,7 @@ const ROWS: [Row; 6] = [
     Row {
         machine: MachineType::I386,
         way: Way::Direct,
+        is_short: false,
         linked: *b"\x90\xE8\x22\0\0\0\x90\x90\xE8\x1B\0\0\0\x90\x90\x90\x28\x20\x40\0\0\0\0\0",
         base: 0x7FFF_0000,
         moved: *b"\x90\xE8\x22\0\0\0\x90\x90\xE8\x1B\0\0\0\x90\x90\x90\x28\x20\xFF\x7F\0\0\0\0",
@@ -89,6 +107,7 @@ const ROWS: [Row; 6] = [
     Row {
         machine: MachineType::AMD64,
         way: Way::Entry,
+        is_short: false,
         linked: *b"\x90\xFF\x15\x61\xF0\xFF\xFF\x90\xFF\x15\x5A\xF0\xFF\xFF\x90\x90\
             \x68\x10\x40\0\0\0\0\0",
         base: 0x7FF6_1234_0000,
@@ -99,14 +118,16 @@ const ROWS: [Row; 6] = [
     Row {
         machine: MachineType::AMD64,
         way: Way::Direct,
+        is_short: true,
         linked: *b"\x90\xE8\x22\0\0\0\x90\x90\xE8\x1B\0\0\0\x90\x90\x90\x28\x20\x40\0\0\0\0\0",
         base: 0x1_0000,
         moved: *b"\x90\xE8\x22\0\0\0\x90\x90\xE8\x1B\0\0\0\x90\x90\x90\x28\x20\x01\0\0\0\0\0",
-        fields: &[(0x2010, 8)],
+        fields: &[(0x2010, 4)],
     },
     Row {
         machine: MachineType::ARM64,
         way: Way::Entry,
+        is_short: false,
         linked: *b"\x1F\x20\x03\xD5\xE8\xFF\xFF\xF0\x09\x35\x40\xF9\x20\x01\x3F\xD6\
             \x68\x10\x40\0\0\0\0\0",
         base: 0x7FF6_1234_0000,
@@ -117,10 +138,22 @@ const ROWS: [Row; 6] = [
     Row {
         machine: MachineType::ARM64,
         way: Way::Direct,
+        is_short: false,
         linked: *b"\x1F\x20\x03\xD5\x0A\0\0\x94\x09\0\0\x94\x1F\x20\x03\xD5\x2C\x20\x40\0\0\0\0\0",
         base: 0x1_4000_0000,
         moved: *b"\x1F\x20\x03\xD5\x0A\0\0\x94\x09\0\0\x94\x1F\x20\x03\xD5\x2C\x20\0\x40\x01\0\0\0",
         fields: &[(0x2010, 8)],
+    },
+    Row {
+        machine: MachineType::ARM64,
+        way: Way::Entry,
+        is_short: true,
+        linked: *b"\x1F\x20\x03\xD5\xE8\xFF\xFF\xF0\x09\x35\x40\xF9\x20\x01\x3F\xD6\
+            \x68\x10\x40\0\0\0\0\0",
+        base: 0xFFF0_0000,
+        moved: *b"\x1F\x20\x03\xD5\xE8\xFF\xFF\xF0\x09\x35\x40\xF9\x20\x01\x3F\xD6\
+            \x68\x10\xF0\xFF\0\0\0\0",
+        fields: &[(0x2010, 4)],
     },
 ];
 
@@ -174,8 +207,7 @@ fn calls_reach_the_dll_at_any_base(rt: HostRuntime) -> Result<(), Fail> {
     let alloc = rt.alloc();
     for row in ROWS.iter() {
         let libraries = members_of(alloc, row.machine, &[TWO])?;
-        let symbol = symbol_for(alloc, row.machine, row.way, "bar")?;
-        let object = object_for(alloc, row.machine, row.way, symbol.as_str())?;
+        let object = object_of_bar(alloc, row.machine, row.way, row.is_short)?;
         let linked = linked(alloc, libraries.as_slice(), object.as_slice())?;
         let fields = linked.base_relocations(alloc)?;
         assert_eq!(rt; fields.as_slice(), row.fields, "{:?}", row.machine);
@@ -191,8 +223,7 @@ fn programs_without_their_base_relocations_are_found(rt: HostRuntime) -> Result<
     let alloc = rt.alloc();
     for row in ROWS.iter() {
         let libraries = members_of(alloc, row.machine, &[TWO])?;
-        let symbol = symbol_for(alloc, row.machine, row.way, "bar")?;
-        let object = object_for(alloc, row.machine, row.way, symbol.as_str())?;
+        let object = object_of_bar(alloc, row.machine, row.way, row.is_short)?;
         let linked = linked(alloc, libraries.as_slice(), object.as_slice())?;
         let mut memory = linked.unrelocated_at(alloc, row.base)?;
         memory.load(alloc)?;
@@ -270,7 +301,7 @@ const CHANGED: [(MachineType, Way, usize, &[u8], Led); 13] = [
 ];
 
 // Where the first call leads over which bytes are written.
-fn led(
+fn destination(
     alloc: Global,
     machine: MachineType,
     way: Way,
@@ -278,8 +309,7 @@ fn led(
     bytes: &[u8],
 ) -> Result<Result<u64, Flaw>, Fail> {
     let libraries = members_of(alloc, machine, &[TWO])?;
-    let symbol = symbol_for(alloc, machine, way, "bar")?;
-    let object = object_for(alloc, machine, way, symbol.as_str())?;
+    let object = object_of_bar(alloc, machine, way, false)?;
     let linked = linked(alloc, libraries.as_slice(), object.as_slice())?;
     let mut memory = linked.loaded_at(alloc, BASE)?;
     memory.load(alloc)?;
@@ -293,7 +323,7 @@ fn led(
 #[test]
 fn calls_that_are_changed_lead_elsewhere(rt: HostRuntime) -> Result<(), Fail> {
     for (machine, way, address, bytes, want) in CHANGED.iter() {
-        let got = led(rt.alloc(), *machine, *way, *address, *bytes)?;
+        let got = destination(rt.alloc(), *machine, *way, *address, *bytes)?;
         let size = if *machine == MachineType::I386 { 4 } else { 8 };
         let want = match want {
             Led::Bar => Ok(bar(size)),

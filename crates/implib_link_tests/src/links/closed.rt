@@ -3,7 +3,7 @@
 //! chosen by numbers from a fixed seed; what is to be imported follows from the definitions alone.
 
 use super::MACHINES;
-use super::callers::{Way, object_for};
+use super::callers::{Way, caller_for, object_for};
 use super::calls::{expect_calls, symbol_for};
 use implib::{Flavor, ImportLibrary, MachineType, Member};
 use implib_test_linker::{
@@ -201,11 +201,12 @@ fn members_of_all(
         } else {
             (Flavor::Msvc, 2)
         };
-        let made = ImportLibrary::new(alloc, text.as_str(), machine, flavor)?;
-        for (index, member) in made.members()?.into_iter().enumerate() {
+        let mut index = 0usize;
+        for member in ImportLibrary::new(alloc, text.as_str(), machine, flavor)?.members()? {
             let expansion = expanded(alloc, member.bytes.as_slice(), machine.number())?;
             files.push((member, expansion))?;
             owners.push((number, index == end))?;
+            index = index.saturating_add(1);
         }
     }
     Ok((files, owners))
@@ -225,7 +226,8 @@ fn objects_of(
     for call in calls {
         let name = name_of(alloc, libraries, call.library, call.export)?;
         let symbol = symbol_for(alloc, machine, call.way, name.as_str())?;
-        let object = object_for(alloc, machine, call.way, symbol.as_str())?;
+        let caller = caller_for(machine, call.way);
+        let object = object_for(alloc, machine, &caller, symbol.as_str())?;
         objects.push((object, None))?;
     }
     Ok(objects)
