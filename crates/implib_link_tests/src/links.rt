@@ -2,6 +2,9 @@
 //! linker, and in `msvc` those for Microsoft's.
 
 mod bound;
+mod callers;
+mod calls;
+mod closed;
 mod loaded;
 mod msvc;
 mod others;

@@ -22,6 +22,16 @@ pub fn given(dll: &str, ask: Ask) -> [u8; 8] {
     (mixed | 0x8080_8080_8080_8080).to_le_bytes()
 }
 
+/// The same as an address of this many bytes.
+pub fn given_address(dll: &str, ask: Ask, size: usize) -> u64 {
+    let address = u64::from_le_bytes(given(dll, ask));
+    if size == 4 {
+        address & 0xFFFF_FFFF
+    } else {
+        address
+    }
+}
+
 /// A hash of bytes behind others (FNV-1a, 64 bits).
 fn hashed(start: u64, bytes: &[u8]) -> u64 {
     let mut hash = start;

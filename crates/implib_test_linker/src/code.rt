@@ -3,7 +3,7 @@
 
 use super::object::{Flaw, u32_at};
 
-/// The base of the image, which I386 alone adds.
+/// The base in memory that images are linked for.
 pub const IMAGE_BASE: u32 = 0x40_0000;
 
 pub const I386: u16 = 0x14C;
@@ -25,18 +25,42 @@ pub fn relocated(
     match (machine, kind) {
         // The address in the image.
         (I386, 7) | (ARMNT, 2) | (AMD64, 3) | (ARM64, 2) => Ok(word.wrapping_add(target)),
-        // The address in memory.
-        (I386, 6) => Ok(word.wrapping_add(IMAGE_BASE).wrapping_add(target)),
         // The address relative to the byte behind the field.
-        (AMD64, 4) | (ARMNT, 0x0A) => Ok(
+        (I386, 0x14) | (AMD64, 4) | (ARMNT, 0x0A) => Ok(
             word.wrapping_add(target)
                 .wrapping_sub(address)
                 .wrapping_sub(4),
         ),
+        (ARM64, 3) => with_distance(word, address, target),
         (ARM64, 4) => with_page(word, address, target),
         (ARM64, 7) => with_page_offset(word, target),
         _ => Err("a relocation has another type"),
     }
+}
+
+/// The size of the field where a relocation stores the address in memory, whole, if it does. Such
+/// fields have base relocations.
+pub fn whole_size(machine: u16, kind: u16) -> Option<usize> {
+    match (machine, kind) {
+        (I386, 6) | (AMD64, 2) | (ARM64, 1) => Some(4),
+        (AMD64, 1) | (ARM64, 14) => Some(8),
+        _ => None,
+    }
+}
+
+/// A branch by the distance to the target: 26 bits, which count words.
+fn with_distance(word: u32, address: u32, target: u32) -> Result<u32, Flaw> {
+    if word & 0x03FF_FFFF != 0 {
+        return Err("a branch is relocated twice");
+    }
+    let distance = target.wrapping_sub(address);
+    if distance % 4 != 0 {
+        return Err("a branch is misaligned");
+    }
+    if (0x0800_0000..0xF800_0000).contains(&distance) {
+        return Err("a branch is out of reach");
+    }
+    Ok(word | distance / 4 & 0x03FF_FFFF)
 }
 
 /// An `adrp` of the target's page: 21 bits, the low two from bit 29 on and the others from bit 5

@@ -4,7 +4,7 @@
 ghost use Rattle.std.specs.Prelude.{◌<◌};
 
 use super::image::Image;
-use super::object::{Flaw, bytes_from, text_in, u16_at, u32_at, u64_at, usize_at};
+use super::object::{Flaw, bytes_from, number_in, text_in, u16_at, u32_at, usize_at};
 use super::short_import::Ask;
 use std::alloc::Global;
 use std::test::Fail;
@@ -61,7 +61,7 @@ impl Image {
 
     /// The descriptor in bytes, or none where it is the null descriptor. It is bound to nothing,
     /// has no forwarder, and its three addresses are not 0.
-    fn descriptor(&self, bytes: &[u8]) -> Result<Option<Descriptor<'_>>, Flaw> {
+    pub fn descriptor(&self, bytes: &[u8]) -> Result<Option<Descriptor<'_>>, Flaw> {
         if bytes.iter().all(|byte| *byte == 0) {
             return Ok(None);
         }
@@ -114,7 +114,7 @@ impl Image {
         let mut thunks = Vec::new(alloc);
         for bytes in self.bytes_from(address)?.chunks_exact(thunk_size(is_32bit)) {
             match self.ask(bytes)? {
-                Some(ask) => thunks.push((number(bytes)?, ask))?,
+                Some(ask) => thunks.push((number_in(bytes)?, ask))?,
                 None => break,
             }
         }
@@ -123,7 +123,7 @@ impl Image {
 
     /// What a thunk asks for, or none where it is the null thunk: by its top bit an ordinal in its
     /// low 16 bits, and else the hint and the name at an address of 31 bits. The other bits are 0.
-    fn ask(&self, bytes: &[u8]) -> Result<Option<Ask<'_>>, Flaw> {
+    pub fn ask(&self, bytes: &[u8]) -> Result<Option<Ask<'_>>, Flaw> {
         let (is_ordinal, rest) = split(bytes)?;
         if is_ordinal {
             return match u16::try_from(rest) {
@@ -150,18 +150,9 @@ pub fn thunk_size(is_32bit: bool) -> usize
     if is_32bit { 4 } else { 8 }
 }
 
-/// The number in a thunk.
-fn number(bytes: &[u8]) -> Result<u64, Flaw> {
-    if bytes.len() == 4 {
-        Ok(u64::from(u32_at(bytes, 0)?))
-    } else {
-        u64_at(bytes, 0)
-    }
-}
-
 /// The top bit of a thunk, and the others.
 fn split(bytes: &[u8]) -> Result<(bool, u64), Flaw> {
-    let thunk = number(bytes)?;
+    let thunk = number_in(bytes)?;
     if bytes.len() == 4 {
         Ok((thunk >> 31 == 1, thunk & 0x7FFF_FFFF))
     } else {

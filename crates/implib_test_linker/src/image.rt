@@ -1,7 +1,7 @@
 //! An image: the groups of sections, and the bytes at addresses. Addresses count from the image's
 //! base.
 
-use super::object::{Flaw, Section, bytes_from};
+use super::object::{Flaw, Section, bytes_from, number_in};
 use std::alloc::{AllocError, Global};
 use std::test::Fail;
 
@@ -165,6 +165,19 @@ impl Image {
             }
         }
         Err("a field leads out of the image")
+    }
+
+    /// The bytes of a field at an address.
+    pub fn bytes_at(&self, address: usize, size: usize) -> Result<&[u8], Flaw> {
+        let bytes = self.bytes_from(address)?;
+        bytes.get(..size).ok_or("a field leads out of the image")
+    }
+
+    /// Adds to the number in a field of 4 or 8 bytes, modulo what the field holds.
+    pub fn add(&mut self, address: usize, size: usize, number: u64) -> Result<(), Flaw> {
+        let sum = number_in(self.bytes_at(address, size)?)?.wrapping_add(number);
+        let bytes = sum.to_le_bytes();
+        self.write(address, bytes.get(..size).ok_or("a field is too wide")?)
     }
 
     /// Whether another image has the same bytes, but for those of some of these fields.

@@ -1,6 +1,7 @@
-//! A linker and a loader for tests: of objects they know the names and the bytes alone. The linker
-//! reads the objects, places their sections, resolves their symbols and relocates them; the loader
-//! reads the image. The rules are those of the PE/COFF specification and, for the placement, of
+//! A linker, a loader and a processor for tests: of objects they know the names and the bytes alone.
+//! The linker reads the objects, places their sections, resolves their symbols and relocates them;
+//! the loader reads the image in memory and writes into it; the processor runs a few instructions
+//! there. The rules are those of the PE/COFF specification and, for the placement, of
 //! `docs/FORMATS.md`. They are test equipment: proved safe and total, like all code here, and held
 //! to no further contract.
 #![tactic(auto)]
@@ -11,20 +12,26 @@ mod directory;
 mod expansion;
 mod file;
 mod image;
+mod loader;
+mod memory;
 mod object;
+mod processor;
 mod search;
 mod short_import;
 
 use bound::bound;
-pub use bound::given;
-use code::{ARMNT, I386, jump_reads, relocated};
+pub use bound::{given, given_address};
+use code::{ARMNT, I386, IMAGE_BASE, jump_reads, relocated, whole_size};
 use directory::{Import, thunk_size};
 pub use expansion::{Expansion, expanded};
 pub use file::{File, Purpose, file_in};
 pub use image::{Bases, Image, Misplaced};
+use loader::show_ask;
+pub use memory::Memory;
 pub use object::Flaw;
-use object::{Object, Relocation, Section, Symbol, object_in, u32_at};
-pub use search::Archive;
+use object::{Object, Relocation, Section, Symbol, bytes_at, object_in, u32_at};
+pub use processor::Arrival;
+pub use search::{Archive, left_undefined};
 pub use short_import::Ask;
 use std::alloc::{AllocError, Global};
 use std::test::Fail;
@@ -247,20 +254,33 @@ fn relocate_field(
     address: usize,
     image: &mut Image,
 ) -> Result<(), Flaw> {
+    let machine = placed.object.machine;
+    let whole = whole_size(machine, relocation.kind);
     // The field is in the section.
-    u32_at(section.data, relocation.offset)?;
+    bytes_at(section.data, relocation.offset, whole.unwrap_or(4))?;
+    let target = target_of(objects, placed, relocation)?;
+    let field = address.saturating_add(relocation.offset);
+    if let Some(size) = whole {
+        return image.add(
+            field,
+            size,
+            u64::from(IMAGE_BASE).wrapping_add(u64::from(target)),
+        );
+    }
+    let word = u32_at(image.bytes_from(field)?, 0)?;
+    let word = relocated(machine, relocation.kind, word, address_of(field)?, target)?;
+    image.write(field, &word.to_le_bytes())
+}
+
+/// The address of the symbol of an object's relocation.
+fn target_of(objects: &[Placed], placed: &Placed, relocation: &Relocation) -> Result<u32, Flaw> {
     let symbol = placed.object.symbol(relocation.symbol)?;
     let target = if symbol.is_undefined() {
         defined_address(objects, symbol.name).ok().flatten()
     } else {
         placed.own_address(&symbol)
     };
-    let target = address_of(target.ok_or("a symbol has no address")?)?;
-    let field = address.saturating_add(relocation.offset);
-    let word = u32_at(image.bytes_from(field)?, 0)?;
-    let machine = placed.object.machine;
-    let word = relocated(machine, relocation.kind, word, address_of(field)?, target)?;
-    image.write(field, &word.to_le_bytes())
+    address_of(target.ok_or("a symbol has no address")?)
 }
 
 /// An address in 32 bits.
@@ -268,8 +288,32 @@ fn address_of(address: usize) -> Result<u32, Flaw> {
     u32::try_from(address).map_err(|_| "an address has more than 32 bits")
 }
 
-/// The address, if there is one, of the one symbol of a name that objects define for one another.
-fn defined_address<'a>(objects: &[Placed], name: &'a str) -> Result<Option<usize>, Unlinked<'a>> {
+/// The address, if there is one, of the one symbol of a name that objects define for one another;
+/// where there is none, that of the symbol for which an object makes the name weak.
+fn defined_address<'a>(
+    objects: &[Placed<'a>],
+    name: &'a str,
+) -> Result<Option<usize>, Unlinked<'a>> {
+    match (strong_address(objects, name), weak_target(objects, name)) {
+        (Err(Unlinked::Undefined(_)), Some(target)) => strong_address(objects, target),
+        (address, _) => address,
+    }
+}
+
+/// The symbol for which an object makes a name weak, if one does.
+fn weak_target<'a>(objects: &[Placed<'a>], name: &str) -> Option<&'a str> {
+    for placed in objects {
+        if let Ok(Some((weak, target))) = placed.object.weak()
+            && weak.name == name
+        {
+            return Some(target.name);
+        }
+    }
+    None
+}
+
+/// The address, if there is one, of the one symbol of a name that objects define themselves.
+fn strong_address<'a>(objects: &[Placed], name: &'a str) -> Result<Option<usize>, Unlinked<'a>> {
     let mut found = None;
     for placed in objects {
         for symbol in placed.object.symbols.iter().flatten() {
@@ -346,6 +390,37 @@ impl Linked<'_> {
         bound(alloc, &self.image, imports.as_slice(), self.entry_size())
     }
 
+    /// The fields that have base relocations, each with its address and size: where relocations
+    /// store addresses whole.
+    pub fn base_relocations(&self, alloc: Global) -> Result<Vec<(usize, usize)>, Fail> {
+        let mut fields = Vec::new(alloc);
+        for placed in self.objects.iter() {
+            push_base_relocations(placed, &mut fields)?;
+        }
+        Ok(fields)
+    }
+
+    /// A copy of the image in memory at a base, without what base relocations make of it.
+    pub fn unrelocated_at(&self, alloc: Global, base: u64) -> Result<Memory, Fail> {
+        Ok(Memory {
+            machine: self.machine,
+            directory: self.directory,
+            base,
+            image: self.image.copy(alloc)?,
+        })
+    }
+
+    /// A copy of the image in memory at a base: where addresses are stored whole, it has the
+    /// difference to the base that it was linked for added.
+    pub fn loaded_at(&self, alloc: Global, base: u64) -> Result<Memory, Fail> {
+        let mut memory = self.unrelocated_at(alloc, base)?;
+        let difference = base.wrapping_sub(u64::from(IMAGE_BASE));
+        for (address, size) in self.base_relocations(alloc)? {
+            memory.image.add(address, size, difference)?;
+        }
+        Ok(memory)
+    }
+
     /// The address of a symbol that an object defines for the others.
     pub fn address_of(&self, name: &str) -> Result<usize, Fail> {
         match defined_address(&self.objects, name) {
@@ -409,6 +484,20 @@ impl Linked<'_> {
     }
 }
 
+/// Appends the base relocations of an object's sections.
+fn push_base_relocations(placed: &Placed, fields: &mut Vec<(usize, usize)>) -> Result<(), Fail> {
+    for (section, address) in placed.object.sections.iter().zip(placed.addresses.iter()) {
+        if let Some(address) = address {
+            for relocation in section.relocations.iter() {
+                if let Some(size) = whole_size(placed.object.machine, relocation.kind) {
+                    fields.push((address.saturating_add(relocation.offset), size))?;
+                }
+            }
+        }
+    }
+    Ok(())
+}
+
 /// Appends what a DLL is asked for.
 fn show_import(text: &mut String, import: &Import) -> Result<(), AllocError> {
     let Import { descriptor, thunks } = import;
@@ -421,10 +510,8 @@ fn show_import(text: &mut String, import: &Import) -> Result<(), AllocError> {
         "{dll}: name {name:#x}, lookups {lookups:#x}, addresses {addresses:#x}"
     )?;
     for (thunk, ask) in thunks.iter() {
-        match ask {
-            Ask::Name(name, hint) => writeln!(text, "  {thunk:#x}: {name}, hint {hint}")?,
-            Ask::Ordinal(ordinal) => writeln!(text, "  {thunk:#x}: ordinal {ordinal}")?,
-        }
+        write!(text, "  {thunk:#x}: ")?;
+        show_ask(text, *ask)?;
     }
     Ok(())
 }

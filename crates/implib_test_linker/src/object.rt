@@ -187,7 +187,7 @@ pub fn bytes_from(bytes: &[u8], offset: usize) -> Result<&[u8], Flaw> {
 }
 
 /// This many bytes from an offset on.
-fn bytes_at(bytes: &[u8], offset: usize, count: usize) -> Result<&[u8], Flaw> {
+pub fn bytes_at(bytes: &[u8], offset: usize, count: usize) -> Result<&[u8], Flaw> {
     let rest = bytes_from(bytes, offset)?;
     rest.get(..count).ok_or("a count leads out of its bytes")
 }
@@ -209,7 +209,7 @@ pub fn u32_at(bytes: &[u8], offset: usize) -> Result<u32, Flaw> {
 }
 
 /// The number in eight bytes.
-pub fn u64_at(bytes: &[u8], offset: usize) -> Result<u64, Flaw> {
+fn u64_at(bytes: &[u8], offset: usize) -> Result<u64, Flaw> {
     Ok(u64::from_le_bytes(array_at(bytes, offset)?))
 }
 
@@ -218,6 +218,15 @@ pub fn usize_at(bytes: &[u8], offset: usize) -> Result<usize, Flaw>
     ensures { IfOk result (λ value. value < 2 ^ 32) }
 {
     Ok(u32_at(bytes, offset)? as usize)
+}
+
+/// The number in a field of 4 or 8 bytes.
+pub fn number_in(bytes: &[u8]) -> Result<u64, Flaw> {
+    if bytes.len() == 4 {
+        Ok(u64::from(u32_at(bytes, 0)?))
+    } else {
+        u64_at(bytes, 0)
+    }
 }
 
 /// The text that a NUL ends.

@@ -1,7 +1,9 @@
 //! Archive search: which members of an archive a linker takes. The archive lists symbols for its
 //! members; what they leave to others is read in their bytes.
 
+use super::expansion::Expansion;
 use super::object::{Object, object_in};
+use super::object_of;
 use implib::Member;
 use std::alloc::Global;
 use std::test::Fail;
@@ -9,37 +11,69 @@ use std::test::Fail;
 /// An archive, with the objects of its members.
 #[derive(Drop)]
 pub struct Archive<'a> {
-    members: &'a [Member],
+    members: Vec<&'a Member>,
     objects: Vec<Object<'a>>,
 }
 
 impl<'a> Archive<'a> {
     /// The archive of members, all of which are objects.
     pub fn new(alloc: Global, members: &'a [Member]) -> Result<Self, Fail> {
-        let mut objects = Vec::new(alloc);
+        let mut archive = Archive::empty(alloc);
         for member in members {
-            objects.push(object_in(alloc, member.bytes.as_slice())?)?;
+            archive.members.push(member)?;
+            archive
+                .objects
+                .push(object_in(alloc, member.bytes.as_slice())?)?;
         }
-        Ok(Archive { members, objects })
+        Ok(archive)
     }
 
-    /// The members that are taken for wanted names, in the order of the archive: as long as a name
-    /// is undefined, the first member that it is listed for.
+    /// The archive of files, each a member and, if it is a short import, what it is taken for.
+    pub fn of_files(alloc: Global, files: &'a [(Member, Option<Expansion>)]) -> Result<Self, Fail> {
+        let mut archive = Archive::empty(alloc);
+        for (member, expansion) in files {
+            archive.members.push(member)?;
+            archive
+                .objects
+                .push(object_of(alloc, member.bytes.as_slice(), expansion)?)?;
+        }
+        Ok(archive)
+    }
+
+    /// An archive of no members.
+    fn empty(alloc: Global) -> Self {
+        Archive {
+            members: Vec::new(alloc),
+            objects: Vec::new(alloc),
+        }
+    }
+
+    /// The members that are taken for wanted names, in the order of the archive.
     pub fn search(&self, alloc: Global, wanted: &[&str]) -> Result<Vec<&'a Member>, Fail> {
+        let mut members = Vec::new(alloc);
+        for index in self.taken(alloc, wanted)? {
+            members.push(*self.members.get(index).ok_or("an index has no member")?)?;
+        }
+        Ok(members)
+    }
+
+    /// The indexes of the members that are taken for wanted names, from the first on: as long as a
+    /// name is undefined, the first member that it is listed for.
+    pub fn taken(&self, alloc: Global, wanted: &[&str]) -> Result<Vec<usize>, Fail> {
         let mut taken = vec![in alloc; false; self.members.len()]?;
-        for _ in self.members {
+        for _ in self.members.iter() {
             match self.next(taken.as_slice(), wanted) {
                 Some(index) => *taken.get_mut(index).ok_or("an index has no member")? = true,
                 None => break,
             }
         }
-        let mut members = Vec::new(alloc);
-        for (member, is_taken) in self.members.iter().zip(taken.iter()) {
+        let mut indexes = Vec::new(alloc);
+        for (index, is_taken) in taken.iter().enumerate() {
             if *is_taken {
-                members.push(member)?;
+                indexes.push(index)?;
             }
         }
-        Ok(members)
+        Ok(indexes)
     }
 
     /// The next member to take: that of the first name that is undefined and listed.
@@ -80,13 +114,34 @@ impl<'a> Archive<'a> {
         let index = self
             .members
             .iter()
-            .position(|member| is_listed(member, name))?;
+            .position(|member| is_listed(*member, name))?;
         if *taken.get(index)? {
             None
         } else {
             Some(index)
         }
     }
+}
+
+/// The names that objects leave undefined and none of them claims, each as often as they do.
+pub fn left_undefined<'a>(alloc: Global, objects: &[Object<'a>]) -> Result<Vec<&'a str>, Fail> {
+    let mut names = Vec::new(alloc);
+    for object in objects {
+        for symbol in object.symbols.iter().flatten() {
+            if symbol.is_undefined() && !objects.iter().any(|other| claims(other, symbol.name)) {
+                names.push(symbol.name)?;
+            }
+        }
+    }
+    Ok(names)
+}
+
+/// Whether an object defines a symbol for others, gives it a value or makes it weak.
+fn claims(object: &Object, name: &str) -> bool {
+    object.symbols.iter().flatten().any(|symbol| {
+        let is_claim = symbol.is_defined() || symbol.is_absolute() || symbol.is_weak();
+        is_claim && symbol.name == name
+    })
 }
 
 /// Whether an object defines a symbol for others.

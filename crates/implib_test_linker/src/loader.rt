@@ -1,0 +1,88 @@
+//! A loader that knows nothing but the image in memory: it walks the import directory, reads at each
+//! step what the image has there by then, and writes into the address tables as it goes.
+
+use super::bound::given;
+use super::memory::Memory;
+use super::object::Flaw;
+use super::short_import::Ask;
+use std::alloc::{AllocError, Global};
+
+const NO_MEMORY: Flaw = "memory is refused";
+
+impl Memory {
+    /// Binds the imports of all DLLs, and gives what they were asked for, a line each.
+    pub fn load(&mut self, alloc: Global) -> Result<String, Flaw> {
+        let mut asked = String::new(alloc);
+        let mut address = self.directory;
+        for _ in 0..self.count(address, 20)? {
+            if !self.load_dll(alloc, address, &mut asked)? {
+                return Ok(asked);
+            }
+            address = address.saturating_add(20);
+        }
+        Err("a directory has no end")
+    }
+
+    /// How many items of a size the image has room for from an address on.
+    fn count(&self, address: usize, size: usize) -> Result<usize, Flaw> {
+        let room = self.image.bytes_from(address)?.len();
+        Ok(room.checked_div(size).unwrap_or(0))
+    }
+
+    /// Binds the imports of the DLL whose descriptor is at an address, and says whether it is one:
+    /// the null descriptor is none.
+    fn load_dll(
+        &mut self,
+        alloc: Global,
+        address: usize,
+        asked: &mut String,
+    ) -> Result<bool, Flaw> {
+        let bytes = self.image.bytes_at(address, 20)?;
+        let Some(descriptor) = self.image.descriptor(bytes)? else {
+            return Ok(false);
+        };
+        let dll = String::from_str(alloc, descriptor.dll).map_err(|_| NO_MEMORY)?;
+        let mut lookup = descriptor.lookups;
+        let mut entry = descriptor.addresses;
+        let size = self.address_size();
+        for _ in 0..self.count(lookup, size)? {
+            if !self.bind(dll.as_str(), lookup, entry, asked)? {
+                return Ok(true);
+            }
+            lookup = lookup.saturating_add(size);
+            entry = entry.saturating_add(size);
+        }
+        Err("a table has no end")
+    }
+
+    /// Writes what a DLL gives into an entry, and says whether there is one: the null thunk ends
+    /// the tables.
+    fn bind(
+        &mut self,
+        dll: &str,
+        lookup: usize,
+        entry: usize,
+        asked: &mut String,
+    ) -> Result<bool, Flaw> {
+        let size = self.address_size();
+        let ask = self.image.ask(self.image.bytes_at(lookup, size)?)?;
+        if self.image.ask(self.image.bytes_at(entry, size)?)? != ask {
+            return Err("two tables differ");
+        }
+        let Some(ask) = ask else { return Ok(false) };
+        write!(asked, "{dll}: ").map_err(|_| NO_MEMORY)?;
+        show_ask(asked, ask).map_err(|_| NO_MEMORY)?;
+        let bytes = given(dll, ask);
+        let bytes = bytes.get(..size).ok_or("an entry is too wide")?;
+        self.image.write(entry, bytes)?;
+        Ok(true)
+    }
+}
+
+/// Appends what a DLL is asked for, and ends the line.
+pub fn show_ask(text: &mut String, ask: Ask) -> Result<(), AllocError> {
+    match ask {
+        Ask::Name(name, hint) => writeln!(text, "{name}, hint {hint}"),
+        Ask::Ordinal(ordinal) => writeln!(text, "ordinal {ordinal}"),
+    }
+}
