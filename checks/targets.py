@@ -64,16 +64,22 @@ class Linker:
     def __str__(self):
         return f"{self.kind} {tools.version_of(self.command)}"
 
-    def link(self, folder, files, options=("/safeseh:no",)):
-        """Links files to a program, which it gives. A linker that says anything has failed. The options
-        are for lld-link alone."""
-        target, image = TARGETS[self.machine], os.path.join(folder, "linked.exe")
+    def link(self, folder, files, options=("/safeseh:no",), name="linked.exe", base=None):
+        """Links files to a program, or to a DLL if the name ends so, for this base or the linker's own, and
+        gives it. A DLL exports what its objects say; lld-link makes one that does not start. A linker that says
+        anything has failed. The options are for lld-link alone."""
+        target, image = TARGETS[self.machine], os.path.join(folder, name)
+        is_dll = name.endswith(".dll")
         if self.kind == "lld-link":
-            flags = [f"/machine:{target.lld_link}", "/entry:start", "/subsystem:console", "/nodefaultlib"]
-            flags += [f"/out:{image}", *options]
+            flags = [f"/machine:{target.lld_link}", "/nodefaultlib", f"/out:{image}", *options]
+            flags += ["/dll", "/noentry"] if is_dll else ["/entry:start", "/subsystem:console"]
+            flags += [f"/base:{base:#x}"] if base is not None else []
         else:
             flags = ["-m", target.ld_lld] if self.kind == "ld.lld" else []
-            flags += ["-e", f"{target.lead}start", "--subsystem", "console", "-o", image]
+            flags += ["-e", f"{target.lead}start"]
+            flags += ["-shared"] if is_dll else ["--subsystem", "console"]
+            flags += ["--image-base", f"{base:#x}"] if base is not None else []
+            flags += ["-o", image]
         command = [self.command, *flags, *files]
         run = subprocess.run(command, capture_output=True, text=True, errors="replace")
         said = (run.stderr + run.stdout).strip()
