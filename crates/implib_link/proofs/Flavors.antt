@@ -18,3 +18,4 @@ pub mod PlacedStubs
 pub mod Steady
 pub mod Rebased
 pub mod MovedPointers
+pub mod LldTables

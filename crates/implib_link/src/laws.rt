@@ -6,6 +6,7 @@ pub mod calls;
 pub mod closed;
 pub mod exists;
 pub mod flavors;
+pub mod lld;
 pub mod loaded;
 pub mod msvc_archives;
 pub mod msvc_search;
