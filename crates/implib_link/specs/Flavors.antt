@@ -5,3 +5,4 @@ pub mod Program
 pub mod Texts
 pub mod Loaded
 pub mod LldTables
+pub mod LldImports

@@ -1,9 +1,12 @@
 //! Laws of the import tables that lld makes of short imports.
 
+ghost use Rattle.implib.specs.Formats.ShortImport.{ShortImport};
 ghost use Rattle.implib.specs.Link.Image.{AllApart, Range, range_end};
+ghost use Rattle.implib.specs.Link.Placement.{Placed};
 ghost use Rattle.implib.specs.Members.ImportTables.{thunk_width};
 ghost use Rattle.implib.specs.declared.machine.MachineType.{MachineType};
 ghost use Rattle.implib_link.specs.Directory.{DirectoryAt, Imported};
+ghost use Rattle.implib_link.specs.Flavors.LldImports.{IsLldProgram, LldLinks};
 ghost use Rattle.implib_link.specs.Flavors.LldTables.{ArePiecesAt, IsImportable, addresses_at,
     built, hints_at, lookups_at, names_at};
 ghost use Rattle.std.specs.List.{AllByRecursion, Contains};
@@ -31,4 +34,13 @@ pub fn one_piece_is_five()
         ArePiecesAt machine image base (lookups_at machine base imports)
         (addresses_at machine base imports) (hints_at machine base imports)
         (names_at machine base imports) imports }
+{}
+
+/// Of the short imports that lld took, its tables are a directory of just these, by DLL and symbol,
+/// and each `__imp_` symbol is its short import's own entry, from whichever object it is named.
+pub fn lld_links()
+    ensures links { (machine : MachineType) (descriptors addresses : ℕ)
+        (taken : List ShortImport) (image : List Range) (linked : List Placed) →
+        IsLldProgram machine descriptors addresses taken image linked →
+        LldLinks machine descriptors addresses taken image linked }
 {}
