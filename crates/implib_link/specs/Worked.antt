@@ -26,3 +26,4 @@ pub mod Exists
 pub mod MsvcArchives
 pub mod Writing
 pub mod OtherLibraries
+pub mod Lld

@@ -9,6 +9,7 @@ ghost use Rattle.implib_link.specs.Directory.{DirectoryAt, Imported};
 ghost use Rattle.implib_link.specs.Flavors.LldImports.{IsLldProgram, LldLinks};
 ghost use Rattle.implib_link.specs.Flavors.LldTables.{ArePiecesAt, IsImportable, addresses_at,
     built, hints_at, lookups_at, names_at};
+ghost use Rattle.implib_link.specs.Worked.Lld.{WorkedLld};
 ghost use Rattle.std.specs.List.{AllByRecursion, Contains};
 ghost use Rattle.std.specs.Prelude.{◌<◌, ◌^◌, ℕ, List};
 
@@ -43,4 +44,9 @@ pub fn lld_links()
         (taken : List ShortImport) (image : List Range) (linked : List Placed) →
         IsLldProgram machine descriptors addresses taken image linked →
         LldLinks machine descriptors addresses taken image linked }
+{}
+
+/// Tables that lld 19 wrote are those of the definitions, byte for byte.
+pub fn worked_lld()
+    ensures { WorkedLld }
 {}
