@@ -19,3 +19,6 @@ pub mod PlacedStubs
 pub mod Steady
 pub mod Rebased
 pub mod MovedPointers
+pub mod LldTables
+pub mod LldGroups
+pub mod LldImports

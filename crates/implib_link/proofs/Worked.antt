@@ -30,3 +30,4 @@ pub mod MsvcClosed
 pub mod RebasedPointers
 pub mod Choices
 pub mod Instructions
+pub mod Lld

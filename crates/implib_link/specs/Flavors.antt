@@ -4,3 +4,5 @@ pub mod Expansion
 pub mod Program
 pub mod Texts
 pub mod Loaded
+pub mod LldTables
+pub mod LldImports

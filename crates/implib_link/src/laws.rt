@@ -8,6 +8,7 @@ pub mod closed;
 pub mod exists;
 pub mod flavors;
 pub mod instructions;
+pub mod lld;
 pub mod loaded;
 pub mod msvc_archives;
 pub mod msvc_closed;

@@ -45,7 +45,7 @@ symbols_parts machine xs ys =
     ap (flat_map (λ (m : MemberView). m.symbols)) (flat_map-append (λ (p : LinkInput). linked_members p.definition machine p.chosen) xs ys)
     ∙ flat_map-append (λ (m : MemberView). m.symbols) (all_linked machine xs) (all_linked machine ys)
 
-definitions_parts : (name : List ℕ) (front rest : List Placed) → definitions_of name (front ++ rest) ≡ definitions_of name front ++ definitions_of name rest
+pub definitions_parts : (name : List ℕ) (front rest : List Placed) → definitions_of name (front ++ rest) ≡ definitions_of name front ++ definitions_of name rest
 definitions_parts name front rest =
     ap (filter (λ (d : SymbolDefinition). bytes_eq name d.name)) (flat_map-append defined_by front rest)
     ∙ filter-append (λ (d : SymbolDefinition). bytes_eq name d.name) (definitions front) (definitions rest)

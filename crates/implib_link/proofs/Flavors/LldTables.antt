@@ -1,0 +1,240 @@
+-- The tables that lld makes are a directory.
+use Rattle.std.proofs.Common.{◌≡◌, ℕ, zero, suc, true, ◌+◌, ◌*◌, ◌-◌, ◌%◌, ◌^◌, ◌<◌, ◌≤◌, List, [], ◌∷◌, ◌++◌, length, refl, ap, sym, ◌∙◌, subst, arith}
+use Rattle.std.specs.List.{AllByRecursion, Contains}
+use Rattle.std.proofs.Math.Nat.{mul-add}
+use Rattle.std.proofs.lemmas.List.{length-append, length-replicate}
+use Rattle.implib.specs.declared.machine.MachineType.{MachineType}
+use Rattle.implib.specs.declared.machine.MachineType.TheVariants.{I386, ARMNT, AMD64, ARM64}
+use Rattle.implib.specs.Formats.Bytes.{u16_bytes, u32_bytes}
+use Rattle.implib.specs.Formats.Layout.{HasNoNul}
+use Rattle.implib.specs.Import.{Ask, Name, Ordinal}
+use Rattle.implib.specs.Link.Image.{AllApart, Range, range_end}
+use Rattle.implib.specs.Link.Load.{BytesAt, NumberAt, TableAt, TextAt, WholeTableAt}
+use Rattle.implib.specs.Link.Placement.{next_multiple}
+use Rattle.implib.specs.Members.ImportTables.{thunk_width, zeros}
+use Rattle.implib.proofs.Link.Descriptors.{LoadsFrom, descriptor_loads, length-u32}
+use Rattle.implib.proofs.Link.Placement.{at_least, length-thunk_of}
+use Rattle.implib.proofs.Link.Ranges.{address_bounds, located_parts, range_located}
+use Rattle.implib.proofs.Link.Thunks.{StrictTableAt, StrictThunkAt, length-address, length-u16, name_located, ordinal_located, zeros_number}
+use Rattle.implib_link.proofs.Search.Lists.{contains_among}
+use Rattle.implib_link.specs.Directory.{DirectoryAt, Imported}
+use Rattle.implib_link.specs.Flavors.Expansion.{thunk_asking}
+use Rattle.implib_link.specs.Flavors.LldTables.{ArePiecesAt, IsAskable, IsImportable, addresses_at, all_hints, all_names, built, built_bytes, descriptor_built, directory_built, directory_end, hint_and_text, hint_built, hints_at, hints_built, lookups_at, names_at, tables_built, thunk_built, thunks_built, thunks_until}
+
+-- DLLs from a descriptor on, whose address tables follow one another, and the null descriptor
+unfoldable pub StandAt : List Range → ℕ → ℕ → ℕ → List Imported → Type 0
+StandAt image width descriptor table [] = BytesAt image descriptor (zeros 20)
+StandAt image width descriptor table (i ∷ imports) =
+    LoadsFrom image width descriptor table i.dll i.asks × StandAt image width (descriptor + 20) (table + width * (length i.asks + 1)) imports
+
+pub directory_stands : (image : List Range) (width : ℕ) (imports : List Imported) (descriptor table : ℕ) → StandAt image width descriptor table imports → DirectoryAt image width descriptor imports
+unfolding StandAt DirectoryAt
+directory_stands image width [] descriptor table all = all
+directory_stands image width (i ∷ imports) descriptor table all =
+    (all.0.loads, directory_stands image width imports (descriptor + 20) (table + width * (length i.asks + 1)) all.1)
+
+-- Lengths.
+
+length_thunk : (machine : MachineType) (place : ℕ) (ask : Ask) → length (thunk_built machine place ask) ≡ thunk_width machine
+unfolding thunk_built
+length_thunk machine place (Ordinal n) = length-thunk_of machine n true
+length_thunk machine place (Name text hint) = length-address machine place
+
+some_bytes : (machine : MachineType) → 0 < thunk_width machine
+some_bytes I386 = omega arith
+some_bytes ARMNT = omega arith
+some_bytes AMD64 = omega arith
+some_bytes ARM64 = omega arith
+
+-- a thunk more, for each width
+one_more : (machine : MachineType) (n : ℕ) → thunk_width machine + thunk_width machine * (n + 1) ≡ thunk_width machine * (suc n + 1)
+one_more I386 n = omega arith
+one_more ARMNT n = omega arith
+one_more AMD64 n = omega arith
+one_more ARM64 n = omega arith
+
+only_null : (machine : MachineType) → thunk_width machine ≡ thunk_width machine * 1
+only_null I386 = refl
+only_null ARMNT = refl
+only_null AMD64 = refl
+only_null ARM64 = refl
+
+length_thunks : (machine : MachineType) (place : ℕ) (asks : List Ask) → length (thunks_built machine place asks) ≡ thunk_width machine * (length asks + 1)
+unfolding thunks_built
+length_thunks machine place [] = length-replicate {A = ℕ} (thunk_width machine) 0 ∙ only_null machine
+length_thunks machine place (ask ∷ asks) =
+    let later : ℕ = place + length (hint_built ask) in
+    length-append (thunk_built machine place ask) (thunks_built machine later asks)
+    ∙ ap (λ n. n + length (thunks_built machine later asks)) (length_thunk machine place ask)
+    ∙ ap (λ n. thunk_width machine + n) (length_thunks machine later asks)
+    ∙ one_more machine (length asks)
+
+no_thunks : (machine : MachineType) → 0 ≡ thunk_width machine * 0
+no_thunks I386 = refl
+no_thunks ARMNT = refl
+no_thunks AMD64 = refl
+no_thunks ARM64 = refl
+
+length_tables : (machine : MachineType) (place : ℕ) (imports : List Imported) → length (tables_built machine place imports) ≡ thunk_width machine * thunks_until (length imports) imports
+unfolding tables_built
+length_tables machine place [] = no_thunks machine
+length_tables machine place (i ∷ imports) =
+    let later : ℕ = place + length (hints_built i.asks) in
+    length-append (thunks_built machine place i.asks) (tables_built machine later imports)
+    ∙ ap (λ n. n + length (tables_built machine later imports)) (length_thunks machine place i.asks)
+    ∙ ap (λ n. thunk_width machine * (length i.asks + 1) + n) (length_tables machine later imports)
+    ∙ sym (mul-add (thunk_width machine) (length i.asks + 1) (thunks_until (length imports) imports))
+
+length_descriptor : (lookups name addresses : ℕ) → length (descriptor_built lookups name addresses) ≡ 20
+unfolding descriptor_built u32_bytes
+length_descriptor lookups name addresses = refl
+
+length_directory : (machine : MachineType) (lookups name addresses : ℕ) (imports : List Imported) → length (directory_built machine lookups name addresses imports) ≡ 20 * (length imports + 1)
+unfolding directory_built
+length_directory machine lookups name addresses [] = refl
+length_directory machine lookups name addresses (i ∷ imports) =
+    let rest : List ℕ = directory_built machine (lookups + thunk_width machine * (length i.asks + 1)) (name + length (i.dll ++ 0 ∷ [])) (addresses + thunk_width machine * (length i.asks + 1)) imports in
+    let own : length (descriptor_built lookups name addresses) ≡ 20 = length_descriptor lookups name addresses in
+    let others : length rest ≡ 20 * (length imports + 1) = length_directory machine (lookups + thunk_width machine * (length i.asks + 1)) (name + length (i.dll ++ 0 ∷ [])) (addresses + thunk_width machine * (length i.asks + 1)) imports in
+    length-append (descriptor_built lookups name addresses) rest ∙ omega arith
+
+-- The pieces stand.
+
+small_number : (n : ℕ) → n < 2 ^ 31 → n ≡ (0 + (n + 0)) % 2 ^ 32
+small_number n small = omega arith
+
+module _ (machine : MachineType) (image : List Range) (starts : AllByRecursion (λ r. 0 < r.start) image) (ends : AllByRecursion (λ r. range_end r < 2 ^ 31) image) where
+  bounds : (a : ℕ) (bytes : List ℕ) → 0 < length bytes → BytesAt image a bytes → (0 < a) × (a < 2 ^ 31)
+  unfolding BytesAt
+  bounds a [] some located = absurd (omega arith)
+  bounds a (byte ∷ bytes) some located = address_bounds image a byte starts ends located.0
+
+  thunk_stands : (ask : Ask) (place a : ℕ) → IsAskable ask → BytesAt image a (thunk_built machine place ask) → BytesAt image place (hint_built ask) →
+      StrictThunkAt image (thunk_width machine) a ask
+  unfolding IsAskable thunk_built hint_built
+  thunk_stands (Ordinal n) place a askable located hint = ordinal_located machine image n a askable located
+  thunk_stands (Name text hint) place a askable located hint_located =
+      let own = located_parts image (hint_and_text text hint) (zeros (length (hint_and_text text hint) % 2)) place hint_located in
+      let long : 0 < length (hint_and_text text hint) = rw (length-append (u16_bytes hint) (text ++ 0 ∷ []), length-u16 hint) (omega arith) in
+      let small = bounds place (hint_and_text text hint) long own.0 in
+      name_located machine image starts ends text hint place a askable.0 askable.1
+      (subst (λ n. BytesAt image a (u32_bytes n ++ zeros (thunk_width machine - 4))) (small_number place small.1) located) own.0
+
+  table_stands : (asks : List Ask) (place a : ℕ) → AllByRecursion IsAskable asks → BytesAt image a (thunks_built machine place asks) → BytesAt image place (hints_built asks) →
+      StrictTableAt image (thunk_width machine) a asks
+  unfolding thunks_built hints_built TableAt WholeTableAt
+  table_stands [] place a askable located hints = record {
+    plain = record { bytes = zeros (thunk_width machine); located = located; count = length-replicate {A = ℕ} (thunk_width machine) 0; value = zeros_number machine };
+    whole = tt;
+  }
+  table_stands (ask ∷ asks) place a askable located hints =
+      let later : ℕ = place + length (hint_built ask) in
+      let thunks = located_parts image (thunk_built machine place ask) (thunks_built machine later asks) a located in
+      let texts = located_parts image (hint_built ask) (hints_built asks) place hints in
+      let first = thunk_stands ask place a askable.0 thunks.0 texts.0 in
+      let rest = table_stands asks later (a + thunk_width machine) askable.1
+      (subst (λ n. BytesAt image (a + n) (thunks_built machine later asks)) (length_thunk machine place ask) thunks.1) texts.1 in
+      record { plain = (first.plain, rest.plain); whole = (first.whole, rest.whole) }
+
+  some_thunks : (place : ℕ) (asks : List Ask) → 0 < length (thunks_built machine place asks)
+  some_thunks place asks =
+      let width : 0 < thunk_width machine = some_bytes machine in
+      let long : length (thunks_built machine place asks) ≡ thunk_width machine * (length asks + 1) = length_thunks machine place asks in
+      let split : thunk_width machine * (length asks + 1) ≡ thunk_width machine * length asks + thunk_width machine * 1 = mul-add (thunk_width machine) (length asks) 1 in
+      let one : thunk_width machine ≡ thunk_width machine * 1 = only_null machine in
+      omega arith
+
+  descriptor_stands : (i : Imported) (descriptor lookups name addresses place : ℕ) → IsImportable i → BytesAt image descriptor (descriptor_built lookups name addresses) →
+      BytesAt image lookups (thunks_built machine place i.asks) → BytesAt image addresses (thunks_built machine place i.asks) → BytesAt image place (hints_built i.asks) →
+      BytesAt image name (i.dll ++ 0 ∷ []) → LoadsFrom image (thunk_width machine) descriptor addresses i.dll i.asks
+  unfolding descriptor_built
+  descriptor_stands i descriptor lookups name addresses place importable located lookup_table address_table hints text =
+      let long : 0 < length (i.dll ++ 0 ∷ []) = rw (length-append i.dll (0 ∷ [])) (omega arith) in
+      let lookups_small = bounds lookups (thunks_built machine place i.asks) (some_thunks place i.asks) lookup_table in
+      let addresses_small = bounds addresses (thunks_built machine place i.asks) (some_thunks place i.asks) address_table in
+      let name_small = bounds name (i.dll ++ 0 ∷ []) long text in
+      descriptor_loads machine image starts ends descriptor lookups addresses name i.dll i.asks
+      (subst (λ n. BytesAt image descriptor (u32_bytes n ++ (zeros 4 ++ (zeros 4 ++ (u32_bytes ((0 + (name + 0)) % 2 ^ 32) ++ u32_bytes ((0 + (addresses + 0)) % 2 ^ 32))))))
+      (small_number lookups lookups_small.1)
+      (subst (λ n. BytesAt image descriptor (u32_bytes lookups ++ (zeros 4 ++ (zeros 4 ++ (u32_bytes n ++ u32_bytes ((0 + (addresses + 0)) % 2 ^ 32))))))
+      (small_number name name_small.1)
+      (subst (λ n. BytesAt image descriptor (u32_bytes lookups ++ (zeros 4 ++ (zeros 4 ++ (u32_bytes name ++ u32_bytes n)))))
+      (small_number addresses addresses_small.1) located)))
+      (table_stands i.asks place lookups importable.asks lookup_table hints)
+      (table_stands i.asks place addresses importable.asks address_table hints)
+      (record { no_nul = importable.name; located = text })
+
+  all_stand : (imports : List Imported) (descriptor lookups name addresses place : ℕ) → AllByRecursion IsImportable imports →
+      BytesAt image descriptor (directory_built machine lookups name addresses imports) → BytesAt image lookups (tables_built machine place imports) →
+      BytesAt image addresses (tables_built machine place imports) → BytesAt image place (all_hints imports) → BytesAt image name (all_names imports) →
+      StandAt image (thunk_width machine) descriptor addresses imports
+  unfolding StandAt directory_built tables_built all_hints all_names
+  all_stand [] descriptor lookups name addresses place importable directory lookup_tables address_tables hints names = directory
+  all_stand (i ∷ imports) descriptor lookups name addresses place importable directory lookup_tables address_tables hints names =
+      let next : ℕ = place + length (hints_built i.asks) in
+      let span : ℕ = thunk_width machine * (length i.asks + 1) in
+      let rows = located_parts image (descriptor_built lookups name addresses) (directory_built machine (lookups + span) (name + length (i.dll ++ 0 ∷ [])) (addresses + span) imports) descriptor directory in
+      let first = located_parts image (thunks_built machine place i.asks) (tables_built machine next imports) lookups lookup_tables in
+      let second = located_parts image (thunks_built machine place i.asks) (tables_built machine next imports) addresses address_tables in
+      let texts = located_parts image (hints_built i.asks) (all_hints imports) place hints in
+      let dlls = located_parts image (i.dll ++ 0 ∷ []) (all_names imports) name names in
+      (
+        descriptor_stands i descriptor lookups name addresses place importable.0 rows.0 first.0 second.0 texts.0 dlls.0,
+        all_stand imports (descriptor + 20) (lookups + span) (name + length (i.dll ++ 0 ∷ [])) (addresses + span) next importable.1
+            (subst (λ n. BytesAt image (descriptor + n) (directory_built machine (lookups + span) (name + length (i.dll ++ 0 ∷ [])) (addresses + span) imports)) (length_descriptor lookups name addresses) rows.1)
+            (subst (λ n. BytesAt image (lookups + n) (tables_built machine next imports)) (length_thunks machine place i.asks) first.1)
+            (subst (λ n. BytesAt image (addresses + n) (tables_built machine next imports)) (length_thunks machine place i.asks) second.1)
+            texts.1 dlls.1,
+      )
+
+  pub pieces_stand : (descriptors lookups addresses hints names : ℕ) (imports : List Imported) → AllByRecursion IsImportable imports →
+      ArePiecesAt machine image descriptors lookups addresses hints names imports → StandAt image (thunk_width machine) descriptors addresses imports
+  pieces_stand descriptors lookups addresses hints names imports importable pieces =
+      all_stand imports descriptors lookups names addresses hints importable pieces.directory pieces.lookup_tables pieces.address_tables pieces.hint_names pieces.dll_names
+
+pub pieces_directory : (machine : MachineType) (image : List Range) (descriptors lookups addresses hints names : ℕ) (imports : List Imported) →
+    AllByRecursion (λ r. 0 < r.start) image → AllByRecursion (λ r. range_end r < 2 ^ 31) image → AllByRecursion IsImportable imports →
+    ArePiecesAt machine image descriptors lookups addresses hints names imports → DirectoryAt image (thunk_width machine) descriptors imports
+pieces_directory machine image descriptors lookups addresses hints names imports starts ends importable pieces =
+    directory_stands image (thunk_width machine) imports descriptors addresses
+    (pieces_stand machine image starts ends descriptors lookups addresses hints names imports importable pieces)
+
+-- One piece is five.
+
+step : (a n b : ℕ) → a ≤ b → n ≡ b - a → a + n ≡ b
+step a n b le is = omega arith
+
+pub built_pieces : (machine : MachineType) (base : ℕ) (imports : List Imported) (image : List Range) → AllApart image → Contains image (built machine base imports) →
+    ArePiecesAt machine image base (lookups_at machine base imports) (addresses_at machine base imports) (hints_at machine base imports) (names_at machine base imports) imports
+unfolding built_bytes
+built_pieces machine base imports image apart holds =
+    let lookups : ℕ = lookups_at machine base imports in
+    let addresses : ℕ = addresses_at machine base imports in
+    let hints : ℕ = hints_at machine base imports in
+    let names : ℕ = names_at machine base imports in
+    let rows : List ℕ = directory_built machine lookups names addresses imports in
+    let gap : List ℕ = zeros (lookups - directory_end base imports) in
+    let tables : List ℕ = tables_built machine hints imports in
+    let behind_second : List ℕ = all_hints imports ++ all_names imports in
+    let behind_first : List ℕ = tables ++ behind_second in
+    let behind_gap : List ℕ = tables ++ behind_first in
+    let whole : BytesAt image base (rows ++ (gap ++ behind_gap)) = range_located (built machine base imports) image (contains_among (built machine base imports) image holds) apart in
+    let first = located_parts image rows (gap ++ behind_gap) base whole in
+    let at_gap : BytesAt image (directory_end base imports) (gap ++ behind_gap) =
+    subst (λ n. BytesAt image (base + n) (gap ++ behind_gap)) (length_directory machine lookups names addresses imports) first.1 in
+    let second = located_parts image gap behind_gap (directory_end base imports) at_gap in
+    let at_lookups : BytesAt image lookups behind_gap =
+    subst (λ n. BytesAt image n behind_gap)
+    (step (directory_end base imports) (length gap) lookups (at_least (thunk_width machine) (directory_end base imports)) (length-replicate {A = ℕ} (lookups - directory_end base imports) 0)) second.1 in
+    let third = located_parts image tables behind_first lookups at_lookups in
+    let at_addresses : BytesAt image addresses behind_first = subst (λ n. BytesAt image (lookups + n) behind_first) (length_tables machine hints imports) third.1 in
+    let fourth = located_parts image tables behind_second addresses at_addresses in
+    let at_hints : BytesAt image hints behind_second = subst (λ n. BytesAt image (addresses + n) behind_second) (length_tables machine hints imports) fourth.1 in
+    let fifth = located_parts image (all_hints imports) (all_names imports) hints at_hints in
+    record {
+      directory = first.0;
+      lookup_tables = third.0;
+      address_tables = fourth.0;
+      hint_names = fifth.0;
+      dll_names = fifth.1;
+    }
