@@ -25,3 +25,4 @@ pub mod Pages
 pub mod Exists
 pub mod MsvcArchives
 pub mod MsvcClosed
+pub mod MsvcExists
