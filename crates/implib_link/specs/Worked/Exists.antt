@@ -1,14 +1,12 @@
 -- The closed program by hand, as the law says that there is one; and places where there is none.
-use Rattle.std.specs.Prelude.{◌≡◌, ◌<◌, ◌^◌, List, [], ◌∷◌}
-use Rattle.std.specs.List.{AllByRecursion}
+use Rattle.std.specs.Prelude.{◌≡◌, ◌<◌, ◌^◌, [], ◌∷◌}
 use Rattle.implib.specs.declared.machine.MachineType.TheVariants.{AMD64}
 use Rattle.implib.specs.Link.Image.{image_of}
 use Rattle.implib.specs.Link.Placement.{placed_from}
 use Rattle.implib_link.specs.Gnu.Packed.{packed, packed_end}
 use Rattle.implib_link.specs.Gnu.Program.{null_descriptor}
-use Rattle.implib_link.specs.Search.Archives.{Library}
 use Rattle.implib_link.specs.Search.Closed.{IsClosed}
-use Rattle.implib_link.specs.Search.Exists.{AreChosenFor, HasClosed, LieWithin, library_room, tables_end}
+use Rattle.implib_link.specs.Search.Exists.{AreChosenFor, HasClosed, LieWithin, tables_end}
 use Rattle.implib_link.specs.Worked.Archives.{two_libraries}
 use Rattle.implib_link.specs.Worked.Closed.{choosing, closed_bases, closed_objects, closed_taken, zed_first}
 
