@@ -1,5 +1,5 @@
--- The closed program for Microsoft's linker by hand, as the law says that there is one; and places where there is
--- none.
+-- The closed program for Microsoft's linker by hand, as the law says that there is one; and places where
+-- there is none.
 use Rattle.std.specs.Prelude.{◌≡◌, ◌<◌, ◌^◌, [], ◌∷◌}
 use Rattle.implib.specs.declared.machine.MachineType.TheVariants.{AMD64}
 use Rattle.implib.specs.Link.Image.{image_of}
@@ -13,11 +13,11 @@ use Rattle.implib_link.specs.Worked.Closed.{choosing}
 use Rattle.implib_link.specs.Worked.MsvcArchives.{shorts_of_both, two_msvc}
 use Rattle.implib_link.specs.Worked.MsvcClosed.{msvc_bases, msvc_objects, msvc_zed_first}
 
--- The tables of the two libraries that begin at 0x2000 end by 0x2196: of foo.dll there are at most 72 bytes, 7 for its
--- name, and 43 for each of `bar` and `baz`; of zed.dll 72, 7, and 45 for each of `queue` and `stack`; 72 beside them.
--- So there is a closed program; the one that was linked by hand lies there, and ends at 0x20A0. From address 0 on
--- there is none, nor is the one by hand such a program right below 2^31, where there is no room. An object that
--- holds a part of the import tables is in no such program.
+-- The tables of the two libraries that begin at 0x2000 end by 0x2196: of foo.dll there are at most 72 bytes,
+-- 7 for its name, and 43 for each of `bar` and `baz`; of zed.dll 72, 7, and 45 for each of `queue` and
+-- `stack`; 72 beside them. So there is a closed program; the one that was linked by hand lies there, and
+-- ends at 0x20A0. From address 0 on there is none, nor is the one by hand such a program right below 2^31,
+-- where there is no room. An object that holds a part of the import tables is in no such program.
 pub record WorkedMsvcExists : Type 0 where
   pub room : msvc_tables_end 0x2000 two_msvc ≡ 0x2196
   pub end : packed_end 0x2000 msvc_objects ≡ 0x20A0
