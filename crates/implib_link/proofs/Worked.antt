@@ -31,3 +31,4 @@ pub mod RebasedPointers
 pub mod Choices
 pub mod Instructions
 pub mod Lld
+pub mod MsvcExists

@@ -1,7 +1,7 @@
 -- What a linker takes of an archive of libraries for Microsoft's linker.
-use Rattle.std.proofs.Common.{◌≡◌, ℕ, ◌+◌, Bool, true, false, List, [], ◌∷◌, ◌++◌, map, Option, None, Some, refl, ap, sym, ◌∙◌, subst, inl, inr, ◌⊎◌}
-use Rattle.std.specs.Prelude.{bytes_eq, ◌&&◌, not, slice_get}
-use Rattle.std.specs.List.{AllByRecursion, cons_option, filter, filter_map, flat_map, list_any}
+use Rattle.std.proofs.Common.{◌≡◌, ℕ, Bool, true, false, List, [], ◌∷◌, ◌++◌, map, Some, refl, ap, sym, ◌∙◌, subst, inl, inr, ◌⊎◌}
+use Rattle.std.specs.Prelude.{bytes_eq, not}
+use Rattle.std.specs.List.{cons_option, filter, flat_map, list_any}
 use Rattle.std.proofs.lemmas.Bool.{and_parts, cases_Bool, false_from_ne_true, true≢false}
 use Rattle.implib.specs.declared.machine.MachineType.{MachineType}
 use Rattle.implib.specs.declared.flavor.Flavor.TheVariants.{Msvc}
@@ -16,13 +16,13 @@ use Rattle.implib.specs.Members.MsvcMembers.{descriptor_spec, null_descriptor_sp
 use Rattle.implib.specs.Members.MsvcObjects.{descriptor, descriptor_symbol, null_descriptor, null_descriptor_symbol, null_thunk, null_thunk_symbol}
 use Rattle.implib.specs.Members.WeakExternal.{weak_object}
 use Rattle.implib.proofs.Link.LinkedMembers.{among_contains, among_map}
-use Rattle.implib.proofs.Link.Ranges.{Among, all_among, among_back, among_first, among_flat, among_front, among_later}
+use Rattle.implib.proofs.Link.Ranges.{Among, all_among, among_back, among_first, among_front, among_later}
 use Rattle.implib_link.specs.Flavors.Expansion.{Code, Constant, Data, Use, descriptor_symbol_by_name, expanded_in, import_object}
-use Rattle.implib_link.specs.Flavors.Program.{FlavorInput, all_members, ask_in, members_linked, objects_taken, specs_in}
+use Rattle.implib_link.specs.Flavors.Program.{FlavorInput, all_members, ask_in, objects_taken, specs_in}
 use Rattle.implib_link.specs.Flavors.SectionSymbols.{with_section_symbols}
 use Rattle.implib_link.specs.Gnu.Program.{claimed_names}
 use Rattle.implib_link.specs.Search.Archives.{Library, archive_of, exports_of, has_weak}
-use Rattle.implib_link.specs.Search.Msvc.{AreTakenInTurn, NamesNoHeader, PullsInFor, TakesFor, claimed_in, is_short_wanted, left_in}
+use Rattle.implib_link.specs.Search.Msvc.{AreTakenInTurn, NamesNoHeader, TakesFor, claimed_in, is_short_wanted, left_in}
 use Rattle.implib_link.specs.Search.MsvcArchives.{IsMsvcArchive, IsMsvcLibrary, IsWeakShort, NamesNoHeaderOf, TakesOfShorts, first_null, imports_wanted, is_import_wanted, is_short_alias, is_weak_in, others_in, short_input_if_any, short_inputs, shorts_linked, wanted_with_weak, weak_in, with_first_null}
 use Rattle.implib_link.specs.Search.Search.{first_listed, is_listed_for, undefined_in}
 use Rattle.implib_link.proofs.Flavors.Block.{asking, use_for}
@@ -31,9 +31,9 @@ use Rattle.implib_link.proofs.Flavors.Expanded.{taken_descriptor, taken_null, ta
 use Rattle.implib_link.proofs.Search.ArchiveGroups.{first_is}
 use Rattle.implib_link.proofs.Search.Arranged.{all_each}
 use Rattle.implib_link.proofs.Search.Closed.{passes, passing, there_not, to_not}
-use Rattle.implib_link.proofs.Search.Lists.{among_any, among_either, among_mapped, any_among, any_member, contains_among, none_listed}
+use Rattle.implib_link.proofs.Search.Lists.{among_either, among_mapped, any_among, any_member, contains_among, none_listed}
 use Rattle.implib_link.proofs.Search.Msvc.{left_asking, left_descriptor, left_null, left_thunk, name_taken, passing_chosen, some_export, taken_name}
-use Rattle.implib_link.proofs.Search.MsvcMembers.{Found, FoundDescriptor, FoundNull, FoundShort, FoundThunk, FoundWeak, IsPair, claims_weak, descriptor_found, descriptor_is, descriptor_of, found, left_weak, null_found, null_is, null_of, short_found, short_is, short_of, taken_weak, thunk_found, thunk_is, thunk_of, weak_found, weak_is, weak_of}
+use Rattle.implib_link.proofs.Search.MsvcMembers.{Found, FoundDescriptor, FoundNull, FoundShort, FoundThunk, FoundWeak, IsPair, claims_weak, descriptor_found, descriptor_is, descriptor_of, found, null_found, null_is, null_of, short_found, short_is, short_of, taken_weak, thunk_found, thunk_is, thunk_of, weak_found, weak_is, weak_of}
 use Rattle.implib_link.proofs.Search.Search.{in_nothing, only_one, wanted_name, wants}
 
 -- some short import of a library is wanted

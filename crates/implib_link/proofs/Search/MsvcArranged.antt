@@ -1,6 +1,6 @@
 -- What is linked of an archive of libraries for Microsoft's linker, where the libraries may be in another order; and
 -- that its symbols differ, since those do that the archive lists.
-use Rattle.std.proofs.Common.{◌≡◌, ℕ, ◌+◌, ◌≤◌, true, List, [], ◌∷◌, ◌++◌, map, Option, Some, None, refl, ap, sym, ◌∙◌, subst, inl, inr, arith}
+use Rattle.std.proofs.Common.{◌≡◌, ℕ, ◌+◌, ◌≤◌, true, List, [], ◌∷◌, ◌++◌, map, Some, refl, ap, sym, ◌∙◌, subst, inl, inr, arith}
 use Rattle.std.specs.Prelude.{IsPermutation, bytes_eq}
 use Rattle.std.specs.List.{AllByRecursion, IsDistinct, cons_option, filter, flat_map}
 use Rattle.std.proofs.lemmas.Bool.{cases_Bool}
@@ -12,10 +12,9 @@ use Rattle.implib.specs.Link.LinkedMembers.{chosen_exports}
 use Rattle.implib.specs.Members.MemberSpec.{MemberView}
 use Rattle.implib.specs.Members.Msvc.{short_import_symbols}
 use Rattle.implib.specs.Members.MsvcObjects.{descriptor_symbol, null_descriptor_symbol, null_thunk_symbol}
-use Rattle.implib.proofs.Link.LinkedMembers.{among_contains}
 use Rattle.implib.proofs.Link.Ranges.{Among, all_among}
 use Rattle.implib_link.specs.Flavors.Expansion.{descriptor_symbol_by_name}
-use Rattle.implib_link.specs.Flavors.Program.{FlavorInput, IsFoundByName, IsMadeFor, all_members, dll_of, exports_chosen, symbols_listed}
+use Rattle.implib_link.specs.Flavors.Program.{FlavorInput, IsFoundByName, IsMadeFor, all_members, dll_of, symbols_listed}
 use Rattle.implib_link.specs.Search.Archives.{Library, exports_of}
 use Rattle.implib_link.specs.Search.MsvcArchives.{IsMsvcArchive, IsMsvcLibrary, imports_wanted, is_import_wanted, short_input_if_any, short_inputs, symbols_of_short, symbols_of_shorts}
 use Rattle.implib_link.proofs.Flavors.Block.{symbols_of}
@@ -26,7 +25,6 @@ use Rattle.implib_link.proofs.Search.Closed.{passes}
 use Rattle.implib_link.proofs.Search.Counts.{distinct_from, few_from, times, times_both, times_moved}
 use Rattle.implib_link.proofs.Search.Msvc.{some_export}
 use Rattle.implib_link.proofs.Search.MsvcArchives.{AnyImport, import_parts, imports_are, linked_of, of_linked}
-use Rattle.implib_link.proofs.Search.Search.{in_nothing}
 
 -- Libraries in another order are an archive, and the same members are linked of them.
 

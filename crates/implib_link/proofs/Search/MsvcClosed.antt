@@ -1,10 +1,9 @@
 -- A closed program with libraries for Microsoft's linker links.
-use Rattle.std.proofs.Common.{◌≡◌, ℕ, ◌+◌, ◌*◌, ◌<◌, ◌⊎◌, true, false, List, [], ◌∷◌, ◌++◌, length, map, Option, Some, refl, ap, sym, ◌∙◌, subst, inl, inr, arith}
-use Rattle.std.specs.Prelude.{bytes_eq, not, slice_get}
+use Rattle.std.proofs.Common.{◌≡◌, ℕ, ◌+◌, ◌*◌, ◌<◌, ◌⊎◌, true, false, List, [], ◌∷◌, ◌++◌, length, Option, Some, refl, ap, sym, ◌∙◌, subst, inl, inr, arith}
+use Rattle.std.specs.Prelude.{not, slice_get}
 use Rattle.std.specs.List.{AllByRecursion, Contains, filter, flat_map, list_any}
 use Rattle.std.proofs.lemmas.Bool.{cases_Bool, true≢false}
 use Rattle.std.proofs.lemmas.Grind.{flat_map-append}
-use Rattle.std.proofs.lemmas.List.Elements.{filter_map-append}
 use Rattle.std.proofs.lemmas.List.Sorted.{IsPermutation-sym}
 use Rattle.implib.specs.declared.flavor.Flavor.TheVariants.{Msvc}
 use Rattle.implib.specs.declared.machine.MachineType.{MachineType}
@@ -19,15 +18,15 @@ use Rattle.implib.specs.Members.MemberSpec.{MemberView}
 use Rattle.implib.specs.Members.Msvc.{short_import_symbol, short_import_symbols}
 use Rattle.implib.specs.Members.MsvcMembers.{descriptor_spec, null_descriptor_spec, null_thunk_spec}
 use Rattle.implib.specs.Members.MsvcObjects.{descriptor_symbol, null_descriptor_symbol, null_thunk_symbol}
-use Rattle.implib.proofs.Link.LinkedMembers.{among_contains, among_map}
+use Rattle.implib.proofs.Link.LinkedMembers.{among_contains}
 use Rattle.implib.proofs.Link.Ranges.{Among, all_among, among_back, among_first, among_flat, among_front, among_later}
 use Rattle.implib_link.specs.Flavors.Expansion.{expanded_in}
 use Rattle.implib_link.specs.Flavors.Program.{AreFlavorObjects, FlavorInput, FlavorsLink, IsFlavorProgram, IsMadeFor, all_members, ask_in, dll_of, exports_chosen, null_member, objects_taken, symbols_listed, thunks_of}
 use Rattle.implib_link.specs.Gnu.Program.{ClaimsNone, claimed_names, has_tables}
 use Rattle.implib_link.specs.Search.Archives.{Library, archive_of, exports_of}
-use Rattle.implib_link.specs.Search.Closed.{claims_of, listed_in, references_of, unresolved}
+use Rattle.implib_link.specs.Search.Closed.{listed_in, unresolved}
 use Rattle.implib_link.specs.Search.Msvc.{AreTakenInTurn, NamesNoHeader, PullsInFor, TakesFor, claimed_in, left_in}
-use Rattle.implib_link.specs.Search.MsvcArchives.{IsMsvcArchive, IsMsvcLibrary, TakesOfShorts, first_null, imports_wanted, is_import_wanted, is_short_alias, is_weak_in, others_in, short_inputs, shorts_linked, weak_in, with_first_null}
+use Rattle.implib_link.specs.Search.MsvcArchives.{IsMsvcArchive, IsMsvcLibrary, TakesOfShorts, first_null, is_import_wanted, is_short_alias, is_weak_in, others_in, short_inputs, shorts_linked, weak_in}
 use Rattle.implib_link.specs.Search.MsvcClosed.{AreClosedForMsvc, AreTakenIntoFor, IsClosedForMsvc, IsImportedShort, IsUsedShort, IsWeakTaken, LinksClosedForMsvc, PullsIntoFor, TakesIntoFor, inputs_for, wanted_for}
 use Rattle.implib_link.specs.Search.Search.{first_listed, is_listed_for, undefined_in}
 use Rattle.implib_link.proofs.Flavors.Block.{asking}
@@ -38,9 +37,9 @@ use Rattle.implib_link.proofs.Flavors.Loaded.{entry_of}
 use Rattle.implib_link.proofs.Flavors.Program.{flavors_link}
 use Rattle.implib_link.proofs.Search.Arranged.{all_each, among_moved}
 use Rattle.implib_link.proofs.Search.Closed.{at_index, claims_apart, claims_none, from_not, not_there, passes, passing, there_not, to_not, unresolved_from, unresolved_parts}
-use Rattle.implib_link.proofs.Search.Lists.{among_any, among_at, among_either, among_flat_map, any_among, any_member, contains_among, listed_is, none_listed}
+use Rattle.implib_link.proofs.Search.Lists.{among_any, among_at, among_either, among_flat_map, any_member, contains_among, listed_is, none_listed}
 use Rattle.implib_link.proofs.Search.Msvc.{name_taken, taken_name}
-use Rattle.implib_link.proofs.Search.MsvcArchives.{AShort, AnyImport, TheDescriptor, alias_is_weak, both_parts, import_parts, imports_are, linked_of, linked_there, member_with, null_or_member, null_with, of_linked, shorts_taken}
+use Rattle.implib_link.proofs.Search.MsvcArchives.{AShort, AnyImport, TheDescriptor, alias_is_weak, both_parts, import_parts, imports_are, linked_there, member_with, null_or_member, null_with, of_linked, shorts_taken}
 use Rattle.implib_link.proofs.Search.MsvcArranged.{short_input_for, short_input_held, short_input_is, short_inputs_found, short_inputs_made, shorts_distinct, shorts_linked_moved, shorts_moved}
 use Rattle.implib_link.proofs.Search.MsvcMembers.{Found, FoundDescriptor, FoundNull, FoundShort, FoundThunk, FoundWeak, claims_weak, descriptor_found, descriptor_is, descriptor_of, found, null_found, null_is, null_of, short_found, short_is, short_of, taken_weak, thunk_found, thunk_is, thunk_of, weak_found, weak_is, weak_of}
 use Rattle.implib_link.proofs.Search.Search.{in_nothing, only_one, wanted_name, wants}

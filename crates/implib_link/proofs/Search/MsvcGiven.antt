@@ -1,8 +1,8 @@
 -- What Microsoft's linker takes for given objects closes the program, by what is asked of the objects alone.
-use Rattle.std.proofs.Common.{◌≡◌, ℕ, ◌<◌, ◌⊎◌, true, List, [], ◌∷◌, ◌++◌, length, map, Option, Some, refl, ap, sym, ◌∙◌, subst, inl, inr, arith}
-use Rattle.std.specs.Prelude.{IsPermutation, bytes_eq}
+use Rattle.std.proofs.Common.{◌≡◌, ℕ, ◌<◌, ◌⊎◌, true, List, [], ◌∷◌, ◌++◌, length, Option, Some, refl, ap, sym, ◌∙◌, subst, inl, inr, arith}
+use Rattle.std.specs.Prelude.{IsPermutation}
 use Rattle.std.proofs.lemmas.Bool.{true≢false}
-use Rattle.std.specs.List.{AllByRecursion, filter, flat_map, list_any}
+use Rattle.std.specs.List.{AllByRecursion, filter, flat_map}
 use Rattle.implib.specs.declared.flavor.Flavor.TheVariants.{Msvc}
 use Rattle.implib.specs.declared.machine.MachineType.{MachineType}
 use Rattle.implib.specs.Definition.{ExportView}
@@ -18,7 +18,7 @@ use Rattle.implib_link.specs.Flavors.Program.{ask_in, objects_taken}
 use Rattle.implib_link.specs.Gnu.Program.{ClaimsNone, claimed_names}
 use Rattle.implib_link.specs.Search.Archives.{Library, archive_of, exports_of}
 use Rattle.implib_link.specs.Search.Closed.{listed_in, unresolved}
-use Rattle.implib_link.specs.Search.Msvc.{AreTakenInTurn, NamesNoHeader, is_short_wanted, left_in}
+use Rattle.implib_link.specs.Search.Msvc.{AreTakenInTurn, NamesNoHeader, left_in}
 use Rattle.implib_link.specs.Search.MsvcArchives.{IsMsvcArchive, IsMsvcLibrary, NamesNoHeaderOf, is_import_wanted, is_short_alias, is_weak_in, short_inputs, weak_in}
 use Rattle.implib_link.specs.Search.MsvcClosed.{AreClosedForMsvc, AreLinkedForMsvc, TakesIntoFor, inputs_for, wanted_for}
 use Rattle.implib_link.specs.Search.MsvcGiven.{AreGivenForMsvc, headers_of, import_symbols_wanted, short_targets, symbols_kept_for, wanted_for_at_most}
@@ -28,8 +28,8 @@ use Rattle.implib_link.proofs.Flavors.Expanded.{taken_descriptor, taken_null, ta
 use Rattle.implib_link.proofs.Search.Arranged.{all_each, among_moved}
 use Rattle.implib_link.proofs.Search.Closed.{claims_apart, claims_none, not_there, passes, passing, there_not, unresolved_parts}
 use Rattle.implib_link.proofs.Search.Lists.{among_either, among_flat_map, contains_among}
-use Rattle.implib_link.proofs.Search.Msvc.{left_asking, left_descriptor, left_null, left_thunk, name_taken, taken_name}
-use Rattle.implib_link.proofs.Search.MsvcArchives.{AnyImport, both_parts, descriptor_plain, import_parts, null_plain, short_plain, thunk_plain}
+use Rattle.implib_link.proofs.Search.Msvc.{left_asking, left_descriptor, left_null, left_thunk, taken_name}
+use Rattle.implib_link.proofs.Search.MsvcArchives.{both_parts, descriptor_plain, import_parts, null_plain, short_plain, thunk_plain}
 use Rattle.implib_link.proofs.Search.MsvcArranged.{short_input_for, short_input_held, short_input_is}
 use Rattle.implib_link.proofs.Search.MsvcClosed.{first_one, in_turn_for, pulled, takes_into}
 use Rattle.implib_link.proofs.Search.MsvcEnds.{short_search_ends}

@@ -1,42 +1,36 @@
 -- The members of an archive of libraries for Microsoft's linker: which of them a name finds, and what they are taken
 -- for, leave and claim.
-use Rattle.std.proofs.Common.{◌≡◌, ℕ, ◌+◌, Bool, true, false, List, [], ◌∷◌, ◌++◌, length, map, Option, Some, None, refl, ap, sym, ◌∙◌, subst, inl, inr, ◌⊎◌, arith}
+use Rattle.std.proofs.Common.{◌≡◌, ℕ, ◌+◌, true, false, List, [], ◌∷◌, ◌++◌, length, map, Option, Some, refl, ap, sym, ◌∙◌, subst, inl, inr, ◌⊎◌, arith}
 use Rattle.std.specs.Prelude.{bytes_eq}
-use Rattle.std.specs.List.{AllByRecursion, IsDistinct, flat_map, list_any}
-use Rattle.std.proofs.lemmas.Bool.{cases_Bool, false_from_ne_true, true≢false}
+use Rattle.std.specs.List.{AllByRecursion, IsDistinct, flat_map}
+use Rattle.std.proofs.lemmas.Bool.{cases_Bool, false_from_ne_true}
 use Rattle.std.proofs.lemmas.Grind.{flat_map-append}
-use Rattle.std.proofs.lemmas.List.{append_assoc, map-append}
+use Rattle.std.proofs.lemmas.List.{map-append}
 use Rattle.std.proofs.lemmas.Slice.Eq.{bytes_eq-Decides}
 use Rattle.implib.specs.declared.machine.MachineType.{MachineType}
-use Rattle.implib.specs.declared.flavor.Flavor.TheVariants.{Msvc}
 use Rattle.implib.specs.Definition.{ExportView}
 use Rattle.implib.specs.Formats.Layout.{entries_of, name_text, object_of}
 use Rattle.implib.specs.Formats.Object.{Object}
 use Rattle.implib.specs.Import.{imp_symbol}
 use Rattle.implib.specs.Members.MemberSpec.{MemberSpec, MemberView, member_of}
-use Rattle.implib.specs.Members.Members.{member_specs}
 use Rattle.implib.specs.Members.Msvc.{short_import_symbol, short_import_symbols}
 use Rattle.implib.specs.Members.MsvcMembers.{descriptor_spec, export_specs, header_specs, null_descriptor_spec, null_thunk_spec, short_import_spec, weak_specs}
 use Rattle.implib.specs.Members.MsvcObjects.{descriptor_symbol, null_descriptor_symbol, null_thunk_symbol}
 use Rattle.implib.specs.Members.WeakExternal.{weak_object, weak_spec}
-use Rattle.implib.specs.Renaming.{renamed}
 use Rattle.implib.proofs.Link.LinkedMembers.{among_map}
-use Rattle.implib.proofs.Link.Ranges.{Among, all_among, among_back, among_first, among_flat, among_front, among_later}
+use Rattle.implib.proofs.Link.Ranges.{Among, among_back, among_first, among_flat, among_front, among_later}
 use Rattle.implib_link.specs.Flavors.Expansion.{expanded_in}
-use Rattle.implib_link.specs.Flavors.Program.{ask_in}
 use Rattle.implib_link.specs.Flavors.SectionSymbols.{with_section_symbols}
 use Rattle.implib_link.specs.Gnu.Program.{claimed_names}
 use Rattle.implib_link.specs.Search.Archives.{Library, archive_of, exports_of}
 use Rattle.implib_link.specs.Search.MsvcArchives.{IsMsvcArchive, IsMsvcLibrary, is_short_alias, symbols_of_short, symbols_of_shorts}
 use Rattle.implib_link.specs.Search.Search.{first_listed, is_listed_for, undefined_in}
-use Rattle.implib_link.proofs.Flavors.Block.{asking, use_for}
-use Rattle.implib_link.proofs.Flavors.Claims.{claims_asking, claims_descriptor, claims_null, claims_thunk}
+use Rattle.implib_link.proofs.Flavors.Block.{asking}
 use Rattle.implib_link.proofs.Flavors.Expanded.{taken_descriptor, taken_null, taken_null_thunk}
 use Rattle.implib_link.proofs.Flavors.Inputs.{descriptor_taken, null_taken, short_taken, taken_of, thunk_taken}
-use Rattle.implib_link.proofs.Search.ArchiveGroups.{Group, IsWithin, first_behind, first_here, first_in_group, first_is, found_or_not, group_of_first, members_of_groups, symbols_of_groups}
+use Rattle.implib_link.proofs.Search.ArchiveGroups.{Group, IsWithin, first_in_group, first_is, group_of_first, members_of_groups, symbols_of_groups}
 use Rattle.implib_link.proofs.Search.Arranged.{all_each, flat_among}
-use Rattle.implib_link.proofs.Search.Lists.{among_any, among_either, among_mapped, any_among, apart_none}
-use Rattle.implib_link.proofs.Search.Msvc.{left_asking, left_descriptor, left_null, left_thunk}
+use Rattle.implib_link.proofs.Search.Lists.{among_any, among_mapped, any_among, apart_none}
 use Rattle.implib_link.proofs.Search.Search.{in_nothing, only_one}
 
 -- The members.

@@ -1,39 +1,37 @@
 -- How far packed import tables of libraries for Microsoft's linker reach, by the definitions alone.
-use Rattle.std.proofs.Common.{◌≡◌, ℕ, zero, suc, take, ◌+◌, ◌-◌, ◌<◌, ◌≤◌, Bool, true, false, List, [], ◌∷◌, ◌++◌, length, map, Option, Some, None, refl, ap, sym, ◌∙◌, subst, inl, inr, arith, if◌then◌else◌}
+use Rattle.std.proofs.Common.{◌≡◌, ℕ, zero, suc, take, ◌+◌, ◌≤◌, Bool, true, false, List, [], ◌∷◌, ◌++◌, length, map, refl, ap, sym, ◌∙◌, subst, inl, inr, arith, if◌then◌else◌}
 use Rattle.std.specs.Prelude.{IsPermutation, ◌==◌}
 use Rattle.std.specs.List.{AllByRecursion, before_first, cons_option, filter, position_or_len, sum_by}
 use Rattle.std.proofs.lemmas.Bool.{cases_Bool}
-use Rattle.std.proofs.lemmas.List.{length-append, length-replicate}
+use Rattle.std.proofs.lemmas.List.{length-append}
 use Rattle.std.proofs.lemmas.List.Sorted.{sum_by-IsPermutation}
 use Rattle.implib.specs.declared.flavor.Flavor.TheVariants.{Msvc}
 use Rattle.implib.specs.declared.machine.MachineType.{MachineType}
 use Rattle.implib.specs.declared.machine.MachineType.TheVariants.{I386, ARMNT, AMD64, ARM64}
-use Rattle.implib.specs.Ascii.{at_sign, begins_with, question_mark, underscore, without_first}
+use Rattle.implib.specs.Ascii.{at_sign, begins_with, question_mark, underscore}
 use Rattle.implib.specs.Definition.{ExportView}
 use Rattle.implib.specs.Formats.Bytes.{u16_bytes}
 use Rattle.implib.specs.Formats.Layout.{entries_of, name_text, object_of}
 use Rattle.implib.specs.Formats.Object.{Object}
-use Rattle.implib.specs.Formats.ShortImport.{asked_by_name_type, before_at_sign, import_name, import_name_noprefix, without_prefix}
+use Rattle.implib.specs.Formats.ShortImport.{asked_by_name_type, import_name, import_name_noprefix, without_prefix}
 use Rattle.implib.specs.Import.{Ask, Name, Ordinal}
 use Rattle.implib.specs.Link.LinkedMembers.{chosen_exports}
-use Rattle.implib.specs.Link.Placement.{next_multiple}
 use Rattle.implib.specs.Members.Msvc.{name_type_of, short_import_symbol}
 use Rattle.implib.specs.Members.MsvcObjects.{descriptor, null_descriptor, null_thunk}
-use Rattle.implib_link.specs.Flavors.Expansion.{Code, Constant, Data, Use, import_object}
+use Rattle.implib_link.specs.Flavors.Expansion.{Use, import_object}
 use Rattle.implib_link.specs.Flavors.Program.{AreFlavorObjects, FlavorInput, IsMadeFor, ask_in, exports_chosen, objects_taken}
 use Rattle.implib_link.specs.Flavors.SectionSymbols.{with_section_symbols}
 use Rattle.implib_link.specs.Gnu.Packed.{packed_end}
-use Rattle.implib_link.specs.Gnu.Program.{has_tables}
 use Rattle.implib_link.specs.Search.Archives.{Library, exports_of}
 use Rattle.implib_link.specs.Search.MsvcArchives.{imports_wanted, is_import_wanted, short_input_if_any, short_inputs}
 use Rattle.implib_link.specs.Search.MsvcExists.{msvc_library_room, msvc_tables_end, short_room}
-use Rattle.implib_link.proofs.Flavors.Block.{asking, behind_descriptor, use_for}
-use Rattle.implib_link.proofs.Flavors.Blocks.{FlavorBlock, all_objects}
+use Rattle.implib_link.proofs.Flavors.Block.{behind_descriptor, use_for}
+use Rattle.implib_link.proofs.Flavors.Blocks.{all_objects}
 use Rattle.implib_link.proofs.Flavors.Expanded.{taken_descriptor, taken_null, taken_null_thunk}
 use Rattle.implib_link.proofs.Flavors.Inputs.{block_in}
 use Rattle.implib_link.proofs.Flavors.Program.{kept_are, parts_are}
 use Rattle.implib_link.proofs.Search.MsvcArchives.{imports_are}
-use Rattle.implib_link.proofs.Search.Rooms.{all_rooms, own_rooms, packed_end_kept, packed_near, sections_room, sum_next, width_near, without_near}
+use Rattle.implib_link.proofs.Search.Rooms.{all_rooms, own_rooms, packed_end_kept, packed_near, sections_room, sum_next, without_near}
 
 -- The name that is asked for is no longer than the symbol.
 

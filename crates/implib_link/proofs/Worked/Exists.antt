@@ -1,7 +1,7 @@
 -- That there is a closed program of what was linked by hand, by computing and by the law.
-use Rattle.std.proofs.Common.{◌≡◌, ℕ, ◌^◌, ◌<◌, true, false, List, [], ◌∷◌, ◌++◌, refl, sym, ◌∙◌, arith}
+use Rattle.std.proofs.Common.{◌≡◌, ℕ, ◌^◌, ◌<◌, List, [], ◌∷◌, refl, sym, arith}
 use Rattle.std.specs.Prelude.{not}
-use Rattle.std.specs.List.{AllByRecursion, filter}
+use Rattle.std.specs.List.{filter}
 use Rattle.std.proofs.lemmas.Bool.{true≢false}
 use Rattle.implib.specs.declared.machine.MachineType.TheVariants.{AMD64}
 use Rattle.implib.specs.Formats.Layout.{encoded_size}
@@ -11,13 +11,12 @@ use Rattle.implib.specs.Link.Placement.{next_multiple}
 use Rattle.implib.specs.Members.GnuMembers.{alias_specs}
 use Rattle.implib.specs.Members.WeakExternal.{weak_object}
 use Rattle.implib.proofs.Link.LinkedMembers.{among_contains}
-use Rattle.implib.proofs.Link.Ranges.{Among, among_first}
+use Rattle.implib.proofs.Link.Ranges.{among_first}
 use Rattle.implib_link.specs.Gnu.Packed.{group_end, packed, packed_end, sections_end}
 use Rattle.implib_link.specs.Gnu.Program.{has_tables, null_descriptor}
-use Rattle.implib_link.specs.Search.Archives.{is_weak, weak_among}
-use Rattle.implib_link.specs.Search.Closed.{IsClosed, claims_of, references_of}
+use Rattle.implib_link.specs.Search.Archives.{weak_among}
+use Rattle.implib_link.specs.Search.Closed.{IsClosed}
 use Rattle.implib_link.specs.Search.Exists.{AreChosenFor, HasClosed, objects_closed, tables_end}
-use Rattle.implib_link.specs.Search.Search.{names_undefined, undefined_in}
 use Rattle.implib_link.specs.Worked.Archives.{two_libraries}
 use Rattle.implib_link.specs.Worked.Closed.{choosing, closed_objects, closed_taken, zed_first}
 use Rattle.implib_link.specs.Worked.Exists.{WorkedExists}

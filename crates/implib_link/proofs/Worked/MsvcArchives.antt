@@ -1,5 +1,5 @@
 -- The searches of two libraries for Microsoft's linker by hand, by computing and by the law.
-use Rattle.std.proofs.Common.{◌≡◌, ℕ, true, false, List, [], ◌∷◌, ◌++◌, map, refl, sym, ◌∙◌, codes}
+use Rattle.std.proofs.Common.{◌≡◌, ℕ, false, List, [], ◌∷◌, ◌++◌, map, refl, sym, ◌∙◌, codes}
 use Rattle.std.specs.Prelude.{bytes_eq, not}
 use Rattle.std.specs.List.{IsDistinct, flat_map, list_any}
 use Rattle.std.proofs.lemmas.Bool.{true≢false}

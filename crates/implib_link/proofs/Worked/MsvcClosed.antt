@@ -1,5 +1,5 @@
 -- The closed program for Microsoft's linker that was linked by hand, by computing and by the laws.
-use Rattle.std.proofs.Common.{◌≡◌, ℕ, ◌^◌, ◌<◌, true, false, List, [], ◌∷◌, ◌++◌, length, map, refl, sym, ◌∙◌, subst, inl, inr, arith, codes}
+use Rattle.std.proofs.Common.{◌≡◌, ℕ, ◌<◌, false, List, [], ◌∷◌, ◌++◌, length, map, refl, sym, ◌∙◌, subst, arith, codes}
 use Rattle.std.specs.Prelude.{bytes_eq}
 use Rattle.std.specs.List.{AllByRecursion, Contains, flat_map, list_any}
 use Rattle.std.proofs.lemmas.Bool.{true≢false}
@@ -26,7 +26,7 @@ use Rattle.implib_link.specs.Search.Msvc.{claimed_in, left_in}
 use Rattle.implib_link.specs.Search.MsvcArchives.{is_weak_in, short_inputs}
 use Rattle.implib_link.specs.Search.MsvcClosed.{AreClosedForMsvc, AreLinkedForMsvc, IsClosedForMsvc, PullsIntoFor, TakesIntoFor}
 use Rattle.implib_link.specs.Search.MsvcGiven.{AreGivenForMsvc, symbols_kept_for}
-use Rattle.implib_link.specs.Search.Search.{HaveSame, undefined_in}
+use Rattle.implib_link.specs.Search.Search.{undefined_in}
 use Rattle.implib_link.specs.Worked.Closed.{choosing, clashing}
 use Rattle.implib_link.specs.Worked.MsvcArchives.{shorts_of_both, thunk_named, two_msvc}
 use Rattle.implib_link.specs.Worked.MsvcClosed.{WorkedMsvcClosed, foo_members, msvc_bases, msvc_objects, msvc_without_last, msvc_zed_first, zed_members}
@@ -35,7 +35,7 @@ use Rattle.implib_link.proofs.Search.Lists.{among_any, any_among, contains_among
 use Rattle.implib_link.proofs.Search.MsvcClosed.{closed_links_for, takes_into}
 use Rattle.implib_link.proofs.Search.MsvcExists.{packed_closed}
 use Rattle.implib_link.proofs.Search.MsvcGiven.{msvc_given_closes, msvc_given_ends}
-use Rattle.implib_link.proofs.Worked.MsvcArchives.{both_plain, both_take, msvc_archive}
+use Rattle.implib_link.proofs.Worked.MsvcArchives.{both_take, msvc_archive}
 use Rattle.implib_link.proofs.Worked.Programs.{claims_none_by, opened}
 use Rattle.implib_link.proofs.Worked.Searched.{below_limit}
 

@@ -1,5 +1,5 @@
--- That there is a closed program: how much room import tables need, by the definitions alone, and what is linked for
--- given objects, packed.
+-- That there is a closed program: how much room import tables need, by the definitions alone, and what is
+-- linked for given objects, packed.
 use Rattle.std.specs.Prelude.{◌≡◌, ℕ, ◌+◌, ◌≤◌, List, [], ◌∷◌, ◌++◌, IsPermutation, length, not}
 use Rattle.std.specs.List.{AllByRecursion, filter, sum_by}
 use Rattle.implib.specs.declared.machine.MachineType.{MachineType}
@@ -15,8 +15,8 @@ use Rattle.implib_link.specs.Search.Archives.{Library, exports_of, weak_among}
 use Rattle.implib_link.specs.Search.Closed.{IsClosed, LinksClosed, inputs_in}
 use Rattle.implib_link.specs.Search.Search.{HaveSame}
 
--- No more bytes of the import tables than these come from an export, with those that align its parts: its name and
--- 40 beside it.
+-- No more bytes of the import tables than these come from an export, with those that align its parts: its
+-- name and 40 beside it.
 abbrev pub export_room : ExportView → ℕ
 export_room e = 40 + length e.name
 
@@ -24,8 +24,8 @@ export_room e = 40 + length e.name
 abbrev pub library_room : Library → ℕ
 library_room l = 64 + length l.definition.import_name + sum_by export_room (exports_of l)
 
--- The import tables of libraries that begin at an address, of all exports or of some, end by this one: the null
--- descriptor, and the bytes between one group and the next, are 72 at most.
+-- The import tables of libraries that begin at an address, of all exports or of some, end by this one: the
+-- null descriptor, and the bytes between one group and the next, are 72 at most.
 abbrev pub tables_end : ℕ → List Library → ℕ
 tables_end first libraries = first + 72 + sum_by library_room libraries
 
@@ -42,8 +42,8 @@ pub record AreChosenFor (machine : MachineType) (libraries : List Library) (own 
   pub tables : filter has_tables objects
       ≡ objects_in (all_linked machine (inputs_in arranged own taken)) ++ null_descriptor ∷ []
 
--- these in one order: the given objects, the weak externals that are taken, the other members, library by library,
--- and the null descriptor
+-- these in one order: the given objects, the weak externals that are taken, the other members, library by
+-- library, and the null descriptor
 abbrev pub objects_closed : MachineType → List Library → List Object → List MemberView → List Object
 objects_closed machine libraries own taken =
     own ++ (objects_in (weak_among taken)

@@ -1,6 +1,7 @@
--- Archive search of the members of several libraries for Microsoft's linker, some exports with aliases. All libraries
--- have a null descriptor under one symbol, of which the first one is taken. An alias is two weak externals, of the
--- export's symbol and of its address, which are listed before its short import and found in its place.
+-- Archive search of the members of several libraries for Microsoft's linker, some exports with aliases. All
+-- libraries have a null descriptor under one symbol, of which the first one is taken. An alias is two weak
+-- externals, of the export's symbol and of its address, which are listed before its short import and found
+-- in its place.
 use Rattle.std.specs.Prelude.{◌≡◌, ℕ, Bool, ◌&&◌, List, [], ◌∷◌, ◌++◌, bytes_eq, not, true, Option, Some, None, ◌⊎◌, if◌then◌else◌}
 use Rattle.std.specs.List.{AllByRecursion, Contains, IsDistinct, filter, filter_map, flat_map}
 use Rattle.implib.specs.declared.flavor.Flavor.TheVariants.{Msvc}
@@ -39,8 +40,8 @@ symbols_of_shorts l =
     ∷ null_thunk_symbol l.definition.import_name
     ∷ flat_map symbols_of_short (exports_of l)
 
--- An archive of libraries for Microsoft's linker: the listed symbols are distinct, but for those that one export's
--- members share, and for the null descriptor's; each DLL's name leads linkers to its descriptor.
+-- An archive of libraries for Microsoft's linker: the listed symbols are distinct, but for those that one
+-- export's members share, and for the null descriptor's; each DLL's name leads linkers to its descriptor.
 pub record IsMsvcArchive (machine : MachineType) (libraries : List Library) : Type 0 where
   pub made : AllByRecursion (IsMsvcLibrary machine) libraries
   pub distinct : IsDistinct bytes_eq (null_descriptor_symbol ∷ flat_map symbols_of_shorts libraries)
@@ -115,9 +116,9 @@ pub record IsWeakShort (libraries : List Library) (names : List (List ℕ)) (m :
   pub named : Contains names name
   pub listed : m.symbols ≡ name ∷ []
 
--- What a linker takes of such an archive: apart from weak externals, just what is linked of the libraries, of each
--- the exports that are wanted, by the program or by a weak external that is taken, and that are no aliases, and one
--- null descriptor; and weak externals of aliases alone.
+-- What a linker takes of such an archive: apart from weak externals, just what is linked of the libraries,
+-- of each the exports that are wanted, by the program or by a weak external that is taken, and that are no
+-- aliases, and one null descriptor; and weak externals of aliases alone.
 pub record TakesOfShorts (machine : MachineType) (libraries : List Library) (wanted : List (List ℕ))
     (taken : List MemberView) : Type 0 where
   pub inputs : HaveSame (others_in machine taken)

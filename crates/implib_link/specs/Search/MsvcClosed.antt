@@ -1,5 +1,5 @@
--- Closed programs with libraries for Microsoft's linker: objects that are given, and what a linker takes for them of
--- an archive. Nothing is wanted but what the objects leave unresolved.
+-- Closed programs with libraries for Microsoft's linker: objects that are given, and what a linker takes for
+-- them of an archive. Nothing is wanted but what the objects leave unresolved.
 use Rattle.std.specs.Prelude.{◌≡◌, ℕ, ◌+◌, ◌*◌, ◌%◌, ◌<◌, false, List, [], ◌∷◌, ◌++◌, IsPermutation, length, not, slice_get, Some, ◌⊎◌}
 use Rattle.std.specs.List.{AllByRecursion, Contains, filter}
 use Rattle.implib.specs.declared.machine.MachineType.{MachineType}
@@ -22,8 +22,8 @@ use Rattle.implib_link.specs.Search.Msvc.{left_in}
 use Rattle.implib_link.specs.Search.MsvcArchives.{NamesNoHeaderOf, TakesOfShorts, first_null, short_inputs, wanted_with_weak, weak_in}
 use Rattle.implib_link.specs.Search.Search.{HaveSame, first_listed}
 
--- An unresolved name pulls in a member: the given objects, and what the members that are taken are taken for, leave it
--- unresolved, and the first member that it is listed for is this one, which is not taken.
+-- An unresolved name pulls in a member: the given objects, and what the members that are taken are taken
+-- for, leave it unresolved, and the first member that it is listed for is this one, which is not taken.
 pub record PullsIntoFor (machine : MachineType) (archive : List MemberView) (own : List Object)
     (taken : List MemberView) (name : List ℕ) (m : MemberView) : Type 0 where
   pub named : Contains (unresolved (own ++ objects_taken machine taken)) name
@@ -38,8 +38,8 @@ AreTakenIntoFor machine archive own (m ∷ earlier) =
     ((name : List ℕ) × PullsIntoFor machine archive own earlier name m)
     × AreTakenIntoFor machine archive own earlier
 
--- What a linker takes of an archive for given objects: it takes members in turn until no unresolved name pulls
--- in another.
+-- What a linker takes of an archive for given objects: it takes members in turn until no unresolved name
+-- pulls in another.
 pub record TakesIntoFor (machine : MachineType) (archive : List MemberView) (own : List Object)
     (taken : List MemberView) : Type 0 where
   pub in_turn : AreTakenIntoFor machine archive own taken
@@ -56,9 +56,10 @@ inputs_for machine arranged own taken = short_inputs arranged (wanted_for machin
 
 -- What is linked for given objects and members that are taken of libraries, wherever it is placed:
 -- `order`: the libraries are linked in this order, which may be another than that of the archive;
--- `others`: the objects without import tables are those that are given and the weak externals that are taken;
--- `members`, `tables`: those with import tables are what the other members are taken for, with the first library's
--- null descriptor anywhere among them.
+-- `others`: the objects without import tables are those that are given and the weak externals that are
+-- taken;
+-- `members`, `tables`: those with import tables are what the other members are taken for, with the first
+-- library's null descriptor anywhere among them.
 pub record AreLinkedForMsvc (machine : MachineType) (libraries : List Library) (own : List Object)
     (taken : List MemberView) (arranged : List Library) (objects : List Object) : Type 0 where
   pub order : IsPermutation libraries arranged
@@ -74,8 +75,8 @@ pub record AreLinkedForMsvc (machine : MachineType) (libraries : List Library) (
 -- `takes`: a linker takes these members for the given objects;
 -- `some`: among them short imports, and so a null descriptor;
 -- `linked`: both are linked;
--- `claims`: the given objects claim no name that members which are taken are listed for or leave to others; of
--- the libraries' other symbols they may;
+-- `claims`: the given objects claim no name that members which are taken are listed for or leave to others;
+-- of the libraries' other symbols they may;
 -- `names`: no symbol is wanted by which only members name each other.
 pub record AreClosedForMsvc (machine : MachineType) (libraries : List Library) (own : List Object)
     (taken : List MemberView) (arranged : List Library) (objects : List Object) : Type 0 where

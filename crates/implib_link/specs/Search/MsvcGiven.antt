@@ -1,5 +1,5 @@
--- What is asked of the objects that are given to Microsoft's linker with libraries, so that what it takes for them
--- closes the program: of the objects and of the definitions alone, without a search.
+-- What is asked of the objects that are given to Microsoft's linker with libraries, so that what it takes
+-- for them closes the program: of the objects and of the definitions alone, without a search.
 use Rattle.std.specs.Prelude.{ℕ, List, [], ◌∷◌, ◌++◌}
 use Rattle.std.specs.List.{AllByRecursion, filter, flat_map}
 use Rattle.implib.specs.Formats.Object.{Object}
@@ -35,8 +35,8 @@ abbrev pub import_symbols_wanted : List Library → List (List ℕ) → List (Li
 import_symbols_wanted libraries names =
     flat_map (λ l. flat_map short_import_symbols (filter (is_import_wanted names) (exports_of l))) libraries
 
--- the symbols that members alone may claim: headers', aliases' targets, and those of the short imports that are
--- wanted
+-- the symbols that members alone may claim: headers', aliases' targets, and those of the short imports that
+-- are wanted
 abbrev pub symbols_kept_for : List Library → List Object → List (List ℕ)
 symbols_kept_for libraries own =
     headers_of libraries
@@ -44,8 +44,8 @@ symbols_kept_for libraries own =
 
 -- Objects that may be given to Microsoft's linker with libraries:
 -- `claims`: they claim no symbol that members alone may claim; of exports that they do not want they may;
--- `names`: they leave no symbol unresolved by which only members name each other, and none is the target of an
--- alias.
+-- `names`: they leave no symbol unresolved by which only members name each other, and none is the target of
+-- an alias.
 pub record AreGivenForMsvc (libraries : List Library) (own : List Object) : Type 0 where
   pub claims : AllByRecursion (ClaimsNone (symbols_kept_for libraries own)) own
   pub names : NamesNoHeaderOf libraries (wanted_for_at_most libraries own)

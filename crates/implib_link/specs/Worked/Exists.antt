@@ -1,22 +1,21 @@
 -- The closed program by hand, as the law says that there is one; and places where there is none.
-use Rattle.std.specs.Prelude.{◌≡◌, ◌<◌, ◌^◌, List, [], ◌∷◌}
-use Rattle.std.specs.List.{AllByRecursion}
+use Rattle.std.specs.Prelude.{◌≡◌, ◌<◌, ◌^◌, [], ◌∷◌}
 use Rattle.implib.specs.declared.machine.MachineType.TheVariants.{AMD64}
 use Rattle.implib.specs.Link.Image.{image_of}
 use Rattle.implib.specs.Link.Placement.{placed_from}
 use Rattle.implib_link.specs.Gnu.Packed.{packed, packed_end}
 use Rattle.implib_link.specs.Gnu.Program.{null_descriptor}
-use Rattle.implib_link.specs.Search.Archives.{Library}
 use Rattle.implib_link.specs.Search.Closed.{IsClosed}
-use Rattle.implib_link.specs.Search.Exists.{AreChosenFor, HasClosed, LieWithin, library_room, tables_end}
+use Rattle.implib_link.specs.Search.Exists.{AreChosenFor, HasClosed, LieWithin, tables_end}
 use Rattle.implib_link.specs.Worked.Archives.{two_libraries}
 use Rattle.implib_link.specs.Worked.Closed.{choosing, closed_bases, closed_objects, closed_taken, zed_first}
 
--- The tables of the two libraries that begin at 0x2000 end by 0x2186: of foo.dll there are at most 64 bytes, 7 for its
--- name, and 43 for each of `bar` and `baz`; of zed.dll 64, 7, and 45 for each of `queue` and `stack`; 72 beside them.
--- So there is a closed program; the one that was linked by hand lies there, and ends at 0x20A8. From address 0 on
--- there is none, nor is the one by hand such a program right below 2^31, where there is no room. An object that
--- holds a part of the import tables, as the null descriptor does, is in no such program.
+-- The tables of the two libraries that begin at 0x2000 end by 0x2186: of foo.dll there are at most 64 bytes,
+-- 7 for its name, and 43 for each of `bar` and `baz`; of zed.dll 64, 7, and 45 for each of `queue` and
+-- `stack`; 72 beside them. So there is a closed program; the one that was linked by hand lies there, and
+-- ends at 0x20A8. From address 0 on there is none, nor is the one by hand such a program right below 2^31,
+-- where there is no room. An object that holds a part of the import tables, as the null descriptor does, is
+-- in no such program.
 pub record WorkedExists : Type 0 where
   pub room : tables_end 0x2000 two_libraries ≡ 0x2186
   pub end : packed_end 0x2000 closed_objects ≡ 0x20A8

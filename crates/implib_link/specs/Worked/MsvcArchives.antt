@@ -84,10 +84,10 @@ zed_null_taken =
     ∷ short_named (codes "zed.dll") (codes "queue")
     ∷ []
 
--- The two are an archive that the law speaks of; one of them twice is none, since it shares its symbols. For `bar` a
--- linker takes the weak external, for which `baz` is wanted, whose short import brings foo.dll's header; for
--- `__imp_queue` zed.dll's members. The address of the alias finds its other weak external. For `__imp_queue` alone
--- the null descriptor is foo.dll's, and never zed.dll's.
+-- The two are an archive that the law speaks of; one of them twice is none, since it shares its symbols. For
+-- `bar` a linker takes the weak external, for which `baz` is wanted, whose short import brings foo.dll's
+-- header; for `__imp_queue` zed.dll's members. The address of the alias finds its other weak external. For
+-- `__imp_queue` alone the null descriptor is foo.dll's, and never zed.dll's.
 pub record WorkedMsvcArchives : Type 0 where
   pub archive : IsMsvcArchive AMD64 two_msvc
   pub twice : IsMsvcArchive AMD64 (msvc_zed ∷ msvc_zed ∷ []) → ⊥

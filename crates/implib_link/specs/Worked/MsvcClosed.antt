@@ -1,5 +1,5 @@
 -- A closed program by hand, of an object and two libraries for Microsoft's linker, one of which has an alias.
-use Rattle.std.specs.Prelude.{◌≡◌, ℕ, ◌<◌, List, [], ◌∷◌, ◌++◌, codes, length, map, Some}
+use Rattle.std.specs.Prelude.{◌≡◌, ◌<◌, List, [], ◌∷◌, ◌++◌, codes, length, map, Some}
 use Rattle.implib.specs.declared.machine.MachineType.TheVariants.{AMD64}
 use Rattle.implib.specs.Formats.Object.{Object}
 use Rattle.implib.specs.Link.Placement.{Bases, placed_from}
@@ -49,11 +49,12 @@ abbrev pub msvc_without_last : List MemberView
 msvc_without_last =
     descriptor_named (codes "zed.dll") ∷ short_named (codes "zed.dll") (codes "queue") ∷ foo_shorts
 
--- The object may be given, and wants the import of `queue` by itself. What members alone may claim are these names,
--- `queue` among them, so the object that has a `queue` of its own may not be given. The members that were taken by
--- hand are what a linker takes for the object; without the last of them the search has not ended. Linked, zed.dll
--- first, with the alias they are a closed program, in which `printf` alone is left; the pointer to `queue` is
--- zed.dll's first entry, and that to `baz` foo.dll's. A name that the object claims pulls in nothing.
+-- The object may be given, and wants the import of `queue` by itself. What members alone may claim are these
+-- names, `queue` among them, so the object that has a `queue` of its own may not be given. The members that
+-- were taken by hand are what a linker takes for the object; without the last of them the search has not
+-- ended. Linked, zed.dll first, with the alias they are a closed program, in which `printf` alone is left;
+-- the pointer to `queue` is zed.dll's first entry, and that to `baz` foo.dll's. A name that the object
+-- claims pulls in nothing.
 pub record WorkedMsvcClosed : Type 0 where
   pub given : AreGivenForMsvc two_msvc (choosing ∷ [])
   pub kept : symbols_kept_for two_msvc (choosing ∷ [])
