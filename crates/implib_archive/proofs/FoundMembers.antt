@@ -1,19 +1,18 @@
 -- A reader finds the members of an archive.
-use Rattle.std.proofs.Common.{◌≡◌, ℕ, zero, suc, ◌+◌, ◌^◌, inl, inr, ◌<◌, ◌≤◌, Bool, true, false, ◌&&◌, List, [], ◌∷◌, ◌++◌, Option, Some, None, codes, if◌then◌else◌, is_some, length, map, nat_eq, nat_lt, option_and_then, unwrap_or, refl, sym, ap, subst, ◌∙◌, append_assoc, arith}
+use Rattle.std.proofs.Common.{◌≡◌, ℕ, zero, suc, ◌^◌, inl, inr, ◌<◌, Bool, true, false, ◌&&◌, List, [], ◌∷◌, ◌++◌, Option, Some, None, codes, if◌then◌else◌, is_some, length, map, nat_eq, nat_lt, option_and_then, refl, sym, ap, ◌∙◌, append_assoc, arith}
 use Rattle.std.specs.List.{AllByRecursion}
-use Rattle.std.specs.Option.{option_map}
 use Rattle.std.proofs.lemmas.Bool.{lt-ltb, true≢false}
 use Rattle.implib.specs.Members.MemberSpec.{MemberView}
-use Rattle.implib_archive.specs.Archive.{archive_of, entries_of, first_linker, long_names, name_field, names_bytes, offset_of, places_of, second_linker, sorted_entries}
+use Rattle.implib_archive.specs.Archive.{archive_of, entries_of, first_linker, long_names, name_field, names_bytes, places_of, second_linker, sorted_entries}
 use Rattle.implib_archive.specs.Parts.{field, padding}
 use Rattle.implib_archive.specs.ReadBack.{MembersReadBack, padded, parts_of, read_view, stored, stored_linkers, stored_member, stored_names}
-use Rattle.implib_archive.specs.Reader.{Name, Linker, LongNames, LongAt, Short, Unknown, Read, Stored, before_others, long_names_in, long_names_or, members_among, members_in, name_in, read_as, stored_in}
+use Rattle.implib_archive.specs.Reader.{Read, Stored, before_others, long_names_in, long_names_or, members_among, members_in, name_in, read_as}
 use Rattle.implib_archive.specs.Refusal.{ends_at_line_end, has_byte, member_refusal, members_refusal, name_refusal, refusal_of, symbols_refusal}
 use Rattle.implib_archive.specs.declared.error.Fault.{Fault}
 use Rattle.implib_archive.specs.declared.error.Fault.TheVariants.{EmptyName, LineEndInName, MemberTooLong, NulInName}
 use Rattle.implib_archive.specs.declared.kind.Kind.{Kind}
 use Rattle.implib_archive.specs.declared.kind.Kind.TheVariants.{Coff, Gnu}
-use Rattle.implib_archive.proofs.FoundNames.{HasName, HaveNames, IsLongAt, IsNamed, linker_named, long_names_named, members_named}
+use Rattle.implib_archive.proofs.FoundNames.{HasName, HaveNames, IsNamed, linker_named, long_names_named, members_named}
 use Rattle.implib_archive.proofs.LaidOut.{laid_out}
 use Rattle.implib_archive.proofs.Readings.{parts_read_back}
 use Rattle.implib_archive.proofs.Whole.{accepted_parts, names_below, offset_below}

@@ -1,7 +1,7 @@
 -- What a reader finds in name fields, and in the data of long names.
-use Rattle.std.proofs.Common.{◌≡◌, ℕ, zero, suc, ◌+◌, ◌-◌, ◌^◌, ◌<◌, ◌≤◌, Bool, true, false, not, ◌&&◌, ◌||◌, ◌⊎◌, inl, inr, cond, List, [], ◌∷◌, ◌++◌, Option, Some, None, bytes_eq, codes, decimal, drop, eq-eqb, fold, if◌then◌else◌, is_some, length, nat_eq, nat_le, nat_lt, replicate, take, take_while, unwrap_or, refl, sym, ap, subst, ◌∙◌, append-nil, append_assoc, length-append, arith}
-use Rattle.std.specs.List.{AllByRecursion, list_all, list_any}
-use Rattle.std.proofs.lemmas.Bool.{and_parts, cases_Bool, eqb-true, false_from_ne_true, leb-true, or_parts, true≢false}
+use Rattle.std.proofs.Common.{◌≡◌, ℕ, zero, suc, ◌-◌, ◌^◌, ◌<◌, ◌≤◌, Bool, true, false, not, ◌&&◌, ◌||◌, ◌⊎◌, inl, inr, cond, List, [], ◌∷◌, ◌++◌, Some, None, bytes_eq, codes, decimal, drop, eq-eqb, fold, if◌then◌else◌, is_some, length, nat_eq, nat_le, nat_lt, replicate, take, take_while, unwrap_or, refl, sym, ap, subst, ◌∙◌, append-nil, append_assoc, length-append, arith}
+use Rattle.std.specs.List.{AllByRecursion, list_all}
+use Rattle.std.proofs.lemmas.Bool.{and_parts, eqb-true, false_from_ne_true, leb-true, or_parts, true≢false}
 use Rattle.std.proofs.lemmas.Fmt.{decimal_nonempty}
 use Rattle.std.proofs.lemmas.Grind.{flat_map-append}
 use Rattle.std.proofs.lemmas.List.{drop_at, take_at}
@@ -11,7 +11,7 @@ use Rattle.implib.specs.Members.MemberSpec.{MemberView}
 use Rattle.implib_archive.specs.Archive.{is_long, long_names, name_end, name_field, names_bytes, offset_of, with_name}
 use Rattle.implib_archive.specs.Parts.{field}
 use Rattle.implib_archive.specs.Reader.{Name, Linker, LongNames, LongAt, Short, Unknown, is_digit, long_name, long_name_at, name_in, number_in, trimmed}
-use Rattle.implib_archive.specs.Refusal.{has_byte, name_refusal}
+use Rattle.implib_archive.specs.Refusal.{has_byte}
 use Rattle.implib_archive.specs.declared.kind.Kind.{Kind}
 use Rattle.implib_archive.specs.declared.kind.Kind.TheVariants.{Coff, Gnu}
 use Rattle.implib_archive.proofs.Readings.{number_read, read_decimal}

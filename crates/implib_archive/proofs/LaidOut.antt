@@ -1,5 +1,5 @@
 -- What a reader finds one after another stands without gaps.
-use Rattle.std.proofs.Common.{◌≡◌, ℕ, zero, suc, ◌+◌, ◌-◌, ◌%◌, ◌≤◌, Bool, true, false, List, [], ◌∷◌, Option, Some, None, bytes_eq, codes, drop, if◌then◌else◌, length, min, nat_eq, option_and_then, take, refl, sym, ap, subst, ◌∙◌, arith}
+use Rattle.std.proofs.Common.{◌≡◌, ℕ, zero, suc, ◌+◌, ◌%◌, ◌≤◌, Bool, true, false, List, [], ◌∷◌, Option, Some, None, bytes_eq, codes, drop, if◌then◌else◌, length, nat_eq, option_and_then, take, refl, sym, ap, subst, ◌∙◌, arith}
 use Rattle.std.specs.Option.{option_map}
 use Rattle.std.proofs.lemmas.List.{drop-drop, length-drop, length-take}
 use Rattle.std.proofs.lemmas.Slice.Eq.{bytes_eq-Decides}

@@ -8,28 +8,26 @@ use Rattle.std.specs.List.{AllByRecursion, list_all}
 use Rattle.std.specs.Map.{lookup}
 use Rattle.std.specs.Option.{option_map}
 use Rattle.std.specs.Ordering.{match_ordering, nat_cmp}
-use Rattle.std.specs.Prelude.{slice_get}
-use Rattle.std.proofs.lemmas.Bool.{and_parts, ltb-true, true≢false}
+use Rattle.std.proofs.lemmas.Bool.{and_parts, ltb-true}
 use Rattle.std.proofs.lemmas.Option.{slice_get-get_or}
 use Rattle.implib.specs.Members.MemberSpec.{MemberView}
 use Rattle.implib_archive.specs.Archive.{archive_of, entries_from, entries_of, first_linker, first_linker_size, first_place, is_listed, long_names, name_field, names_bytes, names_size, place_of, places_from, places_of, second_linker, second_linker_size, sorted_entries, strings_of, with_first}
-use Rattle.implib_archive.specs.Leads.{EachIndexLeads, EachSecondLeads, first_lister, header_for, headers_among, headers_in, lists, numbered, second_header_for, with_header}
+use Rattle.implib_archive.specs.Leads.{EachIndexLeads, EachSecondLeads, first_lister, header_for, headers_among, headers_in, numbered, second_header_for, with_header}
 use Rattle.implib_archive.specs.Parts.{field, padding, part_size}
 use Rattle.implib_archive.specs.ReadBack.{AreLaidOut, padded, parts_of, read_view, stored, stored_linkers, stored_member, stored_names}
 use Rattle.implib_archive.specs.Reader.{Linker, LongAt, LongNames, Name, Read, Short, Stored, Unknown, before_others, long_name, long_names_in, member_at, members_among, name_in, read_as, second_in, stored_at, stored_in}
 use Rattle.implib_archive.specs.Refusal.{has_byte, has_short_places, member_refusal, members_refusal, name_refusal, places_refusal, refusal_of, symbol_refusal, symbols_refusal}
-use Rattle.implib_archive.specs.declared.error.Fault.{Fault}
 use Rattle.implib_archive.specs.declared.error.Fault.TheVariants.{ArchiveTooLong, EmptySymbol, MemberTooLong, NulInSymbol}
 use Rattle.implib_archive.specs.declared.kind.Kind.{Kind}
 use Rattle.implib_archive.specs.declared.kind.Kind.TheVariants.{Coff, Gnu}
-use Rattle.implib_archive.proofs.FoundIndex.{AreReadable, AreTexts, header_found, second_found, shown_entries}
+use Rattle.implib_archive.proofs.FoundIndex.{AreReadable, AreTexts, header_found, second_found}
 use Rattle.implib_archive.proofs.FoundMembers.{archive_named, first_none, members_found, members_read_back, some_none}
 use Rattle.implib_archive.proofs.FoundNames.{HasName, HaveNames, linker_named, long_names_named}
 use Rattle.implib_archive.proofs.Lookups.{entries_rise, index_lookup, listed_somewhere, lookup_mapped, sorted_lookup}
 use Rattle.implib_archive.proofs.Numbered.{Each, each_entry, each_sorted, each_weaker, sorted_as_many}
 use Rattle.implib_archive.proofs.Readings.{parts_read_back}
 use Rattle.implib_archive.proofs.Sized.{length-first_linker, length-padding, length-second_linker}
-use Rattle.implib_archive.proofs.Whole.{accepted_parts, few_if_coff, front_fits, length-places, names_some, sum_first}
+use Rattle.implib_archive.proofs.Whole.{accepted_parts, few_if_coff, front_fits, length-places, sum_first}
 
 -- Symbols have no NUL.
 

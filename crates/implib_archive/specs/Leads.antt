@@ -1,5 +1,5 @@
 -- Where the indexes of an archive lead: a reader looks a symbol up, and finds the header of a member.
-use Rattle.std.specs.Prelude.{◌≡◌, ℕ, zero, suc, ◌+◌, ◌%◌, Bool, false, true, List, [], ◌∷◌, Option, None, Some, bytes_eq, if◌then◌else◌, is_some, length, map, option_and_then, slice_get}
+use Rattle.std.specs.Prelude.{◌≡◌, ℕ, zero, suc, ◌+◌, ◌%◌, Bool, List, [], ◌∷◌, Option, None, Some, bytes_eq, if◌then◌else◌, is_some, length, map, option_and_then, slice_get}
 use Rattle.std.specs.Cmp.Lexicographic.{slice_cmp}
 use Rattle.std.specs.List.{list_any}
 use Rattle.std.specs.List.Sorted.{IsStrictlySortedBy}
@@ -9,7 +9,7 @@ use Rattle.std.specs.Ordering.{nat_cmp}
 use Rattle.implib.specs.Members.MemberSpec.{MemberView}
 use Rattle.implib_archive.specs.Archive.{archive_of}
 use Rattle.implib_archive.specs.ReadBack.{read_view}
-use Rattle.implib_archive.specs.Reader.{Name, Linker, LongNames, LongAt, Short, Unknown, Stored, first_in, member_at, name_in, second_in, stored_in}
+use Rattle.implib_archive.specs.Reader.{Name, Linker, LongNames, Stored, first_in, member_at, name_in, second_in, stored_in}
 use Rattle.implib_archive.specs.Refusal.{refusal_of}
 use Rattle.implib_archive.specs.declared.kind.Kind.{Kind}
 use Rattle.implib_archive.specs.declared.kind.Kind.TheVariants.{Coff}
@@ -54,8 +54,8 @@ second_header_for bytes symbol =
 abbrev pub lists : List ℕ → MemberView → Bool
 lists symbol m = list_any (bytes_eq symbol) m.symbols
 
--- the first member that lists a symbol, with the offset of its header, where the members' headers are at these
--- offsets
+-- the first member that lists a symbol, with the offset of its header, where the members' headers are at
+-- these offsets
 abbrev pub first_lister : List ℕ → List MemberView → List ℕ → Option (ℕ × MemberView)
 first_lister [] members symbol = None
 first_lister (place ∷ headers) [] symbol = None

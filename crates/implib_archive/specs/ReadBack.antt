@@ -42,8 +42,8 @@ abbrev pub PartsReadBack : Type 0
 PartsReadBack = (kind : Kind) (members : List MemberView) → refusal_of kind members ≡ None
     → stored_in (archive_of kind members) ≡ Some (parts_of kind members)
 
--- Parts stand in the bytes from an offset on, one behind another, up to the end: each is found by its header at its
--- offset, and the next header begins where the data and its padding end.
+-- Parts stand in the bytes from an offset on, one behind another, up to the end: each is found by its
+-- header at its offset, and the next header begins where the data and its padding end.
 unfoldable pub AreLaidOut : List ℕ → ℕ → List Stored → Type 0
 AreLaidOut bytes place [] = place ≡ length bytes
 AreLaidOut bytes place (s ∷ parts) =
@@ -56,8 +56,8 @@ read_view m = record { name = m.name; bytes = m.bytes }
 
 -- What a reader finds in the bytes of an archive:
 -- `signed`: they begin with the signature;
--- `laid_out`: from there to the end stand the linker members, the long names and the members; so no two headers
--- overlap, and nothing else is in the bytes;
+-- `laid_out`: from there to the end stand the linker members, the long names and the members; so no two
+-- headers overlap, and nothing else is in the bytes;
 -- `in_order`: the members, in order, each with its whole name and its bytes.
 pub record AreReadBack (kind : Kind) (members : List MemberView) (bytes : List ℕ) : Type 0 where
   pub signed : take 8 bytes ≡ codes "!<arch>\n"

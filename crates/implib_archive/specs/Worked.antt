@@ -103,9 +103,9 @@ worked_parts =
     ∷ record { field = codes "a.o/            "; contents = 1 ∷ 2 ∷ 3 ∷ [] }
     ∷ record { field = codes "/0              "; contents = 4 ∷ 5 ∷ [] } ∷ []
 
--- The worked archives are read back so. The GNU kind's has four parts, with headers at 8, 102, 182 and 246, and the
--- COFF kind's has its long names and its members at 190, 270 and 334. With one byte more nothing is read. A member
--- without a name, which is refused, would be taken for a linker member.
+-- The worked archives are read back so. The GNU kind's has four parts, with headers at 8, 102, 182 and 246,
+-- and the COFF kind's has its long names and its members at 190, 270 and 334. With one byte more nothing is
+-- read. A member without a name, which is refused, would be taken for a linker member.
 pub record WorkedReadBack : Type 0 where
   pub coff : AreReadBack Coff worked_members worked_coff
   pub gnu : AreReadBack Gnu worked_members worked_gnu
@@ -118,9 +118,9 @@ pub record WorkedReadBack : Type 0 where
   pub none_more : stored_in (worked_gnu ++ 0 ∷ []) ≡ None
   pub unnamed : members_in Gnu (archive_of Gnu (member [] (1 ∷ []) [] ∷ [])) ≡ Some []
 
--- In the worked archives the members' headers are at these offsets. `f`, which both members list, leads to the first
--- one's header, and `g` to the second one's; `h` leads nowhere. Of the members in the other order they are no
--- archive: there the second one lists `g`, too. Symbols in the members' order do not rise.
+-- In the worked archives the members' headers are at these offsets. `f`, which both members list, leads to
+-- the first one's header, and `g` to the second one's; `h` leads nowhere. They are no archive of the members
+-- in the other order, of which `g` leads to the first. Symbols in the members' order do not rise.
 pub record WorkedIndexes : Type 0 where
   pub coff : IndexLeads Coff worked_members worked_coff
   pub gnu : IndexLeads Gnu worked_members worked_gnu

@@ -45,8 +45,8 @@ pub fn worked_read_back()
 /// The index of each archive leads each symbol to the header of the first member that lists it, and
 /// finds a symbol exactly if a member lists it.
 ///
-/// In the COFF kind the second linker member leads each symbol where the first does, and its symbols
-/// rise strictly, by the order of their bytes.
+/// In the COFF kind the second linker member leads each symbol where the first does, and its
+/// symbols rise strictly, by the order of their bytes.
 pub fn index_leads()
     ensures first { EachIndexLeads }
     ensures second { EachSecondLeads }

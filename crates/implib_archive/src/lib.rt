@@ -8,10 +8,10 @@
 //! with members alone, without their archive.
 //!
 //! [`laws`] has what is proved of every archive: a reader that follows headers and sizes finds the
-//! linker members, the long names and each member with its bytes, in order, and nothing else. What
-//! is worked by hand stands there too: whole archives of both kinds, written and read, by their
-//! indexes also, and refusals. That long names and indexes of every archive are read back is not
-//! proved.
+//! linker members, the long names and each member, in order and with its whole name, and nothing
+//! else; the index leads each symbol to the header of the first member that lists it, and the
+//! second linker member says the same. What is worked by hand stands there too: whole archives of both
+//! kinds, written and read, by their indexes also, and refusals.
 #![tactic(auto)]
 
 mod bytes;

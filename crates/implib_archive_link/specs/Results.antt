@@ -55,8 +55,8 @@ abbrev pub TakesJust : Kind → LinkerMember → List MemberView → Asks → (L
 TakesJust kind linker members asks P = (taken : List ℕ) →
     TakesAt kind linker (archive_of kind members) asks taken → AreMembersAt kind members taken P
 
--- A name leads to the header of the first member that it is listed for, behind which a reader finds this member's
--- name and bytes; and nowhere, where it is listed for none.
+-- A name leads to the header of the first member that it is listed for, behind which a reader finds this
+-- member's name and bytes; and nowhere, where it is listed for none.
 pub record LeadsToFirst (kind : Kind) (linker : LinkerMember) (members : List MemberView) (name : List ℕ)
     : Type 0 where
   pub somewhere : is_some (header_by linker (archive_of kind members) name) ≡ is_some (first_listed members name)
@@ -66,8 +66,8 @@ pub record LeadsToFirst (kind : Kind) (linker : LinkerMember) (members : List Me
 
 -- The bytes are an archive in the sense of searches:
 -- `leads`: a name leads to the header of just the first member that it is listed for;
--- `wanted`, `given`, `short`: what a linker takes in the bytes, for wanted names, for given objects, or of short
--- imports, are members that it takes of the list of members.
+-- `wanted`, `given`, `short`: what a linker takes in the bytes, for wanted names, for given objects, or of
+-- short imports, are members that it takes of the list of members.
 pub record AreSearched (kind : Kind) (linker : LinkerMember) (members : List MemberView) : Type 0 where
   pub leads : (name : List ℕ) → LeadsToFirst kind linker members name
   pub wanted : (wanted : List (List ℕ)) → TakesJust kind linker members (asks_for wanted) (Takes members wanted)
@@ -75,7 +75,8 @@ pub record AreSearched (kind : Kind) (linker : LinkerMember) (members : List Mem
   pub short : (machine : MachineType) (wanted : List (List ℕ)) →
       TakesJust kind linker members (asks_on machine wanted) (TakesFor machine members wanted)
 
--- A search of members is one in the bytes of their archive: the headers of the members that are found are taken.
+-- A search of members is one in the bytes of their archive: the headers of the members that are found are
+-- taken.
 pub record IsSearchOf (kind : Kind) (linker : LinkerMember) (members : List MemberView) (asks : Asks)
     (found : List MemberView) : Type 0 where
   pub headers : List ℕ

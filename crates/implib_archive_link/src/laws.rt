@@ -26,8 +26,8 @@ ghost use Rattle.std.specs.List.{AllByRecursion, IsDistinct, flat_map};
 ghost use Rattle.std.specs.Prelude.{◌≡◌, ◌++◌, ℕ, List, bytes_eq};
 
 /// The bytes of the archive of members are an archive in the sense of searches: a name leads to the
-/// first member that it is listed for, by either linker member; what a linker takes in the bytes are
-/// members that it takes of the list; and each search of the list is one in the bytes.
+/// first member that it is listed for, by either linker member; what a linker takes in the bytes
+/// are members that it takes of the list; and each search of the list is one in the bytes.
 pub fn archives_are_searched()
     ensures bytes { (kind : Kind) (linker : LinkerMember) (members : List MemberView) →
         HaveArchive kind linker members → AreSearched kind linker members }

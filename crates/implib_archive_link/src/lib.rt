@@ -1,5 +1,5 @@
-//! Archive search in the bytes of import libraries: a linker looks a name up in the archive's index,
-//! and takes the member behind the header that it is led to.
+//! Archive search in the bytes of import libraries: a linker looks a name up in the archive's
+//! index, and takes the member behind the header that it is led to.
 //!
 //! [`laws`] has what is proved: of an archive that `implib_archive` makes of members, such a search
 //! takes just what a search of the members takes, which the laws of `implib_link` speak of. So what
