@@ -1,6 +1,6 @@
 -- What the members for GNU's linker are read as.
 use Rattle.std.proofs.Common.{◌≡◌, ℕ, ◌+◌, ◌<◌, ◌≤◌, ◌^◌, Bool, true, false, if◌then◌else◌, ◌||◌, List, [], ◌∷◌, ◌++◌, length, drop, map, reverse, Option, Some, None, refl, ap, sym, ◌∙◌, codes, subst}
-use Rattle.std.specs.Prelude.{◌==◌, bytes_eq}
+use Rattle.std.specs.Prelude.{bytes_eq}
 use Rattle.std.specs.List.{AllByRecursion, filter_map, flat_map, list_any}
 use Rattle.std.specs.Option.{option_and_then, option_map}
 use Rattle.std.proofs.lemmas.Bool.{ltb-true, or_parts}

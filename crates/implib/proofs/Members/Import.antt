@@ -11,7 +11,7 @@ use Rattle.implib.specs.Import.{Ordinal, Name, holds, underscore, import_symbols
 use Rattle.implib.specs.Underscore.{asked_name}
 use Rattle.implib.specs.Ascii.{begins_with, without_first}
 use Rattle.implib.specs.Machine.{machine_number}
-use Rattle.implib.specs.Members.Msvc.{asked_by_short_import, short_import_of, short_import_symbol, symbol_or_name, import_type_of, name_type_of, short_import_symbols}
+use Rattle.implib.specs.Members.Msvc.{asked_by_short_import, short_import_of, symbol_or_name, import_type_of, name_type_of, short_import_symbols}
 use Rattle.implib.specs.Members.ReadBack.{FitsShortImport, import_written, ask_written}
 use Rattle.implib.specs.Formats.ShortImport.{ShortImport, import_of_short_import, asked_by_name_type, import_ordinal, import_name_undecorate, import_code, import_data, import_const, without_prefix}
 use Rattle.std.proofs.lemmas.Slice.Eq.{bytes_eq-Decides}
