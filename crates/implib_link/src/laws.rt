@@ -12,6 +12,7 @@ pub mod msvc_closed;
 pub mod msvc_exists;
 pub mod msvc_given;
 pub mod msvc_search;
+pub mod named_apart;
 pub mod packed;
 pub mod program;
 pub mod reading;
