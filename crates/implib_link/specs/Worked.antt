@@ -26,3 +26,4 @@ pub mod Exists
 pub mod MsvcArchives
 pub mod MsvcClosed
 pub mod MsvcExists
+pub mod NamedApart
