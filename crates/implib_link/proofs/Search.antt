@@ -24,3 +24,4 @@ pub mod MsvcClosed
 pub mod MsvcGiven
 pub mod MsvcRooms
 pub mod MsvcExists
+pub mod NamedApart

@@ -32,3 +32,4 @@ pub mod Choices
 pub mod Instructions
 pub mod Lld
 pub mod MsvcExists
+pub mod NamedApart

@@ -9,3 +9,4 @@ pub mod MsvcArchives
 pub mod MsvcClosed
 pub mod MsvcGiven
 pub mod MsvcExists
+pub mod NamedApart

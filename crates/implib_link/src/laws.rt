@@ -15,6 +15,7 @@ pub mod msvc_closed;
 pub mod msvc_exists;
 pub mod msvc_given;
 pub mod msvc_search;
+pub mod named_apart;
 pub mod other_libraries;
 pub mod packed;
 pub mod program;
