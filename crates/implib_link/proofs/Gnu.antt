@@ -35,3 +35,4 @@ pub mod Beside
 pub mod Writing
 pub mod MovedWriting
 pub mod Choices
+pub mod Aliases

@@ -11,3 +11,4 @@ pub mod Pointers
 pub mod Pages
 pub mod Writing
 pub mod Choices
+pub mod Aliases

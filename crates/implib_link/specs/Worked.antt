@@ -25,3 +25,4 @@ pub mod Pages
 pub mod RebasedPointers
 pub mod Writing
 pub mod Choices
+pub mod Aliases
