@@ -12,6 +12,7 @@ ghost use Rattle.implib.specs.Members.ImportTables.{thunk_width};
 ghost use Rattle.implib.specs.Members.WeakExternal.{weak_object};
 ghost use Rattle.implib.specs.declared.machine.MachineType.{MachineType};
 ghost use Rattle.implib_link.specs.Directory.{imported};
+ghost use Rattle.implib_link.specs.Flavors.Program.{FlavorInput, IsFlavorProgram, IsMadeFor, ask_in, dll_of, exports_chosen, imported_in, symbol_in};
 ghost use Rattle.implib_link.specs.Gnu.Aliases.{ResolvesAliases, weak_target};
 ghost use Rattle.implib_link.specs.Gnu.Calls.{AreBeside, CallArrives, HasCall, PlacedCode, code_ranges};
 ghost use Rattle.implib_link.specs.Gnu.Loaded.{Writes};
@@ -80,6 +81,58 @@ pub fn aliases_reach_their_targets()
           object = object_of (weak_object machine weak target);
           section_addresses = section_addresses;
         } ∷ linked) ≡ Some target }
+{}
+
+/// The same of a program of both flavours.
+pub fn aliases_of_flavors_reach_their_targets()
+    ensures calls { (machine : MachineType) (image_base : ℕ) (bases : Bases)
+        (inputs : List FlavorInput) (objects : List Object)
+        (codes : List PlacedCode) (targets : PlacedCode → ℕ → ℕ)
+        (gives : List ℕ → Ask → List ℕ) (written : List Range)
+        (i j : ℕ) (p : FlavorInput) (e : ExportView) (c : PlacedCode) (offset : ℕ)
+        (name : List ℕ) →
+        AllByRecursion (IsMadeFor machine) inputs →
+        IsFlavorProgram machine bases inputs objects →
+        CanJump machine image_base bases →
+        AreBeside machine image_base bases objects codes targets →
+        ResolvesAliases (placed_from bases objects) codes targets →
+        ((dll : List ℕ) (ask : Ask) → length (gives dll ask) ≡ thunk_width machine) →
+        Writes (image_of machine bases (placed_from bases objects))
+        (thunk_width machine) gives bases.descriptors (map (imported_in machine) inputs) written →
+        slice_get inputs i ≡ Some p →
+        slice_get (exports_chosen p) j ≡ Some e →
+        Contains codes c →
+        definitions_of name (placed_from bases objects) ≡ [] →
+        weak_target name (placed_from bases objects) ≡ Some (imp_symbol (symbol_in p.flavor e)) →
+        HasCall machine c offset name →
+        CallArrives machine image_base
+        (written ++ (image_of machine bases (placed_from bases objects)
+        ++ code_ranges machine image_base targets codes)) (c.position + offset)
+        (gives (dll_of p) (ask_in p.flavor machine e)) }
+    ensures pointers { (machine : MachineType) (image_base : ℕ) (bases : Bases)
+        (inputs : List FlavorInput) (objects : List Object)
+        (codes : List PlacedCode) (targets : PlacedCode → ℕ → ℕ)
+        (gives : List ℕ → Ask → List ℕ) (written : List Range)
+        (i j : ℕ) (p : FlavorInput) (e : ExportView) (c : PlacedCode) (offset : ℕ)
+        (name : List ℕ) →
+        AllByRecursion (IsMadeFor machine) inputs →
+        IsFlavorProgram machine bases inputs objects →
+        CanJump machine image_base bases →
+        AreBeside machine image_base bases objects codes targets →
+        ResolvesAliases (placed_from bases objects) codes targets →
+        ((dll : List ℕ) (ask : Ask) → length (gives dll ask) ≡ thunk_width machine) →
+        Writes (image_of machine bases (placed_from bases objects))
+        (thunk_width machine) gives bases.descriptors (map (imported_in machine) inputs) written →
+        slice_get inputs i ≡ Some p →
+        slice_get (exports_chosen p) j ≡ Some e →
+        Contains codes c →
+        definitions_of name (placed_from bases objects) ≡ [] →
+        weak_target name (placed_from bases objects) ≡ Some (imp_symbol (symbol_in p.flavor e)) →
+        HasLoad machine c offset name →
+        LoadArrives machine image_base
+        (written ++ (image_of machine bases (placed_from bases objects)
+        ++ code_ranges machine image_base targets codes)) (c.position + offset)
+        (gives (dll_of p) (ask_in p.flavor machine e)) }
 {}
 
 /// A call by an alias of a program that was linked by hand goes to what the DLL gives for the
