@@ -12,6 +12,7 @@ pub mod Reading
 pub mod Beside
 pub mod Writing
 pub mod MovedWriting
+pub mod Aliases
 pub mod Stubs
 pub mod Calls
 pub mod Packed

@@ -38,3 +38,4 @@ pub mod Whole
 pub mod OtherLibraries
 pub mod MovedWriting
 pub mod Choices
+pub mod Aliases

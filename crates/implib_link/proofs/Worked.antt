@@ -33,3 +33,4 @@ pub mod Instructions
 pub mod Lld
 pub mod MsvcExists
 pub mod NamedApart
+pub mod Aliases

@@ -12,3 +12,4 @@ pub mod Pages
 pub mod Writing
 pub mod OtherLibraries
 pub mod Choices
+pub mod Aliases

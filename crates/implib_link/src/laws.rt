@@ -1,6 +1,7 @@
 //! Laws: what a caller may conclude from the definitions, each as the contract of an empty
 //! function.
 
+pub mod aliases;
 pub mod bounds;
 pub mod calls;
 pub mod choices;

@@ -16,7 +16,8 @@ use Rattle.implib_link.specs.Gnu.Loaded.{entries_written}
 use Rattle.implib_link.specs.Gnu.Program.{IsProgram, has_tables}
 use Rattle.implib_link.specs.Gnu.Reading.{ReadsAndWrites}
 use Rattle.implib_link.specs.Gnu.Writing.{FillsBy, FillsTable, WritesAsItGoes}
-use Rattle.implib_link.specs.Worked.Calls.{calling_objects, given_on, table_targets}
+use Rattle.implib_link.specs.Worked.Calls.{calling_flavors, calling_objects, given_on, table_targets}
+use Rattle.implib_link.specs.Worked.Flavors.{both_inputs as flavor_inputs, flavor_bases_8}
 use Rattle.implib_link.specs.Worked.Loads.{gives_by_hand}
 use Rattle.implib_link.specs.Worked.Rebased.{i386_memory, moving_codes}
 use Rattle.implib_link.specs.Worked.Programs.{both_inputs, program_image, program_objects, touching_4, touching_8}
@@ -26,7 +27,9 @@ use Rattle.implib_link.proofs.Gnu.Filling.{all_filled, table_filled}
 use Rattle.implib_link.proofs.Gnu.Writing.{gnu_beside, gnu_long, keeps_itself, run_can, run_once}
 use Rattle.implib_link.proofs.Gnu.Moved.{image_kept}
 use Rattle.implib_link.proofs.Gnu.Steady.{program_tables_none}
-use Rattle.implib_link.proofs.Worked.Calls.{wide}
+use Rattle.implib_link.proofs.Flavors.Writing.{flavors_writer_ends, flavors_writer_loads}
+use Rattle.implib_link.proofs.Worked.Calls.{flavors_program, wide}
+use Rattle.implib_link.proofs.Worked.Flavors.{worked_flavors}
 use Rattle.implib_link.proofs.Worked.Rebased.{worked_moves}
 use Rattle.implib_link.proofs.Worked.Loads.{amd64_given, arm64_given, armnt_given, i386_given}
 use Rattle.implib_link.proofs.Worked.Programs.{opened, worked_programs}
@@ -266,4 +269,7 @@ worked_writings = record {
   not_given = not_given;
   never_stops = never_stops;
   moved = moved;
+  flavors = λ found after runs.
+      (flavors_writer_loads AMD64 flavor_bases_8 (flavor_inputs AMD64) calling_flavors (given_on AMD64) found after worked_flavors.amd64.made flavors_program (wide AMD64) runs).0;
+  flavors_end = flavors_writer_ends AMD64 flavor_bases_8 (flavor_inputs AMD64) calling_flavors (given_on AMD64) worked_flavors.amd64.made flavors_program (wide AMD64);
 }

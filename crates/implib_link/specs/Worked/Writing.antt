@@ -4,14 +4,16 @@ use Rattle.std.specs.Prelude.{◌≡◌, ℕ, List, [], ◌∷◌, ◌++◌, map
 use Rattle.implib.specs.declared.machine.MachineType.{MachineType}
 use Rattle.implib.specs.declared.machine.MachineType.TheVariants.{I386, ARMNT, AMD64, ARM64}
 use Rattle.implib.specs.Import.{Ask, Ordinal}
-use Rattle.implib.specs.Link.Image.{Range}
+use Rattle.implib.specs.Link.Image.{Range, image_of}
 use Rattle.implib.specs.Link.Load.{BytesAt}
 use Rattle.implib.specs.Link.Placement.{Bases}
 use Rattle.implib.specs.Members.ImportTables.{thunk_width, zeros}
 use Rattle.implib_link.specs.Directory.{Imported, imported}
+use Rattle.implib_link.specs.Flavors.Program.{imported_in}
 use Rattle.implib_link.specs.Gnu.Reading.{ReadsAndWrites}
 use Rattle.implib_link.specs.Gnu.Writing.{WritesAsItGoes}
-use Rattle.implib_link.specs.Worked.Calls.{given_on}
+use Rattle.implib_link.specs.Worked.Calls.{flavors_placed, given_on}
+use Rattle.implib_link.specs.Worked.Flavors.{both_inputs as flavor_inputs, flavor_bases_8}
 use Rattle.implib_link.specs.Worked.Loads.{entry_of, gives_by_hand}
 use Rattle.implib_link.specs.Worked.Programs.{both_inputs, program_image, touching_4, touching_8}
 use Rattle.implib_link.specs.Worked.Rebased.{i386_memory}
@@ -93,3 +95,10 @@ pub record WorkedWritings : Type 0 where
   pub moved : (found : List Imported) (after : List Range) →
       WritesAsItGoes 4 (given_on I386) touching_4.descriptors (i386_memory (0x60 ∷ 0 ∷ 0 ∷ 0x10 ∷ [])) found after →
       (found ≡ map (imported I386) (both_inputs I386)) × BytesAt after 0x60 (0x40 ∷ 0 ∷ 0 ∷ 0x10 ∷ [])
+  -- the program of both flavours: of both DLLs just the imports
+  pub flavors : (found : List Imported) (after : List Range) →
+      WritesAsItGoes 8 (given_on AMD64) 8 (image_of AMD64 flavor_bases_8 flavors_placed) found after →
+      found ≡ map (imported_in AMD64) (flavor_inputs AMD64)
+  pub flavors_end : (after : List Range)
+      × WritesAsItGoes 8 (given_on AMD64) 8 (image_of AMD64 flavor_bases_8 flavors_placed)
+      (map (imported_in AMD64) (flavor_inputs AMD64)) after

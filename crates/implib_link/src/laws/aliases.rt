@@ -1,0 +1,142 @@
+//! Laws of aliases in a link: what weak externals are resolved to.
+
+ghost use Rattle.implib.specs.Definition.{ExportView};
+ghost use Rattle.implib.specs.Formats.Layout.{object_of};
+ghost use Rattle.implib.specs.Formats.Object.{Object};
+ghost use Rattle.implib.specs.Import.{Ask, expected_ask, imp_symbol};
+ghost use Rattle.implib.specs.Link.Image.{Range, image_of};
+ghost use Rattle.implib.specs.Link.LinkedMembers.{IsMade, LinkInput, chosen_exports};
+ghost use Rattle.implib.specs.Link.Placement.{Bases, Placed, SectionAddress, placed_from};
+ghost use Rattle.implib.specs.Link.Resolution.{definitions_of};
+ghost use Rattle.implib.specs.Members.ImportTables.{thunk_width};
+ghost use Rattle.implib.specs.Members.WeakExternal.{weak_object};
+ghost use Rattle.implib.specs.declared.machine.MachineType.{MachineType};
+ghost use Rattle.implib_link.specs.Directory.{imported};
+ghost use Rattle.implib_link.specs.Flavors.Program.{FlavorInput, IsFlavorProgram, IsMadeFor, ask_in, dll_of, exports_chosen, imported_in, symbol_in};
+ghost use Rattle.implib_link.specs.Gnu.Aliases.{ResolvesAliases, weak_target};
+ghost use Rattle.implib_link.specs.Gnu.Calls.{AreBeside, CallArrives, HasCall, PlacedCode, code_ranges};
+ghost use Rattle.implib_link.specs.Gnu.Loaded.{Writes};
+ghost use Rattle.implib_link.specs.Gnu.Pointers.{HasLoad, LoadArrives};
+ghost use Rattle.implib_link.specs.Gnu.Program.{IsProgram};
+ghost use Rattle.implib_link.specs.Stub.{CanJump};
+ghost use Rattle.implib_link.specs.Worked.Aliases.{WorkedAlias};
+ghost use Rattle.std.specs.List.{AllByRecursion, Contains};
+ghost use Rattle.std.specs.Prelude.{◌≡◌, ◌+◌, ◌∷◌, ◌++◌, [], ℕ, List, Some, length, map, slice_get};
+
+/// Code that calls, or reads a pointer, through the `__imp_` symbol of an alias, which nothing
+/// defines but which a weak external replaces by an export's `__imp_` symbol, goes to what the DLL
+/// gives for the export. The members for aliases are such weak externals.
+pub fn aliases_reach_their_targets()
+    ensures calls { (machine : MachineType) (image_base : ℕ) (bases : Bases)
+        (inputs : List LinkInput) (objects : List Object)
+        (codes : List PlacedCode) (targets : PlacedCode → ℕ → ℕ)
+        (gives : List ℕ → Ask → List ℕ) (written : List Range)
+        (i j : ℕ) (p : LinkInput) (e : ExportView) (c : PlacedCode) (offset : ℕ)
+        (alias : List ℕ) →
+        AllByRecursion (IsMade machine) inputs →
+        IsProgram machine bases inputs objects →
+        CanJump machine image_base bases →
+        AreBeside machine image_base bases objects codes targets →
+        ResolvesAliases (placed_from bases objects) codes targets →
+        ((dll : List ℕ) (ask : Ask) → length (gives dll ask) ≡ thunk_width machine) →
+        Writes (image_of machine bases (placed_from bases objects))
+        (thunk_width machine) gives bases.descriptors (map (imported machine) inputs) written →
+        slice_get inputs i ≡ Some p →
+        slice_get (chosen_exports p.definition p.chosen) j ≡ Some e →
+        Contains codes c →
+        definitions_of alias (placed_from bases objects) ≡ [] →
+        weak_target alias (placed_from bases objects) ≡ Some (imp_symbol e.name) →
+        HasCall machine c offset alias →
+        CallArrives machine image_base
+        (written ++ (image_of machine bases (placed_from bases objects)
+        ++ code_ranges machine image_base targets codes)) (c.position + offset)
+        (gives p.definition.import_name (expected_ask machine e)) }
+    ensures pointers { (machine : MachineType) (image_base : ℕ) (bases : Bases)
+        (inputs : List LinkInput) (objects : List Object)
+        (codes : List PlacedCode) (targets : PlacedCode → ℕ → ℕ)
+        (gives : List ℕ → Ask → List ℕ) (written : List Range)
+        (i j : ℕ) (p : LinkInput) (e : ExportView) (c : PlacedCode) (offset : ℕ)
+        (alias : List ℕ) →
+        AllByRecursion (IsMade machine) inputs →
+        IsProgram machine bases inputs objects →
+        CanJump machine image_base bases →
+        AreBeside machine image_base bases objects codes targets →
+        ResolvesAliases (placed_from bases objects) codes targets →
+        ((dll : List ℕ) (ask : Ask) → length (gives dll ask) ≡ thunk_width machine) →
+        Writes (image_of machine bases (placed_from bases objects))
+        (thunk_width machine) gives bases.descriptors (map (imported machine) inputs) written →
+        slice_get inputs i ≡ Some p →
+        slice_get (chosen_exports p.definition p.chosen) j ≡ Some e →
+        Contains codes c →
+        definitions_of alias (placed_from bases objects) ≡ [] →
+        weak_target alias (placed_from bases objects) ≡ Some (imp_symbol e.name) →
+        HasLoad machine c offset alias →
+        LoadArrives machine image_base
+        (written ++ (image_of machine bases (placed_from bases objects)
+        ++ code_ranges machine image_base targets codes)) (c.position + offset)
+        (gives p.definition.import_name (expected_ask machine e)) }
+    ensures members { (machine : MachineType) (weak target : List ℕ)
+        (section_addresses : List SectionAddress) (linked : List Placed) →
+        weak_target weak (record {
+          object = object_of (weak_object machine weak target);
+          section_addresses = section_addresses;
+        } ∷ linked) ≡ Some target }
+{}
+
+/// The same of a program of both flavours.
+pub fn aliases_of_flavors_reach_their_targets()
+    ensures calls { (machine : MachineType) (image_base : ℕ) (bases : Bases)
+        (inputs : List FlavorInput) (objects : List Object)
+        (codes : List PlacedCode) (targets : PlacedCode → ℕ → ℕ)
+        (gives : List ℕ → Ask → List ℕ) (written : List Range)
+        (i j : ℕ) (p : FlavorInput) (e : ExportView) (c : PlacedCode) (offset : ℕ)
+        (name : List ℕ) →
+        AllByRecursion (IsMadeFor machine) inputs →
+        IsFlavorProgram machine bases inputs objects →
+        CanJump machine image_base bases →
+        AreBeside machine image_base bases objects codes targets →
+        ResolvesAliases (placed_from bases objects) codes targets →
+        ((dll : List ℕ) (ask : Ask) → length (gives dll ask) ≡ thunk_width machine) →
+        Writes (image_of machine bases (placed_from bases objects))
+        (thunk_width machine) gives bases.descriptors (map (imported_in machine) inputs) written →
+        slice_get inputs i ≡ Some p →
+        slice_get (exports_chosen p) j ≡ Some e →
+        Contains codes c →
+        definitions_of name (placed_from bases objects) ≡ [] →
+        weak_target name (placed_from bases objects) ≡ Some (imp_symbol (symbol_in p.flavor e)) →
+        HasCall machine c offset name →
+        CallArrives machine image_base
+        (written ++ (image_of machine bases (placed_from bases objects)
+        ++ code_ranges machine image_base targets codes)) (c.position + offset)
+        (gives (dll_of p) (ask_in p.flavor machine e)) }
+    ensures pointers { (machine : MachineType) (image_base : ℕ) (bases : Bases)
+        (inputs : List FlavorInput) (objects : List Object)
+        (codes : List PlacedCode) (targets : PlacedCode → ℕ → ℕ)
+        (gives : List ℕ → Ask → List ℕ) (written : List Range)
+        (i j : ℕ) (p : FlavorInput) (e : ExportView) (c : PlacedCode) (offset : ℕ)
+        (name : List ℕ) →
+        AllByRecursion (IsMadeFor machine) inputs →
+        IsFlavorProgram machine bases inputs objects →
+        CanJump machine image_base bases →
+        AreBeside machine image_base bases objects codes targets →
+        ResolvesAliases (placed_from bases objects) codes targets →
+        ((dll : List ℕ) (ask : Ask) → length (gives dll ask) ≡ thunk_width machine) →
+        Writes (image_of machine bases (placed_from bases objects))
+        (thunk_width machine) gives bases.descriptors (map (imported_in machine) inputs) written →
+        slice_get inputs i ≡ Some p →
+        slice_get (exports_chosen p) j ≡ Some e →
+        Contains codes c →
+        definitions_of name (placed_from bases objects) ≡ [] →
+        weak_target name (placed_from bases objects) ≡ Some (imp_symbol (symbol_in p.flavor e)) →
+        HasLoad machine c offset name →
+        LoadArrives machine image_base
+        (written ++ (image_of machine bases (placed_from bases objects)
+        ++ code_ranges machine image_base targets codes)) (c.position + offset)
+        (gives (dll_of p) (ask_in p.flavor machine e)) }
+{}
+
+/// A call by an alias of a program that was linked by hand goes to what the DLL gives for the
+/// alias's target.
+pub fn worked_alias()
+    ensures { WorkedAlias }
+{}
