@@ -1,6 +1,6 @@
 -- How far packed import tables of libraries reach, by the definitions alone.
 use Rattle.std.proofs.Common.{◌≡◌, ℕ, ◌+◌, ◌-◌, ◌%◌, ◌<◌, ◌≤◌, Bool, List, [], ◌∷◌, ◌++◌, length, map, Option, Some, None, refl, ap, sym, ◌∙◌, subst, inl, inr, arith, if◌then◌else◌}
-use Rattle.std.specs.Prelude.{IsPermutation}
+use Rattle.std.specs.Prelude.{IsPermutation, unwrap_or}
 use Rattle.std.specs.List.{AllByRecursion, cons_option, filter, sum_by}
 use Rattle.std.proofs.Math.Nat.{mod-lt}
 use Rattle.std.proofs.lemmas.Bool.{cases_Bool}
@@ -18,6 +18,7 @@ use Rattle.implib.specs.Link.Placement.{Addresses, Descriptors, DirectoryEnds, D
 use Rattle.implib.specs.Members.Gnu.{export_object, head_object, hint_name, tail_object}
 use Rattle.implib.specs.Members.ImportTables.{thunk_width}
 use Rattle.implib.specs.Ascii.{without_first}
+use Rattle.implib.specs.Import.{name_asked}
 use Rattle.implib.specs.Underscore.{asked_name, has_underscore}
 use Rattle.implib.proofs.Link.LinkedBlocks.{Block, blocks_objects}
 use Rattle.implib.proofs.Link.LinkedInputs.{block_of, gnu_inputs_objects}
@@ -145,11 +146,16 @@ asked_near : (machine : MachineType) (name : List ℕ) → length (asked_name ma
 asked_near machine name =
     elim (cases_Bool (has_underscore machine name)) [ inl is ↦ rw is (without_near name) | inr is ↦ rw is (omega arith) ]
 
-hint_near : (machine : MachineType) (e : ExportView) → length (hint_name machine e) ≤ 3 + length e.name
+-- the same of a name that is given
+given_near : (machine : MachineType) (name : List ℕ) (given : Option (List ℕ)) → length (unwrap_or given (asked_name machine name)) ≤ length (unwrap_or given name)
+given_near machine name None = asked_near machine name
+given_near machine name (Some text) = omega arith
+
+hint_near : (machine : MachineType) (e : ExportView) → length (hint_name machine e) ≤ 3 + length (unwrap_or e.asked_name e.name)
 unfolding hint_name u16_bytes
 hint_near machine e =
-    let asked = asked_near machine e.name in
-    let all : length (asked_name machine e.name ++ 0 ∷ []) ≡ length (asked_name machine e.name) + 1 = length-append (asked_name machine e.name) (0 ∷ []) in
+    let asked = given_near machine e.name e.asked_name in
+    let all : length (name_asked machine e ++ 0 ∷ []) ≡ length (name_asked machine e) + 1 = length-append (name_asked machine e) (0 ∷ []) in
     elim (cases_Bool e.no_name) [ inl is ↦ rw is (omega arith) | inr is ↦ rw is (omega arith) ]
 
 export_near : (machine : MachineType) (dll : List ℕ) (e : ExportView) → own_rooms (export machine dll e) ≤ export_room e

@@ -1,6 +1,6 @@
 -- That there is a closed program: how much room import tables need, by the definitions alone, and what is
 -- linked for given objects, packed.
-use Rattle.std.specs.Prelude.{◌≡◌, ℕ, ◌+◌, ◌≤◌, List, [], ◌∷◌, ◌++◌, IsPermutation, length, not}
+use Rattle.std.specs.Prelude.{◌≡◌, ℕ, ◌+◌, ◌≤◌, List, [], ◌∷◌, ◌++◌, IsPermutation, length, not, unwrap_or}
 use Rattle.std.specs.List.{AllByRecursion, filter, sum_by}
 use Rattle.implib.specs.declared.machine.MachineType.{MachineType}
 use Rattle.implib.specs.Definition.{ExportView}
@@ -15,10 +15,10 @@ use Rattle.implib_link.specs.Search.Archives.{Library, exports_of, weak_among}
 use Rattle.implib_link.specs.Search.Closed.{IsClosed, LinksClosed, inputs_in}
 use Rattle.implib_link.specs.Search.Search.{HaveSame}
 
--- No more bytes of the import tables than these come from an export, with those that align its parts: its
--- name and 40 beside it.
+-- No more bytes of the import tables than these come from an export, with those that align its parts: the name
+-- that its DLL is asked for, if one is given, or else its own, and 40 beside it.
 abbrev pub export_room : ExportView → ℕ
-export_room e = 40 + length e.name
+export_room e = 40 + length (unwrap_or e.asked_name e.name)
 
 -- from a library: its DLL's name, 64 beside it, and those of its exports
 abbrev pub library_room : Library → ℕ
