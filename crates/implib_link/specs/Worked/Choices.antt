@@ -1,5 +1,5 @@
--- Addresses for symbols of placed code, and memory at another base, by hand: the branch of Worked/DirectCalls and
--- I386's program of Worked/Rebased.
+-- Addresses for symbols of placed code, and memory at another base, by hand: the branch of Worked/DirectCalls
+-- and I386's program of Worked/Rebased.
 use Rattle.std.specs.Prelude.{◌≡◌, ℕ, List, [], ◌∷◌}
 use Rattle.implib.specs.declared.machine.MachineType.TheVariants.{I386, AMD64, ARM64}
 use Rattle.implib.specs.Link.Image.{Range}
