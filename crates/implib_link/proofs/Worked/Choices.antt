@@ -3,7 +3,7 @@ use Rattle.std.proofs.Common.{◌≡◌, ℕ, ◌+◌, ◌^◌, Bool, true, List
 use Rattle.std.specs.Prelude.{false, if◌then◌else◌, nat_eq}
 use Rattle.std.specs.List.{Contains, list_all}
 use Rattle.std.proofs.lemmas.Bool.{eqb-true, false≢true}
-use Rattle.implib.specs.declared.machine.MachineType.TheVariants.{I386, ARM64}
+use Rattle.implib.specs.declared.machine.MachineType.TheVariants.{I386, AMD64, ARM64}
 use Rattle.implib.specs.Formats.Constants.{class_external}
 use Rattle.implib.specs.Formats.Layout.{encoded_size}
 use Rattle.implib.specs.Formats.Object.{ASymbol, Auxiliary, Entry}
@@ -19,7 +19,8 @@ use Rattle.implib_link.specs.Gnu.Calls.{Defines, PlacedCode, Resolves}
 use Rattle.implib_link.specs.Gnu.Choices.{AreSections, CanBeRebased, DefineOnce, plain_range}
 use Rattle.implib_link.specs.Gnu.Program.{has_tables}
 use Rattle.implib_link.specs.Gnu.Rebased.{IsAtBase, IsRebased, Place}
-use Rattle.implib_link.specs.Worked.Calls.{calling_objects, table_targets}
+use Rattle.implib_link.specs.Worked.Calls.{calling_at, calling_flavors, calling_objects, flavor_targets, table_targets}
+use Rattle.implib_link.specs.Worked.Flavors.{both_inputs as flavor_inputs, flavor_bases_8}
 use Rattle.implib_link.specs.Worked.Choices.{WorkedChoices, second_stub}
 use Rattle.implib_link.specs.Worked.DirectCalls.{branch_at, branch_codes, branching_objects, branching_placed, stub_of}
 use Rattle.implib_link.specs.Worked.Programs.{both_inputs, symbol_of_class, touching_4, touching_8}
@@ -27,10 +28,12 @@ use Rattle.implib_link.specs.Worked.Rebased.{linked_memory, moving_codes}
 use Rattle.implib_link.proofs.Gnu.Choices.{defined_found, found, found_in, here_from, is_here, memory_exists, sections_beside}
 use Rattle.implib_link.proofs.Gnu.Steady.{program_tables_none}
 use Rattle.implib_link.proofs.Search.Lists.{contains_among}
-use Rattle.implib_link.proofs.Worked.Calls.{each_of}
+use Rattle.implib_link.proofs.Flavors.Steady.{flavors_tables_none}
+use Rattle.implib_link.proofs.Worked.Calls.{each_of, flavors_program}
+use Rattle.implib_link.proofs.Worked.Flavors.{worked_flavors}
 use Rattle.implib_link.proofs.Worked.DirectCalls.{worked_branch}
 use Rattle.implib_link.proofs.Worked.Programs.{opened, worked_programs}
-use Rattle.implib_link.proofs.Worked.Rebased.{worked_moves}
+use Rattle.implib_link.proofs.Worked.Rebased.{worked_flavor_move, worked_moves}
 use Rattle.implib_link.proofs.Worked.RefusedLinks.{number}
 
 -- Whether code defines each name once, and none that the tables have.
@@ -165,5 +168,8 @@ worked_choices = record {
   rebases = rebases;
   memory = in_memory;
   reads = reads_there;
+  flavors = memory_exists AMD64 0x1_4000_0000 0x2_0000_0000 flavor_bases_8 calling_flavors (calling_at AMD64 0x1000 ∷ []) flavor_targets
+      (flavors_tables_none AMD64 flavor_bases_8 (flavor_inputs AMD64) calling_flavors worked_flavors.amd64.made flavors_program) worked_flavor_move.at.beside
+      (record { within = (tt, tt); apart = (tt, tt) }) tt;
   overlapping = overlapping;
 }

@@ -14,7 +14,8 @@ abbrev pub name_of : Entry → Option (List ℕ)
 name_of (Auxiliary bytes) = None
 name_of (ASymbol s) = Some s.name
 
--- what a weak external is replaced by: the record behind its symbol has the index of another symbol of the object
+-- what a weak external is replaced by: the record behind its symbol has the index of another symbol of the
+-- object
 abbrev pub replaced_by : List Entry → List Entry → Option (List ℕ)
 replaced_by entries [] = None
 replaced_by entries (ASymbol s ∷ behind) = None
@@ -33,14 +34,14 @@ abbrev pub first_of : Option (List ℕ) → Option (List ℕ) → Option (List �
 first_of None other = other
 first_of (Some name) other = Some name
 
--- The target of the first weak external that linked objects have of a name. For example, of `__imp_opened`, an
--- alias of `open`, it is `__imp_open`.
+-- The target of the first weak external that linked objects have of a name. For example, of `__imp_opened`,
+-- an alias of `open`, it is `__imp_open`.
 abbrev pub weak_target : List ℕ → List Placed → Option (List ℕ)
 weak_target name [] = None
 weak_target name (p ∷ linked) = first_of (weak_in name p.object.entries p.object.entries) (weak_target name linked)
 
--- A linker takes an undefined symbol of placed code, whose name nothing defines, to be where the target of its weak
--- external is defined.
+-- A linker takes an undefined symbol of placed code, whose name nothing defines, to be where the target of
+-- its weak external is defined.
 abbrev pub ResolvesAliases : List Placed → List PlacedCode → (PlacedCode → ℕ → ℕ) → Type 0
 ResolvesAliases linked codes targets =
     (c : PlacedCode) (index address : ℕ) (s : ObjectSymbol) (target : List ℕ) → Contains codes c →

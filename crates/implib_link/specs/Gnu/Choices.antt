@@ -1,4 +1,5 @@
--- What a linker and a loader need of placed code so that there are addresses for its symbols, and memory at any base.
+-- What a linker and a loader need of placed code so that there are addresses for its symbols, and memory at
+-- any base.
 use Rattle.std.specs.Prelude.{◌≡◌, ℕ, ◌+◌, ◌^◌, ◌≤◌, true, List, [], ◌∷◌, ◌++◌, length, map, Some}
 use Rattle.std.specs.List.{AllByRecursion, Contains}
 use Rattle.implib.specs.declared.machine.MachineType.{MachineType}
@@ -13,8 +14,8 @@ use Rattle.implib_link.specs.Gnu.Rebased.{Place, code_places, covers}
 abbrev pub plain_range : PlacedCode → Range
 plain_range c = record { start = c.position; bytes = c.code.bytes }
 
--- Sections of linked objects are placed beside the import tables, each ending 16 bytes below 2^31 at least: their
--- relocations' fields, of 4 bytes that are changed, are within them, and no address is in two ranges.
+-- Sections of linked objects are placed beside the import tables, each ending 16 bytes below 2^31 at least:
+-- their relocations' fields, of 4 bytes that are changed, are within them, and no address is in two ranges.
 pub record AreSections (machine : MachineType) (bases : Bases) (objects : List Object) (codes : List PlacedCode)
     : Type 0 where
   pub held : AllByRecursion (λ c. Contains (placed_from bases objects) c.from) codes
@@ -25,8 +26,8 @@ pub record AreSections (machine : MachineType) (bases : Bases) (objects : List O
       codes
   pub apart : AllApart (image_of machine bases (placed_from bases objects) ++ map plain_range codes)
 
--- Placed code defines each name at one address (`once`), and none that an undefined symbol of placed code finds at
--- an address in the import tables (`tables`): linkers refuse symbols that are defined twice.
+-- Placed code defines each name at one address (`once`), and none that an undefined symbol of placed code
+-- finds at an address in the import tables (`tables`): linkers refuse symbols that are defined twice.
 pub record DefineOnce (linked : List Placed) (codes : List PlacedCode) : Type 0 where
   pub once : (c d : PlacedCode) (s t : ObjectSymbol) → Contains codes c → Contains codes d → Defines c s →
       Defines d t → s.name ≡ t.name → c.position + s.value ≡ d.position + t.value

@@ -6,8 +6,9 @@ use Rattle.implib.specs.Link.Image.{Range, byte_at}
 use Rattle.implib.specs.Link.Load.{NumberAt, TextAt, ThunkAt}
 use Rattle.implib_link.specs.Directory.{Imported, StopsAt}
 
--- One table: at each thunk, one after another, the loader reads what it asks for and writes what the DLL gives
--- for it at the next entry of the address table, before it reads the next thunk; it ends at a thunk of 0.
+-- One table: at each thunk, one after another, the loader reads what it asks for and writes what the DLL
+-- gives for it at the next entry of the address table, before it reads the next thunk; it ends at a thunk of
+-- 0.
 unfoldable pub FillsTable : ℕ → (Ask → List ℕ) → ℕ → ℕ → List Range → List Ask → List Range → Type 0
 FillsTable width gives thunk entry memory [] after = NumberAt memory width thunk 0 × (after ≡ memory)
 FillsTable width gives thunk entry memory (ask ∷ asks) after =
@@ -31,8 +32,8 @@ pub record FillsBy (width : ℕ) (gives : List ℕ → Ask → List ℕ) (descri
   pub fills : FillsTable width (gives found.dll) lookups addresses memory found.asks after
 
 -- A loader from a descriptor on: by these it goes on, one behind another, and at the next it stops (PE/COFF
--- specification, "Import Directory Table", "Import Address Table"). What it found, in its order, and the memory
--- that it leaves.
+-- specification, "Import Directory Table", "Import Address Table"). What it found, in its order, and the
+-- memory that it leaves.
 unfoldable pub WritesAsItGoes : ℕ → (List ℕ → Ask → List ℕ) → ℕ → List Range → List Imported → List Range → Type 0
 WritesAsItGoes width gives descriptor memory [] after = StopsAt memory descriptor × (after ≡ memory)
 WritesAsItGoes width gives descriptor memory (found ∷ others) after =

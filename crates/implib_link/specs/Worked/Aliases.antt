@@ -1,5 +1,5 @@
--- A call by an alias, by hand: a program as in Worked/Calls on AMD64, whose code calls through `__imp_opened`, with
--- the weak external that makes this an alias of `__imp_open`.
+-- A call by an alias, by hand: a program as in Worked/Calls on AMD64, whose code calls through
+-- `__imp_opened`, with the weak external that makes this an alias of `__imp_open`.
 use Rattle.std.specs.Prelude.{◌≡◌, ℕ, List, [], ◌∷◌, ◌++◌, codes, map, Some, None}
 use Rattle.implib.specs.declared.machine.MachineType.TheVariants.{AMD64}
 use Rattle.implib.specs.Formats.Constants.{class_external}
@@ -29,7 +29,8 @@ alias_calling = record (calling AMD64) {
       ∷ [];
 }
 
--- what is linked: the calling object, the weak external, foo.dll's members, zed.dll's members, the null descriptor
+-- what is linked: the calling object, the weak external, foo.dll's members, zed.dll's members, the null
+-- descriptor
 abbrev pub alias_objects : List Object
 alias_objects =
     alias_calling

@@ -1,15 +1,16 @@
--- Addresses for symbols of placed code, and memory at another base, by hand: the branch of Worked/DirectCalls and
--- I386's program of Worked/Rebased.
+-- Addresses for symbols of placed code, and memory at another base, by hand: the branch of Worked/DirectCalls
+-- and I386's program of Worked/Rebased.
 use Rattle.std.specs.Prelude.{◌≡◌, ℕ, List, [], ◌∷◌}
-use Rattle.implib.specs.declared.machine.MachineType.TheVariants.{I386, ARM64}
+use Rattle.implib.specs.declared.machine.MachineType.TheVariants.{I386, AMD64, ARM64}
 use Rattle.implib.specs.Link.Image.{Range}
 use Rattle.implib.specs.Link.Load.{NumberAt}
 use Rattle.implib.specs.Members.ImportTables.{zeros}
 use Rattle.implib_link.specs.Gnu.Calls.{AreBeside, PlacedCode, Resolves}
 use Rattle.implib_link.specs.Gnu.Choices.{AreSections, CanBeRebased, DefineOnce}
 use Rattle.implib_link.specs.Gnu.Rebased.{IsAtBase, IsRebased}
-use Rattle.implib_link.specs.Worked.Calls.{calling_objects, table_targets}
+use Rattle.implib_link.specs.Worked.Calls.{calling_at, calling_flavors, calling_objects, flavor_targets, table_targets}
 use Rattle.implib_link.specs.Worked.DirectCalls.{branch_at, branch_codes, branching_objects, branching_placed, stub_of}
+use Rattle.implib_link.specs.Worked.Flavors.{flavor_bases_8}
 use Rattle.implib_link.specs.Worked.Programs.{touching_4, touching_8}
 use Rattle.implib_link.specs.Worked.Rebased.{moving_codes}
 
@@ -37,6 +38,9 @@ pub record WorkedChoices : Type 0 where
       (moving_codes I386 touching_4) (table_targets I386 touching_4) memory
   pub reads : (memory : List Range) → IsAtBase I386 0x40_0000 0x2000_0000 touching_4 (calling_objects I386)
       (moving_codes I386 touching_4) (table_targets I386 touching_4) memory → NumberAt memory 4 0x1006 0x2000_0060
+  -- the program of both flavours, linked for 0x140000000, is in some memory at 0x200000000
+  pub flavors : (memory : List Range) × IsAtBase AMD64 0x1_4000_0000 0x2_0000_0000 flavor_bases_8 calling_flavors
+      (calling_at AMD64 0x1000 ∷ []) flavor_targets memory
   -- two base relocations that lie on one another: no memory has both numbers
   pub overlapping : (memory : List Range) → IsRebased 0 1
       (record { address = 0x1000; width = 4 } ∷ record { address = 0x1002; width = 4 } ∷ [])

@@ -23,9 +23,9 @@ loading_memory machine image_base bases =
     image_of machine bases (loading_placed machine bases)
     ++ code_ranges machine image_base (tables_of (loading_placed machine bases)) (loading_at machine ∷ [])
 
--- The program and its code are at another base: its base relocations are at these places; the instructions have
--- these bytes, and read the entry; and whatever a loader writes that reads the image there, they read what foo.dll
--- gives for `stat`.
+-- The program and its code are at another base: its base relocations are at these places; the instructions
+-- have these bytes, and read the entry; and whatever a loader writes that reads the image there, they read
+-- what foo.dll gives for `stat`.
 pub record WorkedPointerMove (machine : MachineType) (from to : ℕ) (bases : Bases) (memory : List Range)
     (places : List Place) (instructions : List ℕ) (entry : ℕ) (address : List ℕ) : Type 0 where
   pub at : IsAtBase machine from to bases (loading_objects machine) (loading_at machine ∷ [])

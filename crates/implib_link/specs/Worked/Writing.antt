@@ -1,5 +1,5 @@
--- A loader that writes as it goes, by hand: what it leaves of the programs that are linked by hand, and images
--- that it reads in another way than a loader that first reads all.
+-- A loader that writes as it goes, by hand: what it leaves of the programs that are linked by hand, and
+-- images that it reads in another way than a loader that first reads all.
 use Rattle.std.specs.Prelude.{◌≡◌, ℕ, List, [], ◌∷◌, ◌++◌, map}
 use Rattle.implib.specs.declared.machine.MachineType.{MachineType}
 use Rattle.implib.specs.declared.machine.MachineType.TheVariants.{I386, ARMNT, AMD64, ARM64}
@@ -19,8 +19,8 @@ use Rattle.implib_link.specs.Worked.Programs.{both_inputs, program_image, touchi
 use Rattle.implib_link.specs.Worked.Rebased.{i386_memory}
 use Rattle.implib_link.specs.Worked.RefusedLinks.{descriptor_bytes, five_and_six, foo, image_by_hand, ordinal_8, table_8}
 
--- what is left in front of the image, the last entry first: `queue` of zed.dll, and `move`, `stat`, `open` and
--- `nine` of foo.dll
+-- what is left in front of the image, the last entry first: `queue` of zed.dll, and `move`, `stat`, `open`
+-- and `nine` of foo.dll
 abbrev pub left_8 : MachineType → List Range
 left_8 machine =
     entry_of machine 160 0x71 0x7A
@@ -39,7 +39,8 @@ left_4 machine =
     ∷ entry_of machine 92 9 0x66
     ∷ []
 
--- A loader of a program asks for what it imports and leaves this; and each loader that writes as it goes does.
+-- A loader of a program asks for what it imports and leaves this; and each loader that writes as it goes
+-- does.
 pub record WorkedWriting (machine : MachineType) (bases : Bases) (left : List Range) : Type 0 where
   pub runs : WritesAsItGoes (thunk_width machine) (gives_by_hand machine) bases.descriptors
       (program_image machine bases) (map (imported machine) (both_inputs machine))
@@ -90,8 +91,8 @@ pub record WorkedWritings : Type 0 where
   -- without the null descriptor no loader stops behind the DLL
   pub never_stops : (after : List Range) →
       WritesAsItGoes 8 gives_zeros 0x1000 without_null (record { dll = foo; asks = five_and_six } ∷ []) after → ⊥
-  -- I386's program of Worked/Rebased, linked for 0x400000 and in memory at 0x10000000: at 0x60 is what foo.dll gives
-  -- for `open`
+  -- I386's program of Worked/Rebased, linked for 0x400000 and in memory at 0x10000000: at 0x60 is what
+  -- foo.dll gives for `open`
   pub moved : (found : List Imported) (after : List Range) →
       WritesAsItGoes 4 (given_on I386) touching_4.descriptors (i386_memory (0x60 ∷ 0 ∷ 0 ∷ 0x10 ∷ [])) found after →
       (found ≡ map (imported I386) (both_inputs I386)) × BytesAt after 0x60 (0x40 ∷ 0 ∷ 0 ∷ 0x10 ∷ [])
