@@ -38,12 +38,15 @@ pub record WorkedSearches : Type 0 where
   pub in_gnu : IsSearchOf Gnu First (members_of three) (asks_for wanted) found
   pub in_coff : IsSearchOf Coff Second (members_of three) (asks_for wanted) found
 
--- Two libraries, and the members of three exports for Microsoft's linker, have archives, too. In their bytes a
--- linker takes what it takes of the list: for wanted names, for a given object, and of short imports.
+-- Two libraries, and the members of three exports for Microsoft's linker, have archives, too. In their
+-- bytes a linker takes what it takes of the list: for wanted names, for a given object, and of short
+-- imports.
 pub record WorkedLibraries : Type 0 where
   pub libraries : HaveArchive Gnu First (members_of_libraries two_libraries)
   pub taken : List MemberView
   pub in_libraries : IsSearchOf Gnu First (members_of_libraries two_libraries) (asks_for both_wanted) taken
-  pub closed : IsSearchOf Gnu First (members_of_libraries two_libraries) (asks_with (choosing ∷ [])) closed_taken
+  pub closed :
+      IsSearchOf Gnu First (members_of_libraries two_libraries) (asks_with (choosing ∷ [])) closed_taken
   pub short : HaveArchive Coff Second (short_members AMD64)
-  pub in_short : IsSearchOf Coff Second (short_members AMD64) (asks_on AMD64 (one_wanted AMD64)) (four_taken AMD64)
+  pub in_short :
+      IsSearchOf Coff Second (short_members AMD64) (asks_on AMD64 (one_wanted AMD64)) (four_taken AMD64)
