@@ -1,3 +1,4 @@
 pub mod Corollaries
 pub mod InBytes
+pub mod WorkedLibraries
 pub mod WorkedSearches

@@ -3,7 +3,12 @@ use Rattle.std.specs.Prelude.{◌≡◌, ℕ, List, [], ◌∷◌, codes, map}
 use Rattle.implib.specs.Members.MemberSpec.{MemberView}
 use Rattle.implib_archive.specs.Worked.{worked_coff, worked_gnu}
 use Rattle.implib_archive.specs.declared.kind.Kind.TheVariants.{Coff, Gnu}
-use Rattle.implib_archive_link.specs.InBytes.{First, Has, Second, TakesAt, asks_for}
+use Rattle.implib.specs.declared.machine.MachineType.TheVariants.{AMD64}
+use Rattle.implib_archive_link.specs.InBytes.{First, Has, Second, TakesAt, asks_for, asks_on, asks_with}
+use Rattle.implib_link.specs.Search.Archives.{archive_of as members_of_libraries}
+use Rattle.implib_link.specs.Worked.Archives.{both_wanted, two_libraries}
+use Rattle.implib_link.specs.Worked.Closed.{choosing, closed_taken}
+use Rattle.implib_link.specs.Worked.MsvcSearch.{four_taken, one_wanted, short_members}
 use Rattle.implib_archive_link.specs.Results.{HaveArchive, IsSearchOf}
 use Rattle.implib_link.specs.Worked.Search.{members_of, three, wanted}
 
@@ -32,3 +37,16 @@ pub record WorkedSearches : Type 0 where
       ∷ codes "foo_dll_a_s00000.o" ∷ []
   pub in_gnu : IsSearchOf Gnu First (members_of three) (asks_for wanted) found
   pub in_coff : IsSearchOf Coff Second (members_of three) (asks_for wanted) found
+
+-- Two libraries, and the members of three exports for Microsoft's linker, have archives, too. In their
+-- bytes a linker takes what it takes of the list: for wanted names, for a given object, and of short
+-- imports.
+pub record WorkedLibraries : Type 0 where
+  pub libraries : HaveArchive Gnu First (members_of_libraries two_libraries)
+  pub taken : List MemberView
+  pub in_libraries : IsSearchOf Gnu First (members_of_libraries two_libraries) (asks_for both_wanted) taken
+  pub closed :
+      IsSearchOf Gnu First (members_of_libraries two_libraries) (asks_with (choosing ∷ [])) closed_taken
+  pub short : HaveArchive Coff Second (short_members AMD64)
+  pub in_short :
+      IsSearchOf Coff Second (short_members AMD64) (asks_on AMD64 (one_wanted AMD64)) (four_taken AMD64)

@@ -12,7 +12,7 @@ ghost use Rattle.implib_archive.specs.declared.kind.Kind.{Kind};
 ghost use Rattle.implib_archive_link.specs.InBytes.{LinkerMember, asks_for, asks_on, asks_with};
 ghost use Rattle.implib_archive_link.specs.Results.{AreFoundInBytes, AreSearched, HaveArchive};
 ghost use Rattle.implib_archive_link.specs.Results.{IsEnding, TakesJust};
-ghost use Rattle.implib_archive_link.specs.Worked.{WorkedSearches};
+ghost use Rattle.implib_archive_link.specs.Worked.{WorkedLibraries, WorkedSearches};
 ghost use Rattle.implib_link.specs.Flavors.Expansion.{descriptor_symbol_by_name};
 ghost use Rattle.implib_link.specs.Gnu.Program.{ClaimsNone};
 ghost use Rattle.implib_link.specs.Search.Archives.{IsArchive, Library, NamesNoHeadOrTailOf};
@@ -121,7 +121,9 @@ pub fn search_takes_short_imports()
         (λ taken. HaveSame taken (msvc_if_any d machine (shorts_wanted d wanted))) }
 {}
 
-/// Searches by hand in the bytes of archives of two members, and of a definition's members.
+/// Searches by hand in the bytes of archives of two members, of a definition's members, and of
+/// libraries.
 pub fn worked_searches()
-    ensures { WorkedSearches }
+    ensures members { WorkedSearches }
+    ensures libraries { WorkedLibraries }
 {}
