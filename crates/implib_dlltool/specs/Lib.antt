@@ -1,6 +1,8 @@
 pub mod Options
 pub mod Arguments
 pub mod Names
+pub mod Request
 pub mod Supported
+pub mod Library
 pub mod Views
 pub mod Worked
