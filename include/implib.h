@@ -76,7 +76,8 @@ enum implib_status {
     IMPLIB_EMPTY_NAME = 24,         /* of an export: its name is empty */
     IMPLIB_NUL_IN_EXPORT = 25,      /* of an export: one of its names holds a NUL */
     IMPLIB_EMPTY_ASKED_NAME = 26,   /* of an export: the name that the DLL is asked for is empty */
-    IMPLIB_MEMBER_TOO_LONG = 27     /* a member has more than 2^32 - 1 bytes */
+    IMPLIB_MEMBER_TOO_LONG = 27,    /* a member has more than 2^32 - 1 bytes */
+    IMPLIB_NO_NAME_TYPE = 28        /* of an export, and of no text: no name type makes the asked name */
 };
 
 /*

@@ -1,6 +1,6 @@
 -- What a module definition holds: its texts as bytes, its exports as a list, its numbers.
 -- Two definitions that show the same here are equal field by field.
-use Rattle.std.specs.Prelude.{ℕ, Bool, false, List, [], map, Option, None}
+use Rattle.std.specs.Prelude.{ℕ, Bool, false, List, [], map, Option, None, unwrap_or}
 use Rattle.std.specs.String.{string_bytes}
 use Rattle.std.specs.Option.{option_map}
 use Rattle.implib.specs.declared.def.definition.ModuleDef.{ModuleDef}
@@ -11,6 +11,7 @@ pub record ExportView : Type 0 where
   pub name : List ℕ
   pub ext_name : Option (List ℕ)
   pub symbol_name : List ℕ
+  pub asked_name : Option (List ℕ)
   pub alias_target : List ℕ
   pub ordinal : ℕ
   pub no_name : Bool
@@ -38,6 +39,7 @@ export_view e = record {
   name = string_bytes e.name;
   ext_name = option_map string_bytes e.ext_name;
   symbol_name = string_bytes e.symbol_name;
+  asked_name = option_map string_bytes e.asked_name;
   alias_target = string_bytes e.alias_target;
   ordinal = e.ordinal;
   no_name = e.no_name;
@@ -45,6 +47,10 @@ export_view e = record {
   private = e.private;
   constant = e.constant;
 }
+
+-- the asked name that an export gives, and an empty one where it gives none
+abbrev pub given_name : ExportView → List ℕ
+given_name e = unwrap_or e.asked_name []
 
 -- what a definition of the program holds
 abbrev pub definition_view : ModuleDef → DefinitionView
@@ -68,6 +74,7 @@ empty_export = record {
   name = [];
   ext_name = None;
   symbol_name = [];
+  asked_name = None;
   alias_target = [];
   ordinal = 0;
   no_name = false;

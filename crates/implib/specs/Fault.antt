@@ -20,6 +20,7 @@ pub data Cause : Type 0 where
   EmptyName : ℕ → Cause
   NulInExport : ℕ → Cause
   EmptyAskedName : ℕ → Cause
+  NoNameType : ℕ → Cause
   MemberTooLong : Cause
 
 -- what a fault of the program says
@@ -35,6 +36,7 @@ cause_of fault.NulInImportName = NulInImportName
 cause_of (fault.EmptyName index) = EmptyName index
 cause_of (fault.NulInExport index) = NulInExport index
 cause_of (fault.EmptyAskedName index) = EmptyAskedName index
+cause_of (fault.NoNameType index) = NoNameType index
 cause_of fault.MemberTooLong = MemberTooLong
 
 -- the index of the export that a cause tells, if it tells one
@@ -42,6 +44,7 @@ abbrev pub export_index : Cause → Option ℕ
 export_index (EmptyName index) = Some index
 export_index (NulInExport index) = Some index
 export_index (EmptyAskedName index) = Some index
+export_index (NoNameType index) = Some index
 export_index _ = None
 
 -- where the error is a fault of the input, this holds of its cause

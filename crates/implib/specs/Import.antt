@@ -1,7 +1,7 @@
 -- What a program imports by a definition: of which DLL, under which symbols, asking for what.
 -- Nothing here knows a byte of a file, nor for whose linker the files are.
 use Rattle.std.specs.Prelude.{ℕ, Bool, true, false, ◌&&◌, not, List, [], ◌∷◌, ◌++◌, map, if◌then◌else◌}
-use Rattle.std.specs.Prelude.{codes, bytes_eq}
+use Rattle.std.specs.Prelude.{codes, bytes_eq, unwrap_or}
 use Rattle.std.specs.List.{filter, flat_map}
 use Rattle.implib.specs.declared.machine.MachineType.{MachineType}
 pub use Rattle.implib.specs.Ascii.{at_sign, holds, underscore}
@@ -29,9 +29,14 @@ imp_symbol name = codes "__imp_" ++ name
 abbrev pub import_symbols : Bool → List ℕ → List (List ℕ)
 import_symbols is_data name = imp_symbol name ∷ (if is_data then [] else name ∷ [])
 
+-- The name that an export asks for: the one that it gives, whole, or else its own without the underscore of
+-- I386. For example, on I386 `_bar` asks for bar, and for baz where it gives that.
+abbrev pub name_asked : MachineType → ExportView → List ℕ
+name_asked machine e = unwrap_or e.asked_name (asked_name machine e.name)
+
 -- what an export asks for
 abbrev pub expected_ask : MachineType → ExportView → Ask
-expected_ask machine e = if e.no_name then Ordinal e.ordinal else Name (asked_name machine e.name) e.ordinal
+expected_ask machine e = if e.no_name then Ordinal e.ordinal else Name (name_asked machine e) e.ordinal
 
 -- The import that an export means. For example, `bar` of foo.dll on AMD64 declares `__imp_bar` and `bar`, and
 -- asks foo.dll for the name bar with the hint 0.

@@ -42,12 +42,16 @@ pub enum Fault {
     /// `members`: this export's name is empty.
     #[error("export name is empty")]
     EmptyName(usize),
-    /// `members`: this export's name, symbol name or alias target holds a NUL.
+    /// `members`: this export's name, symbol name, asked name or alias target holds a NUL.
     #[error("export name contains null byte")]
     NulInExport(usize),
     /// `members`: this export asks the DLL for an empty name.
     #[error("asked name is empty")]
     EmptyAskedName(usize),
+    /// `members` for Microsoft's linker: no name type makes the asked name that this export gives
+    /// of the symbol of its short import.
+    #[error("no name type for the asked name")]
+    NoNameType(usize),
     /// `members`, `write`: a file would have more than 2^32 - 1 bytes.
     #[error("member too long")]
     MemberTooLong,
@@ -59,9 +63,10 @@ impl Fault {
         ensures { result ≡ export_index (cause_of self.now) }
     {
         match self {
-            Fault::EmptyName(index) | Fault::NulInExport(index) | Fault::EmptyAskedName(index) => {
-                Some(*index)
-            }
+            Fault::EmptyName(index)
+            | Fault::NulInExport(index)
+            | Fault::EmptyAskedName(index)
+            | Fault::NoNameType(index) => Some(*index),
             _ => None,
         }
     }

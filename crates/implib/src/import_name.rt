@@ -1,13 +1,12 @@
 //! The name that an export asks its DLL for, in each flavour (docs/FORMATS.md, "Short imports" and
 //! "Members for GNU's linker").
 
-ghost use Rattle.implib.specs.Definition.{export_view};
-ghost use Rattle.implib.specs.Import.{at_sign};
-ghost use Rattle.implib.specs.Underscore.{asked_name};
+ghost use Rattle.implib.specs.Definition.{export_view, given_name};
+ghost use Rattle.implib.specs.Import.{at_sign, name_asked};
 ghost use Rattle.implib.specs.Ascii.{begins_with};
 ghost use Rattle.implib.specs.Members.Msvc.{asked_by_short_import, name_type_of};
-ghost use Rattle.implib.specs.Members.Msvc.{short_import_symbol};
-ghost use Rattle.implib.specs.Members.NameRules.{asked_in};
+ghost use Rattle.implib.specs.Members.Msvc.{name_type_asking, short_import_symbol};
+ghost use Rattle.implib.specs.Members.NameRules.{asked_in, asks_another, name_to_ask};
 ghost use Rattle.implib.specs.Formats.ShortImport.{before_at_sign, without_prefix};
 ghost use Rattle.std.specs.List.{position};
 ghost use Rattle.std.specs.Prelude.{◌==◌, ◌≡◌, ◌≤◌};
@@ -31,6 +30,37 @@ pub(crate) fn asked(export: &ShortExport, machine: MachineType, flavor: Flavor) 
     }
 }
 
+/// The asked name that the export gives; empty for none.
+pub(crate) fn given_name(export: &ShortExport) -> &str
+    ensures { result.now ≡ given_name (export_view export.now) }
+{
+    match &export.asked_name {
+        Some(name) => name.as_str(),
+        None => "",
+    }
+}
+
+/// The name that the export is to ask for: the one that it gives or, where it gives none, the one
+/// that its members ask for.
+pub(crate) fn name_to_ask(export: &ShortExport, machine: MachineType, flavor: Flavor) -> &[u8]
+    ensures { result.now ≡ name_to_ask flavor machine (export_view export.now) }
+{
+    match &export.asked_name {
+        Some(name) => name.as_bytes(),
+        None => asked(export, machine, flavor),
+    }
+}
+
+/// Whether the export gives a name and its members ask for another.
+pub(crate) fn asks_another(export: &ShortExport, machine: MachineType, flavor: Flavor) -> bool
+    ensures { result ≡ asks_another flavor machine (export_view export.now) }
+{
+    match &export.asked_name {
+        Some(name) => asked(export, machine, flavor) != name.as_bytes(),
+        None => false,
+    }
+}
+
 /// The symbol of the export's short import.
 pub(crate) fn short_import_symbol(export: &ShortExport) -> &str
     ensures { result.now ≡ short_import_symbol (export_view export.now) }
@@ -51,6 +81,8 @@ pub(crate) fn name_type(export: &ShortExport, machine: MachineType) -> u16
     let symbol = short_import_symbol(export);
     if export.no_name {
         IMPORT_ORDINAL
+    } else if export.asked_name.is_some() {
+        name_type_asking(symbol.as_bytes(), given_name(export).as_bytes())
     } else if begins_with(name, b'_') && name.as_bytes().contains(&b'@') {
         IMPORT_NAME
     } else if symbol != name {
@@ -59,6 +91,21 @@ pub(crate) fn name_type(export: &ShortExport, machine: MachineType) -> u16
         IMPORT_NAME_NOPREFIX
     } else {
         IMPORT_NAME
+    }
+}
+
+// The first of name, no prefix and undecorate by which a short import of the symbol asks for the
+// name; undecorate where none does.
+fn name_type_asking(symbol: &[u8], name: &[u8]) -> u16
+    ensures number { result ≡ name_type_asking symbol.now name.now }
+    ensures at_most { result ≤ IMPORT_NAME_UNDECORATE }
+{
+    if symbol == name {
+        IMPORT_NAME
+    } else if without_prefix(symbol) == name {
+        IMPORT_NAME_NOPREFIX
+    } else {
+        IMPORT_NAME_UNDECORATE
     }
 }
 
@@ -104,7 +151,10 @@ fn asked_by_short_import(export: &ShortExport, machine: MachineType) -> &[u8]
 
 /// The name in the export's hint/name table entry.
 pub(crate) fn asked_by_hint_name(export: &ShortExport, machine: MachineType) -> &[u8]
-    ensures { result.now ≡ asked_name machine (export_view export.now).name }
+    ensures { result.now ≡ name_asked machine (export_view export.now) }
 {
-    without_underscore(export.name.as_bytes(), machine)
+    match &export.asked_name {
+        Some(given) => given.as_bytes(),
+        None => without_underscore(export.name.as_bytes(), machine),
+    }
 }

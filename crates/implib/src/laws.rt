@@ -11,7 +11,7 @@ pub mod objects;
 pub mod renaming;
 pub mod tokens;
 
-pub use asked::asked_is_word;
+pub use asked::{asked_is_word, given_name_is_asked};
 pub use definition::parsed_lacks_symbol_names;
 pub use grammar::grammar_or_broken;
 pub use link::{gnu_links, gnu_links_many};

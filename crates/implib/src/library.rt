@@ -118,10 +118,11 @@ impl ImportLibrary {
     /// # Errors
     ///
     /// The first error that applies: `EmptyImportName` or `NulInImportName`; then, export by
-    /// export, private ones left out, `EmptyName`, `NulInExport` (of its name, symbol name or alias
-    /// target) or `EmptyAskedName`, with the index of the export in the definition; then
-    /// `MemberTooLong` for a member of more than 2^32 - 1 bytes. Errors in names are reported even
-    /// when memory runs out; `OutOfMemory` can precede the others.
+    /// export, private ones left out, `EmptyName`, `NulInExport` (of its name, symbol name, asked
+    /// name or alias target), `EmptyAskedName` or, for Microsoft's linker, `NoNameType`, with the
+    /// index of the export in the definition; then `MemberTooLong` for a member of more than
+    /// 2^32 - 1 bytes. Errors in names are reported even when memory runs out; `OutOfMemory` can
+    /// precede `MemberTooLong`.
     pub fn members(&self) -> Result<Vec<Member>, Error>
         ensures ok { IfOk result (λ members.
             AreMembersOf self.now.definition self.now.machine self.now.flavor

@@ -11,7 +11,7 @@ ghost use Rattle.std.specs.Prelude.{map, string_bytes, ◌≡◌};
 use crate::def::definition::{ModuleDef, ShortExport};
 use crate::error::Fault;
 use crate::flavor::Flavor;
-use crate::import_name::asked;
+use crate::import_name::{asks_another, given_name, name_to_ask};
 use crate::machine::MachineType;
 
 /// The first rule on names that the definition breaks: of the import name, then of each export that
@@ -68,10 +68,13 @@ fn export_fault(
     } else if holds_nul(export.name.as_str())
         || holds_nul(export.symbol_name.as_str())
         || holds_nul(export.alias_target.as_str())
+        || holds_nul(given_name(export))
     {
         Some(Fault::NulInExport(index))
-    } else if !export.no_name && asked(export, machine, flavor).is_empty() {
+    } else if !export.no_name && name_to_ask(export, machine, flavor).is_empty() {
         Some(Fault::EmptyAskedName(index))
+    } else if !export.no_name && asks_another(export, machine, flavor) {
+        Some(Fault::NoNameType(index))
     } else {
         None
     }

@@ -23,6 +23,7 @@ worked_statuses = record {
     nul_in_export = λ index. refl;
     empty_asked_name = λ index. refl;
     member_too_long = refl;
+    no_name_type = λ index. refl;
   };
   texts = record {
     text_0 = refl;
@@ -43,9 +44,10 @@ worked_statuses = record {
     text_25 = refl;
     text_26 = refl;
     text_27 = refl;
+    text_28 = refl;
     text_6 = refl;
     text_15 = refl;
-    text_28 = refl;
+    text_29 = refl;
   };
   arguments = record {
     i386 = refl;

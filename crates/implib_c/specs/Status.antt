@@ -10,7 +10,7 @@ use Rattle.implib_c.specs.declared.status.Status.TheVariants.{UnknownDirective, 
 use Rattle.implib_c.specs.declared.status.Status.TheVariants.{ExpectedEqual, ExpectedInteger}
 use Rattle.implib_c.specs.declared.status.Status.TheVariants.{InvalidOrdinal, LoneAt, EmptyImportName}
 use Rattle.implib_c.specs.declared.status.Status.TheVariants.{NulInImportName, EmptyName, NulInExport}
-use Rattle.implib_c.specs.declared.status.Status.TheVariants.{EmptyAskedName, MemberTooLong}
+use Rattle.implib_c.specs.declared.status.Status.TheVariants.{EmptyAskedName, MemberTooLong, NoNameType}
 
 -- the number of a status: those of the call first, and from 16 on those of the input's faults
 abbrev pub status_number : Status → ℕ
@@ -32,6 +32,7 @@ status_number EmptyName = 24
 status_number NulInExport = 25
 status_number EmptyAskedName = 26
 status_number MemberTooLong = 27
+status_number NoNameType = 28
 
 -- the status with a number
 abbrev pub status_numbered : ℕ → Option Status
@@ -54,6 +55,7 @@ status_numbered number =
     else if number == 25 then Some NulInExport
     else if number == 26 then Some EmptyAskedName
     else if number == 27 then Some MemberTooLong
+    else if number == 28 then Some NoNameType
     else None
 
 -- the text of a status
@@ -76,6 +78,7 @@ status_text EmptyName = codes "export name is empty"
 status_text NulInExport = codes "export name contains null byte"
 status_text EmptyAskedName = codes "asked name is empty"
 status_text MemberTooLong = codes "member too long"
+status_text NoNameType = codes "no name type for the asked name"
 
 -- the status of a fault of the input
 abbrev pub cause_status : Cause → Status
@@ -91,6 +94,7 @@ cause_status (cause.EmptyName index) = EmptyName
 cause_status (cause.NulInExport index) = NulInExport
 cause_status (cause.EmptyAskedName index) = EmptyAskedName
 cause_status cause.MemberTooLong = MemberTooLong
+cause_status (cause.NoNameType index) = NoNameType
 
 -- the text of a status, if there is one
 abbrev pub found_text : Option Status → List ℕ

@@ -36,6 +36,7 @@ pub record WorkedNumbers : Type 0 where
   pub nul_in_export : (index : ℕ) → number_of (Refused (cause.NulInExport index)) ≡ 25
   pub empty_asked_name : (index : ℕ) → number_of (Refused (cause.EmptyAskedName index)) ≡ 26
   pub member_too_long : number_of (Refused cause.MemberTooLong) ≡ 27
+  pub no_name_type : (index : ℕ) → number_of (Refused (cause.NoNameType index)) ≡ 28
 
 -- what the texts of numbers are; the last three numbers are no statuses
 pub record WorkedTexts : Type 0 where
@@ -57,9 +58,10 @@ pub record WorkedTexts : Type 0 where
   pub text_25 : text_for 25 ≡ codes "export name contains null byte"
   pub text_26 : text_for 26 ≡ codes "asked name is empty"
   pub text_27 : text_for 27 ≡ codes "member too long"
+  pub text_28 : text_for 28 ≡ codes "no name type for the asked name"
   pub text_6 : text_for 6 ≡ codes "unknown status"
   pub text_15 : text_for 15 ≡ codes "unknown status"
-  pub text_28 : text_for 28 ≡ codes "unknown status"
+  pub text_29 : text_for 29 ≡ codes "unknown status"
 
 -- what the numbers of arguments are
 pub record WorkedArguments : Type 0 where

@@ -45,6 +45,8 @@ pub enum Status {
     EmptyAskedName,
     /// [`Fault::MemberTooLong`].
     MemberTooLong,
+    /// [`Fault::NoNameType`].
+    NoNameType,
 }
 
 impl Status {
@@ -71,6 +73,7 @@ impl Status {
             Status::NulInExport => 25,
             Status::EmptyAskedName => 26,
             Status::MemberTooLong => 27,
+            Status::NoNameType => 28,
         }
     }
 
@@ -97,6 +100,7 @@ impl Status {
             25 => Some(Status::NulInExport),
             26 => Some(Status::EmptyAskedName),
             27 => Some(Status::MemberTooLong),
+            28 => Some(Status::NoNameType),
             _ => None,
         }
     }
@@ -126,6 +130,7 @@ impl Status {
             Status::NulInExport => "export name contains null byte",
             Status::EmptyAskedName => "asked name is empty",
             Status::MemberTooLong => "member too long",
+            Status::NoNameType => "no name type for the asked name",
         }
     }
 
@@ -146,6 +151,7 @@ impl Status {
             Fault::NulInExport(_) => Status::NulInExport,
             Fault::EmptyAskedName(_) => Status::EmptyAskedName,
             Fault::MemberTooLong => Status::MemberTooLong,
+            Fault::NoNameType(_) => Status::NoNameType,
         }
     }
 }

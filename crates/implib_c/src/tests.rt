@@ -231,7 +231,8 @@ const TEXTS: [(u32, &str); 22] = [
     (25, "export name contains null byte"),
     (26, "asked name is empty"),
     (27, "member too long"),
-    (28, "unknown status"),
+    (28, "no name type for the asked name"),
+    (29, "unknown status"),
     (0xFFFF_FFFF, "unknown status"),
 ];
 

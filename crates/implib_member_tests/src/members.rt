@@ -17,9 +17,10 @@ type Row<'a> = (&'a str, MachineType, &'a str, &'a str);
 /// A fault, with the number of its export if it tells one.
 fn fault_line(alloc: Global, fault: &Fault) -> Result<String, AllocError> {
     match fault {
-        Fault::EmptyName(export) | Fault::NulInExport(export) | Fault::EmptyAskedName(export) => {
-            format!(in alloc; "{fault}: export {export}")
-        }
+        Fault::EmptyName(export)
+        | Fault::NulInExport(export)
+        | Fault::EmptyAskedName(export)
+        | Fault::NoNameType(export) => format!(in alloc; "{fault}: export {export}"),
         _ => format!(in alloc; "{fault}"),
     }
 }

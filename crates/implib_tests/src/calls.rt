@@ -114,6 +114,43 @@ fn an_empty_asked_name_is_refused_without_memory(rt: HostRuntime) -> Result<(), 
     Ok(())
 }
 
+// A definition of foo.dll with one export, that asks for another name than its own.
+fn asking(alloc: Global, name: &str, asked: &str) -> Result<ModuleDef, Error> {
+    let mut export = ShortExport::named(alloc, name)?;
+    export.asked_name = Some(String::from_str(alloc, asked)?);
+    let mut def = ModuleDef::empty(alloc);
+    def.import_name.push_str("foo.dll")?;
+    def.exports.push(export)?;
+    Ok(def)
+}
+
+// The members of a definition for I386 in a flavour.
+fn i386_members(def: ModuleDef, flavor: Flavor) -> Result<Vec<Member>, Error> {
+    ImportLibrary::from_def(def, MachineType::I386, flavor).members()
+}
+
+#[test]
+fn an_export_that_gives_a_name_has_members(rt: HostRuntime) -> Result<(), Fail> {
+    let alloc = rt.alloc();
+    let members = i386_members(asking(alloc, "_F@8", "F@8")?, Flavor::Msvc)?;
+    assert!(rt; have_lengths(&members, &[352, 127, 151, 33]));
+    let members = i386_members(asking(alloc, "a", "b")?, Flavor::Gnu)?;
+    assert!(rt; have_lengths(&members, &[349, 452, 455]));
+    Ok(())
+}
+
+#[test]
+fn a_name_that_no_name_type_makes_is_refused_without_memory(rt: HostRuntime) -> Result<(), Fail> {
+    let def = asking(rt.alloc(), "a", "b")?;
+    let library = ImportLibrary::from_def(def, MachineType::I386, Flavor::Msvc);
+    let is_refused = match library.members() {
+        Err(Error::Invalid(Fault::NoNameType(0))) => true,
+        _ => false,
+    };
+    assert!(rt; is_refused);
+    Ok(())
+}
+
 // Whether members have the same names, files and listed symbols.
 fn are_same(left: &[Member], right: &[Member]) -> bool {
     if left.len() != right.len() {
@@ -263,6 +300,7 @@ fn is_expected(export: &ShortExport, row: &Expected) -> bool {
         && export.alias_target.as_str() == alias_target
         && export.is_data == is_data
         && export.symbol_name.is_empty()
+        && export.asked_name.is_none()
         && !more
 }
 
@@ -311,12 +349,15 @@ fn an_export_of_equal_names_is_copied(rt: HostRuntime) -> Result<(), Fail> {
         name: String::from_str(alloc, "foo")?,
         ext_name: Some(String::from_str(alloc, "foo")?),
         symbol_name: String::from_str(alloc, "foo")?,
+        asked_name: Some(String::from_str(alloc, "foo")?),
         alias_target: String::from_str(alloc, "foo")?,
         ..ShortExport::empty(alloc)
     };
     let copy = export.clone()?;
     assert_eq!(rt; copy.name.as_str(), "foo");
     assert_eq!(rt; copy.alias_target.as_str(), "foo");
+    let asked = copy.asked_name.as_ref().ok_or("the asked name is lost")?;
+    assert_eq!(rt; asked.as_str(), "foo");
     Ok(())
 }
 
@@ -343,6 +384,7 @@ fn a_named_export_has_its_name_alone(rt: HostRuntime) -> Result<(), Fail> {
     assert_eq!(rt; export.name.as_str(), "foo@8");
     assert!(rt; export.ext_name.is_none());
     assert_eq!(rt; export.symbol_name.as_str(), "");
+    assert!(rt; export.asked_name.is_none());
     assert_eq!(rt; export.alias_target.as_str(), "");
     assert_eq!(rt; export.ordinal, 0);
     let flags = (

@@ -75,6 +75,7 @@ fn a_fault_tells_its_export(rt: HostRuntime) -> Result<(), Fail> {
         Fault::EmptyName(7),
         Fault::NulInExport(7),
         Fault::EmptyAskedName(7),
+        Fault::NoNameType(7),
     ];
     for fault in &of_exports {
         assert_eq!(rt; fault.export_index(), Some(7));

@@ -90,6 +90,12 @@ fn faults_of_names_and_memory_show_their_texts(rt: HostRuntime) -> Result<(), Fa
         "export name contains null byte",
     )?;
     expect_shown(&rt, alloc, Fault::EmptyAskedName(7), "asked name is empty")?;
+    expect_shown(
+        &rt,
+        alloc,
+        Fault::NoNameType(7),
+        "no name type for the asked name",
+    )?;
     expect_shown(&rt, alloc, Fault::MemberTooLong, "member too long")?;
     let shown = format!(in alloc; "{}", Error::OutOfMemory(AllocError))?;
     assert_eq!(rt; shown.as_str(), "out of memory");

@@ -13,8 +13,6 @@ use Rattle.implib.specs.declared.machine.MachineType.{MachineType}
 use Rattle.implib.specs.Definition.{DefinitionView, ExportView}
 use Rattle.implib.specs.Members.Gnu.{head_symbol, iname_symbol, archive_symbols, export_name, export_object, head_name, head_object, numbered_name, mangled_name, tail_name, tail_object}
 use Rattle.implib.specs.Import.{holds, public_exports}
-use Rattle.implib.specs.Underscore.{has_underscore}
-use Rattle.implib.specs.Ascii.{without_first}
 use Rattle.implib.specs.Link.Image.{IsAdmissible}
 use Rattle.implib.specs.Link.Placement.{Bases}
 use Rattle.implib.specs.Members.Members.{AreMembersOf, is_too_long}
@@ -29,7 +27,7 @@ use Rattle.implib.specs.Formats.Writer.{WriterState, written_object, layout_of}
 use Rattle.implib.proofs.Members.GnuObjects.{Fits-export_object, Fits-head_object, Fits-tail_object}
 use Rattle.implib.proofs.Link.LinkedBlocks.{linked_objects, linked_symbols, objects_link}
 use Rattle.implib.proofs.Members.MemberReadings.{map_after}
-use Rattle.implib.proofs.Members.NotRefused.{Sound, exports_sound, import_name_is_free, none_long, short_enough}
+use Rattle.implib.proofs.Members.NotRefused.{Sound, exports_sound, import_name_is_free, name_asked_free, none_long, short_enough}
 use Rattle.implib.proofs.Formats.ObjectReading.{object_in-encoded}
 use Rattle.implib.proofs.Link.Placement.{export, head, tail}
 use Rattle.implib.proofs.Link.Ranges.{Among, among_back, among_first, among_front, among_later}
@@ -71,11 +69,6 @@ pub past_end : {X : Type 0} (xs : List X) (n : ℕ) → slice_get xs n ≡ None 
 past_end [] n is = omega arith
 past_end (x ∷ xs) zero is = cc
 past_end (x ∷ xs) (suc n) is = let rest = past_end xs n is in omega arith
-
-asked_free : (stripped : Bool) (name : List ℕ) → holds 0 name ≡ false → holds 0 (if stripped then without_first name else name) ≡ false
-asked_free false name free = free
-asked_free true [] free = refl
-asked_free true (first ∷ rest) free = (or_parts (first == 0) (holds 0 rest) free).1
 
 -- those that are there
 present : {X : Type 0} → List (Option X) → List X
@@ -152,7 +145,7 @@ module _ (machine : MachineType) (dll : List ℕ) (exports : List ExportView) (d
       let good = all_at Sound exports n e sound is in
       record {
         ordinal = ltb-true e.ordinal 0x1_0000 good.ordinal;
-        name = asked_free (has_underscore machine e.name) e.name good.name;
+        name = name_asked_free machine e good;
       }
 
   -- what is linked after the head

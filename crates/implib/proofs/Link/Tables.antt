@@ -7,8 +7,7 @@ use Rattle.implib.specs.declared.machine.MachineType.{MachineType}
 use Rattle.implib.specs.Formats.Bytes.{u16_bytes, u32_bytes}
 use Rattle.implib.specs.Definition.{ExportView}
 use Rattle.implib.specs.Members.Gnu.{export_object, hint_name, hint_name_symbol, relocations_of_thunk, tail_object, thunk}
-use Rattle.implib.specs.Import.{Name, Ordinal, expected_ask}
-use Rattle.implib.specs.Underscore.{asked_name}
+use Rattle.implib.specs.Import.{Name, Ordinal, expected_ask, name_asked}
 use Rattle.implib.specs.Link.Image.{Contribution, Range, filled, contributions, range_end, relocated, with_address}
 use Rattle.implib.specs.Link.Placement.{Addresses, Bases, Descriptors, HintNames, Lookups, Placed, next_multiple, placed_from}
 use Rattle.implib.specs.Link.Resolution.{target_address}
@@ -23,7 +22,7 @@ use Rattle.implib.proofs.Link.Thunks.{StrictTableAt, StrictThunkAt, length-addre
 -- an export whose ordinal is a 16-bit number and whose asked name has no NUL
 pub record CanBeAsked (machine : MachineType) (e : ExportView) : Type 0 where
   pub ordinal : e.ordinal < 2 ^ 16
-  pub name : HasNoNul (asked_name machine e.name)
+  pub name : HasNoNul (name_asked machine e)
 
 -- bytes at their position are what is filled in first
 pub filled_first : (a n : ℕ) (bytes : List ℕ) (rest : List Contribution) → length bytes ≡ n →
@@ -165,7 +164,7 @@ module _ (machine : MachineType) (dll : List ℕ) (linked : List Placed) where
 
   module _ (image : List Range) (starts : AllByRecursion (λ r. 0 < r.start) image) (ends : AllByRecursion (λ r. range_end r < 2 ^ 31) image) where
     -- an export's thunk asks for what is expected
-    hint_is : (e : ExportView) → e.no_name ≡ false → hint_name machine e ≡ u16_bytes e.ordinal ++ (asked_name machine e.name ++ 0 ∷ [])
+    hint_is : (e : ExportView) → e.no_name ≡ false → hint_name machine e ≡ u16_bytes e.ordinal ++ (name_asked machine e ++ 0 ∷ [])
     unfolding hint_name
     hint_is e is = rw is refl
 
@@ -173,10 +172,10 @@ module _ (machine : MachineType) (dll : List ℕ) (linked : List Placed) where
         BytesAt image (next_multiple 2 b.hint_names) (hint_name machine e) → StrictThunkAt image (thunk_width machine) a (expected_ask machine e)
     thunk_at b e a fits located hint_located =
         elim (cases_Bool e.no_name) [
-          | inl is ↦ subst (λ test. StrictThunkAt image (thunk_width machine) a (if test then Ordinal e.ordinal else Name (asked_name machine e.name) e.ordinal)) (sym is)
+          | inl is ↦ subst (λ test. StrictThunkAt image (thunk_width machine) a (if test then Ordinal e.ordinal else Name (name_asked machine e) e.ordinal)) (sym is)
               (ordinal_located machine image e.ordinal a fits.ordinal (subst (BytesAt image a) (thunk_of_ordinal b e is) located))
-          | inr is ↦ subst (λ test. StrictThunkAt image (thunk_width machine) a (if test then Ordinal e.ordinal else Name (asked_name machine e.name) e.ordinal)) (sym is)
-              (name_located machine image starts ends (asked_name machine e.name) e.ordinal (next_multiple 2 b.hint_names) a fits.ordinal fits.name
+          | inr is ↦ subst (λ test. StrictThunkAt image (thunk_width machine) a (if test then Ordinal e.ordinal else Name (name_asked machine e) e.ordinal)) (sym is)
+              (name_located machine image starts ends (name_asked machine e) e.ordinal (next_multiple 2 b.hint_names) a fits.ordinal fits.name
               (subst (BytesAt image a) (thunk_of_name b e is) located)
               (subst (BytesAt image (next_multiple 2 b.hint_names)) (hint_is e is) hint_located))
         ]

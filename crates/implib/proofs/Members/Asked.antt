@@ -1,15 +1,16 @@
--- What the exports of a text ask for.
+-- What the exports of a text ask for, and those that give a name.
 use Rattle.std.proofs.Common.{◌≡◌, ℕ, Bool, true, false, ◌||◌, ◌&&◌, if◌then◌else◌, ◌⊎◌, inl, inr, List, [], ◌∷◌, map, Option, Some, None, refl, ap, subst, ◌∙◌}
 use Rattle.std.specs.Prelude.{◌==◌, not, slice_index, option_map, unwrap_or}
+use Rattle.std.specs.List.{AllByRecursion}
 use Rattle.std.proofs.lemmas.Bool.{eqb-true}
 use Rattle.implib.specs.declared.flavor.Flavor.{Flavor}
 use Rattle.implib.specs.declared.flavor.Flavor.TheVariants.{Msvc, Gnu}
 use Rattle.implib.specs.declared.machine.MachineType.{MachineType}
 use Rattle.implib.specs.declared.machine.MachineType.TheVariants.{I386, ARMNT, AMD64, ARM64}
-use Rattle.implib.specs.Asked.{AsksFor, AsksForWords, EachAsksForItsWord, external_word, exports_of_text}
+use Rattle.implib.specs.Asked.{AskForGivenNames, AsksFor, AsksForGiven, AsksForWords, EachAsksForItsWord, external_word, exports_of_text}
 use Rattle.implib.specs.Definition.{DefinitionView, ExportView}
 use Rattle.implib.specs.Text.Grammar.{Export}
-use Rattle.implib.specs.Import.{Name, Ordinal, holds, at_sign, underscore}
+use Rattle.implib.specs.Import.{Name, Ordinal, holds, at_sign, name_asked, public_exports, underscore}
 use Rattle.implib.specs.Underscore.{asked_name}
 use Rattle.implib.specs.Ascii.{begins_with, without_first}
 use Rattle.implib.specs.Text.Meaning.{export_meaning}
@@ -17,9 +18,12 @@ use Rattle.implib.specs.Ascii.{question_mark}
 use Rattle.implib.specs.Underscore.{decorated}
 use Rattle.implib.specs.Members.NameRules.{asked_in}
 use Rattle.implib.specs.Members.Msvc.{asked_by_short_import}
+use Rattle.implib.specs.Members.MemberSpec.{MemberView}
+use Rattle.implib.specs.Members.Members.{AreMembersOf}
 use Rattle.implib.specs.Text.Parses.{Parses}
 use Rattle.implib.specs.Renaming.{renamed, renamed_export, name_to_link}
 use Rattle.implib.proofs.Members.Import.{ask_written-expected}
+use Rattle.implib.proofs.Members.NotRefused.{AsksNoOther, exports_ask, given_asked}
 
 -- a name that has no underscore before it, or that is decorated, is asked for as it is
 kept : (begins has : Bool) (name : List ℕ) → begins ≡ false ⊎ has ≡ true → (if begins && not has then without_first name else name) ≡ name
@@ -62,14 +66,15 @@ name_asked_in true ordinal written expected by_name same = cc
 name_asked_in false ordinal written expected by_name same = cc
 
 -- a short import without a symbol name asks for what is expected
-asked_by_short_import-expected : (machine : MachineType) (e : ExportView) → e.symbol_name ≡ [] → e.no_name ≡ false → asked_by_short_import machine e ≡ asked_name machine e.name
-asked_by_short_import-expected machine e plain by_name =
-    name_asked_in e.no_name e.ordinal (asked_by_short_import machine e) (asked_name machine e.name) by_name (ask_written-expected machine e plain)
+asked_by_short_import-expected : (machine : MachineType) (e : ExportView) → e.symbol_name ≡ [] → AsksNoOther Msvc machine e → e.no_name ≡ false →
+    asked_by_short_import machine e ≡ name_asked machine e
+asked_by_short_import-expected machine e plain asks by_name =
+    name_asked_in e.no_name e.ordinal (asked_by_short_import machine e) (name_asked machine e) by_name (ask_written-expected machine e plain asks)
 
 -- in either flavour
 asked_in_each : (machine : MachineType) (e : Export) (flavor : Flavor) → (renamed_export (export_meaning machine e)).no_name ≡ false →
     asked_in flavor machine (renamed_export (export_meaning machine e)) ≡ external_word e
-asked_in_each machine e Msvc by_name = asked_by_short_import-expected machine (renamed_export (export_meaning machine e)) refl by_name ∙ expected_word machine e
+asked_in_each machine e Msvc by_name = asked_by_short_import-expected machine (renamed_export (export_meaning machine e)) refl (λ named. refl) by_name ∙ expected_word machine e
 asked_in_each machine e Gnu by_name = expected_word machine e
 
 asks_for_word : (machine : MachineType) (e : Export) → AsksFor machine (renamed_export (export_meaning machine e)) (external_word e)
@@ -84,3 +89,20 @@ pub asks_for_words : (text : List ℕ) (machine : MachineType) (definition : Def
 asks_for_words text machine definition parsed =
     subst (λ (d : DefinitionView). EachAsksForItsWord machine (renamed d).exports (exports_of_text parsed.statements)) parsed.means
     (each_asks machine (exports_of_text parsed.statements))
+
+asks_for_given : (flavor : Flavor) (machine : MachineType) (e : ExportView) → AsksNoOther flavor machine e → AsksForGiven flavor machine e
+asks_for_given flavor machine e asks = record {
+  expected = λ name is by_name. rw (by_name, is) refl;
+  by_member = λ name is by_name. given_asked flavor machine e name asks is by_name;
+}
+
+each_asks_for_given : (flavor : Flavor) (machine : MachineType) (exports : List ExportView) → AllByRecursion (AsksNoOther flavor machine) exports →
+    AllByRecursion (AsksForGiven flavor machine) exports
+each_asks_for_given flavor machine [] ask = tt
+each_asks_for_given flavor machine (e ∷ exports) ask = (asks_for_given flavor machine e ask.0, each_asks_for_given flavor machine exports ask.1)
+
+-- each export of a definition that has members asks for the name that it gives
+pub ask_for_given_names : (flavor : Flavor) (machine : MachineType) (d : DefinitionView) (members : List MemberView) → AreMembersOf d machine flavor members →
+    AskForGivenNames flavor machine d
+ask_for_given_names flavor machine d members made =
+    each_asks_for_given flavor machine (public_exports (renamed d)) (exports_ask d machine flavor members made)

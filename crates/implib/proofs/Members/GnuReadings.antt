@@ -17,9 +17,7 @@ use Rattle.implib.specs.Definition.{DefinitionView, ExportView}
 use Rattle.implib.specs.Formats.File.{File, ObjectFile, Meaning, AnImport, AnAlias, alias_of_object, declared_by, file_in}
 use Rattle.implib.specs.Members.Gnu.{export_object, archive_symbols, head_object, head_symbol, hint_name, iname_symbol, relocations_of_stub, relocations_of_thunk, stub, tail_object, thunk}
 use Rattle.implib.specs.Members.GnuReader.{CodeRelocation, alias_or_import, ask_of_export, code_of_export, code_relocations, dll_by_names, externals_in, import_of, meaning_with, text_section}
-use Rattle.implib.specs.Import.{Ordinal, Name, imp_symbol, aliases_for, expected_ask, holds, expected_import, import_symbols, is_alias, public_exports}
-use Rattle.implib.specs.Underscore.{asked_name, has_underscore}
-use Rattle.implib.specs.Ascii.{without_first}
+use Rattle.implib.specs.Import.{Ordinal, Name, imp_symbol, aliases_for, expected_ask, holds, expected_import, import_symbols, is_alias, name_asked, public_exports}
 use Rattle.implib.specs.Members.MemberSpec.{AnObject, MemberSpec, MemberView, file_bytes, file_size, member_of}
 use Rattle.implib.specs.Members.Members.{AreMembersOf, is_too_long, member_specs}
 use Rattle.implib.specs.Members.GnuMembers.{alias_specs, export_spec, head_spec, numbered_specs, numbered_specs_of, tail_spec}
@@ -34,7 +32,7 @@ use Rattle.implib.proofs.Members.GnuLoop.{list_any-reverse, map-reverse}
 use Rattle.implib.proofs.Members.GnuObjects.{Fits-export_object, Fits-head_object, Fits-tail_object}
 use Rattle.implib.proofs.Members.MemberMeanings.{DeclaresListed, all_aliases, no_imports, read_declares, weak_declares}
 use Rattle.implib.proofs.Members.MemberReadings.{ReadsBack, all_append, each_length, each_read, machine_number_nonzero, map_after, map_same, object_reads, weak_reads}
-use Rattle.implib.proofs.Members.NotRefused.{Sound, exports_sound, import_name_is_free, none_long, short_enough}
+use Rattle.implib.proofs.Members.NotRefused.{Sound, exports_sound, import_name_is_free, name_asked_free, none_long, short_enough}
 use Rattle.implib.proofs.Formats.Symbols.{before_nul-ended}
 use Rattle.implib.proofs.Formats.WriterLayout.{object_of-layout_of}
 
@@ -121,12 +119,7 @@ numbered_declare machine dll number (e ∷ exports) =
 same_bytes : (text : List ℕ) → bytes_eq text text ≡ true
 same_bytes text = (bytes_eq-Decides text text).1 refl
 
-free_asked : (test : Bool) (name : List ℕ) → holds 0 name ≡ false → holds 0 (if test then without_first name else name) ≡ false
-free_asked false name free = free
-free_asked true [] free = refl
-free_asked true (b ∷ name) free = (or_parts (b == 0) (holds 0 name) free).1
-
-asks_by : (machine : MachineType) (dll : List ℕ) (e : ExportView) → e.ordinal < 2 ^ 16 → holds 0 (asked_name machine e.name) ≡ false → (is_data no_name : Bool) →
+asks_by : (machine : MachineType) (dll : List ℕ) (e : ExportView) → e.ordinal < 2 ^ 16 → holds 0 (name_asked machine e) ≡ false → (is_data no_name : Bool) →
     ask_of_export (written_object (export_object machine dll (record e { is_data = is_data; no_name = no_name }))) ≡ Some (expected_ask machine (record e { is_data = is_data; no_name = no_name }))
 unfolding export_object thunk relocations_of_thunk hint_name stub relocations_of_stub u16_at u16_bytes
 asks_by I386 dll e fits free true true = ap (λ n. Some (Ordinal n)) (from_le_bytes-to_le_bytes_2 e.ordinal fits)
@@ -138,13 +131,13 @@ asks_by AMD64 dll e fits free false true = ap (λ n. Some (Ordinal n)) (from_le_
 asks_by ARM64 dll e fits free true true = ap (λ n. Some (Ordinal n)) (from_le_bytes-to_le_bytes_2 e.ordinal fits)
 asks_by ARM64 dll e fits free false true = ap (λ n. Some (Ordinal n)) (from_le_bytes-to_le_bytes_2 e.ordinal fits)
 asks_by machine dll e fits free true false =
-    ap (λ x. option_map (λ name. Name name (u16_at (u16_bytes e.ordinal ++ (asked_name machine e.name ++ 0 ∷ [])) 0)) x)
-    (before_nul-ended (asked_name machine e.name) [] free)
-    ∙ ap (λ n. Some (Name (asked_name machine e.name) n)) (from_le_bytes-to_le_bytes_2 e.ordinal fits)
+    ap (λ x. option_map (λ name. Name name (u16_at (u16_bytes e.ordinal ++ (name_asked machine e ++ 0 ∷ [])) 0)) x)
+    (before_nul-ended (name_asked machine e) [] free)
+    ∙ ap (λ n. Some (Name (name_asked machine e) n)) (from_le_bytes-to_le_bytes_2 e.ordinal fits)
 asks_by machine dll e fits free false false =
-    ap (λ x. option_map (λ name. Name name (u16_at (u16_bytes e.ordinal ++ (asked_name machine e.name ++ 0 ∷ [])) 0)) x)
-    (before_nul-ended (asked_name machine e.name) [] free)
-    ∙ ap (λ n. Some (Name (asked_name machine e.name) n)) (from_le_bytes-to_le_bytes_2 e.ordinal fits)
+    ap (λ x. option_map (λ name. Name name (u16_at (u16_bytes e.ordinal ++ (name_asked machine e ++ 0 ∷ [])) 0)) x)
+    (before_nul-ended (name_asked machine e) [] free)
+    ∙ ap (λ n. Some (Name (name_asked machine e) n)) (from_le_bytes-to_le_bytes_2 e.ordinal fits)
 
 declared_by_import : (machine : MachineType) (dll : List ℕ) (e : ExportView) (is_data : Bool) →
     (let o = written_object (export_object machine dll (record e { is_data = is_data })) in externals_in o (codes ".idata$5") ++ externals_in o text_section) ≡ import_symbols is_data e.name
@@ -191,7 +184,7 @@ module _ (machine : MachineType) (dll : List ℕ) (dll_free : holds 0 dll ≡ fa
       let o = written_object (export_object machine dll e) in
       let fits : e.ordinal < 2 ^ 16 = ltb-true e.ordinal 0x1_0000 sound.ordinal in
       let asks : ask_of_export o ≡ Some (expected_ask machine e) =
-      asks_by machine dll e fits (free_asked (has_underscore machine e.name) e.name sound.name) e.is_data e.no_name in
+      asks_by machine dll e fits (name_asked_free machine e sound) e.is_data e.no_name in
       let declared : externals_in o (codes ".idata$5") ++ externals_in o text_section ≡ import_symbols e.is_data e.name = declared_by_import machine dll e e.is_data in
       let named = dll_found machine dll e dll_free in
       ap (λ found. option_and_then (λ name. option_map

@@ -1,8 +1,9 @@
 -- The import that an export's short import stands for.
-use Rattle.std.proofs.Common.{◌≡◌, ℕ, ◌<◌, ◌≤◌, ◌^◌, Bool, true, false, if◌then◌else◌, nat_le, nat_lt, List, [], ◌∷◌, Some, refl, ap, arith}
-use Rattle.std.specs.Prelude.{◌==◌, bytes_eq}
+use Rattle.std.proofs.Common.{◌≡◌, ℕ, ◌<◌, ◌≤◌, ◌^◌, Bool, true, false, if◌then◌else◌, nat_le, nat_lt, List, [], ◌∷◌, Option, None, Some, refl, ap, arith}
+use Rattle.std.specs.Prelude.{◌==◌, bytes_eq, is_some, unwrap_or}
 use Rattle.std.proofs.lemmas.Bool.Decides.{nat_tests}
 use Rattle.std.proofs.lemmas.Bool.{eqb-true, le-leb, ltb-true}
+use Rattle.implib.specs.declared.flavor.Flavor.TheVariants.{Msvc}
 use Rattle.implib.specs.declared.machine.MachineType.{MachineType}
 use Rattle.implib.specs.declared.machine.MachineType.TheVariants.{I386, ARMNT, AMD64, ARM64}
 use Rattle.implib.specs.Definition.{ExportView}
@@ -10,10 +11,11 @@ use Rattle.implib.specs.Import.{Ordinal, Name, holds, underscore, import_symbols
 use Rattle.implib.specs.Underscore.{asked_name}
 use Rattle.implib.specs.Ascii.{begins_with, without_first}
 use Rattle.implib.specs.Machine.{machine_number}
-use Rattle.implib.specs.Members.Msvc.{short_import_of, short_import_symbol, symbol_or_name, import_type_of, name_type_of, short_import_symbols}
+use Rattle.implib.specs.Members.Msvc.{asked_by_short_import, short_import_of, short_import_symbol, symbol_or_name, import_type_of, name_type_of, short_import_symbols}
 use Rattle.implib.specs.Members.ReadBack.{FitsShortImport, import_written, ask_written}
 use Rattle.implib.specs.Formats.ShortImport.{ShortImport, import_of_short_import, asked_by_name_type, import_ordinal, import_name_undecorate, import_code, import_data, import_const, without_prefix}
 use Rattle.std.proofs.lemmas.Slice.Eq.{bytes_eq-Decides}
+use Rattle.implib.proofs.Members.NotRefused.{AsksNoOther, given_asked}
 
 machine_number_fits : (machine : MachineType) → machine_number machine < 2 ^ 16
 machine_number_fits I386 = omega arith
@@ -77,23 +79,30 @@ without_prefix-underscore [] begins = cc
 without_prefix-underscore (b ∷ name) begins = let same : b ≡ underscore = eqb-true b underscore begins in rw same refl
 
 -- by its name type, the short import of an export without a symbol name asks for what is expected
-asked-expected : (machine : MachineType) (e : ExportView) → e.symbol_name ≡ [] → e.no_name ≡ false → bytes_eq e.name e.name ≡ true →
-    asked_by_name_type (name_type_of machine e) (short_import_symbol e) ≡ asked_name machine e.name
-asked-expected machine e plain named same = grind (arith, nat_tests, without_prefix-underscore e.name, plain, named, same)
+asked-expected : (machine : MachineType) (e : ExportView) → e.symbol_name ≡ [] → e.no_name ≡ false → is_some e.asked_name ≡ false → bytes_eq e.name e.name ≡ true →
+    asked_by_short_import machine e ≡ asked_name machine e.name
+asked-expected machine e plain named own same = grind (arith, nat_tests, without_prefix-underscore e.name, plain, named, own, same)
+
+-- and with a name that it gives, for that one
+name_expected : (machine : MachineType) (e : ExportView) (given : Option (List ℕ)) → e.symbol_name ≡ [] → AsksNoOther Msvc machine e → e.no_name ≡ false → e.asked_name ≡ given →
+    asked_by_short_import machine e ≡ unwrap_or given (asked_name machine e.name)
+name_expected machine e None plain asks named is = asked-expected machine e plain named (ap is_some is) ((bytes_eq-Decides e.name e.name).1 refl)
+name_expected machine e (Some name) plain asks named is = given_asked Msvc machine e name asks is named
 
 same_ask : (no_name : Bool) (ordinal : ℕ) (written expected : List ℕ) → (no_name ≡ false → written ≡ expected) →
     (if no_name then Ordinal ordinal else Name written ordinal) ≡ (if no_name then Ordinal ordinal else Name expected ordinal)
 same_ask true ordinal written expected same = refl
 same_ask false ordinal written expected same = ap (λ x. Name x ordinal) (same refl)
 
--- an export without a symbol name asks for what it means to ask for
-pub ask_written-expected : (machine : MachineType) (e : ExportView) → e.symbol_name ≡ [] → ask_written machine e ≡ expected_ask machine e
-ask_written-expected machine e plain =
-    same_ask e.no_name e.ordinal _ _ (λ named. asked-expected machine e plain named ((bytes_eq-Decides e.name e.name).1 refl))
+-- an export without a symbol name, and with no other name than it gives, asks for what it means to ask for
+pub ask_written-expected : (machine : MachineType) (e : ExportView) → e.symbol_name ≡ [] → AsksNoOther Msvc machine e → ask_written machine e ≡ expected_ask machine e
+ask_written-expected machine e plain asks =
+    same_ask e.no_name e.ordinal _ _ (λ named. name_expected machine e e.asked_name plain asks named refl)
 
 -- and its short import stands for the import that it means
-pub import_written-expected : (machine : MachineType) (dll : List ℕ) (e : ExportView) → e.symbol_name ≡ [] → import_written machine dll e ≡ expected_import machine dll e
-import_written-expected machine dll e plain =
+pub import_written-expected : (machine : MachineType) (dll : List ℕ) (e : ExportView) → e.symbol_name ≡ [] → AsksNoOther Msvc machine e →
+    import_written machine dll e ≡ expected_import machine dll e
+import_written-expected machine dll e plain asks =
     let listed : short_import_symbols e ≡ import_symbols e.is_data e.name = ap (λ (s : List ℕ). import_symbols e.is_data (symbol_or_name s e.name)) plain in
-    let asks = ask_written-expected machine e plain in
-    rw (listed, asks) refl
+    let asked = ask_written-expected machine e plain asks in
+    rw (listed, asked) refl

@@ -27,7 +27,7 @@ use Rattle.implib.specs.Renaming.{renamed, renamed_export}
 use Rattle.implib.proofs.Members.Import.{import_of_short_import-short_import_of, import_written-expected, import_type_is_data}
 use Rattle.implib.proofs.Members.MemberReadings.{ReadsBack, machine_number_nonzero, object_reads, all_append, files_read, lengths_read, map_after, map_same, of_members, member_specs_read_back}
 use Rattle.implib.proofs.Members.MsvcObjects.{Fits-weak_object}
-use Rattle.implib.proofs.Members.NotRefused.{import_name_is_free}
+use Rattle.implib.proofs.Members.NotRefused.{AsksNoOther, exports_ask, import_name_is_free}
 use Rattle.implib.proofs.Formats.Symbols.{before_nul-ended}
 
 -- What is declared.
@@ -132,12 +132,12 @@ all_aliases [] = refl
 all_aliases (a ∷ aliases) = ap (λ x. a ∷ x) (all_aliases aliases)
 
 -- the import among what an export's members mean
-import_of_export : (machine : MachineType) (dll : List ℕ) (e : ExportView) → e.symbol_name ≡ [] →
+import_of_export : (machine : MachineType) (dll : List ℕ) (e : ExportView) → e.symbol_name ≡ [] → AsksNoOther Msvc machine e →
     filter_map import_among (meanings_written machine dll e) ≡ expected_import machine dll e ∷ []
-import_of_export machine dll e plain =
+import_of_export machine dll e plain asks =
     filter_map-append import_among (map AnAlias (aliases_for (short_import_symbol e) e.alias_target)) (AnImport (import_written machine dll e) ∷ [])
     ∙ (ap (λ x. x ++ import_written machine dll e ∷ []) (no_imports (aliases_for (short_import_symbol e) e.alias_target))
-    ∙ ap (λ x. x ∷ []) (import_written-expected machine dll e plain))
+    ∙ ap (λ x. x ∷ []) (import_written-expected machine dll e plain asks))
 
 -- the aliases among them
 aliases_of_export : (machine : MachineType) (dll : List ℕ) (e : ExportView) → e.symbol_name ≡ [] →
@@ -149,12 +149,13 @@ aliases_of_export machine dll e plain =
     ∙ ap (λ (s : List ℕ). aliases_for (symbol_or_name s e.name) e.alias_target) plain))
 
 imports_expected : (machine : MachineType) (dll : List ℕ) (exports : List ExportView) → AllByRecursion (λ e. e.symbol_name ≡ []) exports →
+    AllByRecursion (AsksNoOther Msvc machine) exports →
     filter_map import_among (flat_map (meanings_written machine dll) exports) ≡ map (expected_import machine dll) exports
-imports_expected machine dll [] plain = refl
-imports_expected machine dll (e ∷ exports) plain =
+imports_expected machine dll [] plain ask = refl
+imports_expected machine dll (e ∷ exports) plain ask =
     filter_map-append import_among (meanings_written machine dll e) (flat_map (meanings_written machine dll) exports)
-    ∙ (ap (λ x. x ++ filter_map import_among (flat_map (meanings_written machine dll) exports)) (import_of_export machine dll e plain.0)
-    ∙ ap (λ x. expected_import machine dll e ∷ x) (imports_expected machine dll exports plain.1))
+    ∙ (ap (λ x. x ++ filter_map import_among (flat_map (meanings_written machine dll) exports)) (import_of_export machine dll e plain.0 ask.0)
+    ∙ ap (λ x. expected_import machine dll e ∷ x) (imports_expected machine dll exports plain.1 ask.1))
 
 aliases_expected : (machine : MachineType) (dll : List ℕ) (exports : List ExportView) → AllByRecursion (λ e. e.symbol_name ≡ []) exports →
     filter_map alias_among (flat_map (meanings_written machine dll) exports) ≡ flat_map (λ e. aliases_for e.name e.alias_target) exports
@@ -243,7 +244,7 @@ module _ (d : DefinitionView) (machine : MachineType) (members : List MemberView
       record {
         meanings = flat_map (meanings_written machine d.import_name) (public_exports (renamed d));
         read = meanings_read;
-        imports = imports_expected machine d.import_name (public_exports (renamed d)) exports;
+        imports = imports_expected machine d.import_name (public_exports (renamed d)) exports (exports_ask d machine Msvc members made);
         aliases = aliases_expected machine d.import_name (public_exports (renamed d)) exports;
       }
 

@@ -15,6 +15,7 @@ attributed e items = record {
   name = e.name;
   ext_name = e.ext_name;
   symbol_name = e.symbol_name;
+  asked_name = e.asked_name;
   alias_target = last_or e.alias_target alias_in items;
   ordinal = last_or e.ordinal ordinal_in items;
   no_name = last_or e.no_name no_name_in items;

@@ -1,5 +1,6 @@
--- The definition that a text means has no symbol names.
+-- The definition that a text means has no symbol names and gives no asked names.
 use Rattle.std.proofs.Common.{◌≡◌, ℕ, true, List, [], ◌∷◌, map, refl, subst}
+use Rattle.std.specs.Prelude.{is_none}
 use Rattle.std.specs.List.{flat_map, list_all}
 use Rattle.implib.specs.declared.machine.MachineType.{MachineType}
 use Rattle.implib.specs.Definition.{DefinitionView, ExportView}
@@ -21,7 +22,23 @@ renamed_lack : (machine : MachineType) (exports : List Export)
 renamed_lack machine [] = refl
 renamed_lack machine (e ∷ exports) = renamed_lack machine exports
 
+-- and none gives an asked name
+parsed_ask : (machine : MachineType) (exports : List Export) → list_all (λ (e : ExportView). is_none e.asked_name) (map (export_meaning machine) exports) ≡ true
+parsed_ask machine [] = refl
+parsed_ask machine (e ∷ exports) = parsed_ask machine exports
+
+renamed_ask : (machine : MachineType) (exports : List Export)
+    → list_all (λ (e : ExportView). is_none e.asked_name) (map renamed_export (map (export_meaning machine) exports)) ≡ true
+renamed_ask machine [] = refl
+renamed_ask machine (e ∷ exports) = renamed_ask machine exports
+
 pub parsed_lacks : (text : List ℕ) (machine : MachineType) (definition : DefinitionView) → Parses text machine definition → LacksSymbolNames definition
 parsed_lacks text machine definition parsed =
     let exports = flat_map exports_in parsed.statements in
-    subst LacksSymbolNames parsed.means (record { parsed = parsed_lack machine exports; renamed = renamed_lack machine exports })
+    subst LacksSymbolNames parsed.means
+    (record {
+      parsed = parsed_lack machine exports;
+      asks_as_parsed = parsed_ask machine exports;
+      asks_as_renamed = renamed_ask machine exports;
+      renamed = renamed_lack machine exports;
+    })

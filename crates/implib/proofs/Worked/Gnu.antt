@@ -42,6 +42,7 @@ worked_gnu_outlines = record {
   alias = means _ _ _ _ refl refl (record { accepted = refl; outlines = refl });
   head_exported = means _ _ _ _ refl refl (record { accepted = refl; outlines = refl });
   underscore_by_ordinal = record { accepted = refl; outlines = refl };
+  given_name = record { accepted = refl; outlines = refl };
 }
 
 pub worked_gnu_refusals : WorkedGnuRefusals
@@ -52,12 +53,15 @@ worked_gnu_refusals = record {
   nul_in_symbol_name = refl;
   nul_in_alias_target = refl;
   nothing_asked = refl;
+  nothing_given = refl;
+  nul_in_asked_name = refl;
 }
 
 pub worked_gnu_bytes : WorkedGnuBytes
 unfolding opened
 worked_gnu_bytes = record {
   hint_and_name = means _ _ _ _ refl refl refl;
+  given_name = refl;
   strings = means _ _ _ _ refl refl refl;
   stub = means _ _ _ _ refl refl refl;
   stub_relocation_i386 = means _ _ _ _ refl refl refl;

@@ -42,6 +42,8 @@ worked_outlines = record {
   private_empty = record { accepted = refl; outlines = refl };
   symbol_name = record { accepted = refl; outlines = refl };
   underscore_by_ordinal = record { accepted = refl; outlines = refl };
+  given_name = record { accepted = refl; outlines = refl };
+  given_name_by_ordinal = record { accepted = refl; outlines = refl };
   upper_case = record { accepted = refl; outlines = refl };
   two_extensions = record { accepted = refl; outlines = refl };
 }
@@ -61,6 +63,12 @@ worked_refusals = record {
   empty_name_and_nul = refl;
   counted = refl;
   nothing_asked = refl;
+  no_name_type = refl;
+  no_name_type_of_symbol_name = refl;
+  nothing_given = refl;
+  nothing_given_of_prefix = refl;
+  nul_in_asked_name = refl;
+  nul_in_asked_name_by_ordinal = refl;
 }
 
 pub worked_meanings : WorkedMeanings
@@ -68,6 +76,7 @@ unfolding opened
 worked_meanings = record {
   asked_on_i386 = means _ _ _ _ refl refl refl;
   undecorated = refl;
+  given = refl;
   by_ordinal = means _ _ _ _ refl refl refl;
   alias = means _ _ _ _ refl refl refl;
   own_alias = means _ _ _ _ refl refl refl;
@@ -79,6 +88,7 @@ unfolding opened
 worked_bytes = record {
   record_on_amd64 = means _ _ _ _ refl refl refl;
   short_import_with_symbol_name = refl;
+  short_import_with_asked_name = refl;
   record_on_i386 = means _ _ _ _ refl refl refl;
   decorated_fields = means _ _ _ _ refl refl refl;
   ordinal_fields = means _ _ _ _ refl refl refl;

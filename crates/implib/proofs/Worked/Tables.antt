@@ -38,6 +38,8 @@ worked_gnu_names = record {
   underscore_on_armnt = refl;
   with_underscore_and_at_sign = refl;
   with_two_at_signs = refl;
+  given_name = refl;
+  given_name_with_underscore = refl;
 }
 
 pub worked_names : WorkedNames
@@ -120,6 +122,15 @@ worked_name_types = record {
   question_mark_under_symbol = refl;
   own_symbol = refl;
   ordinal_before_all = refl;
+  given_whole = refl;
+  given_without_prefix = refl;
+  given_undecorated = refl;
+  given_own_name = refl;
+  given_of_fastcall = refl;
+  given_with_underscore = refl;
+  given_on_amd64 = refl;
+  given_of_symbol_name = refl;
+  given_beside_ordinal = refl;
 }
 
 pub worked_asked_names : WorkedAskedNames
@@ -133,4 +144,8 @@ worked_asked_names = record {
   without_underscore = refl;
   one_prefix_alone = refl;
   without_prefix_or_end = refl;
+  given_whole = refl;
+  given_without_prefix = refl;
+  given_undecorated = refl;
+  given_of_no_name_type = refl;
 }

@@ -15,8 +15,7 @@ use Rattle.implib.specs.Formats.Constants.{class_external, class_static, class_f
 use Rattle.implib.specs.Formats.Constants.{arm_rel32, arm64_pagebase_rel21, arm64_pageoffset_12l}
 use Rattle.implib.specs.Definition.{ExportView}
 use Rattle.implib.specs.Underscore.{leading_underscore}
-use Rattle.implib.specs.Import.{imp_symbol, underscore}
-use Rattle.implib.specs.Underscore.{asked_name}
+use Rattle.implib.specs.Import.{imp_symbol, name_asked, underscore}
 use Rattle.implib.specs.Members.ImportTables.{address_table_offset, descriptor_size, lookup_table_offset, name_offset}
 use Rattle.implib.specs.Members.ImportTables.{relocation, table_flags, thunk_width, zeros}
 use Rattle.implib.specs.Formats.Object.{ObjectSection}
@@ -211,7 +210,7 @@ relocations_of_thunk machine e = if e.no_name then [] else relocation machine 0 
 -- The hint and the name that is asked for. For example, `02 01 62 61 72 00` for `bar @258` on AMD64, and
 -- nothing by ordinal.
 unfoldable pub hint_name : MachineType → ExportView → List ℕ
-hint_name machine e = if e.no_name then [] else u16_bytes e.ordinal ++ (asked_name machine e.name ++ 0 ∷ [])
+hint_name machine e = if e.no_name then [] else u16_bytes e.ordinal ++ (name_asked machine e ++ 0 ∷ [])
 
 -- the flags of what an export puts into the import tables
 abbrev pub entry_flags : ℕ

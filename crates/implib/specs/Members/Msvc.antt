@@ -1,15 +1,15 @@
 -- The short import of an export, as a table (docs/FORMATS.md, "Short imports" and "Members for Microsoft's
 -- linker").
-use Rattle.std.specs.Prelude.{ℕ, ◌+◌, ◌*◌, ◌&&◌, not, List, [], ◌∷◌, ◌++◌, length, bytes_eq, if◌then◌else◌}
+use Rattle.std.specs.Prelude.{ℕ, ◌+◌, ◌*◌, ◌&&◌, not, List, [], ◌∷◌, ◌++◌, length, bytes_eq, if◌then◌else◌, is_some}
 use Rattle.implib.specs.declared.machine.MachineType.{MachineType}
 use Rattle.implib.specs.Formats.Bytes.{u16_bytes, u32_bytes}
 use Rattle.implib.specs.Machine.{has_leading_underscore, machine_number}
-use Rattle.implib.specs.Definition.{ExportView}
+use Rattle.implib.specs.Definition.{ExportView, given_name}
 use Rattle.implib.specs.Import.{holds, underscore, at_sign, import_symbols}
 use Rattle.implib.specs.Ascii.{begins_with}
 use Rattle.implib.specs.Formats.ShortImport.{ShortImport, short_import_header_size, import_code, import_data}
 use Rattle.implib.specs.Formats.ShortImport.{import_const, import_ordinal, import_name, import_name_noprefix}
-use Rattle.implib.specs.Formats.ShortImport.{import_name_undecorate, asked_by_name_type}
+use Rattle.implib.specs.Formats.ShortImport.{import_name_undecorate, asked_by_name_type, without_prefix}
 
 -- the symbol name or, where that is empty, the name
 abbrev pub symbol_or_name : List ℕ → List ℕ → List ℕ
@@ -20,11 +20,21 @@ symbol_or_name (first ∷ rest) name = first ∷ rest
 abbrev pub short_import_symbol : ExportView → List ℕ
 short_import_symbol e = symbol_or_name e.symbol_name e.name
 
+-- The first of the name types name, no prefix and undecorate by which a symbol asks for a name; undecorate
+-- where none does. For example, `_f@8` asks for `_f@8` by name (1), for `f@8` by no prefix (2) and for f by
+-- undecorate (3).
+abbrev pub name_type_asking : List ℕ → List ℕ → ℕ
+name_type_asking symbol name =
+    if bytes_eq symbol name then import_name
+    else if bytes_eq (without_prefix symbol) name then import_name_noprefix
+    else import_name_undecorate
+
 -- The name type, by the first rule that holds. For example, of `_f` it is no prefix (2) on I386 and name (1)
 -- on AMD64; of the symbol name `_f@8` of f, undecorate (3).
 abbrev pub name_type_of : MachineType → ExportView → ℕ
 name_type_of machine e =
     if e.no_name then import_ordinal
+    else if is_some e.asked_name then name_type_asking (short_import_symbol e) (given_name e)
     else if begins_with underscore e.name && holds at_sign e.name then import_name
     else if not (bytes_eq (short_import_symbol e) e.name) then import_name_undecorate
     else if has_leading_underscore machine && begins_with underscore (short_import_symbol e)

@@ -1,34 +1,43 @@
 -- The rules on names: which definitions are refused for a name, and for which cause first.
 use Rattle.std.specs.Prelude.{◌≡◌, ℕ, ◌+◌, Bool, ◌&&◌, ◌||◌, not, List, [], ◌∷◌, Option, Some, None, Result}
-use Rattle.std.specs.Prelude.{IsErrAnd, if◌then◌else◌}
+use Rattle.std.specs.Prelude.{IsErrAnd, bytes_eq, if◌then◌else◌, is_some, unwrap_or}
 use Rattle.implib.specs.declared.error.Error.{Error}
 use Rattle.implib.specs.declared.flavor.Flavor.{Flavor}
 use Rattle.implib.specs.declared.flavor.Flavor.TheVariants.{Msvc, Gnu}
 use Rattle.implib.specs.declared.machine.MachineType.{MachineType}
-use Rattle.implib.specs.Definition.{DefinitionView, ExportView}
+use Rattle.implib.specs.Definition.{DefinitionView, ExportView, given_name}
 use Rattle.implib.specs.Fault.{Cause, EmptyImportName, NulInImportName, EmptyName, NulInExport}
-use Rattle.implib.specs.Fault.{EmptyAskedName, error_cause}
-use Rattle.implib.specs.Import.{holds, is_empty_text}
-use Rattle.implib.specs.Underscore.{asked_name}
+use Rattle.implib.specs.Fault.{EmptyAskedName, NoNameType, error_cause}
+use Rattle.implib.specs.Import.{holds, is_empty_text, name_asked}
 use Rattle.implib.specs.Members.Msvc.{asked_by_short_import}
 use Rattle.implib.specs.Renaming.{renamed}
 
 -- the name that an export asks for in a flavour
 abbrev pub asked_in : Flavor → MachineType → ExportView → List ℕ
 asked_in Msvc machine e = asked_by_short_import machine e
-asked_in Gnu machine e = asked_name machine e.name
+asked_in Gnu machine e = name_asked machine e
+
+-- the name that an export is to ask for: the one that it gives, or else the one that its flavour asks for
+abbrev pub name_to_ask : Flavor → MachineType → ExportView → List ℕ
+name_to_ask flavor machine e = unwrap_or e.asked_name (asked_in flavor machine e)
+
+-- Whether an export gives a name and its flavour asks for another. For example, a short import of the symbol
+-- a never asks for b.
+abbrev pub asks_another : Flavor → MachineType → ExportView → Bool
+asks_another flavor machine e = is_some e.asked_name && not (bytes_eq (asked_in flavor machine e) (given_name e))
 
 -- whether one of an export's texts holds a NUL
 abbrev pub holds_nul : ExportView → Bool
-holds_nul e = holds 0 e.name || holds 0 e.symbol_name || holds 0 e.alias_target
+holds_nul e = holds 0 e.name || holds 0 e.symbol_name || holds 0 e.alias_target || holds 0 (given_name e)
 
 -- The first rule on names that an export breaks. For example, on I386 an export `_` for GNU's linker asks for
--- the empty name.
+-- the empty name, and an export a for Microsoft's linker has no name type to ask for b.
 abbrev pub name_refusal : Flavor → MachineType → ℕ → ExportView → Option Cause
 name_refusal flavor machine index e =
     if is_empty_text e.name then Some (EmptyName index)
     else if holds_nul e then Some (NulInExport index)
-    else if not e.no_name && is_empty_text (asked_in flavor machine e) then Some (EmptyAskedName index)
+    else if not e.no_name && is_empty_text (name_to_ask flavor machine e) then Some (EmptyAskedName index)
+    else if not e.no_name && asks_another flavor machine e then Some (NoNameType index)
     else None
 
 -- the first of two answers

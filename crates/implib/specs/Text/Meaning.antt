@@ -60,6 +60,7 @@ export_meaning machine e = record {
   name = decorated machine (inner_name e);
   ext_name = option_map (λ target. decorated machine e.word) e.target;
   symbol_name = [];
+  asked_name = None;
   alias_target = last_or [] alias_in e.attributes;
   ordinal = last_or 0 ordinal_in e.attributes;
   no_name = last_or false no_name_in e.attributes;

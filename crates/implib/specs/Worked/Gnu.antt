@@ -10,7 +10,7 @@ use Rattle.implib.specs.Fault.{Cause, EmptyName, NulInExport, EmptyAskedName}
 use Rattle.implib.specs.Members.MemberSpec.{MemberSpec, file_bytes}
 use Rattle.implib.specs.Members.Members.{member_specs, refusal}
 use Rattle.implib.specs.Renaming.{renamed}
-use Rattle.implib.specs.Worked.Members.{Means, Outline, bar_text, baz_text, nul, of_dll, outline}
+use Rattle.implib.specs.Worked.Members.{Means, Outline, bar_text, baz_text, foo_asking, nul, of_dll, outline}
 use Rattle.implib.specs.Worked.Statements.{plain_export}
 
 -- the specifications of a definition's members for GNU's linker
@@ -97,6 +97,9 @@ pub record WorkedGnuOutlines : Type 0 where
       ∷ shown (codes "foo_dll_a_h.o") 452 (codes "__head_foo_dll" ∷ [])
       ∷ shown (codes "foo_dll_a_s00000.o") 431 (codes "_" ∷ codes "__imp__" ∷ [])
       ∷ [])
+  -- what no name type makes of the symbol is asked for here
+  pub given_name : HasGnuMembers (foo_asking (codes "a") (codes "b")) AMD64
+      (foo_head_and_tail ++ shown (codes "foo_dll_a_s00000.o") 462 (codes "a" ∷ codes "__imp_a" ∷ []) ∷ [])
 
 -- definitions that are refused
 pub record WorkedGnuRefusals : Type 0 where
@@ -116,6 +119,8 @@ pub record WorkedGnuRefusals : Type 0 where
       (of_dll (codes "foo.dll")
       (plain_export (codes "bar") ∷ record empty_export { name = codes "foo"; alias_target = nul } ∷ []))
       AMD64 (NulInExport 1)
+  pub nothing_given : IsRefusedForGnu (foo_asking (codes "a") []) AMD64 (EmptyAskedName 0)
+  pub nul_in_asked_name : IsRefusedForGnu (foo_asking (codes "a") nul) AMD64 (NulInExport 0)
   pub nothing_asked : IsRefusedForGnu (of_dll (codes "foo.dll") (plain_export (codes "_") ∷ [])) I386
       (EmptyAskedName 0)
 
@@ -123,6 +128,8 @@ pub record WorkedGnuRefusals : Type 0 where
 pub record WorkedGnuBytes : Type 0 where
   pub hint_and_name : Means bar_text AMD64
       (λ d. slice_of_export 368 6 d AMD64 ≡ Some (0 ∷ 0 ∷ 0x62 ∷ 0x61 ∷ 0x72 ∷ 0 ∷ []))
+  pub given_name : slice_of_export 368 4 (foo_asking (codes "a") (codes "b")) AMD64
+      ≡ Some (0 ∷ 0 ∷ 0x62 ∷ 0 ∷ [])
   pub strings : Means bar_text AMD64 (λ d. slice_of_export 446 100 d AMD64 ≡ Some
       (0x1C ∷ 0 ∷ 0 ∷ 0 ∷ (codes "_head_foo_dll" ++ nul ++ codes "__imp_bar" ++ nul)))
   pub stub : Means bar_text AMD64 (λ d. slice_of_export 300 18 d AMD64 ≡ Some

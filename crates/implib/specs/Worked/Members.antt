@@ -7,7 +7,7 @@ use Rattle.implib.specs.declared.machine.MachineType.{MachineType}
 use Rattle.implib.specs.declared.machine.MachineType.TheVariants.{I386, ARMNT, AMD64, ARM64}
 use Rattle.implib.specs.Definition.{DefinitionView, ExportView, empty_definition, empty_export}
 use Rattle.implib.specs.Fault.{Cause, EmptyImportName, NulInImportName, EmptyName, NulInExport}
-use Rattle.implib.specs.Fault.{EmptyAskedName}
+use Rattle.implib.specs.Fault.{EmptyAskedName, NoNameType}
 use Rattle.implib.specs.Import.{Alias, Ask, Ordinal, Name, aliases_for}
 use Rattle.implib.specs.Members.MemberSpec.{MemberSpec, file_bytes, file_size}
 use Rattle.implib.specs.Members.Members.{member_specs, refusal}
@@ -34,6 +34,10 @@ of_dll name exports = record empty_definition { import_name = name; exports = ex
 -- the specifications of a definition's members for Microsoft's linker
 abbrev pub specs : DefinitionView → MachineType → List MemberSpec
 specs d machine = member_specs (renamed d) machine Msvc
+
+-- a function of foo.dll that gives the name that the DLL is asked for
+abbrev pub foo_asking : List ℕ → List ℕ → DefinitionView
+foo_asking name given = of_dll (codes "foo.dll") (record (plain_export name) { asked_name = Some given } ∷ [])
 
 -- the definition is accepted, and these are its members, their bytes aside
 pub record HasMembers (d : DefinitionView) (machine : MachineType) (members : List Outline) : Type 0 where
@@ -171,6 +175,13 @@ pub record WorkedOutlines : Type 0 where
       (of_dll (codes "foo.dll") (record empty_export { name = codes "_"; no_name = true; ordinal = 3 } ∷ []))
       I386
       (foo_header_members_32 ++ of_foo 30 (codes "__imp__" ∷ codes "_" ∷ []) ∷ [])
+  pub given_name : HasMembers (foo_asking (codes "_F@8") (codes "F@8")) I386
+      (foo_header_members_32 ++ of_foo 33 (codes "__imp__F@8" ∷ codes "_F@8" ∷ []) ∷ [])
+  -- by ordinal no name type is looked for
+  pub given_name_by_ordinal : HasMembers
+      (of_dll (codes "foo.dll")
+      (record (plain_export (codes "a")) { asked_name = Some (codes "b"); no_name = true } ∷ [])) AMD64
+      (foo_header ++ of_foo 30 (codes "__imp_a" ∷ codes "a" ∷ []) ∷ [])
   -- only a last extension in lower case is cut off a library's name
   pub upper_case : HasMembers (of_dll (codes "foo.DLL") []) AMD64 (header (codes "foo.DLL") [] 366 163)
   pub two_extensions : HasMembers (of_dll (codes "a.dll.exe") []) AMD64
@@ -211,6 +222,19 @@ pub record WorkedRefusals : Type 0 where
       (of_dll (codes "foo.dll")
       (record empty_export { name = codes "f"; symbol_name = codes "_@8" } ∷ plain_export [] ∷ [])) AMD64
       (EmptyAskedName 0)
+  pub no_name_type : IsRefused (foo_asking (codes "a") (codes "b")) AMD64 (NoNameType 0)
+  -- this symbol asks for an empty name by undecorate, and not for x by any name type
+  pub no_name_type_of_symbol_name : IsRefused
+      (of_dll (codes "foo.dll")
+      (record empty_export { name = codes "f"; symbol_name = codes "_@8"; asked_name = Some (codes "x") } ∷ []))
+      AMD64 (NoNameType 0)
+  pub nothing_given : IsRefused (foo_asking (codes "a") []) AMD64 (EmptyAskedName 0)
+  pub nothing_given_of_prefix : IsRefused (foo_asking (codes "_") []) AMD64 (EmptyAskedName 0)
+  pub nul_in_asked_name : IsRefused (foo_asking (codes "a") (codes "a" ++ nul)) AMD64 (NulInExport 0)
+  pub nul_in_asked_name_by_ordinal : IsRefused
+      (of_dll (codes "foo.dll")
+      (record (plain_export (codes "a")) { asked_name = Some nul; no_name = true } ∷ [])) AMD64
+      (NulInExport 0)
 
 -- a symbol that is weak for another
 abbrev pub weak_for : List ℕ → List ℕ → Alias
@@ -229,6 +253,7 @@ pub record WorkedMeanings : Type 0 where
       (of_dll (codes "foo.dll")
       (record empty_export { name = codes "foo"; symbol_name = codes "_foo@8" } ∷ [])) AMD64
       ≡ Name (codes "foo") 0 ∷ []
+  pub given : asks (foo_asking (codes "_F@8") (codes "F")) I386 ≡ Name (codes "F") 0 ∷ []
   pub by_ordinal : Means a_text I386
       (λ d. asks d I386 ≡ Name (codes "f") 0 ∷ Name (codes "_g@8") 0 ∷ Ordinal 7 ∷ [])
   pub alias : Means baz_text AMD64
@@ -252,6 +277,9 @@ pub record WorkedBytes : Type 0 where
       (of_dll (codes "foo.dll")
       (record empty_export { name = codes "foo"; symbol_name = codes "_foo@8" } ∷ [])) AMD64 3 ≡ Some
       (header_on_amd64 0x0F (0 ∷ 0 ∷ 0x0C ∷ 0 ∷ []) ++ codes "_foo@8" ++ nul ++ codes "foo.dll" ++ nul)
+  pub short_import_with_asked_name : bytes_at (foo_asking (codes "_F@8") (codes "F@8")) I386 3 ≡ Some
+      (0 ∷ 0 ∷ 0xFF ∷ 0xFF ∷ 0 ∷ 0 ∷ 0x4C ∷ 0x01 ∷ 0 ∷ 0 ∷ 0 ∷ 0 ∷ 0x0D ∷ 0 ∷ 0 ∷ 0 ∷ 0 ∷ 0 ∷ 8 ∷ 0
+      ∷ (codes "_F@8" ++ nul ++ codes "foo.dll" ++ nul))
   pub record_on_i386 : Means a_text I386 (λ d. bytes_at d I386 3 ≡ Some
       (0 ∷ 0 ∷ 0xFF ∷ 0xFF ∷ 0 ∷ 0 ∷ 0x4C ∷ 0x01 ∷ 0 ∷ 0 ∷ 0 ∷ 0 ∷ 9 ∷ 0 ∷ 0 ∷ 0 ∷ 0 ∷ 0 ∷ 8 ∷ 0
       ∷ 0x5F ∷ 0x66 ∷ 0 ∷ 0x61 ∷ 0x2E ∷ 0x64 ∷ 0x6C ∷ 0x6C ∷ 0 ∷ []))

@@ -1,5 +1,5 @@
 -- The tables of both flavours for foo.dll, held against objects and bytes that were worked by hand.
-use Rattle.std.specs.Prelude.{◌≡◌, ℕ, true, List, [], ◌∷◌, ◌++◌, codes, take, drop}
+use Rattle.std.specs.Prelude.{◌≡◌, ℕ, true, List, [], ◌∷◌, ◌++◌, Some, codes, take, drop}
 use Rattle.implib.specs.declared.machine.MachineType.{MachineType}
 use Rattle.implib.specs.declared.machine.MachineType.TheVariants.{I386, ARMNT, AMD64, ARM64}
 use Rattle.implib.specs.Definition.{ExportView, empty_export}
@@ -49,7 +49,11 @@ pub record WorkedGnuTables (machine : MachineType) : Type 0 where
   pub variable_by_ordinal : gnu_export machine (record bar { is_data = true; no_name = true; ordinal = 258 })
       ≡ variable_by_ordinal (numbers machine)
 
--- What is asked for in GNU's objects: I386 takes an underscore off, unless there is an `@`.
+-- a function that gives the name that the DLL is asked for
+abbrev pub asking : List ℕ → List ℕ → ExportView
+asking name given = record (plain_export name) { asked_name = Some given }
+
+-- What is asked for in GNU's objects: I386 takes an underscore off, unless there is an `@` or a name is given.
 pub record WorkedGnuNames : Type 0 where
   pub underscore_on_i386 : gnu_export I386 (plain_export (codes "_bar"))
       ≡ function_asking (numbers I386) (codes "_bar") (codes "__imp__bar") (hex "00 00 62 61 72 00")
@@ -59,6 +63,10 @@ pub record WorkedGnuNames : Type 0 where
       ≡ function_asking (numbers I386) (codes "_f@8") (codes "__imp__f@8") (hex "00 00 5f 66 40 38 00")
   pub with_two_at_signs : gnu_export I386 (plain_export (codes "@h@4"))
       ≡ function_asking (numbers I386) (codes "@h@4") (codes "__imp_@h@4") (hex "00 00 40 68 40 34 00")
+  pub given_name : gnu_export AMD64 (asking (codes "bar") (codes "b"))
+      ≡ function_asking (numbers AMD64) (codes "bar") (codes "__imp_bar") (hex "00 00 62 00")
+  pub given_name_with_underscore : gnu_export I386 (asking (codes "_bar") (codes "_b"))
+      ≡ function_asking (numbers I386) (codes "_bar") (codes "__imp__bar") (hex "00 00 5f 62 00")
 
 -- a space, and every printable sign that is no letter, and the same with `_` for the full stop
 abbrev pub signs : List ℕ
@@ -178,6 +186,19 @@ pub record WorkedNameTypes : Type 0 where
   pub ordinal_before_all : types_of I386
       (record (under_symbol (codes "_f@8") (codes "_g")) { no_name = true })
       ≡ hex "00 00"
+  -- the first that makes the given name of the symbol
+  pub given_whole : types_of I386 (asking (codes "_F@8") (codes "_F@8")) ≡ hex "04 00"
+  pub given_without_prefix : types_of I386 (asking (codes "_F@8") (codes "F@8")) ≡ hex "08 00"
+  pub given_undecorated : types_of I386 (asking (codes "_F@8") (codes "F")) ≡ hex "0c 00"
+  pub given_own_name : types_of AMD64 (asking (codes "f") (codes "f")) ≡ hex "04 00"
+  pub given_of_fastcall : types_of I386 (asking (codes "@F@8") (codes "F")) ≡ hex "0c 00"
+  pub given_with_underscore : types_of I386 (asking (codes "_f") (codes "_f")) ≡ hex "04 00"
+  pub given_on_amd64 : types_of AMD64 (asking (codes "_f") (codes "f")) ≡ hex "08 00"
+  pub given_of_symbol_name :
+      types_of AMD64 (record (under_symbol (codes "a") (codes "_b@4")) { asked_name = Some (codes "b") })
+      ≡ hex "0c 00"
+  pub given_beside_ordinal : types_of I386 (record (asking (codes "_F@8") (codes "F")) { no_name = true })
+      ≡ hex "00 00"
 
 -- What short imports ask for, by their name type.
 pub record WorkedAskedNames : Type 0 where
@@ -190,3 +211,8 @@ pub record WorkedAskedNames : Type 0 where
   pub without_underscore : asked_by_short_import AMD64 (under_symbol (codes "f") (codes "_g@4")) ≡ codes "g"
   pub one_prefix_alone : asked_by_short_import AMD64 (under_symbol (codes "f") (codes "??g")) ≡ codes "?g"
   pub without_prefix_or_end : asked_by_short_import AMD64 (under_symbol (codes "f") (codes "g")) ≡ codes "g"
+  pub given_whole : asked_by_short_import I386 (asking (codes "_F@8") (codes "_F@8")) ≡ codes "_F@8"
+  pub given_without_prefix : asked_by_short_import I386 (asking (codes "_F@8") (codes "F@8")) ≡ codes "F@8"
+  pub given_undecorated : asked_by_short_import I386 (asking (codes "_F@8") (codes "F")) ≡ codes "F"
+  -- no name type makes b of a: such a definition is refused
+  pub given_of_no_name_type : asked_by_short_import AMD64 (asking (codes "a") (codes "b")) ≡ codes "a"

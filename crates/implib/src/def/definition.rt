@@ -21,6 +21,11 @@ pub struct ShortExport {
     /// The symbol of the short import, where it differs from `name`; empty for none. Parsing leaves
     /// it empty. It has no effect for GNU's linker.
     pub symbol_name: String,
+    /// The name that the DLL is asked for, if it is not what the symbol says: whole, without the
+    /// `_` of I386. Parsing leaves it `None`. For Microsoft's linker it has to be what a name type
+    /// makes of the short import's symbol: `ImportLibrary::members` refuses any other with
+    /// `NoNameType`. It has no effect beside `no_name`.
+    pub asked_name: Option<String>,
     /// The alias target (`==`): what the linker symbol is a weak external for; empty for none.
     pub alias_target: String,
     /// The ordinal, or the hint of an import by name. It is 0 where none is given, and for `@0`.
@@ -74,6 +79,7 @@ impl ShortExport {
             name: String::new(alloc),
             ext_name: None,
             symbol_name: String::new(alloc),
+            asked_name: None,
             alias_target: String::new(alloc),
             ordinal: 0,
             no_name: false,
@@ -111,10 +117,15 @@ impl ShortExport {
             Some(name) => Some(name.clone()?),
             None => None,
         };
+        let asked_name = match &self.asked_name {
+            Some(name) => Some(name.clone()?),
+            None => None,
+        };
         Ok(ShortExport {
             name: self.name.clone()?,
             ext_name,
             symbol_name: self.symbol_name.clone()?,
+            asked_name,
             alias_target: self.alias_target.clone()?,
             ordinal: self.ordinal,
             no_name: self.no_name,

@@ -9,7 +9,6 @@ ghost use Rattle.implib.specs.Members.Gnu.{head_symbols, hint_name, hint_name_sy
 ghost use Rattle.implib.specs.Members.Gnu.{relocations_of_stub, relocations_of_thunk, section};
 ghost use Rattle.implib.specs.Members.Gnu.{stub, tail_object, tail_sections, tail_symbols, thunk};
 ghost use Rattle.implib.specs.Import.{imp_symbol, holds, is_empty_text};
-ghost use Rattle.implib.specs.Underscore.{asked_name};
 ghost use Rattle.implib.specs.Members.ImportTables.{thunk_width};
 ghost use Rattle.implib.specs.Views.Table.{section_row, symbol_row};
 ghost use Rattle.implib.specs.Formats.Writer.{layout_of};

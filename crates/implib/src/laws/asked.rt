@@ -1,9 +1,13 @@
-//! The law of the names that are asked for.
+//! The laws of the names that are asked for.
 
-ghost use Rattle.implib.specs.Asked.{AsksForWords};
+ghost use Rattle.implib.specs.Asked.{AskForGivenNames, AsksForWords};
 ghost use Rattle.implib.specs.Definition.{DefinitionView};
+ghost use Rattle.implib.specs.Members.MemberSpec.{MemberView};
+ghost use Rattle.implib.specs.Members.Members.{AreMembersOf};
 ghost use Rattle.implib.specs.Text.Parses.{Parses};
+ghost use Rattle.std.specs.Prelude.{List};
 
+use crate::flavor::Flavor;
 use crate::machine::MachineType;
 
 /// An export imported by name is imported under its statement's first word, on every machine and in
@@ -11,4 +15,12 @@ use crate::machine::MachineType;
 pub fn asked_is_word(text: &str, machine: MachineType)
     ensures { (definition : DefinitionView) (parsed : Parses text.now machine definition) →
         AsksForWords text.now machine definition parsed }
+{}
+
+/// Of a definition that has members, each export that is not private, gives an asked name and is
+/// imported by name is imported under just that name, on every machine and in both flavours.
+pub fn given_name_is_asked(machine: MachineType, flavor: Flavor)
+    ensures { (definition : DefinitionView) (members : List MemberView) →
+        AreMembersOf definition machine flavor members →
+        AskForGivenNames flavor machine definition }
 {}

@@ -1,6 +1,6 @@
-//! Definitions that no text gives: made by hand, with symbol names, empty names and NULs. Beside
-//! each value that is refused is one that is not. (A member that is too long needs gigabytes, and
-//! has no row.)
+//! Definitions that no text gives: made by hand, with symbol names, asked names, empty names and
+//! NULs. Beside each value that is refused is one that is not. (A member that is too long needs
+//! gigabytes, and has no row.)
 
 use super::answer;
 use implib::def::{ModuleDef, ShortExport};
@@ -15,6 +15,7 @@ struct Export {
     name: &'static str,
     outside: Option<&'static str>,
     symbol_name: &'static str,
+    asked_name: Option<&'static str>,
     alias_target: &'static str,
     ordinal: u16,
     no_name: bool,
@@ -25,6 +26,7 @@ const PLAIN: Export = Export {
     name: "",
     outside: None,
     symbol_name: "",
+    asked_name: None,
     alias_target: "",
     ordinal: 0,
     no_name: false,
@@ -36,7 +38,7 @@ const PLAIN: Export = Export {
 type Row<'a> = (&'a str, MachineType, &'a [Export], &'a str, &'a str);
 
 /// Definitions, and what their exports are for, or why they are refused.
-const ROWS: [Row; 26] = [
+const ROWS: [Row; 40] = [
     // Import names.
     (
         "",
@@ -344,6 +346,177 @@ const ROWS: [Row; 26] = [
             foo.dll 30 __imp_g g; asks foo.dll for g, hint 0\n",
         "foo_dll_a_s00000.o 462 f __imp_f; asks foo.dll for f, hint 0\n",
     ),
+    // Asked names.
+    (
+        "foo.dll",
+        MachineType::I386,
+        &[Export {
+            name: "_F@8",
+            asked_name: Some("F@8"),
+            ..PLAIN
+        }],
+        "foo.dll 33 __imp__F@8 _F@8; asks foo.dll for F@8, hint 0\n",
+        "foo_dll_a_s00000.o 468 _F@8 __imp__F@8; asks foo.dll for F@8, hint 0\n",
+    ),
+    (
+        "foo.dll",
+        MachineType::I386,
+        &[Export {
+            name: "_F@8",
+            asked_name: Some("F"),
+            ordinal: 7,
+            ..PLAIN
+        }],
+        "foo.dll 33 __imp__F@8 _F@8; asks foo.dll for F, hint 7\n",
+        "foo_dll_a_s00000.o 466 _F@8 __imp__F@8; asks foo.dll for F, hint 7\n",
+    ),
+    (
+        "foo.dll",
+        MachineType::I386,
+        &[Export {
+            name: "_F@8",
+            asked_name: Some("_F@8"),
+            ..PLAIN
+        }],
+        "foo.dll 33 __imp__F@8 _F@8; asks foo.dll for _F@8, hint 0\n",
+        "foo_dll_a_s00000.o 469 _F@8 __imp__F@8; asks foo.dll for _F@8, hint 0\n",
+    ),
+    (
+        "foo.dll",
+        MachineType::I386,
+        &[Export {
+            name: "@F@8",
+            asked_name: Some("F"),
+            ..PLAIN
+        }],
+        "foo.dll 33 __imp_@F@8 @F@8; asks foo.dll for F, hint 0\n",
+        "foo_dll_a_s00000.o 466 @F@8 __imp_@F@8; asks foo.dll for F, hint 0\n",
+    ),
+    (
+        "foo.dll",
+        MachineType::I386,
+        &[Export {
+            name: "_J",
+            asked_name: Some("_J"),
+            ..PLAIN
+        }],
+        "foo.dll 31 __imp__J _J; asks foo.dll for _J, hint 0\n",
+        "foo_dll_a_s00000.o 456 _J __imp__J; asks foo.dll for _J, hint 0\n",
+    ),
+    (
+        "foo.dll",
+        MachineType::AMD64,
+        &[Export {
+            name: "_J",
+            asked_name: Some("J"),
+            ..PLAIN
+        }],
+        "foo.dll 31 __imp__J _J; asks foo.dll for J, hint 0\n",
+        "foo_dll_a_s00000.o 463 _J __imp__J; asks foo.dll for J, hint 0\n",
+    ),
+    (
+        "foo.dll",
+        MachineType::AMD64,
+        &[Export {
+            name: "a",
+            asked_name: Some("b"),
+            ..PLAIN
+        }],
+        "no name type for the asked name: export 0",
+        "foo_dll_a_s00000.o 462 a __imp_a; asks foo.dll for b, hint 0\n",
+    ),
+    (
+        "foo.dll",
+        MachineType::AMD64,
+        &[
+            Export { name: "f", ..PLAIN },
+            Export {
+                name: "a",
+                asked_name: Some("b"),
+                private: true,
+                ..PLAIN
+            },
+            Export {
+                name: "a",
+                asked_name: Some("b"),
+                ..PLAIN
+            },
+        ],
+        "no name type for the asked name: export 2",
+        "foo_dll_a_s00001.o 462 a __imp_a; asks foo.dll for b, hint 0\n\
+            foo_dll_a_s00000.o 462 f __imp_f; asks foo.dll for f, hint 0\n",
+    ),
+    (
+        "foo.dll",
+        MachineType::AMD64,
+        &[Export {
+            name: "a",
+            asked_name: Some("b"),
+            ordinal: 3,
+            no_name: true,
+            ..PLAIN
+        }],
+        "foo.dll 30 __imp_a a; asks foo.dll for ordinal 3\n",
+        "foo_dll_a_s00000.o 438 a __imp_a; asks foo.dll for ordinal 3\n",
+    ),
+    (
+        "foo.dll",
+        MachineType::AMD64,
+        &[Export {
+            name: "a",
+            asked_name: Some(""),
+            ..PLAIN
+        }],
+        "asked name is empty: export 0",
+        "asked name is empty: export 0",
+    ),
+    (
+        "foo.dll",
+        MachineType::AMD64,
+        &[Export {
+            name: "a",
+            asked_name: Some("a\0"),
+            ..PLAIN
+        }],
+        "export name contains null byte: export 0",
+        "export name contains null byte: export 0",
+    ),
+    (
+        "foo.dll",
+        MachineType::AMD64,
+        &[Export {
+            name: "a",
+            asked_name: Some("\0"),
+            no_name: true,
+            ..PLAIN
+        }],
+        "export name contains null byte: export 0",
+        "export name contains null byte: export 0",
+    ),
+    (
+        "foo.dll",
+        MachineType::AMD64,
+        &[Export {
+            name: "f",
+            symbol_name: "_@8",
+            asked_name: Some("x"),
+            ..PLAIN
+        }],
+        "no name type for the asked name: export 0",
+        "foo_dll_a_s00000.o 462 f __imp_f; asks foo.dll for x, hint 0\n",
+    ),
+    (
+        "foo.dll",
+        MachineType::AMD64,
+        &[Export {
+            name: "a",
+            symbol_name: "_b@4",
+            asked_name: Some("b"),
+            ..PLAIN
+        }],
+        "foo.dll 33 __imp__b@4 _b@4; asks foo.dll for b, hint 0\n",
+        "foo_dll_a_s00000.o 462 a __imp_a; asks foo.dll for b, hint 0\n",
+    ),
 ];
 
 /// The export of a row.
@@ -354,6 +527,9 @@ fn made(alloc: Global, row: &Export) -> Result<ShortExport, AllocError> {
         export.ext_name = Some(String::from_str(alloc, outside)?);
     }
     export.symbol_name.push_str(row.symbol_name)?;
+    if let Some(asked) = row.asked_name {
+        export.asked_name = Some(String::from_str(alloc, asked)?);
+    }
     export.alias_target.push_str(row.alias_target)?;
     export.ordinal = row.ordinal;
     export.no_name = row.no_name;
@@ -407,5 +583,46 @@ fn a_record_has_a_symbol_of_its_own(rt: HostRuntime) -> Result<(), Fail> {
         import.bytes.as_slice(),
         b"\0\0\xff\xff\0\0\x64\x86\0\0\0\0\x0f\0\0\0\0\0\x0c\0_foo@8\0foo.dll\0".as_slice()
     );
+    Ok(())
+}
+
+// The header's last four bytes are the hint, and 4 times the name type.
+#[test]
+fn short_imports_ask_for_given_names_by_a_name_type(rt: HostRuntime) -> Result<(), Fail> {
+    for (asked, types) in [("_F@8", b"\x04\0"), ("F@8", b"\x08\0"), ("F", b"\x0c\0")] {
+        let export = Export {
+            name: "_F@8",
+            asked_name: Some(asked),
+            ..PLAIN
+        };
+        let def = definition(rt.alloc(), "foo.dll", &[export])?;
+        let members = ImportLibrary::from_def(def, MachineType::I386, Flavor::Msvc).members()?;
+        let import = members
+            .as_slice()
+            .get(3)
+            .ok_or("the short import is missing")?;
+        let (header, texts) = import.bytes.as_slice().split_at(18);
+        assert_eq!(rt;
+            header,
+            b"\0\0\xff\xff\0\0\x4c\x01\0\0\0\0\x0d\0\0\0\0\0".as_slice()
+        );
+        assert_eq!(rt; texts.get(..2), Some(types.as_slice()), "{asked}");
+        assert_eq!(rt; texts.get(2..), Some(b"_F@8\0foo.dll\0".as_slice()));
+    }
+    Ok(())
+}
+
+// On AMD64 the hint and the name are at the offset 368.
+#[test]
+fn a_hint_and_name_is_the_given_one(rt: HostRuntime) -> Result<(), Fail> {
+    let export = Export {
+        name: "a",
+        asked_name: Some("b"),
+        ..PLAIN
+    };
+    let def = definition(rt.alloc(), "foo.dll", &[export])?;
+    let members = ImportLibrary::from_def(def, MachineType::AMD64, Flavor::Gnu).members()?;
+    let object = members.as_slice().get(2).ok_or("the object is missing")?;
+    assert_eq!(rt; object.bytes.get(368..372), Some(b"\0\0b\0".as_slice()));
     Ok(())
 }
