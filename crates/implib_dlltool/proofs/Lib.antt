@@ -1,3 +1,3 @@
 pub mod Reading
 pub mod TokensGiven
-mod Parts
+pub mod Parts

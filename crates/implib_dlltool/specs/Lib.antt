@@ -2,7 +2,7 @@ pub mod Options
 pub mod Arguments
 pub mod Names
 pub mod Request
-pub mod Supported
+pub mod Linked
 pub mod Library
 pub mod Views
 pub mod Worked

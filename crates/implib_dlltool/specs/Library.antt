@@ -2,13 +2,11 @@
 use Rattle.std.specs.Prelude.{◌≡◌, ℕ, [], ◌∷◌, Bool, true, false, List, Option, None, Some, if◌then◌else◌, drop, length, nat_eq, nat_lt}
 use Rattle.std.specs.List.{starts_with}
 use Rattle.std.specs.Str.{IsUtf8}
-use Rattle.implib.specs.declared.error.Error.{Error}
-use Rattle.implib.specs.declared.error.Error.TheVariants as implib
 use Rattle.implib.specs.declared.error.ParseError.{ParseError}
 use Rattle.implib.specs.declared.error.ParseError.TheVariants as parse
 use Rattle.implib.specs.declared.flavor.Flavor.{Flavor}
 use Rattle.implib.specs.declared.flavor.Flavor.TheVariants.{Msvc, Gnu}
-use Rattle.implib.specs.declared.machine.MachineType.{MachineType}
+use Rattle.implib.specs.declared.machine.MachineType.TheVariants.{AMD64}
 use Rattle.implib.specs.Definition.{DefinitionView}
 use Rattle.implib.specs.declared.def.position.Position.{Position}
 use Rattle.implib.specs.Fault.{Cause, cause_of}
@@ -27,19 +25,15 @@ use Rattle.implib_archive.specs.declared.kind.Kind.TheVariants.{Coff, Gnu as Gnu
 use Rattle.implib_archive.specs.Archive.{archive_of}
 use Rattle.implib_archive.specs.Refusal.{refusal_of}
 use Rattle.implib_dlltool.specs.declared.library.Refusal.{Refusal}
-use Rattle.implib_dlltool.specs.declared.library.Refusal.TheVariants.{NotUtf8, Syntax, Unsupported, NoName, Members, Archive, OutOfMemory}
+use Rattle.implib_dlltool.specs.declared.library.Refusal.TheVariants.{NotUtf8, Syntax, NoName, Members, Archive, OutOfMemory}
+use Rattle.implib_dlltool.specs.Linked.{linked}
 use Rattle.implib_dlltool.specs.Names.{dll_name, is_program, lacks_name}
 use Rattle.implib_dlltool.specs.Request.{RequestView}
-use Rattle.implib_dlltool.specs.Supported.{HasFirstUnsupportedAt, IsWhollySupported}
 
 -- the refusals of errors of the libraries
 abbrev pub parse_refusal : ParseError → Refusal
 parse_refusal (parse.Invalid fault position) = Syntax fault position
 parse_refusal (parse.OutOfMemory refused) = OutOfMemory
-
-abbrev pub members_refusal : Error → Refusal
-members_refusal (implib.Invalid fault) = Members fault
-members_refusal (implib.OutOfMemory refused) = OutOfMemory
 
 abbrev pub archive_refusal : ArchiveError → Refusal
 archive_refusal (archive.Invalid fault) = Archive fault
@@ -49,48 +43,44 @@ archive_refusal (archive.OutOfMemory refused) = OutOfMemory
 abbrev pub without_mark : List ℕ → List ℕ
 without_mark bytes = if starts_with nat_eq bytes (0xEF ∷ 0xBB ∷ 0xBF ∷ []) then drop 3 bytes else bytes
 
--- The definition of a text for a DLL of this name, or of its own: what the text means, which asks for no more
--- than the program makes, with the name of the DLL as the program makes it.
-pub record DefinitionFor (text : List ℕ) (machine : MachineType) (dll : Option (List ℕ)) (definition : DefinitionView) : Type 0 where
+-- the definition under the name of its DLL, and each export as it is linked
+abbrev pub definition_for : RequestView → DefinitionView → Bool → DefinitionView
+definition_for request parsed program = linked request.machine request.naming (record parsed {
+  import_name = dll_name request.dll parsed.import_name program;
+})
+
+-- The definition of a text for a request: what the text means with its words as they are written, which is what
+-- it means on AMD64, under the name of the DLL, and each export as it is linked on the machine.
+pub record DefinitionFor (text : List ℕ) (request : RequestView) (definition : DefinitionView) : Type 0 where
   pub parsed : DefinitionView
-  pub parses : Parses text machine parsed
-  pub supported : IsWhollySupported text machine
-  pub named : lacks_name dll parsed.import_name ≡ false
+  pub parses : Parses text AMD64 parsed
+  pub named : lacks_name request.dll parsed.import_name ≡ false
   pub tokens : List TokenView
   pub lexed : Lexed text tokens
-  pub is : definition ≡ record parsed { import_name = dll_name dll parsed.import_name (is_program tokens) }
+  pub is : definition ≡ definition_for request parsed (is_program tokens)
 
--- the text is a definition, and its first word that asks for more than the program makes is here
-pub record IsUnsupportedAt (text : List ℕ) (machine : MachineType) (position : Position) : Type 0 where
+-- the text is a definition, but neither has it a name of the DLL nor is one given
+pub record LacksName (text : List ℕ) (request : RequestView) : Type 0 where
   pub parsed : DefinitionView
-  pub parses : Parses text machine parsed
-  pub first : HasFirstUnsupportedAt text machine position.offset
-  pub placed : position ≡ position_at text position.offset
+  pub parses : Parses text AMD64 parsed
+  pub unnamed : lacks_name request.dll parsed.import_name ≡ true
 
--- the text is a definition that the program can make, but for a name of the DLL
-pub record LacksName (text : List ℕ) (machine : MachineType) (dll : Option (List ℕ)) : Type 0 where
-  pub parsed : DefinitionView
-  pub parses : Parses text machine parsed
-  pub supported : IsWhollySupported text machine
-  pub unnamed : lacks_name dll parsed.import_name ≡ true
-
--- why a text has no definition for a DLL
-abbrev pub IsRefusalOfText : List ℕ → MachineType → Option (List ℕ) → Refusal → Type 0
-IsRefusalOfText text machine dll NotUtf8 = ⊥
-IsRefusalOfText text machine dll (Syntax fault position) =
+-- why a text has no definition for a request
+abbrev pub IsRefusalOfText : List ℕ → RequestView → Refusal → Type 0
+IsRefusalOfText text request NotUtf8 = ⊥
+IsRefusalOfText text request (Syntax fault position) =
     RefusesAt text (cause_of fault) position.offset × (position ≡ position_at text position.offset)
-IsRefusalOfText text machine dll (Unsupported position) = IsUnsupportedAt text machine position
-IsRefusalOfText text machine dll NoName = LacksName text machine dll
-IsRefusalOfText text machine dll (Members fault) = ⊥
-IsRefusalOfText text machine dll (Archive fault) = ⊥
-IsRefusalOfText text machine dll OutOfMemory = Unit {0}
+IsRefusalOfText text request NoName = LacksName text request
+IsRefusalOfText text request (Members fault position) = ⊥
+IsRefusalOfText text request (Archive fault) = ⊥
+IsRefusalOfText text request OutOfMemory = Unit {0}
 
 -- The members of the library that is asked for: those of the definition of the bytes, which are read back as it
 -- says.
 pub record MembersFor (bytes : List ℕ) (request : RequestView) (members : List MemberView) : Type 0 where
   pub utf8 : IsUtf8 (without_mark bytes)
   pub definition : DefinitionView
-  pub of_text : DefinitionFor (without_mark bytes) request.machine request.dll definition
+  pub of_text : DefinitionFor (without_mark bytes) request definition
   pub made : AreMembersOf (renamed definition) request.machine request.flavor members
   pub reads : ReadBack (renamed definition) request.machine request.flavor members
 
@@ -98,18 +88,20 @@ pub record MembersFor (bytes : List ℕ) (request : RequestView) (members : List
 pub record RefusesMembers (bytes : List ℕ) (request : RequestView) (cause : Cause) : Type 0 where
   pub utf8 : IsUtf8 (without_mark bytes)
   pub definition : DefinitionView
-  pub of_text : DefinitionFor (without_mark bytes) request.machine request.dll definition
+  pub of_text : DefinitionFor (without_mark bytes) request definition
   pub refused : refusal (renamed definition) request.machine request.flavor ≡ Some cause
+
+-- the text of the bytes has no definition, for this
+pub record RefusesText (bytes : List ℕ) (request : RequestView) (why : Refusal) : Type 0 where
+  pub utf8 : IsUtf8 (without_mark bytes)
+  pub refused : IsRefusalOfText (without_mark bytes) request why
 
 -- why bytes have no members
 abbrev pub IsRefusalOfMembers : List ℕ → RequestView → Refusal → Type 0
 IsRefusalOfMembers bytes request NotUtf8 = ¬ (IsUtf8 (without_mark bytes))
-IsRefusalOfMembers bytes request (Syntax fault position) =
-    IsUtf8 (without_mark bytes) × IsRefusalOfText (without_mark bytes) request.machine request.dll (Syntax fault position)
-IsRefusalOfMembers bytes request (Unsupported position) =
-    IsUtf8 (without_mark bytes) × IsUnsupportedAt (without_mark bytes) request.machine position
-IsRefusalOfMembers bytes request NoName = IsUtf8 (without_mark bytes) × LacksName (without_mark bytes) request.machine request.dll
-IsRefusalOfMembers bytes request (Members fault) = RefusesMembers bytes request (cause_of fault)
+IsRefusalOfMembers bytes request (Syntax fault position) = RefusesText bytes request (Syntax fault position)
+IsRefusalOfMembers bytes request NoName = RefusesText bytes request NoName
+IsRefusalOfMembers bytes request (Members fault position) = RefusesMembers bytes request (cause_of fault)
 IsRefusalOfMembers bytes request (Archive fault) = ⊥
 IsRefusalOfMembers bytes request OutOfMemory = Unit {0}
 
@@ -136,9 +128,8 @@ pub record RefusesArchive (bytes : List ℕ) (request : RequestView) (fault : Ar
 abbrev pub IsRefusalOfBytes : List ℕ → RequestView → Refusal → Type 0
 IsRefusalOfBytes bytes request NotUtf8 = IsRefusalOfMembers bytes request NotUtf8
 IsRefusalOfBytes bytes request (Syntax fault position) = IsRefusalOfMembers bytes request (Syntax fault position)
-IsRefusalOfBytes bytes request (Unsupported position) = IsRefusalOfMembers bytes request (Unsupported position)
 IsRefusalOfBytes bytes request NoName = IsRefusalOfMembers bytes request NoName
-IsRefusalOfBytes bytes request (Members fault) = IsRefusalOfMembers bytes request (Members fault)
+IsRefusalOfBytes bytes request (Members fault position) = IsRefusalOfMembers bytes request (Members fault position)
 IsRefusalOfBytes bytes request (Archive fault) = RefusesArchive bytes request fault
 IsRefusalOfBytes bytes request OutOfMemory = Unit {0}
 

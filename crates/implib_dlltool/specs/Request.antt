@@ -9,7 +9,7 @@ use Rattle.implib.specs.declared.flavor.Flavor.TheVariants.{Msvc, Gnu}
 use Rattle.implib.specs.declared.machine.MachineType.{MachineType}
 use Rattle.implib.specs.declared.machine.MachineType.TheVariants.{I386, ARMNT, AMD64, ARM64}
 use Rattle.implib_dlltool.specs.declared.options.Setting.TheVariants.{Definition, Output, Machine, Dll, Flavor as FlavorSetting, Assembler, AssemblerFlags, TemporaryPrefix}
-use Rattle.implib_dlltool.specs.declared.options.Switch.TheVariants.{Help, Version}
+use Rattle.implib_dlltool.specs.declared.options.Switch.TheVariants.{Help, KillAt, NoLeadingUnderscore, Version}
 use Rattle.implib_dlltool.specs.declared.request.CallError.{CallError}
 use Rattle.implib_dlltool.specs.declared.request.CallError.TheVariants as error
 use Rattle.implib_dlltool.specs.declared.request.CallFault.{CallFault}
@@ -18,6 +18,7 @@ use Rattle.implib_dlltool.specs.declared.request.Request.{Request}
 use Rattle.implib_dlltool.specs.declared.request.Task.{Task}
 use Rattle.implib_dlltool.specs.declared.request.Task.TheVariants as task
 use Rattle.implib_dlltool.specs.Arguments.{OccurrenceView, is_switched, last_given}
+use Rattle.implib_dlltool.specs.Linked.{NamingView, naming_view}
 use Rattle.implib_dlltool.specs.Names.{last_part}
 use Rattle.implib_dlltool.specs.Options.{machine_called}
 
@@ -31,6 +32,8 @@ pub record RequestView : Type 0 where
   pub flavor : Flavor
   -- the DLL's name, before the definition's own
   pub dll : Option (List ℕ)
+  -- how names are read on I386
+  pub naming : NamingView
 
 -- the view of a request of the program
 abbrev pub request_view : Request → RequestView
@@ -40,6 +43,7 @@ request_view r = record {
   machine = r.machine;
   flavor = r.flavor;
   dll = option_map (λ text. text.now) r.dll;
+  naming = naming_view r.naming;
 }
 
 -- what a command line asks for
@@ -172,6 +176,10 @@ output_or (Some path) = if bytes_eq path (codes "-") then Err GoesToStandard els
 abbrev pub output_in : List OccurrenceView → Asked (Option (List ℕ))
 output_in options = output_or (last_given Output options)
 
+-- how options want names to be read
+abbrev pub naming_in : List OccurrenceView → NamingView
+naming_in options = record { is_plain = is_switched NoLeadingUnderscore options; kills_at = is_switched KillAt options }
+
 -- the library that is asked for, of this definition
 abbrev pub request_of : MachineType → List OccurrenceView → Option (List ℕ) → Asked RequestView
 request_of unnamed options None = Err LacksDefinition
@@ -180,7 +188,7 @@ request_of unnamed options (Some definition) =
     with (machine_in unnamed options) (λ machine.
     with (flavor_in machine output options) (λ flavor.
     with (dll_in options) (λ dll.
-    Ok (record { definition = definition; output = output; machine = machine; flavor = flavor; dll = dll })))))
+    Ok (record { definition = definition; output = output; machine = machine; flavor = flavor; dll = dll; naming = naming_in options })))))
 
 -- the library that options ask for
 abbrev pub request_in : MachineType → List OccurrenceView → Asked RequestView

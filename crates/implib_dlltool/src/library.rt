@@ -6,16 +6,15 @@ ghost use Rattle.implib_dlltool.specs.Library.{DefinitionFor, IsLibrary, IsRefus
 ghost use Rattle.implib_dlltool.specs.Library.{IsRefusalOfMembers, IsRefusalOfText, MembersFor};
 ghost use Rattle.implib_dlltool.specs.Library.{kind_for, without_mark};
 ghost use Rattle.implib_dlltool.specs.Request.{request_view};
-ghost use Rattle.std.specs.Option.{option_map};
 ghost use Rattle.std.specs.Prelude.{◌≡◌, IfErr, IfOk, MatchOption, map};
 ghost use Rattle.std.specs.Str.{IsUtf8};
 
+use crate::linked::link_exports;
 use crate::name::{dll_name, is_program, lacks_name};
+use crate::places::position_of_fault;
 use crate::request::Request;
-use crate::supported::first_unsupported;
-use implib::def::Position;
-use implib::def::ModuleDef;
-use implib::{Fault, Flavor, ImportLibrary, MachineType, Member, ParseError};
+use implib::def::{ModuleDef, Position};
+use implib::{Error, Fault, Flavor, ImportLibrary, MachineType, Member, ParseError};
 use implib_archive::{Archive, Kind};
 use std::alloc::{AllocError, Global};
 
@@ -26,12 +25,10 @@ pub enum Refusal {
     NotUtf8,
     /// This is no module definition.
     Syntax(Fault, Position),
-    /// The word at this position asks for more than the program makes.
-    Unsupported(Position),
     /// No name of the DLL is given.
     NoName,
-    /// An export or the name of the DLL is refused.
-    Members(Fault),
+    /// An export, which begins here, or the name of the DLL is refused.
+    Members(Fault, Position),
     /// The archive's format cannot carry the members.
     Archive(implib_archive::Fault),
     /// An allocation failed.
@@ -46,20 +43,6 @@ impl From<AllocError> for Refusal {
 
     fn from(_refused: AllocError) -> Refusal {
         Refusal::OutOfMemory
-    }
-}
-
-impl From<implib::Error> for Refusal {
-    ghost use Rattle.implib_dlltool.specs.Library.{members_refusal};
-    ghost use Rattle.std.specs.Prelude.{◌≡◌};
-
-    ghost from_gives = { λ cause error. error ≡ members_refusal cause };
-
-    fn from(cause: implib::Error) -> Refusal {
-        match cause {
-            implib::Error::Invalid(fault) => Refusal::Members(fault),
-            implib::Error::OutOfMemory(_) => Refusal::OutOfMemory,
-        }
     }
 }
 
@@ -109,31 +92,33 @@ pub fn text_in(bytes: &[u8]) -> Option<&str>
     str::from_utf8(without_mark(bytes)).ok()
 }
 
-/// The definition that a text means for a DLL of this name, or of its own.
+/// The definition that a text means for a DLL of the name that is given, or of its own, with each
+/// export as it is linked on the machine.
 ///
 /// # Errors
 ///
-/// A syntax error; else the first word that asks for more than the program makes; else that no name
-/// is given.
+/// A syntax error; else that no name is given.
 pub fn definition_for(
     alloc: Global,
     text: &str,
-    machine: MachineType,
-    dll: Option<&str>,
+    request: &Request,
 ) -> Result<ModuleDef, Refusal>
-    ensures meant { IfOk result (λ def. DefinitionFor text.now machine
-        (option_map (λ name. name.now) dll.entry) (definition_view def)) }
-    ensures refused { IfErr result (IsRefusalOfText text.now machine
-        (option_map (λ name. name.now) dll.entry)) }
+    ensures meant { IfOk result
+        (λ def. DefinitionFor text.now (request_view request.now) (definition_view def)) }
+    ensures refused { IfErr result (IsRefusalOfText text.now (request_view request.now)) }
 {
-    let mut def = ModuleDef::parse_with_position(alloc, text, machine)?;
-    if let Some(offset) = first_unsupported(text, machine) {
-        return Err(Refusal::Unsupported(Position::at(text, offset)));
-    }
-    if lacks_name(dll, def.import_name.as_str()) {
+    // The words are read as they are written, as on a machine without an underscore.
+    let mut def = ModuleDef::parse_with_position(alloc, text, MachineType::AMD64)?;
+    if lacks_name(request.dll, def.import_name.as_str()) {
         return Err(Refusal::NoName);
     }
-    def.import_name = dll_name(alloc, dll, def.import_name.as_str(), is_program(text))?;
+    def.import_name = dll_name(
+        alloc,
+        request.dll,
+        def.import_name.as_str(),
+        is_program(text),
+    )?;
+    link_exports(alloc, request.machine, request.naming, &mut def.exports)?;
     Ok(def)
 }
 
@@ -150,8 +135,15 @@ pub fn members_for(alloc: Global, bytes: &[u8], request: &Request) -> Result<Vec
     let Some(text) = text_in(bytes) else {
         return Err(Refusal::NotUtf8);
     };
-    let def = definition_for(alloc, text, request.machine, request.dll)?;
-    Ok(ImportLibrary::from_def(def, request.machine, request.flavor).members()?)
+    let def = definition_for(alloc, text, request)?;
+    match ImportLibrary::from_def(def, request.machine, request.flavor).members() {
+        Ok(members) => Ok(members),
+        Err(Error::Invalid(fault)) => {
+            let position = position_of_fault(text, &fault);
+            Err(Refusal::Members(fault, position))
+        }
+        Err(Error::OutOfMemory(_)) => Err(Refusal::OutOfMemory),
+    }
 }
 
 /// The kind of archive for so many members: Microsoft's for its linker, up to what its index

@@ -2,19 +2,21 @@
 //!
 //! What the words of the command line ask for, which name the DLL has, and which bytes a library
 //! has, or why there is none, are decided by functions with contracts ([`arguments`], [`request`],
-//! [`name`], [`library`]). What then is read and written are files ([`output`], [`program`]).
+//! [`name`], [`linked`], [`library`]). What then is read and written are files ([`output`],
+//! [`program`]).
 #![tactic(auto)]
 
 pub mod arguments;
 pub mod laws;
 pub mod library;
+pub mod linked;
 mod message;
 pub mod name;
 pub mod options;
 mod output;
+mod places;
 pub mod program;
 pub mod request;
-pub mod supported;
 
 use crate::program::perform;
 use std::process;

@@ -66,6 +66,10 @@ impl<'a> fmt::Display for Told<'a> {
             Fault::EmptyAskedName(_) => {
                 f.write_str("the name that the DLL would be asked for is empty")
             }
+            Fault::NoNameType(_) => f.write_str(
+                "not supported for Microsoft's linker: the export asks the DLL for another name \
+                 than its symbol's; --flavor gnu can",
+            ),
             Fault::MemberTooLong => f.write_str("a member would have 4 GiB or more"),
         }
     }
@@ -74,7 +78,7 @@ impl<'a> fmt::Display for Told<'a> {
 /// Where the refusal of a definition is; the beginning of the text where it is of all of it.
 pub fn position_of(refusal: &Refusal) -> Position {
     match refusal {
-        Refusal::Syntax(_, position) | Refusal::Unsupported(position) => *position,
+        Refusal::Syntax(_, position) | Refusal::Members(_, position) => *position,
         _ => Position {
             offset: 0,
             line: 1,
@@ -87,11 +91,7 @@ impl fmt::Display for Refusal {
     fn fmt<W: fmt::Write>(&self, f: &mut fmt::Formatter<W>) -> fmt::Result {
         match self {
             Refusal::NotUtf8 => f.write_str("the definition is not UTF-8"),
-            Refusal::Syntax(fault, _) | Refusal::Members(fault) => write!(f, "{}", Told(fault)),
-            Refusal::Unsupported(_) => f.write_str(
-                "not supported: an export that asks the DLL for another name than its own, by \
-                 `==`, or on I386 by an `@`",
-            ),
+            Refusal::Syntax(fault, _) | Refusal::Members(fault, _) => write!(f, "{}", Told(fault)),
             Refusal::NoName => {
                 f.write_str("no name of a DLL: expected LIBRARY or NAME with one, or the option -D")
             }

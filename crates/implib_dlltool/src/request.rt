@@ -1,16 +1,17 @@
 //! What the options of a command line ask for.
 
 ghost use Rattle.implib_dlltool.specs.Arguments.{occurrence_view};
-ghost use Rattle.implib_dlltool.specs.Names.{last_part};
+ghost use Rattle.implib_dlltool.specs.Linked.{naming_view};
 ghost use Rattle.implib_dlltool.specs.Request.{IsCallRefusal, call_fault_view, default_flavor};
 ghost use Rattle.implib_dlltool.specs.Request.{default_machine, dll_in, flavor_called, flavor_in};
 ghost use Rattle.implib_dlltool.specs.Request.{has_gnu_habits, machine_in, machine_named};
-ghost use Rattle.implib_dlltool.specs.Request.{output_in, request_in, request_view, task_of};
-ghost use Rattle.implib_dlltool.specs.Request.{task_view};
+ghost use Rattle.implib_dlltool.specs.Request.{naming_in, output_in, request_in, request_view};
+ghost use Rattle.implib_dlltool.specs.Request.{task_of, task_view};
 ghost use Rattle.std.specs.Option.{option_map};
 ghost use Rattle.std.specs.Prelude.{◌≡◌, Err, IfErr, IfOk, Ok, map};
 
 use crate::arguments::{Occurrence, is_switched, last_given};
+use crate::linked::Naming;
 use crate::name::last_part;
 use crate::options::{Setting, Switch, machine_called};
 use implib::{Flavor, MachineType};
@@ -29,6 +30,8 @@ pub struct Request<'a> {
     pub flavor: Flavor,
     /// The DLL's name, before the definition's own.
     pub dll: Option<&'a str>,
+    /// How names are read on I386.
+    pub naming: Naming,
 }
 
 /// What a command line asks for.
@@ -224,6 +227,16 @@ fn output_in<'a>(options: &[Occurrence<'a>]) -> Result<Option<&'a str>, CallFaul
     }
 }
 
+// How the options want names to be read.
+fn naming_in(options: &[Occurrence<'_>]) -> Naming
+    ensures { naming_view result ≡ naming_in (map occurrence_view options.now) }
+{
+    Naming {
+        is_plain: is_switched(options, Switch::NoLeadingUnderscore),
+        kills_at: is_switched(options, Switch::KillAt),
+    }
+}
+
 // The library that the options ask for.
 fn request_in<'a>(
     alloc: Global,
@@ -248,6 +261,7 @@ fn request_in<'a>(
         machine,
         flavor,
         dll,
+        naming: naming_in(options),
     })
 }
 
