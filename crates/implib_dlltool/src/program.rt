@@ -177,3 +177,6 @@ pub fn perform<R: Files + Env + AllocGlobal, I: Read, O: Write, E: Write>(
         Err(_) => complain(faults, name, "out of memory", 3),
     }
 }
+
+#[cfg(test)]
+mod tests;
