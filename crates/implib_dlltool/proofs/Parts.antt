@@ -50,3 +50,15 @@ pub part_behind_none : (separator : ℕ) (name : List ℕ) → position_or_len (
     → part_behind separator name ≡ name
 unfolding part_behind
 part_behind_none separator name = fold_whole separator [] name
+
+-- behind its first separator a name has the same last part
+pub passed : (separator : ℕ) (name part after : List ℕ) → part_behind separator name ≡ part_behind separator part
+    → (after ≡ after_first (λ c. c == separator) part) × (position_or_len (λ c. c == separator) part < length part)
+    → part_behind separator name ≡ part_behind separator after
+passed separator name part after before found =
+    before ∙ (part_behind_first separator part found.1 ∙ ap (part_behind separator) (sym found.0))
+
+-- a name whose last part is that of a part without a separator has this one
+pub ended : (separator : ℕ) (name part : List ℕ) → part_behind separator name ≡ part_behind separator part
+    → position_or_len (λ c. c == separator) part ≡ length part → part ≡ part_behind separator name
+ended separator name part before none = sym (before ∙ part_behind_none separator part none)

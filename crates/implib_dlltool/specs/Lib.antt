@@ -6,3 +6,4 @@ pub mod Linked
 pub mod Library
 pub mod Views
 pub mod Worked
+pub mod WorkedNames

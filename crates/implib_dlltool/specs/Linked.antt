@@ -1,13 +1,13 @@
 -- By which symbols exports are linked, and what they ask the DLL for: the rules of GNU dlltool and llvm-dlltool
 -- (docs/DECISIONS.md). A word is one of the definition as it is written.
-use Rattle.std.specs.Prelude.{ℕ, ◌==◌, Bool, true, false, not, ◌&&◌, ◌||◌, List, [], ◌∷◌, Option, Some, None, if◌then◌else◌, map}
+use Rattle.std.specs.Prelude.{ℕ, ◌==◌, Bool, true, false, not, ◌&&◌, ◌||◌, List, [], ◌∷◌, Option, Some, None, if◌then◌else◌, length, map, nat_lt}
 use Rattle.implib.specs.declared.machine.MachineType.{MachineType}
-use Rattle.implib.specs.Ascii.{at_sign, begins_with, holds, question_mark, underscore, without_first}
+use Rattle.implib.specs.Ascii.{at_sign, begins_with, question_mark, underscore}
 use Rattle.implib.specs.Definition.{DefinitionView, ExportView}
 use Rattle.implib.specs.Import.{is_empty_text}
 use Rattle.implib.specs.Machine.{has_leading_underscore}
 use Rattle.implib.specs.Renaming.{name_to_link}
-use Rattle.std.specs.List.{before_first}
+use Rattle.std.specs.List.{after_first, before_first, position_or_len}
 use Rattle.implib_dlltool.specs.declared.linked.Naming.{Naming}
 
 -- how names are read on I386
@@ -21,10 +21,14 @@ pub record NamingView : Type 0 where
 abbrev pub naming_view : Naming → NamingView
 naming_view n = record { is_plain = n.is_plain; kills_at = n.kills_at }
 
+-- whether two `@` stand side by side in a word, before which one may stand
+abbrev pub two_at_signs : Bool → List ℕ → Bool
+two_at_signs before [] = false
+two_at_signs before (b ∷ rest) = if before && b == at_sign then true else two_at_signs (b == at_sign) rest
+
 -- whether two `@` stand side by side, as in vectorcall's `f@@8`
-unfoldable pub has_two_at_signs : List ℕ → Bool
-has_two_at_signs [] = false
-has_two_at_signs (b ∷ rest) = if b == at_sign then begins_with at_sign rest || has_two_at_signs rest else has_two_at_signs rest
+abbrev pub has_two_at_signs : List ℕ → Bool
+has_two_at_signs word = two_at_signs false word
 
 -- whether a word is a symbol of I386 as it is: of fastcall (`@f@8`), C++ (`?f@@YAXXZ`) or vectorcall (`f@@8`)
 abbrev pub keeps_word : List ℕ → Bool
@@ -38,17 +42,27 @@ gets_underscore machine naming word = has_leading_underscore machine && not nami
 abbrev pub symbol_of : MachineType → NamingView → List ℕ → List ℕ
 symbol_of machine naming word = if gets_underscore machine naming word then underscore ∷ word else word
 
--- what stands before the first `@` of a word, or all of it
-abbrev pub before_at_sign : List ℕ → List ℕ
-before_at_sign word = before_first (λ byte. byte == at_sign) word
+-- the byte is `@`
+abbrev pub is_at_sign : ℕ → Bool
+is_at_sign b = b == at_sign
+
+-- whether a word has an `@`
+abbrev pub has_at_sign : List ℕ → Bool
+has_at_sign word = nat_lt (position_or_len is_at_sign word) (length word)
+
+-- a fastcall name without its `@` in front and the one behind it, if it has both; what stands behind the first
+-- is given
+abbrev pub killed_fastcall : List ℕ → List ℕ → List ℕ
+killed_fastcall behind word = if has_at_sign behind then before_first is_at_sign behind else word
 
 -- A word without its `@` and the number behind it, and without the `@` of fastcall in front. For example,
 -- `f@8` and `@f@8` give f, `_f@8` gives `_f`, and C++'s names stay.
 abbrev pub killed : List ℕ → List ℕ
 killed word =
     if begins_with question_mark word then word
-    else if begins_with at_sign word then (if holds at_sign (without_first word) then before_at_sign (without_first word) else word)
-    else before_at_sign word
+    else if not (has_at_sign word) then word
+    else if length (before_first is_at_sign word) == 0 then killed_fastcall (after_first is_at_sign word) word
+    else before_first is_at_sign word
 
 -- what the DLL is asked for, for a word
 abbrev pub word_asked : MachineType → NamingView → List ℕ → List ℕ

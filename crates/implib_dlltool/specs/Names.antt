@@ -34,7 +34,7 @@ part_behind separator name = fold (part_after separator) [] name
 
 -- A name without its directory: behind the last `/` (47), and then behind the last `\` (92). For example, that
 -- of `d/e/zoo` is zoo, and that of `d/` is empty.
-unfoldable pub last_part : List ℕ → List ℕ
+abbrev pub last_part : List ℕ → List ℕ
 last_part name = part_behind 92 (part_behind 47 name)
 
 -- a name of the definition, without its directory, with an ending where it has no full stop

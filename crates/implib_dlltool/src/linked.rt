@@ -1,9 +1,9 @@
 //! By which symbols exports are linked, and what they ask the DLL for: the rules of `dlltool`.
 
 ghost use Rattle.implib.specs.Definition.{export_view};
-ghost use Rattle.implib_dlltool.specs.Linked.{asked_of, before_at_sign, has_two_at_signs};
-ghost use Rattle.implib_dlltool.specs.Linked.{keeps_word, killed, linked_export, naming_view};
-ghost use Rattle.implib_dlltool.specs.Linked.{symbol_of, word_asked, word_of};
+ghost use Rattle.implib_dlltool.specs.Linked.{asked_of, has_two_at_signs, keeps_word, killed};
+ghost use Rattle.implib_dlltool.specs.Linked.{linked_export, naming_view, symbol_of, word_asked};
+ghost use Rattle.implib_dlltool.specs.Linked.{word_of};
 ghost use Rattle.std.specs.Prelude.{◌≡◌, IfOk, OnOk, map};
 ghost use Rattle.std.specs.String.{string_bytes};
 
@@ -59,27 +59,22 @@ fn symbol_of(
     Ok(symbol)
 }
 
-// What stands before the first `@` of a word.
-fn before_at_sign(word: &str) -> &str
-    ensures { result.now ≡ before_at_sign word.now }
-{
-    match word.split_once('@') {
-        Some((front, _)) => front,
-        None => word,
-    }
-}
-
 // A word without its `@` and the number behind it, and without the `@` of fastcall in front.
 fn killed(word: &str) -> &str
     ensures { result.now ≡ killed word.now }
 {
-    match word.as_bytes() {
-        [b'?', ..] => word,
-        [b'@', ..] => match word[1..].split_once('@') {
-            Some((front, _)) => front,
-            None => word,
-        },
-        _ => before_at_sign(word),
+    if word.as_bytes().first() == Some(&b'?') {
+        return word;
+    }
+    let Some((front, behind)) = word.split_once('@') else {
+        return word;
+    };
+    if !front.is_empty() {
+        return front;
+    }
+    match behind.split_once('@') {
+        Some((name, _)) => name,
+        None => word,
     }
 }
 

@@ -3,8 +3,9 @@
 ghost use Rattle.implib.specs.Text.Token.{Lexed, TokenView};
 ghost use Rattle.implib_dlltool.specs.Names.{dll_name, ending, heading_after, is_program};
 ghost use Rattle.implib_dlltool.specs.Names.{lacks_name, last_part, part_behind};
+ghost use Rattle.std.specs.List.{after_first, position_or_len};
 ghost use Rattle.std.specs.Option.{option_map};
-ghost use Rattle.std.specs.Prelude.{◌≡◌, ◌<◌, IfOk, List};
+ghost use Rattle.std.specs.Prelude.{◌==◌, ◌≡◌, ◌<◌, IfOk, List, MatchOption, length};
 ghost use Rattle.std.specs.String.{string_bytes};
 
 use implib::def::lexer::{Lexer, TokenKind};
@@ -32,13 +33,27 @@ fn heading_after(before: bool, kind: TokenKind) -> bool
     }
 }
 
+// What stands behind the first separator of this kind, if there is one.
+fn behind_first(name: &str, separator: char) -> Option<&str>
+    requires { separator < 128 }
+    ensures { MatchOption result (
+        position_or_len (λ b. b == separator) name.now ≡ length name.now)
+        (λ after. (after.now ≡ after_first (λ b. b == separator) name.now)
+        × (position_or_len (λ b. b == separator) name.now < length name.now)) }
+{
+    match name.split_once(separator) {
+        Some((_, after)) => Some(after),
+        None => None,
+    }
+}
+
 // What stands behind the last separator of this kind; all of the name where there is none.
 fn part_behind(name: &str, separator: char) -> &str
     requires { separator < 128 }
     ensures { result.now ≡ part_behind separator name.now }
 {
     let mut part = name;
-    while let Some((_, after)) = part.split_once(separator) {
+    while let Some(after) = behind_first(part, separator) {
         part = after;
     }
     part

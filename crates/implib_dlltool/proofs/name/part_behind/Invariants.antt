@@ -6,7 +6,7 @@ use Rattle.implib_dlltool.proofs.name.part_behind.Given as goal
 
 -- what is left has the name's last part
 abbrev pub invariant-loop-after : goal.invariant-loop-after
-invariant-loop-after l = shadow (Utf8 l.part) × (part_behind l.separator l.name.now ≡ part_behind l.separator l.part.now)
+invariant-loop-after l = shadow (Utf8 l.part) × (part_behind l.separator l.name ≡ part_behind l.separator l.part)
 
 abbrev pub decreases-loop-after : goal.decreases-loop-after
-decreases-loop-after l = length l.part.now
+decreases-loop-after l = length l.part
