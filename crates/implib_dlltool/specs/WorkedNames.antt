@@ -66,16 +66,36 @@ pub record DllsNamed : Type 0 where
 -- what command lines ask for
 pub record CallsAnswered : Type 0 where
   pub rustc : task_of AMD64 rustc_options ≡ Ok (Asks (record {
-    definition = codes "F.def"; output = Some (codes "F.lib"); machine = I386; flavor = Gnu; dll = Some (codes "zoo.dll"); naming = plain;
+    definition = codes "F.def";
+    output = Some (codes "F.lib");
+    machine = I386;
+    flavor = Gnu;
+    dll = Some (codes "zoo.dll");
+    naming = plain;
   }))
   pub mingw : task_of I386 mingw_options ≡ Ok (Asks (record {
-    definition = codes "X.def"; output = Some (codes "X.a"); machine = AMD64; flavor = Gnu; dll = None; naming = killing;
+    definition = codes "X.def";
+    output = Some (codes "X.a");
+    machine = AMD64;
+    flavor = Gnu;
+    dll = None;
+    naming = killing;
   }))
   pub by_ending : task_of AMD64 (Given Definition (codes "-") ∷ Given Output (codes "a.lib") ∷ []) ≡ Ok (Asks (record {
-    definition = codes "-"; output = Some (codes "a.lib"); machine = AMD64; flavor = Msvc; dll = None; naming = usual;
+    definition = codes "-";
+    output = Some (codes "a.lib");
+    machine = AMD64;
+    flavor = Msvc;
+    dll = None;
+    naming = usual;
   }))
   pub arm64 : task_of AMD64 (Given Definition (codes "a") ∷ Given Machine (codes "AArch64") ∷ []) ≡ Ok (Asks (record {
-    definition = codes "a"; output = None; machine = ARM64; flavor = Msvc; dll = None; naming = usual;
+    definition = codes "a";
+    output = None;
+    machine = ARM64;
+    flavor = Msvc;
+    dll = None;
+    naming = usual;
   }))
   pub help : task_of AMD64 (Switched Help ∷ []) ≡ Ok AsksHelp
   pub no_definition : task_of AMD64 (Given Output (codes "a.lib") ∷ []) ≡ Err LacksDefinition

@@ -98,11 +98,7 @@ pub fn text_in(bytes: &[u8]) -> Option<&str>
 /// # Errors
 ///
 /// A syntax error; else that no name is given.
-pub fn definition_for(
-    alloc: Global,
-    text: &str,
-    request: &Request,
-) -> Result<ModuleDef, Refusal>
+pub fn definition_for(alloc: Global, text: &str, request: &Request) -> Result<ModuleDef, Refusal>
     ensures meant { IfOk result
         (λ def. DefinitionFor text.now (request_view request.now) (definition_view def)) }
     ensures refused { IfErr result (IsRefusalOfText text.now (request_view request.now)) }

@@ -90,12 +90,7 @@ fn word_asked(machine: MachineType, naming: Naming, word: &str) -> &str
 }
 
 // What the DLL is asked for: the word behind `==`, or else what the export's own word says.
-fn asked_of<'a>(
-    machine: MachineType,
-    naming: Naming,
-    word: &'a str,
-    target: &'a str,
-) -> &'a str
+fn asked_of<'a>(machine: MachineType, naming: Naming, word: &'a str, target: &'a str) -> &'a str
     ensures { result.now ≡ asked_of machine (naming_view naming) word.now target.now }
 {
     if target.is_empty() {

@@ -5,8 +5,8 @@ use crate::library::Refusal;
 use crate::options::Setting;
 use crate::request::CallFault;
 use implib::Fault;
-use implib::def::lexer::TokenKind;
 use implib::def::Position;
+use implib::def::lexer::TokenKind;
 use std::fmt;
 
 /// A token's kind as it is written.
@@ -48,7 +48,10 @@ impl<'a> fmt::Display for Told<'a> {
                 f.write_str("expected a statement, as LIBRARY or EXPORTS")
             }
             Fault::UnknownDirective(word) => {
-                write!(f, "expected a statement, as LIBRARY or EXPORTS, not `{word}`")
+                write!(
+                    f,
+                    "expected a statement, as LIBRARY or EXPORTS, not `{word}`"
+                )
             }
             Fault::ExpectedIdentifier(found) => {
                 write!(f, "expected a name, not {}", Written(*found))

@@ -1,12 +1,10 @@
 //! The file of a library: made beside the old one, and renamed.
 
 use std::alloc::{AllocError, Global};
-use std::fmt;
-use std::fs;
 use std::fs::{File, Files, OpenOptions};
-use std::io;
 use std::io::{ErrorKind, Write};
 use std::path::Path;
+use std::{fmt, fs, io};
 
 /// Why a library's file was not written. The file is as it was.
 #[derive(Debug, Drop)]
@@ -43,6 +41,7 @@ impl fmt::Display for OutputError {
 
 // How many symbolic links are followed, and how many names are tried.
 const LINKS: u32 = 40;
+
 const NAMES: u32 = 1000;
 
 // The file that a path leads to by its symbolic links. It need not be there.
@@ -94,9 +93,7 @@ fn open_beside<R: Files + AllocGlobal>(
             Err(error) => return Err(OutputError::System(error)),
         }
     }
-    Err(OutputError::System(io::Error::from(
-        ErrorKind::AlreadyExists,
-    )))
+    Err(OutputError::System(io::Error::from(ErrorKind::AlreadyExists)))
 }
 
 /// Writes a library's file: into a new file beside the one that the path leads to, which is then

@@ -40,13 +40,11 @@ fn step(place: Place, token: &Token<'_>) -> (bool, Place) {
             Place::Outside => (false, Place::Outside),
             _ => (false, Place::Within),
         },
-        TokenKind::KwData
-        | TokenKind::KwConstant
-        | TokenKind::KwPrivate
-        | TokenKind::KwNoname => match place {
-            Place::Outside => (false, Place::Outside),
-            _ => (false, Place::Inside),
-        },
+        TokenKind::KwData | TokenKind::KwConstant | TokenKind::KwPrivate | TokenKind::KwNoname =>
+            match place {
+                Place::Outside => (false, Place::Outside),
+                _ => (false, Place::Inside),
+            },
         _ => (false, Place::Outside),
     }
 }

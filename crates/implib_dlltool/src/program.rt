@@ -10,14 +10,11 @@ use crate::output::put_library;
 use crate::request::{CallError, Request, Task, default_machine, task_of};
 use implib::def::Position;
 use std::alloc::AllocError;
-use std::env;
 use std::env::Env;
-use std::fmt;
 use std::fmt::Write as _;
-use std::fs;
 use std::fs::Files;
-use std::io;
 use std::io::{Read, Write};
+use std::{env, fmt, fs, io};
 
 // What the program prints for `--help`.
 const HELP: &str = "\
@@ -59,7 +56,12 @@ impl<'a, E: Write> fmt::Write for Lines<'a, E> {
 }
 
 // Writes a line, and gives an exit status. A failure of the writer is ignored.
-fn complain<E: Write, D: fmt::Display + Drop>(faults: &mut E, subject: &str, message: D, status: u8) -> u8
+fn complain<E: Write, D: fmt::Display + Drop>(
+    faults: &mut E,
+    subject: &str,
+    message: D,
+    status: u8,
+) -> u8
     ensures { result ≡ status }
 {
     let mut lines = Lines { writer: faults };

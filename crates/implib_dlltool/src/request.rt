@@ -140,11 +140,7 @@ fn has_gnu_habits(options: &[Occurrence<'_>]) -> bool
 }
 
 // The flavour where none is given.
-fn default_flavor(
-    machine: MachineType,
-    has_gnu_habits: bool,
-    output: Option<&str>,
-) -> Flavor
+fn default_flavor(machine: MachineType, has_gnu_habits: bool, output: Option<&str>) -> Flavor
     ensures { result ≡ default_flavor machine has_gnu_habits (option_map (λ text. text.now) output.entry) }
 {
     match machine {

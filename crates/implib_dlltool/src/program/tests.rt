@@ -1,7 +1,6 @@
 use super::run;
-use std::env;
-use std::fs;
 use std::test::Fail;
+use std::{env, fs};
 
 // Runs the program with words and standard input; the status, and what it wrote on standard error.
 fn ran(rt: &HostRuntime, words: &[&str], input: &[u8]) -> Result<(u8, String), Fail> {
@@ -32,11 +31,31 @@ fn definitions_are_checked(rt: HostRuntime) -> Result<(), Fail> {
     for (text, status, said) in [
         ("LIBRARY zoo\nEXPORTS\n feed\n", 0, ""),
         ("\u{FEFF}LIBRARY zoo\r\nEXPORTS feed == eat @2", 0, ""),
-        ("", 1, "-:1:1: no name of a DLL: expected LIBRARY or NAME with one, or the option -D\n"),
-        ("LIBRARY zoo\n feed\n", 1, "-:2:2: expected a statement, as LIBRARY or EXPORTS, not `feed`\n"),
-        ("EXPORTS a = DATA\n", 1, "-:1:13: expected a name, not the word DATA\n"),
-        ("LIBRARY zoo BASE 4", 1, "-:1:18: expected `=`, not a name\n"),
-        ("LIBRARY zoo\nEXPORTS\n\ta @ 1 NONAME\n\t\"\" @2\n", 1, "-:4:3: the name of the export is empty\n"),
+        (
+            "",
+            1,
+            "-:1:1: no name of a DLL: expected LIBRARY or NAME with one, or the option -D\n",
+        ),
+        (
+            "LIBRARY zoo\n feed\n",
+            1,
+            "-:2:2: expected a statement, as LIBRARY or EXPORTS, not `feed`\n",
+        ),
+        (
+            "EXPORTS a = DATA\n",
+            1,
+            "-:1:13: expected a name, not the word DATA\n",
+        ),
+        (
+            "LIBRARY zoo BASE 4",
+            1,
+            "-:1:18: expected `=`, not a name\n",
+        ),
+        (
+            "LIBRARY zoo\nEXPORTS\n\ta @ 1 NONAME\n\t\"\" @2\n",
+            1,
+            "-:4:3: the name of the export is empty\n",
+        ),
     ] {
         let (got, wrote) = ran(&rt, &["-d", "-"], text.as_bytes())?;
         assert_eq!(rt; wrote.as_str(), said);
@@ -52,15 +71,39 @@ fn definitions_are_checked(rt: HostRuntime) -> Result<(), Fail> {
 #[test]
 fn wrong_calls_are_told(rt: HostRuntime) -> Result<(), Fail> {
     for (words, said) in [
-        ([].as_slice(), "implib_dlltool: no definition: expected the option -d\n"),
-        (["-d", "-", "a.o"].as_slice(), "implib_dlltool: a.o: no option; objects are not supported\n"),
+        (
+            [].as_slice(),
+            "implib_dlltool: no definition: expected the option -d\n",
+        ),
+        (
+            ["-d", "-", "a.o"].as_slice(),
+            "implib_dlltool: a.o: no option; objects are not supported\n",
+        ),
         (["-z"].as_slice(), "implib_dlltool: -z: not supported\n"),
-        (["--frobnicate"].as_slice(), "implib_dlltool: --frobnicate: no such option\n"),
-        (["-d"].as_slice(), "implib_dlltool: the option -d lacks its value\n"),
-        (["-d", "-", "-m", "mips"].as_slice(), "implib_dlltool: mips: no such machine: expected i386, i386:x86-64, arm or arm64\n"),
-        (["-d", "-", "--flavor=x"].as_slice(), "implib_dlltool: x: no such flavour: expected msvc or gnu\n"),
-        (["-d", "-", "-D", "a/"].as_slice(), "implib_dlltool: the name of the DLL after -D is empty\n"),
-        (["-d", "-", "-l", "-"].as_slice(), "implib_dlltool: the library cannot go to standard output\n"),
+        (
+            ["--frobnicate"].as_slice(),
+            "implib_dlltool: --frobnicate: no such option\n",
+        ),
+        (
+            ["-d"].as_slice(),
+            "implib_dlltool: the option -d lacks its value\n",
+        ),
+        (
+            ["-d", "-", "-m", "mips"].as_slice(),
+            "implib_dlltool: mips: no such machine: expected i386, i386:x86-64, arm or arm64\n",
+        ),
+        (
+            ["-d", "-", "--flavor=x"].as_slice(),
+            "implib_dlltool: x: no such flavour: expected msvc or gnu\n",
+        ),
+        (
+            ["-d", "-", "-D", "a/"].as_slice(),
+            "implib_dlltool: the name of the DLL after -D is empty\n",
+        ),
+        (
+            ["-d", "-", "-l", "-"].as_slice(),
+            "implib_dlltool: the library cannot go to standard output\n",
+        ),
     ] {
         let (got, wrote) = ran(&rt, words, b"LIBRARY a")?;
         assert_eq!(rt; wrote.as_str(), said);
@@ -74,7 +117,11 @@ fn wrong_calls_are_told(rt: HostRuntime) -> Result<(), Fail> {
 fn other_names_are_refused_or_asked(rt: HostRuntime) -> Result<(), Fail> {
     let text = b"LIBRARY zoo\nEXPORTS\n a @5\n b == c\n";
     let (got, wrote) = ran(&rt, &["-d", "-", "--flavor", "msvc"], text)?;
-    assert!(rt; wrote.as_str().starts_with("-:4:2: not supported for Microsoft's linker"));
+    assert!(rt;
+        wrote
+            .as_str()
+            .starts_with("-:4:2: not supported for Microsoft's linker")
+    );
     assert_eq!(rt; got, 1);
     let (got, wrote) = ran(&rt, &["-d", "-", "--flavor", "gnu"], text)?;
     assert_eq!(rt; wrote.as_str(), "");
@@ -96,11 +143,19 @@ fn libraries_are_written(rt: HostRuntime) -> Result<(), Fail> {
         assert_eq!(rt; got, 0);
     }
     let library = fs::read(&rt, file.as_path())?;
-    assert!(rt; library.as_slice().starts_with(b"!<arch>\n/               0 "));
+    assert!(rt;
+        library
+            .as_slice()
+            .starts_with(b"!<arch>\n/               0 ")
+    );
     assert_eq!(rt; library.len(), 1412);
     let words = ["-d", "-", "-l", folder.as_str()];
     let (got, wrote) = ran(&rt, words.as_slice(), text)?;
-    assert!(rt; wrote.as_str().ends_with(": not a regular file; it is left as it is\n"));
+    assert!(rt;
+        wrote
+            .as_str()
+            .ends_with(": not a regular file; it is left as it is\n")
+    );
     assert_eq!(rt; got, 3);
     fs::remove_file(&rt, file.as_path())?;
     fs::remove_dir(&rt, folder.as_path())?;
