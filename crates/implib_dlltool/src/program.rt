@@ -29,11 +29,14 @@ Makes the import library of a module definition.
       --flavor FLAVOUR     msvc or gnu: whose linker the library is for; by
                            default msvc for arm and arm64 and for OUT in .lib,
                            unless -S, -f or -t is given, and else gnu
+  -k, --kill-at            on I386 ask for names without @ and what follows it
+      --no-leading-underscore
+                           on I386 take symbols as they are written
   -h, --help
   -V, --version
 
 Taken and ignored: -S --as, -f --as-flags, -t --temp-prefix, each with a value;
---deterministic-libraries.
+-v, --verbose; --deterministic-libraries.
 
 Status: 0 made; 1 FILE is refused; 2 wrong call; 3 a file or memory failed.
 ";
