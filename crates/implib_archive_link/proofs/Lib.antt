@@ -2,3 +2,4 @@ pub mod Corollaries
 pub mod InBytes
 pub mod WorkedLibraries
 pub mod WorkedSearches
+pub mod Way

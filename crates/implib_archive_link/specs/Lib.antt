@@ -1,3 +1,4 @@
 pub mod InBytes
 pub mod Results
 pub mod Worked
+pub mod Way

@@ -12,6 +12,7 @@ ghost use Rattle.implib_archive.specs.declared.kind.Kind.{Kind};
 ghost use Rattle.implib_archive_link.specs.InBytes.{LinkerMember, asks_for, asks_on, asks_with};
 ghost use Rattle.implib_archive_link.specs.Results.{AreFoundInBytes, AreSearched, HaveArchive};
 ghost use Rattle.implib_archive_link.specs.Results.{IsEnding, TakesJust};
+ghost use Rattle.implib_archive_link.specs.Way.{CallsArrive};
 ghost use Rattle.implib_archive_link.specs.Worked.{WorkedLibraries, WorkedSearches};
 ghost use Rattle.implib_link.specs.Flavors.Expansion.{descriptor_symbol_by_name};
 ghost use Rattle.implib_link.specs.Gnu.Program.{ClaimsNone};
@@ -119,6 +120,22 @@ pub fn search_takes_short_imports()
         NamesNoHeader d.import_name wanted →
         TakesJust kind linker members (asks_on machine wanted)
         (λ taken. HaveSame taken (msvc_if_any d machine (shorts_wanted d wanted))) }
+{}
+
+/// The whole way for GNU's linker: what a linker takes in an archive's bytes for given objects
+/// closes the program, wherever it is linked; and in the memory that a loader leaves, which reads
+/// the image and knows nothing else, each call through an import's `__imp_` symbol, in any object's
+/// placed code, goes to what the DLL gives for the export.
+pub fn bytes_lead_to_calls()
+    ensures { (kind : Kind) (linker : LinkerMember) (machine : MachineType)
+        (libraries : List Library) (own : List Object) →
+        HaveArchive kind linker (archive_of libraries) →
+        IsArchive machine libraries →
+        AreGiven machine libraries own →
+        TakesJust kind linker (archive_of libraries) (asks_with own)
+        (λ taken. (arranged : List Library) (bases : Bases) (objects : List Object) →
+        AreLinkedFor machine libraries own taken arranged bases objects →
+        CallsArrive machine libraries own taken arranged bases objects) }
 {}
 
 /// Searches by hand in the bytes of archives of two members, of a definition's members, and of
