@@ -3,3 +3,4 @@ pub mod InBytes
 pub mod WorkedLibraries
 pub mod WorkedSearches
 pub mod Way
+pub mod WorkedWay

@@ -25,7 +25,7 @@ use Rattle.implib_link.proofs.Search.Arranged.{archive_moved}
 use Rattle.implib_link.proofs.Search.Closed.{closed_links}
 use Rattle.implib_link.proofs.Search.Given.{given_closes}
 
-calls_arrive : (machine : MachineType) (libraries : List Library) (own : List Object) (taken : List MemberView) (arranged : List Library) (bases : Bases) (objects : List Object) →
+pub calls_arrive : (machine : MachineType) (libraries : List Library) (own : List Object) (taken : List MemberView) (arranged : List Library) (bases : Bases) (objects : List Object) →
     IsArchive machine libraries → AreGiven machine libraries own → TakesInto (archive_of libraries) own taken → AreLinkedFor machine libraries own taken arranged bases objects →
     CallsArrive machine libraries own taken arranged bases objects
 calls_arrive machine libraries own taken arranged bases objects archive given takes linked =

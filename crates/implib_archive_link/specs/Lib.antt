@@ -2,3 +2,4 @@ pub mod InBytes
 pub mod Results
 pub mod Worked
 pub mod Way
+pub mod WorkedWay

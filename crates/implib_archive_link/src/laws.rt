@@ -14,6 +14,7 @@ ghost use Rattle.implib_archive_link.specs.Results.{AreFoundInBytes, AreSearched
 ghost use Rattle.implib_archive_link.specs.Results.{IsEnding, TakesJust};
 ghost use Rattle.implib_archive_link.specs.Way.{CallsArrive};
 ghost use Rattle.implib_archive_link.specs.Worked.{WorkedLibraries, WorkedSearches};
+ghost use Rattle.implib_archive_link.specs.WorkedWay.{WorkedWay};
 ghost use Rattle.implib_link.specs.Flavors.Expansion.{descriptor_symbol_by_name};
 ghost use Rattle.implib_link.specs.Gnu.Program.{ClaimsNone};
 ghost use Rattle.implib_link.specs.Search.Archives.{IsArchive, Library, NamesNoHeadOrTailOf};
@@ -143,4 +144,10 @@ pub fn bytes_lead_to_calls()
 pub fn worked_searches()
     ensures members { WorkedSearches }
     ensures libraries { WorkedLibraries }
+{}
+
+/// The whole way by hand: from the bytes of the archive of foo.dll, which exports `bar`, to the
+/// call in a program's code that arrives at what foo.dll gives for it.
+pub fn worked_way()
+    ensures { WorkedWay }
 {}
