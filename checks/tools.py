@@ -9,6 +9,7 @@ import sys
 
 ROOT = os.path.dirname(os.path.dirname(os.path.abspath(__file__)))
 PROGRAM = os.path.join(ROOT, "crates", "implib_tool", "out", "implib_tool")
+DLLTOOL = os.path.join(ROOT, "crates", "implib_dlltool", "out", "implib_dlltool")
 PACK = os.path.join(ROOT, "examples", "pack")
 MACHINES = ("I386", "ARMNT", "AMD64", "ARM64")
 FLAVOURS = ("msvc", "gnu")
@@ -21,18 +22,18 @@ class Failed(Exception):
 # ---- arguments and tools
 
 
-def arguments(description, **options):
+def arguments(description, program=PROGRAM, **options):
     """The options of a check: the program and, of each option, its number."""
     parser = argparse.ArgumentParser(
         description=description, formatter_class=argparse.RawDescriptionHelpFormatter
     )
-    parser.add_argument("--program", default=PROGRAM, help="the built program; else the one of this clone")
+    parser.add_argument("--program", default=program, help="the built program; else the one of this clone")
     for name, (default, help_) in options.items():
         parser.add_argument(f"--{name}", type=int, default=default, help=f"{help_}; else {default}")
     options = parser.parse_args()
     options.program = os.path.abspath(options.program)
     if not os.access(options.program, os.X_OK):
-        sys.exit(f"no {options.program}: `rt run < stdin` in crates/implib_tool builds it")
+        sys.exit(f"no {options.program}: `rt run` in the folder of its crate builds it")
     return options
 
 

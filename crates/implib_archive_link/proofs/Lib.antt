@@ -2,3 +2,5 @@ pub mod Corollaries
 pub mod InBytes
 pub mod WorkedLibraries
 pub mod WorkedSearches
+pub mod Way
+pub mod WorkedWay

@@ -1,3 +1,5 @@
 pub mod InBytes
 pub mod Results
 pub mod Worked
+pub mod Way
+pub mod WorkedWay

@@ -12,7 +12,9 @@ ghost use Rattle.implib_archive.specs.declared.kind.Kind.{Kind};
 ghost use Rattle.implib_archive_link.specs.InBytes.{LinkerMember, asks_for, asks_on, asks_with};
 ghost use Rattle.implib_archive_link.specs.Results.{AreFoundInBytes, AreSearched, HaveArchive};
 ghost use Rattle.implib_archive_link.specs.Results.{IsEnding, TakesJust};
+ghost use Rattle.implib_archive_link.specs.Way.{CallsArrive};
 ghost use Rattle.implib_archive_link.specs.Worked.{WorkedLibraries, WorkedSearches};
+ghost use Rattle.implib_archive_link.specs.WorkedWay.{WorkedWay};
 ghost use Rattle.implib_link.specs.Flavors.Expansion.{descriptor_symbol_by_name};
 ghost use Rattle.implib_link.specs.Gnu.Program.{ClaimsNone};
 ghost use Rattle.implib_link.specs.Search.Archives.{IsArchive, Library, NamesNoHeadOrTailOf};
@@ -121,9 +123,31 @@ pub fn search_takes_short_imports()
         (λ taken. HaveSame taken (msvc_if_any d machine (shorts_wanted d wanted))) }
 {}
 
+/// The whole way for GNU's linker: what a linker takes in an archive's bytes for given objects
+/// closes the program, wherever it is linked; and in the memory that a loader leaves, which reads
+/// the image and knows nothing else, each call through an import's `__imp_` symbol, in any object's
+/// placed code, goes to what the DLL gives for the export.
+pub fn bytes_lead_to_calls()
+    ensures { (kind : Kind) (linker : LinkerMember) (machine : MachineType)
+        (libraries : List Library) (own : List Object) →
+        HaveArchive kind linker (archive_of libraries) →
+        IsArchive machine libraries →
+        AreGiven machine libraries own →
+        TakesJust kind linker (archive_of libraries) (asks_with own)
+        (λ taken. (arranged : List Library) (bases : Bases) (objects : List Object) →
+        AreLinkedFor machine libraries own taken arranged bases objects →
+        CallsArrive machine libraries own taken arranged bases objects) }
+{}
+
 /// Searches by hand in the bytes of archives of two members, of a definition's members, and of
 /// libraries.
 pub fn worked_searches()
     ensures members { WorkedSearches }
     ensures libraries { WorkedLibraries }
+{}
+
+/// The whole way by hand: from the bytes of the archive of foo.dll, which exports `bar`, to the
+/// call in a program's code that arrives at what foo.dll gives for it.
+pub fn worked_way()
+    ensures { WorkedWay }
 {}

@@ -268,7 +268,8 @@ pub fn members_into(
 /// # Errors
 ///
 /// The first that applies: `UnknownMachine`, `UnknownFlavor`, `NotUtf8`, `SyntaxError`, `Refused`,
-/// `NoArchive`, `BufferTooSmall`. `OutOfMemory` can precede the last four, and come after them.
+/// `NoArchive`, `BufferTooSmall`. `OutOfMemory` can precede the last four, and come where none
+/// applies.
 pub fn library_into(
     alloc: Global,
     text: &[u8],

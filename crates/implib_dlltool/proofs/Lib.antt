@@ -1,2 +1,4 @@
 pub mod Reading
 pub mod TokensGiven
+pub mod Parts
+pub mod Made

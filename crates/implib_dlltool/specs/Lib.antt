@@ -1,6 +1,9 @@
 pub mod Options
 pub mod Arguments
 pub mod Names
-pub mod Supported
+pub mod Request
+pub mod Linked
+pub mod Library
 pub mod Views
 pub mod Worked
+pub mod WorkedNames

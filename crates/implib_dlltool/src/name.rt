@@ -1,25 +1,15 @@
 //! The name of the DLL that an import library is for.
 
 ghost use Rattle.implib.specs.Text.Token.{Lexed, TokenView};
-ghost use Rattle.implib_dlltool.specs.Names.{bare_name, dll_name, ending, is_program};
-ghost use Rattle.implib_dlltool.specs.Names.{heading_after, name_fault};
-ghost use Rattle.implib_dlltool.specs.Views.{given_bytes};
-ghost use Rattle.std.specs.Prelude.{◌≡◌, IfOk, List};
+ghost use Rattle.implib_dlltool.specs.Names.{dll_name, ending, heading_after, is_program};
+ghost use Rattle.implib_dlltool.specs.Names.{lacks_name, last_part, part_behind};
+ghost use Rattle.std.specs.List.{after_first, position_or_len};
+ghost use Rattle.std.specs.Option.{option_map};
+ghost use Rattle.std.specs.Prelude.{◌==◌, ◌≡◌, ◌<◌, IfOk, List, MatchOption, length};
 ghost use Rattle.std.specs.String.{string_bytes};
 
 use implib::def::lexer::{Lexer, TokenKind};
 use std::alloc::{AllocError, Global};
-
-/// Why a DLL's name is refused.
-#[derive(Clone, Copy, Debug, PartialEq, Eq, thiserror::Error)]
-pub enum NameFault {
-    /// Neither the definition nor the command line gives a name.
-    #[error("no name of a DLL: expected LIBRARY or NAME with one, or the option -D")]
-    Missing,
-    /// The name is a path: it has a `/` or a `\`.
-    #[error("the name of the DLL is a path: expected its last part alone")]
-    HasDirectory,
-}
 
 /// Whether the last heading of a text, `NAME` or `LIBRARY`, is `NAME`.
 pub fn is_program(text: &str) -> bool
@@ -43,22 +33,47 @@ fn heading_after(before: bool, kind: TokenKind) -> bool
     }
 }
 
-/// What is wrong with a name that is given, or with the definition's own where none is.
-#[tactic(auto, unfolding(crate::specs::Names::name_fault))]
-pub fn name_fault(given: Option<&str>, own: &str) -> Option<NameFault>
-    ensures { result ≡ name_fault (bare_name (given_bytes given.entry) own.now) }
+// What stands behind the first separator of this kind, if there is one.
+fn behind_first(name: &str, separator: char) -> Option<&str>
+    requires { separator < 128 }
+    ensures { MatchOption result (
+        position_or_len (λ b. b == separator) name.now ≡ length name.now)
+        (λ after. (after.now ≡ after_first (λ b. b == separator) name.now)
+        × (position_or_len (λ b. b == separator) name.now < length name.now)) }
 {
-    let name = match given {
-        Some(name) => name.as_bytes(),
-        None => own.as_bytes(),
-    };
-    if name.is_empty() {
-        return Some(NameFault::Missing);
+    match name.split_once(separator) {
+        Some((_, after)) => Some(after),
+        None => None,
     }
-    if name.contains(&b'/') || name.contains(&b'\\') {
-        return Some(NameFault::HasDirectory);
+}
+
+// What stands behind the last separator of this kind; all of the name where there is none.
+fn part_behind(name: &str, separator: char) -> &str
+    requires { separator < 128 }
+    ensures { result.now ≡ part_behind separator name.now }
+{
+    let mut part = name;
+    while let Some(after) = behind_first(part, separator) {
+        part = after;
     }
-    None
+    part
+}
+
+/// The name without its directory: what stands behind its last `/` and then behind its last `\\`.
+pub fn last_part(name: &str) -> &str
+    ensures { result.now ≡ last_part name.now }
+{
+    part_behind(part_behind(name, '/'), '\\')
+}
+
+/// Whether neither a name is given, nor the definition has one, but for a directory.
+pub fn lacks_name(given: Option<&str>, own: &str) -> bool
+    ensures { result ≡ lacks_name (option_map (λ text. text.now) given.entry) own.now }
+{
+    match given {
+        Some(name) => last_part(name).is_empty(),
+        None => last_part(own).is_empty(),
+    }
 }
 
 // The ending that a name without one gets.
@@ -69,12 +84,11 @@ fn ending(is_program: bool) -> &'static str
 }
 
 /// The name of the DLL: the one that is given, or the definition's own, with an ending where it has
-/// no full stop.
+/// no full stop. A directory is cut off.
 ///
 /// # Errors
 ///
 /// An allocation failed.
-#[tactic(auto, unfolding(crate::specs::Names::dll_name))]
 pub fn dll_name(
     alloc: Global,
     given: Option<&str>,
@@ -82,14 +96,15 @@ pub fn dll_name(
     is_program: bool,
 ) -> Result<String, AllocError>
     ensures { IfOk result (λ name. string_bytes name
-        ≡ dll_name (given_bytes given.entry) own.now is_program) }
+        ≡ dll_name (option_map (λ text. text.now) given.entry) own.now is_program) }
 {
     let Some(name) = given else {
-        let mut name = String::from_str(alloc, own)?;
-        if !own.as_bytes().contains(&b'.') {
+        let part = last_part(own);
+        let mut name = String::from_str(alloc, part)?;
+        if !part.as_bytes().contains(&b'.') {
             name.push_str(ending(is_program))?;
         }
         return Ok(name);
     };
-    String::from_str(alloc, name)
+    String::from_str(alloc, last_part(name))
 }

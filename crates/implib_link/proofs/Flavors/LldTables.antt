@@ -177,8 +177,7 @@ module _ (machine : MachineType) (image : List Range) (starts : AllByRecursion (
       let first = located_parts image (thunks_built machine place i.asks) (tables_built machine next imports) lookups lookup_tables in
       let second = located_parts image (thunks_built machine place i.asks) (tables_built machine next imports) addresses address_tables in
       let texts = located_parts image (hints_built i.asks) (all_hints imports) place hints in
-      let dlls = located_parts image (i.dll ++ 0 ∷ []) (all_names imports) name names in
-      (
+      let dlls = located_parts image (i.dll ++ 0 ∷ []) (all_names imports) name names in (
         descriptor_stands i descriptor lookups name addresses place importable.0 rows.0 first.0 second.0 texts.0 dlls.0,
         all_stand imports (descriptor + 20) (lookups + span) (name + length (i.dll ++ 0 ∷ [])) (addresses + span) next importable.1
             (subst (λ n. BytesAt image (descriptor + n) (directory_built machine (lookups + span) (name + length (i.dll ++ 0 ∷ [])) (addresses + span) imports)) (length_descriptor lookups name addresses) rows.1)

@@ -86,7 +86,7 @@ not_named m u t other differs external named (inr is) =
     let same : t ≡ u = cc in
     true≢false (sym external ∙ ap is_defined_external same ∙ other)
 
-one_code_resolves : (linked : List Placed) (k : PlacedCode) (m u : ObjectSymbol) → k.from.object.entries ≡ ASymbol m ∷ ASymbol u ∷ [] → is_undefined_external m ≡ false → is_defined_external u ≡ false →
+pub one_code_resolves : (linked : List Placed) (k : PlacedCode) (m u : ObjectSymbol) → k.from.object.entries ≡ ASymbol m ∷ ASymbol u ∷ [] → is_undefined_external m ≡ false → is_defined_external u ≡ false →
     (m.name ≡ u.name → ⊥) → Resolves linked (k ∷ []) (λ c index. target_address linked c.from index)
 one_code_resolves linked k m u entries own other differs = record {
   tables = λ c index address entry held at is. rw at (ap address_or_zero is);

@@ -7,8 +7,15 @@ ghost use Rattle.implib.specs.Members.ImportTables.{thunk_width};
 ghost use Rattle.implib.specs.declared.machine.MachineType.{MachineType};
 ghost use Rattle.implib_link.specs.Directory.{DirectoryAt, Imported};
 ghost use Rattle.implib_link.specs.Flavors.LldImports.{IsLldProgram, LldLinks};
-ghost use Rattle.implib_link.specs.Flavors.LldTables.{ArePiecesAt, IsImportable, addresses_at,
-    built, hints_at, lookups_at, names_at};
+ghost use Rattle.implib_link.specs.Flavors.LldTables.{
+  ArePiecesAt,
+  IsImportable,
+  addresses_at,
+  built,
+  hints_at,
+  lookups_at,
+  names_at,
+};
 ghost use Rattle.implib_link.specs.Worked.Lld.{WorkedLld};
 ghost use Rattle.std.specs.List.{AllByRecursion, Contains};
 ghost use Rattle.std.specs.Prelude.{◌<◌, ◌^◌, ℕ, List};

@@ -1,0 +1,26 @@
+use Rattle.std.proofs.Common.{refl}
+use Rattle.implib_dlltool.specs.Names.{part_behind}
+use Rattle.implib_dlltool.specs.WorkedNames.{CallsAnswered}
+use Rattle.implib_dlltool.proofs.laws.calls_answered.Goals as goal
+
+worked : CallsAnswered
+unfolding part_behind
+worked = record {
+  rustc = refl;
+  mingw = refl;
+  by_ending = refl;
+  arm64 = refl;
+  help = refl;
+  no_definition = refl;
+  to_standard = refl;
+  mips = refl;
+  borland = refl;
+  empty_dll = refl;
+  prefix_i386 = refl;
+  prefix_armnt = refl;
+  prefix_arm64 = refl;
+  prefix_none = refl;
+}
+
+pub returns : goal.returns
+returns c = worked

@@ -1,0 +1,139 @@
+-- Which bytes the library of a definition has, and when there is none.
+use Rattle.std.specs.Prelude.{◌≡◌, ℕ, [], ◌∷◌, Bool, true, false, List, Option, None, Some, if◌then◌else◌, drop, length, nat_eq, nat_lt}
+use Rattle.std.specs.List.{starts_with}
+use Rattle.std.specs.Str.{IsUtf8}
+use Rattle.implib.specs.declared.error.ParseError.{ParseError}
+use Rattle.implib.specs.declared.error.ParseError.TheVariants as parse
+use Rattle.implib.specs.declared.flavor.Flavor.{Flavor}
+use Rattle.implib.specs.declared.flavor.Flavor.TheVariants.{Msvc, Gnu}
+use Rattle.implib.specs.declared.machine.MachineType.TheVariants.{AMD64}
+use Rattle.implib.specs.Definition.{DefinitionView}
+use Rattle.implib.specs.declared.def.position.Position.{Position}
+use Rattle.implib.specs.Fault.{Cause, cause_of}
+use Rattle.implib.specs.Members.Members.{AreMembersOf, refusal}
+use Rattle.implib.specs.Members.MemberSpec.{MemberView}
+use Rattle.implib.specs.Members.ReadBack.{ReadBack}
+use Rattle.implib.specs.Renaming.{renamed}
+use Rattle.implib.specs.Text.Parses.{Parses, RefusesAt}
+use Rattle.implib.specs.Text.Position.{position_at}
+use Rattle.implib.specs.Text.Token.{Lexed, TokenView}
+use Rattle.implib_archive.specs.declared.error.Error.{Error as ArchiveError}
+use Rattle.implib_archive.specs.declared.error.Error.TheVariants as archive
+use Rattle.implib_archive.specs.declared.error.Fault.{Fault as ArchiveFault}
+use Rattle.implib_archive.specs.declared.kind.Kind.{Kind}
+use Rattle.implib_archive.specs.declared.kind.Kind.TheVariants.{Coff, Gnu as GnuKind}
+use Rattle.implib_archive.specs.Archive.{archive_of}
+use Rattle.implib_archive.specs.Refusal.{refusal_of}
+use Rattle.implib_dlltool.specs.declared.library.Refusal.{Refusal}
+use Rattle.implib_dlltool.specs.declared.library.Refusal.TheVariants.{NotUtf8, Syntax, NoName, Members, Archive, OutOfMemory}
+use Rattle.implib_dlltool.specs.Linked.{linked}
+use Rattle.implib_dlltool.specs.Names.{dll_name, is_program, lacks_name}
+use Rattle.implib_dlltool.specs.Request.{RequestView}
+
+-- the refusals of errors of the libraries
+abbrev pub parse_refusal : ParseError → Refusal
+parse_refusal (parse.Invalid fault position) = Syntax fault position
+parse_refusal (parse.OutOfMemory refused) = OutOfMemory
+
+abbrev pub archive_refusal : ArchiveError → Refusal
+archive_refusal (archive.Invalid fault) = Archive fault
+archive_refusal (archive.OutOfMemory refused) = OutOfMemory
+
+-- bytes without the byte order mark of UTF-8 in front of them (the Unicode Standard, "Byte Order Mark")
+abbrev pub without_mark : List ℕ → List ℕ
+without_mark bytes = if starts_with nat_eq bytes (0xEF ∷ 0xBB ∷ 0xBF ∷ []) then drop 3 bytes else bytes
+
+-- the definition under the name of its DLL, and each export as it is linked
+abbrev pub definition_for : RequestView → DefinitionView → Bool → DefinitionView
+definition_for request parsed program = linked request.machine request.naming (record parsed {
+  import_name = dll_name request.dll parsed.import_name program;
+})
+
+-- The definition of a text for a request: what the text means with its words as they are written, which is what
+-- it means on AMD64, under the name of the DLL, and each export as it is linked on the machine.
+pub record DefinitionFor (text : List ℕ) (request : RequestView) (definition : DefinitionView) : Type 0 where
+  pub parsed : DefinitionView
+  pub parses : Parses text AMD64 parsed
+  pub named : lacks_name request.dll parsed.import_name ≡ false
+  pub tokens : List TokenView
+  pub lexed : Lexed text tokens
+  pub is : definition ≡ definition_for request parsed (is_program tokens)
+
+-- the text is a definition, but neither has it a name of the DLL nor is one given
+pub record LacksName (text : List ℕ) (request : RequestView) : Type 0 where
+  pub parsed : DefinitionView
+  pub parses : Parses text AMD64 parsed
+  pub unnamed : lacks_name request.dll parsed.import_name ≡ true
+
+-- why a text has no definition for a request
+abbrev pub IsRefusalOfText : List ℕ → RequestView → Refusal → Type 0
+IsRefusalOfText text request NotUtf8 = ⊥
+IsRefusalOfText text request (Syntax fault position) =
+    RefusesAt text (cause_of fault) position.offset × (position ≡ position_at text position.offset)
+IsRefusalOfText text request NoName = LacksName text request
+IsRefusalOfText text request (Members fault position) = ⊥
+IsRefusalOfText text request (Archive fault) = ⊥
+IsRefusalOfText text request OutOfMemory = Unit {0}
+
+-- The members of the library that is asked for: those of the definition of the bytes, which are read back as it
+-- says.
+pub record MembersFor (bytes : List ℕ) (request : RequestView) (members : List MemberView) : Type 0 where
+  pub utf8 : IsUtf8 (without_mark bytes)
+  pub definition : DefinitionView
+  pub of_text : DefinitionFor (without_mark bytes) request definition
+  pub made : AreMembersOf (renamed definition) request.machine request.flavor members
+  pub reads : ReadBack (renamed definition) request.machine request.flavor members
+
+-- the bytes have a definition for this, whose members are refused
+pub record RefusesMembers (bytes : List ℕ) (request : RequestView) (cause : Cause) : Type 0 where
+  pub utf8 : IsUtf8 (without_mark bytes)
+  pub definition : DefinitionView
+  pub of_text : DefinitionFor (without_mark bytes) request definition
+  pub refused : refusal (renamed definition) request.machine request.flavor ≡ Some cause
+
+-- the text of the bytes has no definition, for this
+pub record RefusesText (bytes : List ℕ) (request : RequestView) (why : Refusal) : Type 0 where
+  pub utf8 : IsUtf8 (without_mark bytes)
+  pub refused : IsRefusalOfText (without_mark bytes) request why
+
+-- why bytes have no members
+abbrev pub IsRefusalOfMembers : List ℕ → RequestView → Refusal → Type 0
+IsRefusalOfMembers bytes request NotUtf8 = ¬ (IsUtf8 (without_mark bytes))
+IsRefusalOfMembers bytes request (Syntax fault position) = RefusesText bytes request (Syntax fault position)
+IsRefusalOfMembers bytes request NoName = RefusesText bytes request NoName
+IsRefusalOfMembers bytes request (Members fault position) = RefusesMembers bytes request (cause_of fault)
+IsRefusalOfMembers bytes request (Archive fault) = ⊥
+IsRefusalOfMembers bytes request OutOfMemory = Unit {0}
+
+-- The kind of archive for so many members: Microsoft's for its linker, where its second linker member can
+-- number them; else GNU's, as llvm-dlltool writes it then.
+abbrev pub kind_for : Flavor → ℕ → Kind
+kind_for Msvc count = if nat_lt count 65535 then Coff else GnuKind
+kind_for Gnu count = GnuKind
+
+-- the bytes of the library that is asked for: the archive of the members
+pub record IsLibrary (bytes : List ℕ) (request : RequestView) (file : List ℕ) : Type 0 where
+  pub members : List MemberView
+  pub members_for : MembersFor bytes request members
+  pub accepted : refusal_of (kind_for request.flavor (length members)) members ≡ None
+  pub is : file ≡ archive_of (kind_for request.flavor (length members)) members
+
+-- the bytes have members for this, which an archive cannot carry
+pub record RefusesArchive (bytes : List ℕ) (request : RequestView) (fault : ArchiveFault) : Type 0 where
+  pub members : List MemberView
+  pub members_for : MembersFor bytes request members
+  pub refused : refusal_of (kind_for request.flavor (length members)) members ≡ Some fault
+
+-- why bytes have no library
+abbrev pub IsRefusalOfBytes : List ℕ → RequestView → Refusal → Type 0
+IsRefusalOfBytes bytes request NotUtf8 = IsRefusalOfMembers bytes request NotUtf8
+IsRefusalOfBytes bytes request (Syntax fault position) = IsRefusalOfMembers bytes request (Syntax fault position)
+IsRefusalOfBytes bytes request NoName = IsRefusalOfMembers bytes request NoName
+IsRefusalOfBytes bytes request (Members fault position) = IsRefusalOfMembers bytes request (Members fault position)
+IsRefusalOfBytes bytes request (Archive fault) = RefusesArchive bytes request fault
+IsRefusalOfBytes bytes request OutOfMemory = Unit {0}
+
+-- the exit status for a refusal: 1, and 3 for want of memory
+abbrev pub status_of : Refusal → ℕ
+status_of OutOfMemory = 3
+status_of _ = 1
