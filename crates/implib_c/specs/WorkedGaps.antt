@@ -1,6 +1,7 @@
 -- Numbers that are no status, no machine and no flavour, worked by hand: those between the statuses, and greater
--- ones.
-use Rattle.std.specs.Prelude.{◌≡◌, ℕ, None, codes}
+-- ones; beside them the numbers of both flavours.
+use Rattle.std.specs.Prelude.{◌≡◌, ℕ, None, Some, codes}
+use Rattle.implib.specs.declared.flavor.Flavor.TheVariants.{Gnu, Msvc}
 use Rattle.implib.specs.Conversions.{machine_numbered}
 use Rattle.implib_c.specs.Answer.{flavor_numbered}
 use Rattle.implib_c.specs.Status.{text_for}
@@ -26,6 +27,8 @@ pub record WorkedGaps : Type 0 where
   pub status_256 : IsUnknown 256
   pub status_0x10000 : IsUnknown 0x10000
   pub greatest_status : IsUnknown 0xFFFFFFFF
+  pub flavor_0 : flavor_numbered 0 ≡ Some Msvc
+  pub flavor_1 : flavor_numbered 1 ≡ Some Gnu
   pub flavor_2 : flavor_numbered 2 ≡ None
   pub flavor_3 : flavor_numbered 3 ≡ None
   pub flavor_256 : flavor_numbered 256 ≡ None

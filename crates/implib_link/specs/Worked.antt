@@ -34,3 +34,5 @@ pub mod Lld
 pub mod MsvcExists
 pub mod NamedApart
 pub mod Aliases
+pub mod Readings
+pub mod Walks

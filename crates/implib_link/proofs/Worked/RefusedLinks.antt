@@ -46,7 +46,7 @@ number image width a n bytes is count value = record { bytes = bytes; located = 
 
 -- Tables of both thunks.
 
-thunk_8 : (image : List Range) (a n : ℕ) → n < 2 ^ 8 → NumberAt image 8 a (0x8000_0000_0000_0000 + n) → ThunkAt image 8 a (Ordinal n)
+pub thunk_8 : (image : List Range) (a n : ℕ) → n < 2 ^ 8 → NumberAt image 8 a (0x8000_0000_0000_0000 + n) → ThunkAt image 8 a (Ordinal n)
 unfolding ThunkAsksFor
 thunk_8 image a n small located = record { thunk = 0x8000_0000_0000_0000 + n; located = located; not_zero = λ none. omega arith; asks = (omega arith, omega arith) }
 
@@ -160,7 +160,7 @@ parts_exchanged = record {
   addresses_end = number exchanged 8 (0x1028 + 8 + 8) 0 zero_8 refl refl refl;
 }
 
-zero_4 : (image : List Range) (a : ℕ) → is_each_located image a (zeros 4) ≡ true → NumberAt image 4 a 0
+pub zero_4 : (image : List Range) (a : ℕ) → is_each_located image a (zeros 4) ≡ true → NumberAt image 4 a 0
 zero_4 image a is = number image 4 a 0 (zeros 4) is refl refl
 
 right : LoadsStrictly right_image 8 0x1000 foo five_and_six

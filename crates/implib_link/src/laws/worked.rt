@@ -11,9 +11,11 @@ ghost use Rattle.implib_link.specs.Worked.LongNames.{WorkedLongNames};
 ghost use Rattle.implib_link.specs.Worked.MsvcSearch.{WorkedMsvcSearches};
 ghost use Rattle.implib_link.specs.Worked.Packed.{WorkedPackings};
 ghost use Rattle.implib_link.specs.Worked.Programs.{WorkedPrograms, WorkedStubs};
+ghost use Rattle.implib_link.specs.Worked.Readings.{WorkedReadings};
 ghost use Rattle.implib_link.specs.Worked.RefusedTexts.{RefusedTexts};
 ghost use Rattle.implib_link.specs.Worked.Searched.{WorkedLibraries, WorkedSearched};
 ghost use Rattle.implib_link.specs.Worked.Sources.{WorkedSources};
+ghost use Rattle.implib_link.specs.Worked.Walks.{WorkedWalks};
 
 /// Programs that were linked by hand, on each machine, meet what the laws ask for and have these
 /// tables, and but for ARMNT these stubs.
@@ -45,6 +47,18 @@ pub fn worked_jumps()
     ensures stubs { FarStubs }
     ensures jumps { WorkedJumps }
     ensures targets { WorkedTargets }
+{}
+
+/// The import in an export's object by hand is read; none is where the name that it asks for, or the
+/// DLL's, has no NUL.
+pub fn worked_readings()
+    ensures { WorkedReadings }
+{}
+
+/// A loader that is strict about nothing stops at a descriptor without a name or without an address
+/// table; it finds an import wherever the name and the tables are.
+pub fn worked_walks()
+    ensures { WorkedWalks }
 {}
 
 /// The full names of sections in a file with a symbol, by decimal offsets of two digits.
