@@ -1,4 +1,4 @@
-//! The names of options, machines and flavours on the command line.
+//! The names of options and machines on the command line.
 
 ghost use Rattle.implib_dlltool.specs.Options.{is_same_setting, is_same_switch, is_unsupported};
 ghost use Rattle.implib_dlltool.specs.Options.{machine_called};
