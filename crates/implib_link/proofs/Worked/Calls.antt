@@ -129,6 +129,18 @@ amd64_beside = record {
       (symbol_of_class (imp_symbol (symbol_on AMD64 (codes "open"))) 0 class_external) refl refl refl (λ same. cc);
 }
 
+-- the same, its code ending 16 bytes below 2^31
+pub far_beside : AreBeside AMD64 0x1_4000_0000 touching_8 (calling_objects AMD64) (calling_at AMD64 0x7FFF_FFE1 ∷ []) (table_targets AMD64 touching_8)
+unfolding opened refusal renamed_refusal alias_specs encoded_size weak_object has_tables
+far_beside = record {
+  held = ((0, omega arith, refl), tt);
+  sections = (refl, tt);
+  ends = (omega arith, tt);
+  apart = apart_as_they_rise (2 ^ 31) (image_of AMD64 touching_8 (calling_placed AMD64 touching_8) ++ code_ranges AMD64 0x1_4000_0000 (table_targets AMD64 touching_8) (calling_at AMD64 0x7FFF_FFE1 ∷ [])) refl;
+  resolved = one_code_resolves (calling_placed AMD64 touching_8) (calling_at AMD64 0x7FFF_FFE1) (symbol_of_class (codes "main") 1 class_external)
+      (symbol_of_class (imp_symbol (symbol_on AMD64 (codes "open"))) 0 class_external) refl refl refl (λ same. cc);
+}
+
 pub amd64_has : HasCall AMD64 (calling_at AMD64 0x1000) 4 (imp_symbol (symbol_on AMD64 (codes "open")))
 amd64_has = record {
   front = first_bytes AMD64;

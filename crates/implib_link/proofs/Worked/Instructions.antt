@@ -1,6 +1,8 @@
 -- Instructions by hand, by computing.
 use Rattle.std.proofs.Common.{refl, arith}
+use Rattle.implib_link.specs.Flavors.LldTables.{IsAskable}
 use Rattle.implib_link.specs.Worked.Instructions.{Conditions, ReadCalls, ReadDirectCalls, ReadLoads}
+use Rattle.implib_link.proofs.Worked.Calls.{far_beside}
 
 pub read_calls : ReadCalls
 read_calls = record {
@@ -59,6 +61,7 @@ read_loads = record {
 }
 
 pub conditions : Conditions
+unfolding IsAskable
 conditions = record {
   i386_jumps = omega arith;
   i386_jumps_not = λ c. omega (arith, c);
@@ -84,4 +87,10 @@ conditions = record {
   data_alias = refl;
   function_alias = refl;
   data_alone = refl;
+  code_at_the_end = far_beside;
+  code_past_the_end = λ is. omega (arith, is.ends.0);
+  greatest_ordinal = omega arith;
+  no_ordinal = λ is. omega (arith, is);
+  greatest_hint = (omega arith, refl);
+  no_hint = λ is. omega (arith, is.0);
 }

@@ -1,14 +1,18 @@
 -- Instructions by hand: what is read as a call or as a load of a pointer, and what differs from it in one part and
--- is not; and the conditions under which code is reached, at their bounds.
+-- is not; and at their bounds the conditions under which code is reached, and what tables have room for.
 use Rattle.std.specs.Prelude.{◌≡◌, ℕ, true, false, List, [], ◌∷◌, ◌++◌, codes, Some, None}
 use Rattle.implib.specs.declared.machine.MachineType.TheVariants.{I386, ARMNT, AMD64, ARM64}
 use Rattle.implib.specs.Definition.{ExportView, empty_export}
-use Rattle.implib_link.specs.Gnu.Calls.{CanBranch, call_reads, direct_leads}
+use Rattle.implib.specs.Import.{Name, Ordinal}
+use Rattle.implib_link.specs.Flavors.LldTables.{IsAskable}
+use Rattle.implib_link.specs.Gnu.Calls.{AreBeside, CanBranch, call_reads, direct_leads}
 use Rattle.implib_link.specs.Gnu.Pointers.{load_reads}
 use Rattle.implib_link.specs.Gnu.Rebased.{CanMove, Place, covers}
 use Rattle.implib_link.specs.Search.Given.{is_data_alias}
 use Rattle.implib_link.specs.Stub.{CanJump}
+use Rattle.implib_link.specs.Worked.Calls.{calling_at, calling_objects, table_targets}
 use Rattle.implib_link.specs.Worked.Jumps.{adrp_5_pages, br_x16, far_4, far_8, ldr_0x280}
+use Rattle.implib_link.specs.Worked.Programs.{touching_8}
 
 -- blr x16
 abbrev pub blr_x16 : List ℕ
@@ -79,6 +83,11 @@ pub record ReadLoads : Type 0 where
 abbrev pub four_bytes : Place
 four_bytes = record { address = 0x2000; width = 4 }
 
+-- the calling code of 15 bytes at an address is beside the tables
+abbrev pub IsBeside : ℕ → Type 0
+IsBeside position = AreBeside AMD64 0x1_4000_0000 touching_8 (calling_objects AMD64)
+    (calling_at AMD64 position ∷ []) (table_targets AMD64 touching_8)
+
 -- exports with an alias
 abbrev pub aliased : ExportView
 aliased = record empty_export { name = codes "a"; alias_target = codes "b" }
@@ -109,3 +118,9 @@ pub record Conditions : Type 0 where
   pub data_alias : is_data_alias (record aliased { is_data = true }) ≡ true
   pub function_alias : is_data_alias aliased ≡ false
   pub data_alone : is_data_alias (record empty_export { name = codes "a"; is_data = true }) ≡ false
+  pub code_at_the_end : IsBeside 0x7FFF_FFE1
+  pub code_past_the_end : IsBeside 0x7FFF_FFE2 → ⊥
+  pub greatest_ordinal : IsAskable (Ordinal 65535)
+  pub no_ordinal : IsAskable (Ordinal 65536) → ⊥
+  pub greatest_hint : IsAskable (Name (codes "f") 65535)
+  pub no_hint : IsAskable (Name (codes "f") 65536) → ⊥
