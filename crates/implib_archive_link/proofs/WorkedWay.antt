@@ -14,14 +14,16 @@ use Rattle.implib.specs.Members.WeakExternal.{weak_object}
 use Rattle.implib.specs.Link.Image.{Range, image_of}
 use Rattle.implib.specs.Link.LinkedMembers.{LinkInput, objects_in}
 use Rattle.implib.specs.Link.Placement.{next_multiple}
+use Rattle.implib.specs.Text.Parses.{Parses}
 use Rattle.implib.specs.Worked.Statements.{plain_export}
+use Rattle.implib.proofs.Worked.Statements.{opened as text_opened, parses}
 use Rattle.implib.proofs.Link.Ranges.{Among, all_among, among_back, apart_as_they_rise, ends_below}
 use Rattle.implib_archive.specs.Archive.{entries_from, entries_of, first_linker_size, first_place, front_size, is_long, long_names as archive_long_names, name_end, names_bytes, names_size, offset_of, places_from, second_linker_size, strings_of, with_first, with_name as archive_with_name}
 use Rattle.implib_archive.specs.Refusal.{has_short_places, has_too_many, member_refusal, members_refusal, name_refusal, places_refusal, refusal_of, symbol_refusal, symbols_refusal}
 use Rattle.implib_archive.specs.declared.kind.Kind.TheVariants.{Gnu}
 use Rattle.implib_archive_link.specs.InBytes.{First}
 use Rattle.implib_archive_link.specs.Results.{HaveArchive}
-use Rattle.implib_archive_link.specs.WorkedWay.{WorkedWay, bases, caller, clashing, libraries, linked, memory, objects, own, placed_code, taken, targets}
+use Rattle.implib_archive_link.specs.WorkedWay.{WorkedWay, bar_definition, bar_library, bar_text, bases, caller, clashing, libraries, linked, memory, objects, own, placed_code, taken, targets}
 use Rattle.implib_archive_link.specs.Way.{CallsArrive}
 use Rattle.implib_archive_link.proofs.Corollaries.{are_found_in_bytes}
 use Rattle.implib_archive_link.proofs.Way.{calls_arrive}
@@ -139,11 +141,16 @@ arrive : CallsArrive AMD64 libraries own taken libraries bases objects
 arrive = calls_arrive AMD64 libraries own taken libraries bases objects is_archive given takes linked_for
 
 abbrev input : LinkInput
-input = record { definition = (Rattle.implib_link.specs.Worked.Archives.library_of (Rattle.implib.specs.Worked.Members.of_dll (codes "foo.dll") (plain_export (codes "bar") ∷ []))).definition; members = (archive_of libraries); chosen = 0 ∷ [] }
+input = record { definition = bar_library.definition; members = bar_library.members; chosen = 0 ∷ [] }
+
+bar_parses : Parses bar_text AMD64 bar_definition
+unfolding text_opened
+bar_parses = parses bar_text AMD64 bar_definition refl refl
 
 pub worked_way : WorkedWay
 unfolding opened refusal renamed_refusal alias_specs encoded_size weak_object has_tables is_weak names_undefined undefined_in references_of claims_of archive_of
 worked_way = record {
+  parses = bar_parses;
   archive = is_archive;
   ready = ready;
   given = given;

@@ -1,4 +1,4 @@
--- The whole way by hand: foo.dll, which exports `bar`, on AMD64; and a program whose code calls `bar` through its
+-- The whole way by hand: a text of foo.dll, which exports `bar`, on AMD64; and a program whose code calls `bar` through its
 -- entry. The library's bytes are those of its archive in GNU's kind.
 use Rattle.std.specs.Prelude.{◌≡◌, ℕ, ◌+◌, List, [], ◌∷◌, ◌++◌, codes, map, Some}
 use Rattle.implib.specs.declared.machine.MachineType.TheVariants.{AMD64}
@@ -11,6 +11,8 @@ use Rattle.implib.specs.Link.Resolution.{definitions_of, target_address}
 use Rattle.implib.specs.Members.Gnu.{section, text_name}
 use Rattle.implib.specs.Members.GnuMembers.{export_spec, head_spec, tail_spec}
 use Rattle.implib.specs.Members.MemberSpec.{MemberView, member_of}
+use Rattle.implib.specs.Definition.{DefinitionView}
+use Rattle.implib.specs.Text.Parses.{Parses}
 use Rattle.implib.specs.Worked.Members.{of_dll}
 use Rattle.implib.specs.Worked.Statements.{plain_export}
 use Rattle.implib_archive.specs.declared.kind.Kind.TheVariants.{Gnu}
@@ -26,8 +28,15 @@ use Rattle.implib_link.specs.Worked.Archives.{library_of}
 use Rattle.implib_link.specs.Worked.Calls.{first_bytes, given_on, last_bytes}
 use Rattle.implib_link.specs.Worked.Programs.{symbol_of_class}
 
+abbrev pub bar_text : List ℕ
+bar_text = codes "LIBRARY foo.dll\nEXPORTS\nbar\n"
+
+-- what it means
+abbrev pub bar_definition : DefinitionView
+bar_definition = of_dll (codes "foo.dll") (plain_export (codes "bar") ∷ [])
+
 abbrev pub bar_library : Library
-bar_library = library_of (of_dll (codes "foo.dll") (plain_export (codes "bar") ∷ []))
+bar_library = library_of bar_definition
 
 abbrev pub libraries : List Library
 libraries = bar_library ∷ []
@@ -107,12 +116,13 @@ targets c index = target_address linked c.from index
 abbrev pub memory : List Range
 memory = image_of AMD64 bases linked ++ code_ranges AMD64 0x1_4000_0000 targets (placed_code ∷ [])
 
--- All premises are met: the archive has the members, the program may be given, and a linker takes for it, in the
+-- The text means the definition. All premises are met: the archive has the members, the program may be given, and a linker takes for it, in the
 -- bytes, tail, head and `bar`; what is linked is a program, with its code beside the tables. The call is relocated
 -- to `call [rip - 0xFD2]`, which reads the entry at 0x2038. By the law a loader stops behind one descriptor, and
 -- the call at 0x3004 arrives at what foo.dll gives for `bar`, 0x1000_0030. An object with a `bar` of its own may
 -- not be given.
 pub record WorkedWay : Type 0 where
+  pub parses : Parses bar_text AMD64 bar_definition
   pub archive : IsArchive AMD64 libraries
   pub ready : HaveArchive Gnu First (archive_of libraries)
   pub given : AreGiven AMD64 libraries own
