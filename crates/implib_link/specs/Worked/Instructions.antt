@@ -1,5 +1,6 @@
--- Instructions by hand: what is read as a call or as a load of a pointer, and what differs from it in one part and
--- is not; and at their bounds the conditions under which code is reached, and what tables have room for.
+-- Instructions by hand: what is read as a call or as a load of a pointer, and what differs from it in one
+-- part and is not; and at their bounds the conditions under which code is reached, and what tables have room
+-- for.
 use Rattle.std.specs.Prelude.{◌≡◌, ℕ, true, false, List, [], ◌∷◌, ◌++◌, codes, Some, None}
 use Rattle.implib.specs.declared.machine.MachineType.TheVariants.{I386, ARMNT, AMD64, ARM64}
 use Rattle.implib.specs.Definition.{ExportView, empty_export}

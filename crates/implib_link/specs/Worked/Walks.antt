@@ -1,5 +1,5 @@
--- Walks by hand of a loader that is strict about nothing: where it stops, and what it finds whose texts and tables
--- are behind the directory or in front of it.
+-- Walks by hand of a loader that is strict about nothing: where it stops, and what it finds whose texts and
+-- tables are behind the directory or in front of it.
 use Rattle.std.specs.Prelude.{List, [], ◌∷◌, ◌++◌}
 use Rattle.implib.specs.Link.Image.{Range}
 use Rattle.implib.specs.Members.ImportTables.{zeros}
@@ -10,7 +10,7 @@ use Rattle.implib_link.specs.Worked.RefusedLinks.{descriptor_bytes, five_and_six
 abbrev pub foo_imported : Imported
 foo_imported = record { dll = foo; asks = five_and_six }
 
--- the right image, but for a field of its first descriptor: that of the name, or that of the address table, is 0
+-- the right image, but that of its first descriptor the name's field, or the address table's, is 0
 abbrev pub without_name : List Range
 without_name = image_by_hand (descriptor_bytes 0x1028 0 0 0x1040) table_8 table_8 foo
 
@@ -27,8 +27,8 @@ directory_last =
     ∷ record { start = 0x104C; bytes = zeros 20 }
     ∷ []
 
--- A loader stops where one of the two fields is 0, whichever it is, and not where neither is. It finds the import
--- wherever the name and the tables are.
+-- A loader stops where one of the two fields is 0, whichever it is, and not where neither is. It finds the
+-- import wherever the name and the tables are.
 pub record WorkedWalks : Type 0 where
   pub stops_without_name : StopsAt without_name 0x1000
   pub stops_without_addresses : StopsAt without_addresses 0x1000
