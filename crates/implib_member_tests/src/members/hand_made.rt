@@ -586,30 +586,40 @@ fn a_record_has_a_symbol_of_its_own(rt: HostRuntime) -> Result<(), Fail> {
     Ok(())
 }
 
-// The header's last four bytes are the hint, and 4 times the name type.
+// The short import of `_F@8` that asks for this name. Its header's last four bytes are the hint, and 4 times
+// the name type.
+fn expect_name_type(
+    rt: &impl Abort,
+    alloc: Global,
+    asked: &'static str,
+    types: &[u8],
+) -> Result<(), Fail> {
+    let export = Export {
+        name: "_F@8",
+        asked_name: Some(asked),
+        ..PLAIN
+    };
+    let def = definition(alloc, "foo.dll", &[export])?;
+    let members = ImportLibrary::from_def(def, MachineType::I386, Flavor::Msvc).members()?;
+    let import = members
+        .as_slice()
+        .get(3)
+        .ok_or("the short import is missing")?;
+    let bytes = import.bytes.as_slice();
+    assert_eq!(rt;
+        bytes.get(..18),
+        Some(b"\0\0\xff\xff\0\0\x4c\x01\0\0\0\0\x0d\0\0\0\0\0".as_slice())
+    );
+    assert_eq!(rt; bytes.get(18..20), Some(types), "{asked}");
+    assert_eq!(rt; bytes.get(20..), Some(b"_F@8\0foo.dll\0".as_slice()));
+    Ok(())
+}
+
 #[test]
 fn short_imports_ask_for_given_names_by_a_name_type(rt: HostRuntime) -> Result<(), Fail> {
-    for (asked, types) in [("_F@8", b"\x04\0"), ("F@8", b"\x08\0"), ("F", b"\x0c\0")] {
-        let export = Export {
-            name: "_F@8",
-            asked_name: Some(asked),
-            ..PLAIN
-        };
-        let def = definition(rt.alloc(), "foo.dll", &[export])?;
-        let members = ImportLibrary::from_def(def, MachineType::I386, Flavor::Msvc).members()?;
-        let import = members
-            .as_slice()
-            .get(3)
-            .ok_or("the short import is missing")?;
-        let (header, texts) = import.bytes.as_slice().split_at(18);
-        assert_eq!(rt;
-            header,
-            b"\0\0\xff\xff\0\0\x4c\x01\0\0\0\0\x0d\0\0\0\0\0".as_slice()
-        );
-        assert_eq!(rt; texts.get(..2), Some(types.as_slice()), "{asked}");
-        assert_eq!(rt; texts.get(2..), Some(b"_F@8\0foo.dll\0".as_slice()));
-    }
-    Ok(())
+    expect_name_type(&rt, rt.alloc(), "_F@8", b"\x04\0")?;
+    expect_name_type(&rt, rt.alloc(), "F@8", b"\x08\0")?;
+    expect_name_type(&rt, rt.alloc(), "F", b"\x0c\0")
 }
 
 // On AMD64 the hint and the name are at the offset 368.
