@@ -181,6 +181,14 @@ pub fn expect_calls(
     Ok(())
 }
 
+// What the loader asks for.
+const ASKED: &[u8] = b"foo.dll: ordinal 5\nfoo.dll: bar, hint 0\n";
+
+// Whether bytes are the same.
+fn are_same(first: &[u8], second: &[u8]) -> bool {
+    first == second
+}
+
 // Loads a program, and holds its code and its calls.
 fn expect_loaded(
     rt: &impl Abort,
@@ -192,12 +200,9 @@ fn expect_loaded(
 ) -> Result<(), Fail> {
     let mut memory = linked.loaded_at(alloc, base)?;
     let asked = memory.load(alloc)?;
-    assert_eq!(rt;
-        asked.as_str(),
-        "foo.dll: ordinal 5\nfoo.dll: bar, hint 0\n"
-    );
+    assert!(rt; are_same(asked.as_bytes(), ASKED));
     let got = memory.image.bytes_at(0x2000, 24)?;
-    assert_eq!(rt; got, code, "{:?}: {:?}", row.machine, row.way);
+    assert!(rt; are_same(got, code), "{:?}: {:?}", row.machine, row.way);
     let want = bar(memory.address_size());
     expect_calls(rt, row.machine, row.way, &memory, 0x2000, want)
 }

@@ -586,14 +586,8 @@ fn a_record_has_a_symbol_of_its_own(rt: HostRuntime) -> Result<(), Fail> {
     Ok(())
 }
 
-// The short import of `_F@8` that asks for this name. Its header's last four bytes are the hint, and 4 times
-// the name type.
-fn expect_name_type(
-    rt: &impl Abort,
-    alloc: Global,
-    asked: &'static str,
-    types: &[u8],
-) -> Result<(), Fail> {
+// The short import of `_F@8` that asks for this name.
+fn short_import_asking(alloc: Global, asked: &'static str) -> Result<Vec<u8>, Fail> {
     let export = Export {
         name: "_F@8",
         asked_name: Some(asked),
@@ -605,21 +599,30 @@ fn expect_name_type(
         .as_slice()
         .get(3)
         .ok_or("the short import is missing")?;
-    let bytes = import.bytes.as_slice();
-    assert_eq!(rt;
-        bytes.get(..18),
-        Some(b"\0\0\xff\xff\0\0\x4c\x01\0\0\0\0\x0d\0\0\0\0\0".as_slice())
-    );
-    assert_eq!(rt; bytes.get(18..20), Some(types), "{asked}");
-    assert_eq!(rt; bytes.get(20..), Some(b"_F@8\0foo.dll\0".as_slice()));
-    Ok(())
+    let mut bytes = Vec::new(alloc);
+    bytes.extend_from_slice(import.bytes.as_slice())?;
+    Ok(bytes)
 }
 
+// The header's last four bytes are the hint, and 4 times the name type.
 #[test]
 fn short_imports_ask_for_given_names_by_a_name_type(rt: HostRuntime) -> Result<(), Fail> {
-    expect_name_type(&rt, rt.alloc(), "_F@8", b"\x04\0")?;
-    expect_name_type(&rt, rt.alloc(), "F@8", b"\x08\0")?;
-    expect_name_type(&rt, rt.alloc(), "F", b"\x0c\0")
+    let own = short_import_asking(rt.alloc(), "_F@8")?;
+    assert_eq!(rt;
+        own.as_slice(),
+        b"\0\0\xff\xff\0\0\x4c\x01\0\0\0\0\x0d\0\0\0\0\0\x04\0_F@8\0foo.dll\0".as_slice()
+    );
+    let plain = short_import_asking(rt.alloc(), "F@8")?;
+    assert_eq!(rt;
+        plain.as_slice(),
+        b"\0\0\xff\xff\0\0\x4c\x01\0\0\0\0\x0d\0\0\0\0\0\x08\0_F@8\0foo.dll\0".as_slice()
+    );
+    let undecorated = short_import_asking(rt.alloc(), "F")?;
+    assert_eq!(rt;
+        undecorated.as_slice(),
+        b"\0\0\xff\xff\0\0\x4c\x01\0\0\0\0\x0d\0\0\0\0\0\x0c\0_F@8\0foo.dll\0".as_slice()
+    );
+    Ok(())
 }
 
 // On AMD64 the hint and the name are at the offset 368.
