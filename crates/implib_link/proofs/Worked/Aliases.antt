@@ -1,29 +1,44 @@
--- The call by an alias by hand, by computing and by the law.
-use Rattle.std.proofs.Common.{◌≡◌, ℕ, ◌^◌, ◌⊎◌, true, List, [], ◌∷◌, ◌++◌, codes, length, Option, None, Some, refl, ap, sym, ◌∙◌, subst, inl, inr, arith}
-use Rattle.std.specs.List.{Contains}
-use Rattle.std.proofs.lemmas.Bool.{false≢true}
+-- The calls and the pointer by an alias by hand, by computing and by the law.
+use Rattle.std.proofs.Common.{◌≡◌, ℕ, ◌^◌, Bool, true, List, [], ◌∷◌, ◌++◌, codes, Option, None, Some, refl, ap, sym, ◌∙◌, subst, arith, true≢false}
+use Rattle.std.specs.Prelude.{drop, take, ◌==◌, if◌then◌else◌}
+use Rattle.std.specs.List.{list_all}
+use Rattle.std.specs.Option.{option_and_then}
+use Rattle.std.proofs.lemmas.Bool.{eqb-true}
 use Rattle.implib.specs.declared.machine.MachineType.TheVariants.{AMD64}
 use Rattle.implib.specs.Formats.Bytes.{u32_bytes}
 use Rattle.implib.specs.Formats.Constants.{class_external}
 use Rattle.implib.specs.Formats.Layout.{encoded_size, entries_of, name_text, object_of}
-use Rattle.implib.specs.Formats.Object.{ASymbol, Entry, ObjectSymbol, u32_at}
-use Rattle.implib.specs.Formats.File.{is_defined_external}
+use Rattle.implib.specs.Formats.Object.{ASymbol, Auxiliary, Entry, u32_at}
+use Rattle.implib.specs.Formats.ShortImport.{short_import_in}
 use Rattle.implib.specs.Import.{imp_symbol}
 use Rattle.implib.specs.Link.Image.{image_of}
+use Rattle.implib.specs.Link.Placement.{Placed, placed_from}
 use Rattle.implib.specs.Link.Resolution.{definitions_of, first_address, is_undefined_external, symbol_address}
 use Rattle.implib.specs.Members.GnuMembers.{alias_specs}
+use Rattle.implib.specs.Members.Members.{refusal, renamed_refusal}
+use Rattle.implib.specs.Members.MsvcMembers.{descriptor_spec, header_specs, null_descriptor_spec, null_thunk_spec, weak_specs}
+use Rattle.implib.specs.Members.MsvcObjects.{base_name, descriptor, descriptor_symbol, null_descriptor, null_descriptor_symbol, null_thunk, null_thunk_symbol}
 use Rattle.implib.specs.Members.WeakExternal.{weak_object}
-use Rattle.implib.proofs.Link.Ranges.{Among, apart_as_they_rise, ends_below}
+use Rattle.implib.proofs.Link.Ranges.{apart_as_they_rise, ends_below}
+use Rattle.implib_link.specs.Flavors.Expansion.{descriptor_symbol_by_name, expanded_in, import_object}
+use Rattle.implib_link.specs.Flavors.Program.{IsFlavorProgram, all_members, symbols_listed}
+use Rattle.implib_link.specs.Flavors.SectionSymbols.{with_section_symbols}
 use Rattle.implib_link.specs.Gnu.Aliases.{ResolvesAliases, weak_target}
 use Rattle.implib_link.specs.Gnu.Calls.{AreBeside, HasCall, PlacedCode, Resolves, code_ranges}
+use Rattle.implib_link.specs.Gnu.Packed.{group_end, sections_end}
+use Rattle.implib_link.specs.Gnu.Pointers.{HasLoad}
 use Rattle.implib_link.specs.Gnu.Program.{IsProgram, has_tables, linked_symbols}
-use Rattle.implib_link.specs.Worked.Aliases.{WorkedAlias, alias_at, alias_calling, alias_objects, alias_placed, alias_targets, opened_name}
+use Rattle.implib_link.specs.Worked.Aliases.{WorkedAlias, WorkedFlavorAlias, alias_at, alias_calling, alias_codes, alias_flavors, alias_load_at, alias_loading, alias_objects, alias_placed, all_at, opened_flavors, opened_name, opened_placed}
 use Rattle.implib_link.specs.Worked.Calls.{first_bytes, given_on, last_bytes}
-use Rattle.implib_link.specs.Worked.Programs.{both_inputs, foo_input, symbol_of_class, touching_8}
-use Rattle.implib_link.proofs.Gnu.Aliases.{calls_by_alias}
+use Rattle.implib_link.specs.Worked.Flavors.{both_inputs as flavor_inputs, flavor_bases_8, foo_input as msvc_input}
+use Rattle.implib_link.specs.Worked.Programs.{another, both_inputs, foo_input, symbol_of_class, touching_8}
+use Rattle.implib_link.proofs.Flavors.Aliases.{flavors_calls_by_alias, flavors_loads_by_alias}
+use Rattle.implib_link.proofs.Gnu.Aliases.{calls_by_alias, loads_by_alias, weak_is_weak}
 use Rattle.implib_link.proofs.Search.Lists.{among_at, contains_among}
-use Rattle.implib_link.proofs.Worked.Calls.{open_export, wide}
+use Rattle.implib_link.proofs.Worked.Calls.{each_of, is_none, open_export, wide}
+use Rattle.implib_link.proofs.Worked.Flavors.{worked_flavors}
 use Rattle.implib_link.proofs.Worked.Programs.{claims_none_by, distinct_by, opened, worked_programs}
+use Rattle.implib_link.proofs.Worked.Rebased.{all_unwanted, none_wanted}
 
 program : IsProgram AMD64 touching_8 (both_inputs AMD64) alias_objects
 unfolding opened alias_specs encoded_size weak_object has_tables object_of entries_of name_text u32_bytes
@@ -32,7 +47,10 @@ program = record {
   tables = refl;
   others = (
     claims_none_by (linked_symbols AMD64 (both_inputs AMD64)) alias_calling refl,
-    (claims_none_by (linked_symbols AMD64 (both_inputs AMD64)) (object_of (weak_object AMD64 opened_name (imp_symbol (codes "open")))) refl, tt),
+    (
+      claims_none_by (linked_symbols AMD64 (both_inputs AMD64)) alias_loading refl,
+      (claims_none_by (linked_symbols AMD64 (both_inputs AMD64)) (object_of (weak_object AMD64 opened_name (imp_symbol (codes "open")))) refl, tt),
+    ),
   );
   admissible = record {
     descriptors = (omega arith, refl);
@@ -46,106 +64,84 @@ program = record {
   };
 }
 
-the_code : (c : PlacedCode) → Among c (alias_at ∷ []) → c ≡ alias_at
-unfolding Among
-the_code c (inl is) = is
-the_code c (inr none) = absurd none
+-- Code of which no entry is in the tables, and whose symbols no placed code defines: its symbols may be taken to be anywhere.
 
--- Its two symbols.
+abbrev in_no_table : List Placed → PlacedCode → Bool
+in_no_table linked c = list_all (λ x. is_none (symbol_address linked c.from x)) c.from.object.entries
 
-entry_from : (entry : Entry) → Among entry alias_calling.entries →
-    (entry ≡ ASymbol (symbol_of_class (codes "main") 1 class_external)) ⊎ (entry ≡ ASymbol (symbol_of_class opened_name 0 class_external))
-unfolding Among
-entry_from entry (inl is) = inl is
-entry_from entry (inr (inl is)) = inr is
-entry_from entry (inr (inr none)) = absurd none
-
--- an undefined one is the alias
-undefined_is : (s : ObjectSymbol) → Among (ASymbol s) alias_calling.entries → is_undefined_external s ≡ true → s.name ≡ opened_name
-undefined_is s m undefined =
-    elim (entry_from (ASymbol s) m) [
-      | inl is ↦
-          let same : s ≡ symbol_of_class (codes "main") 1 class_external = cc in
-          absurd (false≢true (subst (λ (x : ObjectSymbol). is_undefined_external x ≡ true) same undefined))
-      | inr is ↦ let same : s ≡ symbol_of_class opened_name 0 class_external = cc in ap (λ (x : ObjectSymbol). x.name) same
-    ]
-
--- one that is defined is `main`
-defined_is : (t : ObjectSymbol) → Among (ASymbol t) alias_calling.entries → is_defined_external t ≡ true → t.name ≡ codes "main"
-defined_is t m defined =
-    elim (entry_from (ASymbol t) m) [
-      | inl is ↦ let same : t ≡ symbol_of_class (codes "main") 1 class_external = cc in ap (λ (x : ObjectSymbol). x.name) same
-      | inr is ↦
-          let same : t ≡ symbol_of_class opened_name 0 class_external = cc in
-          absurd (false≢true (subst (λ (x : ObjectSymbol). is_defined_external x ≡ true) same defined))
-    ]
-
-twelve : (n : ℕ) → n ≡ 4 → n ≡ 12 → ⊥
-twelve n first second = omega arith
-
-not_same : (name : List ℕ) → name ≡ codes "main" → name ≡ opened_name → ⊥
-not_same name first second = twelve (length name) (ap length first) (ap length second)
-
-no_address : (entry : Entry) → Among entry alias_calling.entries → symbol_address alias_placed alias_at.from entry ≡ None
-unfolding opened alias_specs encoded_size weak_object has_tables object_of entries_of name_text u32_bytes
-no_address entry m =
-    elim (entry_from entry m) [
-      | inl is ↦ subst (λ x. symbol_address alias_placed alias_at.from x ≡ None) (sym is) refl
-      | inr is ↦ subst (λ x. symbol_address alias_placed alias_at.from x ≡ None) (sym is) refl
-    ]
-
-nothing : (address : ℕ) (o : Option ℕ) → o ≡ None → o ≡ Some address → ⊥
-nothing address o first second = let both : None ≡ Some address = sym first ∙ second in cc
-
-own : (c : PlacedCode) (entry : Entry) → Contains (alias_at ∷ []) c → Among entry c.from.object.entries → Among entry alias_calling.entries
-own c entry held m = subst (λ (x : PlacedCode). Among entry x.from.object.entries) (the_code c (contains_among c (alias_at ∷ []) held)) m
-
-resolved : Resolves alias_placed (alias_at ∷ []) alias_targets
-resolved = record {
+resolves_anywhere : (linked : List Placed) (codes : List PlacedCode) (targets : PlacedCode → ℕ → ℕ) → list_all (in_no_table linked) codes ≡ true →
+    list_all (λ (c : PlacedCode). all_unwanted codes c.from.object.entries) codes ≡ true → Resolves linked codes targets
+resolves_anywhere linked codes targets outside unwanted = record {
   tables = λ c index address entry held at is.
-      let there = own c entry held (among_at entry c.from.object.entries index at) in
-      let same : symbol_address alias_placed c.from entry ≡ None =
-      subst (λ (x : PlacedCode). symbol_address alias_placed x.from entry ≡ None) (sym (the_code c (contains_among c (alias_at ∷ []) held))) (no_address entry there) in
-      absurd (nothing address (symbol_address alias_placed c.from entry) same is);
-  code = λ c d index s t c_held d_held at undefined defines named.
-      let wants = undefined_is s (own c (ASymbol s) c_held (among_at (ASymbol s) c.from.object.entries index at)) undefined in
-      let has = defined_is t (own d (ASymbol t) d_held (contains_among (ASymbol t) d.from.object.entries defines.held)) defines.external in
-      absurd (not_same t.name has (named ∙ wants));
+      let all : in_no_table linked c ≡ true = each_of (in_no_table linked) c codes outside (contains_among c codes held) in
+      let none : is_none (symbol_address linked c.from entry) ≡ true =
+      each_of (λ x. is_none (symbol_address linked c.from x)) entry c.from.object.entries all (among_at entry c.from.object.entries index at) in
+      absurd (true≢false (sym none ∙ ap is_none is));
+  code = λ c d index s t c_held d_held at undefined defines named. absurd (none_wanted codes unwanted c d index s t c_held d_held at undefined defines named);
 }
 
-beside : AreBeside AMD64 0x1_4000_0000 touching_8 alias_objects (alias_at ∷ []) alias_targets
+-- Where the targets of aliases are at one address, if anywhere, they are resolved to it.
+
+abbrev is_at : ℕ → Option ℕ → Bool
+is_at address None = true
+is_at address (Some n) = address == n
+
+abbrev address_of : List Placed → List ℕ → Option ℕ
+address_of linked target = first_address (definitions_of target linked)
+
+abbrev leads_to : ℕ → List Placed → Entry → Bool
+leads_to address linked (Auxiliary bytes) = true
+leads_to address linked (ASymbol s) =
+    if is_undefined_external s then is_at address (option_and_then (address_of linked) (weak_target s.name linked)) else true
+
+aliases_at : (linked : List Placed) (codes : List PlacedCode) (n : ℕ) → list_all (λ (c : PlacedCode). list_all (leads_to n linked) c.from.object.entries) codes ≡ true →
+    ResolvesAliases linked codes (λ c index. n)
+aliases_at linked codes n all c index address s target held at undefined none weak there =
+    let own : list_all (leads_to n linked) c.from.object.entries ≡ true =
+    each_of (λ (x : PlacedCode). list_all (leads_to n linked) x.from.object.entries) c codes all (contains_among c codes held) in
+    let one : leads_to n linked (ASymbol s) ≡ true = each_of (leads_to n linked) (ASymbol s) c.from.object.entries own (among_at (ASymbol s) c.from.object.entries index at) in
+    let two : is_at n (option_and_then (address_of linked) (weak_target s.name linked)) ≡ true = rw undefined at one in
+    let three : is_at n (address_of linked target) ≡ true = subst (λ o. is_at n (option_and_then (address_of linked) o) ≡ true) weak two in
+    eqb-true n address (subst (λ o. is_at n o ≡ true) there three)
+
+beside : AreBeside AMD64 0x1_4000_0000 touching_8 alias_objects alias_codes (all_at 0x80)
 unfolding opened alias_specs encoded_size weak_object has_tables object_of entries_of name_text u32_bytes
 beside = record {
-  held = ((0, omega arith, refl), tt);
-  sections = (refl, tt);
-  ends = (omega arith, tt);
-  apart = apart_as_they_rise (2 ^ 31) (image_of AMD64 touching_8 alias_placed ++ code_ranges AMD64 0x1_4000_0000 alias_targets (alias_at ∷ [])) refl;
-  resolved = resolved;
+  held = ((0, omega arith, refl), ((1, omega arith, refl), tt));
+  sections = (refl, (refl, tt));
+  ends = (omega arith, (omega arith, tt));
+  apart = apart_as_they_rise (2 ^ 31) (image_of AMD64 touching_8 alias_placed ++ code_ranges AMD64 0x1_4000_0000 (all_at 0x80) alias_codes) refl;
+  resolved = resolves_anywhere alias_placed alias_codes (all_at 0x80) refl refl;
 }
 
 weak_is : weak_target opened_name alias_placed ≡ Some (imp_symbol (codes "open"))
 unfolding opened alias_specs encoded_size weak_object has_tables object_of entries_of name_text u32_bytes u32_at
 weak_is = refl
 
-entry_is : first_address (definitions_of (imp_symbol (codes "open")) alias_placed) ≡ Some 0x80
-unfolding opened alias_specs encoded_size weak_object has_tables object_of entries_of name_text u32_bytes
-entry_is = refl
-
-same_target : (target other : List ℕ) → Some target ≡ Some other → target ≡ other
-same_target target other is = cc
-
-same_address : (a b : ℕ) → Some a ≡ Some b → a ≡ b
-same_address a b is = cc
-
-resolves : ResolvesAliases alias_placed (alias_at ∷ []) alias_targets
-resolves c index address s target held at undefined none weak there =
-    let name = undefined_is s (own c (ASymbol s) held (among_at (ASymbol s) c.from.object.entries index at)) undefined in
-    let is : imp_symbol (codes "open") ≡ target =
-    same_target (imp_symbol (codes "open")) target (sym weak_is ∙ subst (λ n. weak_target n alias_placed ≡ Some target) name weak) in
-    same_address 0x80 address (sym entry_is ∙ subst (λ n. first_address (definitions_of n alias_placed) ≡ Some address) (sym is) there)
+resolves : ResolvesAliases alias_placed alias_codes (all_at 0x80)
+unfolding opened alias_specs encoded_size weak_object has_tables object_of entries_of name_text u32_bytes u32_at
+resolves = aliases_at alias_placed alias_codes 0x80 refl
 
 has : HasCall AMD64 alias_at 4 opened_name
 has = record {
+  front = first_bytes AMD64;
+  back = last_bytes AMD64;
+  instructions = refl;
+  here = refl;
+  index = 1;
+  before = [];
+  behind = [];
+  relocated = refl;
+  aside_before = tt;
+  aside_behind = tt;
+  symbol = symbol_of_class opened_name 0 class_external;
+  target = refl;
+  undefined = refl;
+  named = refl;
+}
+
+loads : HasLoad AMD64 alias_load_at 4 opened_name
+loads = record {
   front = first_bytes AMD64;
   back = last_bytes AMD64;
   instructions = refl;
@@ -177,8 +173,108 @@ worked_alias = record {
   other = refl;
   target = refl;
   calls = has;
-  bytes = refl;
-  arrives = λ written writes.
-      calls_by_alias AMD64 0x1_4000_0000 touching_8 (both_inputs AMD64) alias_objects (alias_at ∷ []) alias_targets (given_on AMD64) written 0 1 (foo_input AMD64) (open_export AMD64) alias_at 4 opened_name
+  loads = loads;
+  call_is = refl;
+  load_is = refl;
+  call_arrives = λ written writes.
+      calls_by_alias AMD64 0x1_4000_0000 touching_8 (both_inputs AMD64) alias_objects alias_codes (all_at 0x80) (given_on AMD64) written 0 1 (foo_input AMD64) (open_export AMD64) alias_at 4 opened_name
       worked_programs.amd64.made program tt beside resolves (wide AMD64) writes refl refl (0, omega arith, refl) undefined weak_is has;
+  load_arrives = λ written writes.
+      loads_by_alias AMD64 0x1_4000_0000 touching_8 (both_inputs AMD64) alias_objects alias_codes (all_at 0x80) (given_on AMD64) written 0 1 (foo_input AMD64) (open_export AMD64) alias_load_at 4 opened_name
+      worked_programs.amd64.made program tt beside resolves (wide AMD64) writes refl refl (1, omega arith, refl) undefined weak_is loads;
+  member = weak_is_weak AMD64 (codes "__imp_bar") (codes "__imp_baz") [] alias_placed;
+}
+
+-- The program of both flavours.
+
+flavors_program : IsFlavorProgram AMD64 flavor_bases_8 (flavor_inputs AMD64) opened_flavors
+unfolding opened refusal renamed_refusal alias_specs encoded_size weak_object has_tables expanded_in short_import_in import_object descriptor_symbol_by_name with_section_symbols descriptor null_descriptor null_thunk descriptor_symbol null_descriptor_symbol null_thunk_symbol base_name descriptor_spec null_descriptor_spec null_thunk_spec header_specs weak_specs group_end sections_end object_of entries_of name_text u32_bytes u32_at
+flavors_program =
+    let symbols : List (List ℕ) = null_descriptor_symbol ∷ symbols_listed (all_members AMD64 (flavor_inputs AMD64)) in
+    record {
+      held = record {
+        distinct = distinct_by symbols refl;
+        null_from = msvc_input AMD64;
+        null_held = (0, omega arith, refl);
+        null_flavor = refl;
+        before = take 0 (all_members AMD64 (flavor_inputs AMD64));
+        behind = drop 0 (all_members AMD64 (flavor_inputs AMD64));
+        members = refl;
+        tables = refl;
+        others = (
+          claims_none_by symbols alias_calling refl,
+          (
+            claims_none_by symbols alias_loading refl,
+            (claims_none_by symbols (object_of (weak_object AMD64 opened_name (imp_symbol (codes "open")))) refl, (claims_none_by symbols (another AMD64) refl, tt)),
+          ),
+        );
+        found = (refl, (tt, tt));
+      };
+      admissible = record {
+        descriptors = (omega arith, refl);
+        directory_ends = (omega arith, refl);
+        lookups = (omega arith, refl);
+        addresses = (omega arith, refl);
+        hint_names = (omega arith, refl);
+        dll_names = (omega arith, refl);
+        ends = ends_below (2 ^ 31) (image_of AMD64 flavor_bases_8 opened_placed) refl;
+        apart = apart_as_they_rise (2 ^ 31) (image_of AMD64 flavor_bases_8 opened_placed) refl;
+      };
+      lookups = refl;
+      addresses = refl;
+      follows = refl;
+    }
+
+flavors_beside : AreBeside AMD64 0x1_4000_0000 flavor_bases_8 opened_flavors alias_codes (all_at 0x88)
+unfolding opened refusal renamed_refusal alias_specs encoded_size weak_object has_tables expanded_in short_import_in import_object descriptor_symbol_by_name with_section_symbols descriptor null_descriptor null_thunk descriptor_symbol null_descriptor_symbol null_thunk_symbol base_name descriptor_spec null_descriptor_spec null_thunk_spec header_specs weak_specs group_end sections_end object_of entries_of name_text u32_bytes u32_at
+flavors_beside = record {
+  held = ((0, omega arith, refl), ((1, omega arith, refl), tt));
+  sections = (refl, (refl, tt));
+  ends = (omega arith, (omega arith, tt));
+  apart = apart_as_they_rise (2 ^ 31) (image_of AMD64 flavor_bases_8 opened_placed ++ code_ranges AMD64 0x1_4000_0000 (all_at 0x88) alias_codes) refl;
+  resolved = resolves_anywhere opened_placed alias_codes (all_at 0x88) refl refl;
+}
+
+flavors_resolves : ResolvesAliases opened_placed alias_codes (all_at 0x88)
+unfolding opened refusal renamed_refusal alias_specs encoded_size weak_object has_tables expanded_in short_import_in import_object descriptor_symbol_by_name with_section_symbols descriptor null_descriptor null_thunk descriptor_symbol null_descriptor_symbol null_thunk_symbol base_name descriptor_spec null_descriptor_spec null_thunk_spec header_specs weak_specs group_end sections_end object_of entries_of name_text u32_bytes u32_at
+flavors_resolves = aliases_at opened_placed alias_codes 0x88 refl
+
+flavors_undefined : definitions_of opened_name opened_placed ≡ []
+unfolding opened refusal renamed_refusal alias_specs encoded_size weak_object has_tables expanded_in short_import_in import_object descriptor_symbol_by_name with_section_symbols descriptor null_descriptor null_thunk descriptor_symbol null_descriptor_symbol null_thunk_symbol base_name descriptor_spec null_descriptor_spec null_thunk_spec header_specs weak_specs group_end sections_end object_of entries_of name_text u32_bytes u32_at
+flavors_undefined = refl
+
+flavors_weak : weak_target opened_name opened_placed ≡ Some (imp_symbol (codes "open"))
+unfolding opened refusal renamed_refusal alias_specs encoded_size weak_object has_tables expanded_in short_import_in import_object descriptor_symbol_by_name with_section_symbols descriptor null_descriptor null_thunk descriptor_symbol null_descriptor_symbol null_thunk_symbol base_name descriptor_spec null_descriptor_spec null_thunk_spec header_specs weak_specs group_end sections_end object_of entries_of name_text u32_bytes u32_at
+flavors_weak = refl
+
+not_same : (n m : ℕ) → n ≡ 0x88 → m ≡ 0x90 → n ≡ m → ⊥
+not_same n m first second same = omega arith
+
+astray : ResolvesAliases (placed_from flavor_bases_8 (alias_flavors (imp_symbol (codes "stat")))) alias_codes (all_at 0x88) → ⊥
+unfolding opened refusal renamed_refusal alias_specs encoded_size weak_object has_tables expanded_in short_import_in import_object descriptor_symbol_by_name with_section_symbols descriptor null_descriptor null_thunk descriptor_symbol null_descriptor_symbol null_thunk_symbol base_name descriptor_spec null_descriptor_spec null_thunk_spec header_specs weak_specs group_end sections_end object_of entries_of name_text u32_bytes u32_at
+astray resolves =
+    not_same 0x88 0x90 refl refl
+    (resolves alias_at 1 0x90 (symbol_of_class opened_name 0 class_external) (imp_symbol (codes "stat")) (0, omega arith, refl) refl refl refl refl refl)
+
+pub worked_flavor_alias : WorkedFlavorAlias
+unfolding opened refusal renamed_refusal alias_specs encoded_size weak_object has_tables expanded_in short_import_in import_object descriptor_symbol_by_name with_section_symbols descriptor null_descriptor null_thunk descriptor_symbol null_descriptor_symbol null_thunk_symbol base_name descriptor_spec null_descriptor_spec null_thunk_spec header_specs weak_specs group_end sections_end object_of entries_of name_text u32_bytes u32_at
+worked_flavor_alias = record {
+  program = flavors_program;
+  beside = flavors_beside;
+  resolves = flavors_resolves;
+  undefined = flavors_undefined;
+  weak = flavors_weak;
+  calls = has;
+  loads = loads;
+  call_is = refl;
+  call_reads_it = refl;
+  load_is = refl;
+  load_reads_it = refl;
+  call_arrives = λ written writes.
+      flavors_calls_by_alias AMD64 0x1_4000_0000 flavor_bases_8 (flavor_inputs AMD64) opened_flavors alias_codes (all_at 0x88) (given_on AMD64) written 0 1 (msvc_input AMD64) (open_export AMD64) alias_at 4 opened_name
+      worked_flavors.amd64.made flavors_program tt flavors_beside flavors_resolves (wide AMD64) writes refl refl (0, omega arith, refl) flavors_undefined flavors_weak has;
+  load_arrives = λ written writes.
+      flavors_loads_by_alias AMD64 0x1_4000_0000 flavor_bases_8 (flavor_inputs AMD64) opened_flavors alias_codes (all_at 0x88) (given_on AMD64) written 0 1 (msvc_input AMD64) (open_export AMD64) alias_load_at 4
+      opened_name worked_flavors.amd64.made flavors_program tt flavors_beside flavors_resolves (wide AMD64) writes refl refl (1, omega arith, refl) flavors_undefined flavors_weak loads;
+  astray = astray;
 }

@@ -19,10 +19,11 @@ use Rattle.implib_link.specs.Gnu.Calls.{AreBeside, Defines, HasDirectCall, code_
 use Rattle.implib_link.specs.Gnu.Packed.{group_end, sections_end}
 use Rattle.implib_link.specs.Gnu.Program.{IsProgram, has_tables, linked_symbols}
 use Rattle.implib_link.specs.Worked.Calls.{direct_at, direct_calling, first_bytes, given_on, last_bytes, open_targets}
-use Rattle.implib_link.specs.Worked.DirectCalls.{WorkedBranch, WorkedFlavorDirect, branch_at, branch_codes, branch_memory, branching, branching_objects, branching_placed, mixed_codes, mixed_objects, mixed_placed, stub_of}
+use Rattle.implib_link.specs.Worked.DirectCalls.{WorkedBranch, WorkedFlavorDirect, branch_at, branch_codes, branch_memory, branching, branching_objects, branching_placed, mixed_codes, mixed_memory, mixed_objects, mixed_placed, stub_of}
 use Rattle.implib_link.specs.Worked.Flavors.{both_inputs as flavor_inputs, flavor_bases_8, foo_input as msvc_input}
 use Rattle.implib_link.specs.Worked.Programs.{another, both_inputs, foo_input, symbol_of_class, touching_8}
 use Rattle.implib_link.proofs.Flavors.Calls.{flavors_direct_calls_reach}
+use Rattle.implib_link.proofs.Flavors.Rebased.{flavors_direct_calls_at_base, flavors_stubs_at_base}
 use Rattle.implib_link.proofs.Gnu.DirectCalls.{direct_calls_reach}
 use Rattle.implib_link.proofs.Worked.Calls.{direct_has, open_export, open_resolved, wide}
 use Rattle.implib_link.proofs.Worked.Flavors.{worked_flavors}
@@ -158,6 +159,10 @@ mixed_defines : Defines (stub_of AMD64 mixed_placed 4) (symbol_of_class (codes "
 unfolding opened refusal renamed_refusal alias_specs encoded_size weak_object has_tables expanded_in short_import_in import_object descriptor_symbol_by_name with_section_symbols descriptor null_descriptor null_thunk descriptor_symbol null_descriptor_symbol null_thunk_symbol base_name descriptor_spec null_descriptor_spec null_thunk_spec header_specs weak_specs group_end sections_end
 mixed_defines = record { held = (4, omega arith, refl); external = refl; here = refl }
 
+mixed_based : IsAtBase AMD64 0x1_4000_0000 0x7FF6_1234_0000 flavor_bases_8 mixed_objects mixed_codes (open_targets mixed_placed) mixed_memory
+unfolding opened refusal renamed_refusal alias_specs encoded_size weak_object has_tables expanded_in short_import_in import_object descriptor_symbol_by_name with_section_symbols descriptor null_descriptor null_thunk descriptor_symbol null_descriptor_symbol null_thunk_symbol base_name descriptor_spec null_descriptor_spec null_thunk_spec header_specs weak_specs group_end sections_end
+mixed_based = record { beside = mixed_beside; within = (tt, (tt, tt)); can = tt; rebased = none_rebased 0x1_4000_0000 0x7FF6_1234_0000 mixed_memory }
+
 pub worked_flavor_direct : WorkedFlavorDirect
 unfolding opened refusal renamed_refusal alias_specs encoded_size weak_object has_tables expanded_in short_import_in import_object descriptor_symbol_by_name with_section_symbols descriptor null_descriptor null_thunk descriptor_symbol null_descriptor_symbol null_thunk_symbol base_name descriptor_spec null_descriptor_spec null_thunk_spec header_specs weak_specs group_end sections_end
 worked_flavor_direct = record {
@@ -170,4 +175,13 @@ worked_flavor_direct = record {
       flavors_direct_calls_reach AMD64 0x1_4000_0000 flavor_bases_8 (flavor_inputs AMD64) mixed_objects mixed_codes (open_targets mixed_placed) (given_on AMD64) written 0 1 (msvc_input AMD64) (open_export AMD64) direct_at
       (stub_of AMD64 mixed_placed 4) 4 (symbol_of_class (codes "open") 1 class_external) worked_flavors.amd64.made mixed_program tt mixed_beside (wide AMD64) writes refl refl (refl, refl) (1, omega arith, refl)
       mixed_defines refl (0, omega arith, refl) direct_has tt;
+  at = mixed_based;
+  moved = λ n written reads. (
+    flavors_direct_calls_at_base AMD64 0x1_4000_0000 0x7FF6_1234_0000 flavor_bases_8 (flavor_inputs AMD64) mixed_objects mixed_codes (open_targets mixed_placed) mixed_memory (given_on AMD64) n written 0 1
+        (msvc_input AMD64) (open_export AMD64) direct_at (stub_of AMD64 mixed_placed 4) 4 (symbol_of_class (codes "open") 1 class_external) worked_flavors.amd64.made mixed_program mixed_based (wide AMD64) reads refl
+        refl (refl, refl) (1, omega arith, refl) mixed_defines refl (0, omega arith, refl) direct_has tt,
+    flavors_stubs_at_base AMD64 0x1_4000_0000 0x7FF6_1234_0000 flavor_bases_8 (flavor_inputs AMD64) mixed_objects mixed_codes (open_targets mixed_placed) mixed_memory (given_on AMD64) n written 0 1
+        (msvc_input AMD64) (open_export AMD64) (stub_of AMD64 mixed_placed 4) (symbol_of_class (codes "open") 1 class_external) worked_flavors.amd64.made mixed_program mixed_based (wide AMD64) reads refl refl
+        (refl, refl) (1, omega arith, refl) mixed_defines refl,
+  );
 }

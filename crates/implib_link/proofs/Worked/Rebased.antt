@@ -1,14 +1,14 @@
 -- The programs that were moved by hand, by computing and by the laws.
 use Rattle.std.proofs.Common.{◌≡◌, ℕ, ◌^◌, ◌⊎◌, Bool, true, false, List, [], ◌∷◌, codes, refl, ap, sym, ◌∙◌, subst, inl, inr, arith, true≢false}
-use Rattle.std.specs.Prelude.{bytes_eq, not, ◌&&◌, ◌||◌, ◌==◌, if◌then◌else◌}
-use Rattle.std.specs.List.{list_all}
+use Rattle.std.specs.Prelude.{bytes_eq, drop, not, slice_get, take, ◌&&◌, ◌||◌, ◌==◌, Some, if◌then◌else◌}
+use Rattle.std.specs.List.{Contains, list_all, list_any}
 use Rattle.std.proofs.lemmas.Bool.{and_from, eq-eqb, not-true, or_parts}
 use Rattle.implib.specs.declared.machine.MachineType.TheVariants.{I386, AMD64, ARM64}
 use Rattle.implib.specs.Formats.Constants.{class_external}
 use Rattle.implib.specs.Formats.File.{is_defined_external}
 use Rattle.implib.specs.Formats.Layout.{encoded_size}
-use Rattle.implib.specs.Formats.Object.{ASymbol, Auxiliary, Entry}
-use Rattle.implib.specs.Link.Image.{Range}
+use Rattle.implib.specs.Formats.Object.{ASymbol, Auxiliary, Entry, ObjectSymbol}
+use Rattle.implib.specs.Link.Image.{Range, byte_at, image_of}
 use Rattle.implib.specs.Link.Load.{NumberAt}
 use Rattle.implib.specs.Link.Placement.{Placed}
 use Rattle.implib.specs.Link.Resolution.{address_or_zero, is_undefined_external, target_address}
@@ -20,23 +20,24 @@ use Rattle.implib.specs.Members.MsvcObjects.{base_name, descriptor, descriptor_s
 use Rattle.implib.specs.Members.WeakExternal.{weak_object}
 use Rattle.implib.proofs.Link.Definitions.{same_text}
 use Rattle.implib.proofs.Link.Loading.{number_once}
-use Rattle.implib.proofs.Link.Ranges.{Among, apart_as_they_rise}
+use Rattle.implib.proofs.Link.Ranges.{Among, apart_as_they_rise, ends_below}
 use Rattle.implib_link.specs.Flavors.Expansion.{descriptor_symbol_by_name, expanded_in, import_object}
+use Rattle.implib_link.specs.Flavors.Program.{IsFlavorProgram, all_members, symbols_listed}
 use Rattle.implib_link.specs.Flavors.SectionSymbols.{with_section_symbols}
 use Rattle.implib_link.specs.Gnu.Packed.{group_end, sections_end}
-use Rattle.implib_link.specs.Worked.Flavors.{both_inputs as flavor_inputs, flavor_bases_8, foo_input as msvc_input}
-use Rattle.implib_link.proofs.Flavors.Rebased.{flavors_calls_at_base, flavors_load_at_base}
+use Rattle.implib_link.specs.Worked.Flavors.{both_inputs as flavor_inputs, flavor_bases_4, flavor_bases_8, foo_input as msvc_input}
+use Rattle.implib_link.proofs.Flavors.Rebased.{flavors_calls_at_base, flavors_end_at_base, flavors_load_at_base}
 use Rattle.implib_link.proofs.Worked.Flavors.{worked_flavors}
 use Rattle.implib_link.specs.Gnu.Calls.{AreBeside, Defines, PlacedCode, Resolves}
 use Rattle.implib_link.specs.Gnu.Program.{has_tables}
-use Rattle.implib_link.specs.Gnu.Rebased.{IsAtBase, IsRebased, Place, covers, moved_number}
-use Rattle.implib_link.specs.Worked.Calls.{calling_at, calling_flavors, calling_objects, calling_placed, flavor_targets, given_on, table_targets}
-use Rattle.implib_link.specs.Worked.Programs.{both_inputs, foo_input, symbol_of_class, symbol_on, touching_4, touching_8}
-use Rattle.implib_link.specs.Worked.Rebased.{WorkedFlavorMove, WorkedMove, WorkedMoves, WorkedPlaces, flavors_memory, i386_memory, i386_places, linked_memory, moving_codes, open_stub}
-use Rattle.implib_link.proofs.Gnu.Rebased.{calls_at_base, loads_at_base, stubs_at_base}
+use Rattle.implib_link.specs.Gnu.Rebased.{IsAtBase, IsRebased, Place, base_relocations, covers, moved_number}
+use Rattle.implib_link.specs.Worked.Calls.{calling, calling_at, calling_flavors, calling_objects, calling_placed, flavor_targets, given_on, table_targets}
+use Rattle.implib_link.specs.Worked.Programs.{another, both_inputs, foo_input, symbol_of_class, symbol_on, touching_4, touching_8}
+use Rattle.implib_link.specs.Worked.Rebased.{WorkedFlavorMove, WorkedFlavorRebase, WorkedMove, WorkedMoves, WorkedPlaces, flavors_memory, i386_memory, i386_places, linked_memory, moving_codes, moving_flavors, moving_linked, moving_memory, moving_placed, moving_targets, open_stub}
+use Rattle.implib_link.proofs.Gnu.Rebased.{calls_at_base, ends_at_base, loads_at_base, stubs_at_base}
 use Rattle.implib_link.proofs.Search.Lists.{among_at, contains_among}
 use Rattle.implib_link.proofs.Worked.Calls.{amd64_has, amd64_program, arm64_has, arm64_program, each_of, flavors_beside, flavors_program, i386_has, i386_program, is_wanted, open_export, wide}
-use Rattle.implib_link.proofs.Worked.Programs.{opened, worked_programs}
+use Rattle.implib_link.proofs.Worked.Programs.{claims_none_by, distinct_by, opened, worked_programs}
 use Rattle.implib_link.proofs.Worked.RefusedLinks.{are_located, number}
 
 -- Code whose symbols no code of another object defines is resolved by the tables.
@@ -47,26 +48,30 @@ unwanted wanted d (Auxiliary bytes) = true
 unwanted wanted d (ASymbol t) =
     if is_defined_external t && (t.section == d.number) then list_all (λ x. not (is_wanted t.name x)) wanted else true
 
-abbrev all_unwanted : List PlacedCode → List Entry → Bool
+abbrev pub all_unwanted : List PlacedCode → List Entry → Bool
 all_unwanted codes wanted = list_all (λ (d : PlacedCode). list_all (unwanted wanted d) d.from.object.entries) codes
+
+pub none_wanted : (codes : List PlacedCode) → list_all (λ (c : PlacedCode). all_unwanted codes c.from.object.entries) codes ≡ true → (c d : PlacedCode) (index : ℕ) (s t : ObjectSymbol) →
+    Contains codes c → Contains codes d → slice_get c.from.object.entries index ≡ Some (ASymbol s) → is_undefined_external s ≡ true → Defines d t → t.name ≡ s.name → ⊥
+none_wanted codes all c d index s t c_held d_held at undefined defines named =
+    let wanted : List Entry = c.from.object.entries in
+    let one : all_unwanted codes wanted ≡ true = each_of (λ (x : PlacedCode). all_unwanted codes x.from.object.entries) c codes all (contains_among c codes c_held) in
+    let two : list_all (unwanted wanted d) d.from.object.entries ≡ true =
+    each_of (λ (x : PlacedCode). list_all (unwanted wanted x) x.from.object.entries) d codes one (contains_among d codes d_held) in
+    let three : unwanted wanted d (ASymbol t) ≡ true = each_of (unwanted wanted d) (ASymbol t) d.from.object.entries two (contains_among (ASymbol t) d.from.object.entries defines.held) in
+    let external : is_defined_external t ≡ true = defines.external in
+    let here : (t.section == d.number) ≡ true = eq-eqb t.section d.number defines.here in
+    let none : list_all (λ x. not (is_wanted t.name x)) wanted ≡ true = rw (external, here) at three in
+    let four : not (is_wanted t.name (ASymbol s)) ≡ true = each_of (λ x. not (is_wanted t.name x)) (ASymbol s) wanted none (among_at (ASymbol s) wanted index at) in
+    let same : bytes_eq s.name t.name ≡ true = subst (λ n. bytes_eq s.name n ≡ true) (sym named) (same_text s.name) in
+    let is : is_wanted t.name (ASymbol s) ≡ true = and_from (is_undefined_external s) (bytes_eq s.name t.name) undefined same in
+    true≢false (sym is ∙ not-true (is_wanted t.name (ASymbol s)) four)
 
 pub resolves_by_tables : (linked : List Placed) (codes : List PlacedCode) → list_all (λ (c : PlacedCode). all_unwanted codes c.from.object.entries) codes ≡ true →
     Resolves linked codes (λ c index. target_address linked c.from index)
 resolves_by_tables linked codes all = record {
   tables = λ c index address entry held at is. rw at (ap address_or_zero is);
-  code = λ c d index s t c_held d_held at undefined defines named.
-      let wanted : List Entry = c.from.object.entries in
-      let one : all_unwanted codes wanted ≡ true = each_of (λ (x : PlacedCode). all_unwanted codes x.from.object.entries) c codes all (contains_among c codes c_held) in
-      let two : list_all (unwanted wanted d) d.from.object.entries ≡ true =
-      each_of (λ (x : PlacedCode). list_all (unwanted wanted x) x.from.object.entries) d codes one (contains_among d codes d_held) in
-      let three : unwanted wanted d (ASymbol t) ≡ true = each_of (unwanted wanted d) (ASymbol t) d.from.object.entries two (contains_among (ASymbol t) d.from.object.entries defines.held) in
-      let external : is_defined_external t ≡ true = defines.external in
-      let here : (t.section == d.number) ≡ true = eq-eqb t.section d.number defines.here in
-      let none : list_all (λ x. not (is_wanted t.name x)) wanted ≡ true = rw (external, here) at three in
-      let four : not (is_wanted t.name (ASymbol s)) ≡ true = each_of (λ x. not (is_wanted t.name x)) (ASymbol s) wanted none (among_at (ASymbol s) wanted index at) in
-      let same : bytes_eq s.name t.name ≡ true = subst (λ n. bytes_eq s.name n ≡ true) (sym named) (same_text s.name) in
-      let is : is_wanted t.name (ASymbol s) ≡ true = and_from (is_undefined_external s) (bytes_eq s.name t.name) undefined same in
-      absurd (true≢false (sym is ∙ not-true (is_wanted t.name (ASymbol s)) four));
+  code = λ c d index s t c_held d_held at undefined defines named. absurd (none_wanted codes all c d index s t c_held d_held at undefined defines named);
 }
 
 amd64_beside : AreBeside AMD64 0x1_4000_0000 touching_8 (calling_objects AMD64) (moving_codes AMD64 touching_8) (table_targets AMD64 touching_8)
@@ -297,6 +302,150 @@ worked_flavor_move = record {
   );
 }
 
+-- In both flavours on I386, whose call has a base relocation.
+
+moving_program : IsFlavorProgram I386 flavor_bases_4 (flavor_inputs I386) moving_flavors
+unfolding opened refusal renamed_refusal alias_specs encoded_size weak_object has_tables expanded_in short_import_in import_object descriptor_symbol_by_name with_section_symbols descriptor null_descriptor null_thunk descriptor_symbol null_descriptor_symbol null_thunk_symbol base_name descriptor_spec null_descriptor_spec null_thunk_spec header_specs weak_specs group_end sections_end
+moving_program =
+    let symbols : List (List ℕ) = null_descriptor_symbol ∷ symbols_listed (all_members I386 (flavor_inputs I386)) in
+    record {
+      held = record {
+        distinct = distinct_by symbols refl;
+        null_from = msvc_input I386;
+        null_held = (0, omega arith, refl);
+        null_flavor = refl;
+        before = take 2 (all_members I386 (flavor_inputs I386));
+        behind = drop 2 (all_members I386 (flavor_inputs I386));
+        members = refl;
+        tables = refl;
+        others = (claims_none_by symbols (calling I386) refl, (claims_none_by symbols (another I386) refl, tt));
+        found = (refl, (tt, tt));
+      };
+      admissible = record {
+        descriptors = (omega arith, refl);
+        directory_ends = (omega arith, refl);
+        lookups = (omega arith, refl);
+        addresses = (omega arith, refl);
+        hint_names = (omega arith, refl);
+        dll_names = (omega arith, refl);
+        ends = ends_below (2 ^ 31) (image_of I386 flavor_bases_4 moving_placed) refl;
+        apart = apart_as_they_rise (2 ^ 31) (image_of I386 flavor_bases_4 moving_placed) refl;
+      };
+      lookups = refl;
+      addresses = refl;
+      follows = refl;
+    }
+
+moving_beside : AreBeside I386 0x40_0000 flavor_bases_4 moving_flavors (calling_at I386 0x1000 ∷ []) moving_targets
+unfolding opened refusal renamed_refusal alias_specs encoded_size weak_object has_tables expanded_in short_import_in import_object descriptor_symbol_by_name with_section_symbols descriptor null_descriptor null_thunk descriptor_symbol null_descriptor_symbol null_thunk_symbol base_name descriptor_spec null_descriptor_spec null_thunk_spec header_specs weak_specs group_end sections_end
+moving_beside = record {
+  held = ((0, omega arith, refl), tt);
+  sections = (refl, tt);
+  ends = (omega arith, tt);
+  apart = apart_as_they_rise (2 ^ 31) moving_linked refl;
+  resolved = resolves_by_tables moving_placed (calling_at I386 0x1000 ∷ []) refl;
+}
+
+moving_places : base_relocations I386 moving_placed (calling_at I386 0x1000 ∷ []) ≡ record { address = 0x1006; width = 4 } ∷ []
+unfolding opened refusal renamed_refusal alias_specs encoded_size weak_object has_tables expanded_in short_import_in import_object descriptor_symbol_by_name with_section_symbols descriptor null_descriptor null_thunk descriptor_symbol null_descriptor_symbol null_thunk_symbol base_name descriptor_spec null_descriptor_spec null_thunk_spec header_specs weak_specs group_end sections_end
+moving_places = refl
+
+linked_field : NumberAt moving_linked 4 0x1006 0x40_0064
+unfolding opened refusal renamed_refusal alias_specs encoded_size weak_object has_tables expanded_in short_import_in import_object descriptor_symbol_by_name with_section_symbols descriptor null_descriptor null_thunk descriptor_symbol null_descriptor_symbol null_thunk_symbol base_name descriptor_spec null_descriptor_spec null_thunk_spec header_specs weak_specs group_end sections_end
+linked_field = number moving_linked 4 0x1006 0x40_0064 (0x64 ∷ 0 ∷ 0x40 ∷ 0 ∷ []) refl refl refl
+
+moved_field : NumberAt (moving_memory (0x64 ∷ 0 ∷ 0 ∷ 0x10 ∷ [])) 4 0x1006 0x1000_0064
+moved_field = number (moving_memory (0x64 ∷ 0 ∷ 0 ∷ 0x10 ∷ [])) 4 0x1006 0x1000_0064 (0x64 ∷ 0 ∷ 0 ∷ 0x10 ∷ []) refl refl refl
+
+one_place : (p : Place) → Among p (record { address = 0x1006; width = 4 } ∷ []) → p ≡ record { address = 0x1006; width = 4 }
+unfolding Among
+one_place p (inl is) = is
+one_place p (inr none) = absurd none
+
+moving_rebased : IsRebased 0x40_0000 0x1000_0000 (record { address = 0x1006; width = 4 } ∷ []) moving_linked (moving_memory (0x64 ∷ 0 ∷ 0 ∷ 0x10 ∷ []))
+moving_rebased =
+    let memory : List Range = moving_memory (0x64 ∷ 0 ∷ 0 ∷ 0x10 ∷ []) in
+    record {
+      moved = λ p n held there.
+          subst (λ (q : Place). NumberAt moving_linked q.width q.address n → NumberAt memory q.width q.address (moved_number q.width 0x40_0000 0x1000_0000 n))
+          (sym (one_place p (contains_among p (record { address = 0x1006; width = 4 } ∷ []) held)))
+          (λ linked. subst (λ k. NumberAt memory 4 0x1006 (moved_number 4 0x40_0000 0x1000_0000 k)) (number_once moving_linked 4 0x1006 0x40_0064 n linked_field linked) moved_field) there;
+      kept = λ a byte none is.
+          let one = or_parts (covers a (record { address = 0x1006; width = 4 })) false none in
+          rw one.0 is;
+    }
+
+moving_at : IsAtBase I386 0x40_0000 0x1000_0000 flavor_bases_4 moving_flavors (calling_at I386 0x1000 ∷ []) moving_targets (moving_memory (0x64 ∷ 0 ∷ 0 ∷ 0x10 ∷ []))
+unfolding opened alias_specs encoded_size weak_object has_tables
+moving_at =
+    let memory : List Range = moving_memory (0x64 ∷ 0 ∷ 0 ∷ 0x10 ∷ []) in
+    record {
+      beside = moving_beside;
+      within = ((omega arith, tt), tt);
+      can = omega arith;
+      rebased = subst (λ (ps : List Place). IsRebased 0x40_0000 0x1000_0000 ps moving_linked memory) (sym moving_places) moving_rebased;
+    }
+
+-- what the field of the call is in memory at that base
+moved_there : (memory : List Range) → IsAtBase I386 0x40_0000 0x1000_0000 flavor_bases_4 moving_flavors (calling_at I386 0x1000 ∷ []) moving_targets memory → NumberAt memory 4 0x1006 0x1000_0064
+moved_there memory at =
+    at.rebased.moved (record { address = 0x1006; width = 4 }) 0x40_0064
+    (subst (λ (ps : List Place). Contains ps (record { address = 0x1006; width = 4 })) (sym moving_places) (0, omega arith, refl)) linked_field
+
+not_linked : (n : ℕ) → 0x1000_0064 ≡ n → n ≡ 0x40_0064 → ⊥
+not_linked n first second = omega arith
+
+field_left : IsAtBase I386 0x40_0000 0x1000_0000 flavor_bases_4 moving_flavors (calling_at I386 0x1000 ∷ []) moving_targets moving_linked → ⊥
+field_left at = not_linked 0x40_0064 (number_once moving_linked 4 0x1006 0x1000_0064 0x40_0064 (moved_there moving_linked at) linked_field) refl
+
+not_next : (n : ℕ) → 0x1000_0064 ≡ n → n ≡ 0x1000_0068 → ⊥
+not_next n first second = omega arith
+
+next_entry : IsAtBase I386 0x40_0000 0x1000_0000 flavor_bases_4 moving_flavors (calling_at I386 0x1000 ∷ []) moving_targets (moving_memory (0x68 ∷ 0 ∷ 0 ∷ 0x10 ∷ [])) → ⊥
+next_entry at =
+    let memory : List Range = moving_memory (0x68 ∷ 0 ∷ 0 ∷ 0x10 ∷ []) in
+    not_next 0x1000_0068
+    (number_once memory 4 0x1006 0x1000_0064 0x1000_0068 (moved_there memory at) (number memory 4 0x1006 0x1000_0068 (0x68 ∷ 0 ∷ 0 ∷ 0x10 ∷ []) refl refl refl)) refl
+
+-- the third byte of the field of the address table in the first descriptor
+linked_byte : byte_at moving_linked 26 ≡ Some 0
+unfolding opened refusal renamed_refusal alias_specs encoded_size weak_object has_tables expanded_in short_import_in import_object descriptor_symbol_by_name with_section_symbols descriptor null_descriptor null_thunk descriptor_symbol null_descriptor_symbol null_thunk_symbol base_name descriptor_spec null_descriptor_spec null_thunk_spec header_specs weak_specs group_end sections_end
+linked_byte = refl
+
+no_place : list_any (covers 26) (base_relocations I386 moving_placed (calling_at I386 0x1000 ∷ [])) ≡ false
+no_place = subst (λ (ps : List Place). list_any (covers 26) ps ≡ false) (sym moving_places) refl
+
+not_zero : (n : ℕ) → n ≡ 0xC0 → Some n ≡ Some 0 → ⊥
+not_zero n is same = let none : n ≡ 0 = cc in omega arith
+
+table_moved : IsAtBase I386 0x40_0000 0x1000_0000 flavor_bases_4 moving_flavors (calling_at I386 0x1000 ∷ []) moving_targets
+    (record { start = 24; bytes = 0x60 ∷ 0 ∷ 0xC0 ∷ 0xF ∷ [] } ∷ moving_memory (0x64 ∷ 0 ∷ 0 ∷ 0x10 ∷ [])) → ⊥
+table_moved at = not_zero 0xC0 refl (at.rebased.kept 26 0 no_place linked_byte)
+
+pub worked_flavor_rebase : WorkedFlavorRebase
+unfolding opened refusal renamed_refusal alias_specs encoded_size weak_object has_tables expanded_in short_import_in import_object descriptor_symbol_by_name with_section_symbols descriptor null_descriptor null_thunk descriptor_symbol null_descriptor_symbol null_thunk_symbol base_name descriptor_spec null_descriptor_spec null_thunk_spec header_specs weak_specs group_end sections_end
+worked_flavor_rebase =
+    let memory : List Range = moving_memory (0x64 ∷ 0 ∷ 0 ∷ 0x10 ∷ []) in
+    record {
+      program = moving_program;
+      at = moving_at;
+      places_are = moving_places;
+      linked_call = are_located moving_linked (0xFF ∷ 0x15 ∷ 0x64 ∷ 0 ∷ 0x40 ∷ 0 ∷ []) 0x1004 refl;
+      call_there = are_located memory (0xFF ∷ 0x15 ∷ 0x64 ∷ 0 ∷ 0 ∷ 0x10 ∷ []) 0x1004 refl;
+      call_reads_it = refl;
+      arrives = λ n written reads. (
+        (flavors_load_at_base I386 0x40_0000 0x1000_0000 flavor_bases_4 (flavor_inputs I386) moving_flavors (calling_at I386 0x1000 ∷ []) moving_targets memory (given_on I386) n written
+            worked_flavors.i386.made moving_program moving_at (wide I386) reads).0,
+        flavors_calls_at_base I386 0x40_0000 0x1000_0000 flavor_bases_4 (flavor_inputs I386) moving_flavors (calling_at I386 0x1000 ∷ []) moving_targets memory (given_on I386) n written 0 1
+            (msvc_input I386) (open_export I386) (calling_at I386 0x1000) 4 worked_flavors.i386.made moving_program moving_at (wide I386) reads refl refl (0, omega arith, refl) i386_has,
+      );
+      ends = flavors_end_at_base I386 0x40_0000 0x1000_0000 flavor_bases_4 (flavor_inputs I386) moving_flavors (calling_at I386 0x1000 ∷ []) moving_targets memory (given_on I386) worked_flavors.i386.made
+          moving_program moving_at;
+      left_out = field_left;
+      next_entry = next_entry;
+      table_moved = table_moved;
+    }
+
 not_left : (n : ℕ) → 0x1000_0060 ≡ n → n ≡ 0x40_0060 → ⊥
 not_left n first second = omega arith
 
@@ -324,6 +473,8 @@ worked_moves = record {
   amd64 = amd64;
   i386 = i386;
   arm64 = arm64;
+  i386_ends = ends_at_base I386 0x40_0000 0x1000_0000 touching_4 (both_inputs I386) (calling_objects I386) (moving_codes I386 touching_4) (table_targets I386 touching_4) (i386_memory (0x60 ∷ 0 ∷ 0 ∷ 0x10 ∷ []))
+      (given_on I386) worked_programs.i386.made i386_program i386_at;
   left_out = left_out;
   twice = twice;
   astray = refl;

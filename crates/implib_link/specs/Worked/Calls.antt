@@ -256,7 +256,7 @@ nameless_image = record { start = 16; bytes = zeros 4 } ∷ program_image AMD64 
 
 -- A loader that reads the worked program's image from 4 on goes on at two descriptors, and writes what foo.dll
 -- gives for `open` to 0x80 (0x60 on I386, 0x88 in the program of both flavours, from 8 on); where the first descriptor has no name, a loader goes on at none and
--- writes nothing.
+-- writes nothing. There is a loader that goes on at two descriptors.
 pub record WorkedReading : Type 0 where
   pub amd64 : (n : ℕ) (written : List Range) →
       ReadsAndWrites (program_image AMD64 touching_8) 8 (given_on AMD64) n 4 written →
@@ -270,3 +270,6 @@ pub record WorkedReading : Type 0 where
       (0x40 ∷ 0 ∷ 0 ∷ 0x10 ∷ 0 ∷ 0 ∷ 0 ∷ 0 ∷ [])
   pub refused : (n : ℕ) (written : List Range) → ReadsAndWrites nameless_image 8 (given_on AMD64) n 4 written →
       (n ≡ 0) × (written ≡ [])
+  pub amd64_ends : (written : List Range) × ReadsAndWrites (program_image AMD64 touching_8) 8 (given_on AMD64) 2 4 written
+  pub flavors_ends : (written : List Range)
+      × ReadsAndWrites (flavor_image AMD64 0 flavor_bases_8) 8 (given_on AMD64) 2 8 written

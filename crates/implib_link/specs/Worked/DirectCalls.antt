@@ -14,7 +14,7 @@ use Rattle.implib_link.specs.Gnu.Calls.{AreBeside, CanBranch, Defines, DirectCal
 use Rattle.implib_link.specs.Gnu.Loaded.{Writes}
 use Rattle.implib_link.specs.Gnu.Program.{IsProgram, null_descriptor}
 use Rattle.implib_link.specs.Gnu.Reading.{ReadsAndWrites}
-use Rattle.implib_link.specs.Gnu.Rebased.{IsAtBase}
+use Rattle.implib_link.specs.Gnu.Rebased.{IsAtBase, StubArrives}
 use Rattle.implib_link.specs.Stub.{jump_reads}
 use Rattle.implib_link.specs.Worked.Calls.{calling, direct_calling, direct_at, first_bytes, given_on, last_bytes, open_targets, placed_or_empty}
 use Rattle.implib_link.specs.Worked.Flavors.{both_inputs as flavor_inputs, flavor_bases_8, members_with_null}
@@ -108,7 +108,13 @@ mixed_placed = placed_from flavor_bases_8 mixed_objects
 abbrev pub mixed_codes : List PlacedCode
 mixed_codes = direct_at ∷ stub_of AMD64 mixed_placed 4 ∷ []
 
--- The same of a program of both flavours on AMD64: the stub reads 0x88.
+-- the image with this code behind it, as it was linked
+abbrev pub mixed_memory : List Range
+mixed_memory =
+    image_of AMD64 flavor_bases_8 mixed_placed
+    ++ code_ranges AMD64 0x1_4000_0000 (open_targets mixed_placed) mixed_codes
+
+-- The same of a program of both flavours on AMD64: the stub reads 0x88. At another base the stub arrives, too.
 pub record WorkedFlavorDirect : Type 0 where
   pub program : IsFlavorProgram AMD64 flavor_bases_8 (flavor_inputs AMD64) mixed_objects
   pub beside : AreBeside AMD64 0x1_4000_0000 flavor_bases_8 mixed_objects mixed_codes (open_targets mixed_placed)
@@ -122,4 +128,11 @@ pub record WorkedFlavorDirect : Type 0 where
       (map (imported_in AMD64) (flavor_inputs AMD64)) written →
       DirectCallArrives AMD64 0x1_4000_0000 (written ++ (image_of AMD64 flavor_bases_8 mixed_placed
       ++ code_ranges AMD64 0x1_4000_0000 (open_targets mixed_placed) mixed_codes)) 0x1004
+      (0x40 ∷ 0 ∷ 0 ∷ 0x10 ∷ 0 ∷ 0 ∷ 0 ∷ 0 ∷ [])
+  pub at : IsAtBase AMD64 0x1_4000_0000 0x7FF6_1234_0000 flavor_bases_8 mixed_objects mixed_codes
+      (open_targets mixed_placed) mixed_memory
+  pub moved : (n : ℕ) (written : List Range) → ReadsAndWrites mixed_memory 8 (given_on AMD64) n 8 written →
+      DirectCallArrives AMD64 0x7FF6_1234_0000 (written ++ mixed_memory) 0x1004
+      (0x40 ∷ 0 ∷ 0 ∷ 0x10 ∷ 0 ∷ 0 ∷ 0 ∷ 0 ∷ [])
+      × StubArrives AMD64 0x7FF6_1234_0000 (written ++ mixed_memory) 0x1010
       (0x40 ∷ 0 ∷ 0 ∷ 0x10 ∷ 0 ∷ 0 ∷ 0 ∷ 0 ∷ [])

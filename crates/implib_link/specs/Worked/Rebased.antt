@@ -4,19 +4,22 @@ use Rattle.std.specs.Prelude.{◌≡◌, ℕ, ◌+◌, List, [], ◌∷◌, ◌+
 use Rattle.implib.specs.declared.machine.MachineType.{MachineType}
 use Rattle.implib.specs.declared.machine.MachineType.TheVariants.{I386, ARMNT, AMD64, ARM64}
 use Rattle.implib.specs.Formats.Constants.{align_4bytes, class_external, cnt_code, mem_execute_read}
+use Rattle.implib.specs.Formats.Object.{Object}
 use Rattle.implib.specs.Link.Image.{Range, image_of}
 use Rattle.implib.specs.Link.Load.{BytesAt}
-use Rattle.implib.specs.Link.Placement.{Bases, Placed}
+use Rattle.implib.specs.Link.Placement.{Bases, Placed, placed_from}
+use Rattle.implib.specs.Link.Resolution.{target_address}
 use Rattle.implib.specs.Members.Gnu.{section, stub_bytes, stub_relocations, text_name}
 use Rattle.implib.specs.Members.ImportTables.{thunk_width}
+use Rattle.implib_link.specs.Flavors.Program.{IsFlavorProgram, objects_taken}
 use Rattle.implib_link.specs.Gnu.Calls.{CallArrives, Defines, PlacedCode, call_reads, code_ranges}
 use Rattle.implib_link.specs.Gnu.Program.{IsProgram}
 use Rattle.implib_link.specs.Gnu.Reading.{ReadsAndWrites}
 use Rattle.implib_link.specs.Gnu.Rebased.{CanMove, IsAtBase, IsRebased, Place, StubArrives, base_relocations, moved_number, places_at}
 use Rattle.implib_link.specs.Stub.{jump_reads}
 use Rattle.implib_link.specs.Worked.Calls.{calling, calling_at, calling_flavors, calling_objects, calling_placed, flavor_targets, flavors_placed, given_on, table_targets}
-use Rattle.implib_link.specs.Worked.Flavors.{flavor_bases_8}
-use Rattle.implib_link.specs.Worked.Programs.{both_inputs, symbol_of_class, symbol_on, touching_4, touching_8}
+use Rattle.implib_link.specs.Worked.Flavors.{both_inputs as flavor_inputs, flavor_bases_4, flavor_bases_8, members_with_null}
+use Rattle.implib_link.specs.Worked.Programs.{another, both_inputs, symbol_of_class, symbol_on, touching_4, touching_8}
 
 -- the stub of `open`, which is the fourth object's, at 0x1040
 abbrev pub placed_or_calling : MachineType → Option Placed → Placed
@@ -92,6 +95,8 @@ pub record WorkedMoves : Type 0 where
       (0xF0 ∷ 0xFF ∷ 0xFF ∷ 0xF0 ∷ 0x10 ∷ 0x42 ∷ 0x40 ∷ 0xF9 ∷ 0 ∷ 2 ∷ 0x3F ∷ 0xD6 ∷ [])
       (0xF0 ∷ 0xFF ∷ 0xFF ∷ 0xF0 ∷ 0x10 ∷ 0x42 ∷ 0x40 ∷ 0xF9 ∷ 0 ∷ 2 ∷ 0x1F ∷ 0xD6 ∷ [])
       0x80 (0x40 ∷ 0 ∷ 0 ∷ 0x10 ∷ 0 ∷ 0 ∷ 0 ∷ 0 ∷ [])
+  pub i386_ends : (written : List Range)
+      × ReadsAndWrites (i386_memory (0x60 ∷ 0 ∷ 0 ∷ 0x10 ∷ [])) 4 (given_on I386) 2 4 written
   -- without its base relocations the program is not the rebased one, nor with the difference added twice
   pub left_out : IsRebased 0x40_0000 0x1000_0000 i386_places (linked_memory I386 0x40_0000 touching_4)
       (linked_memory I386 0x40_0000 touching_4) → ⊥
@@ -116,6 +121,57 @@ pub record WorkedFlavorMove : Type 0 where
   pub arrives : (n : ℕ) (written : List Range) → ReadsAndWrites flavors_memory 8 (given_on AMD64) n 8 written →
       (n ≡ 2) × CallArrives AMD64 0x7FF6_1234_0000 (written ++ flavors_memory) 0x1004
       (0x40 ∷ 0 ∷ 0 ∷ 0x10 ∷ 0 ∷ 0 ∷ 0 ∷ 0 ∷ [])
+
+-- what is linked of both flavours on I386: the calling object, what the members of foo.dll for Microsoft's linker,
+-- its null descriptor behind two of them, and those of zed.dll for GNU's are taken for, and another object
+abbrev pub moving_flavors : List Object
+moving_flavors = calling I386 ∷ (objects_taken I386 (members_with_null I386 2) ++ another I386 ∷ [])
+
+abbrev pub moving_placed : List Placed
+moving_placed = placed_from flavor_bases_4 moving_flavors
+
+-- what the symbols of code are taken to be: their addresses in the tables
+abbrev pub moving_targets : PlacedCode → ℕ → ℕ
+moving_targets c index = target_address moving_placed c.from index
+
+-- this program with its code at 0x1000, as it was linked for 0x400000
+abbrev pub moving_linked : List Range
+moving_linked =
+    image_of I386 flavor_bases_4 moving_placed
+    ++ code_ranges I386 0x40_0000 moving_targets (calling_at I386 0x1000 ∷ [])
+
+-- and loaded at 0x10000000, with this field in the call
+abbrev pub moving_memory : List ℕ → List Range
+moving_memory field = record { start = 0x1006; bytes = field } ∷ moving_linked
+
+-- Its one base relocation is that of the call, which reads the entry of `open` at 0x64; a loader that reads it there
+-- loads both DLLs, and the call arrives at what foo.dll gives for `open`.
+pub record WorkedFlavorRebase : Type 0 where
+  pub program : IsFlavorProgram I386 flavor_bases_4 (flavor_inputs I386) moving_flavors
+  pub at : IsAtBase I386 0x40_0000 0x1000_0000 flavor_bases_4 moving_flavors (calling_at I386 0x1000 ∷ [])
+      moving_targets (moving_memory (0x64 ∷ 0 ∷ 0 ∷ 0x10 ∷ []))
+  pub places_are : base_relocations I386 moving_placed (calling_at I386 0x1000 ∷ [])
+      ≡ record { address = 0x1006; width = 4 } ∷ []
+  -- call [0x400064] as it was linked, call [0x10000064] there
+  pub linked_call : BytesAt moving_linked 0x1004 (0xFF ∷ 0x15 ∷ 0x64 ∷ 0 ∷ 0x40 ∷ 0 ∷ [])
+  pub call_there : BytesAt (moving_memory (0x64 ∷ 0 ∷ 0 ∷ 0x10 ∷ [])) 0x1004
+      (0xFF ∷ 0x15 ∷ 0x64 ∷ 0 ∷ 0 ∷ 0x10 ∷ [])
+  pub call_reads_it : call_reads I386 0x1000_1004 (0xFF ∷ 0x15 ∷ 0x64 ∷ 0 ∷ 0 ∷ 0x10 ∷ []) ≡ Some 0x1000_0064
+  pub arrives : (n : ℕ) (written : List Range) →
+      ReadsAndWrites (moving_memory (0x64 ∷ 0 ∷ 0 ∷ 0x10 ∷ [])) 4 (given_on I386) n 8 written →
+      (n ≡ 2) × CallArrives I386 0x1000_0000 (written ++ moving_memory (0x64 ∷ 0 ∷ 0 ∷ 0x10 ∷ [])) 0x1004
+      (0x40 ∷ 0 ∷ 0 ∷ 0x10 ∷ [])
+  pub ends : (written : List Range)
+      × ReadsAndWrites (moving_memory (0x64 ∷ 0 ∷ 0 ∷ 0x10 ∷ [])) 4 (given_on I386) 2 8 written
+  -- without the base relocation, or with the next entry's address in the call, it is not the program at that base,
+  -- nor where the difference is added to the field of the address table in the first descriptor, too
+  pub left_out : IsAtBase I386 0x40_0000 0x1000_0000 flavor_bases_4 moving_flavors (calling_at I386 0x1000 ∷ [])
+      moving_targets moving_linked → ⊥
+  pub next_entry : IsAtBase I386 0x40_0000 0x1000_0000 flavor_bases_4 moving_flavors (calling_at I386 0x1000 ∷ [])
+      moving_targets (moving_memory (0x68 ∷ 0 ∷ 0 ∷ 0x10 ∷ [])) → ⊥
+  pub table_moved : IsAtBase I386 0x40_0000 0x1000_0000 flavor_bases_4 moving_flavors (calling_at I386 0x1000 ∷ [])
+      moving_targets (record { start = 24; bytes = 0x60 ∷ 0 ∷ 0xC0 ∷ 0xF ∷ [] }
+      ∷ moving_memory (0x64 ∷ 0 ∷ 0 ∷ 0x10 ∷ [])) → ⊥
 
 -- The relocations that need a base relocation, of a section at 0x2000, by their types; and what the difference
 -- makes of numbers.

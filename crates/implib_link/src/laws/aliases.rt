@@ -19,7 +19,7 @@ ghost use Rattle.implib_link.specs.Gnu.Loaded.{Writes};
 ghost use Rattle.implib_link.specs.Gnu.Pointers.{HasLoad, LoadArrives};
 ghost use Rattle.implib_link.specs.Gnu.Program.{IsProgram};
 ghost use Rattle.implib_link.specs.Stub.{CanJump};
-ghost use Rattle.implib_link.specs.Worked.Aliases.{WorkedAlias};
+ghost use Rattle.implib_link.specs.Worked.Aliases.{WorkedAlias, WorkedFlavorAlias};
 ghost use Rattle.std.specs.List.{AllByRecursion, Contains};
 ghost use Rattle.std.specs.Prelude.{◌≡◌, ◌+◌, ◌∷◌, ◌++◌, [], ℕ, List, Some, length, map, slice_get};
 
@@ -136,7 +136,8 @@ pub fn aliases_of_flavors_reach_their_targets()
 {}
 
 /// A call by an alias of a program that was linked by hand goes to what the DLL gives for the
-/// alias's target.
+/// alias's target, and so does a pointer; in a program of both flavours, too.
 pub fn worked_alias()
-    ensures { WorkedAlias }
+    ensures one { WorkedAlias }
+    ensures flavors { WorkedFlavorAlias }
 {}

@@ -18,7 +18,7 @@ ghost use Rattle.implib_link.specs.Gnu.Pointers.{HasLoad, LoadArrives};
 ghost use Rattle.implib_link.specs.Gnu.Program.{IsProgram};
 ghost use Rattle.implib_link.specs.Stub.{CanJump};
 ghost use Rattle.implib_link.specs.Worked.DirectCalls.{WorkedBranch, WorkedFlavorDirect};
-ghost use Rattle.implib_link.specs.Worked.Pages.{WorkedPages};
+ghost use Rattle.implib_link.specs.Worked.Pages.{WorkedFlavorPages, WorkedPages};
 ghost use Rattle.implib_link.specs.Worked.Pointers.{WorkedPointers};
 ghost use Rattle.implib_link.specs.Worked.Calls.{WorkedCalls, WorkedDirectCall, WorkedFlavorCall, WorkedReading};
 ghost use Rattle.std.specs.List.{AllByRecursion, Contains};
@@ -264,5 +264,6 @@ pub fn worked_calls()
     ensures flavor_direct { WorkedFlavorDirect }
     ensures pointers { WorkedPointers }
     ensures pages { WorkedPages }
+    ensures flavor_pages { WorkedFlavorPages }
     ensures reading { WorkedReading }
 {}

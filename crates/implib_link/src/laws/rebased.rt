@@ -15,7 +15,7 @@ ghost use Rattle.implib_link.specs.Gnu.Loaded.{IsLoaded};
 ghost use Rattle.implib_link.specs.Gnu.Program.{IsProgram};
 ghost use Rattle.implib_link.specs.Gnu.Reading.{ReadsAndWrites};
 ghost use Rattle.implib_link.specs.Gnu.Rebased.{IsAtBase, StubArrives};
-ghost use Rattle.implib_link.specs.Worked.Rebased.{WorkedFlavorMove, WorkedMoves, WorkedPlaces};
+ghost use Rattle.implib_link.specs.Worked.Rebased.{WorkedFlavorMove, WorkedFlavorRebase, WorkedMoves, WorkedPlaces};
 ghost use Rattle.std.specs.List.{AllByRecursion, Contains};
 ghost use Rattle.std.specs.Prelude.{◌≡◌, ◌+◌, ◌++◌, ℕ, List, Some, false, length, slice_get};
 
@@ -184,9 +184,10 @@ pub fn rebased_programs_of_flavors_reach()
 
 /// A program that was linked by hand, on three machines, is moved to another base by hand, with the
 /// base relocations that it needs there, and its call and its stub arrive; without them, or with
-/// the difference added twice, it is none.
+/// the difference added twice, it is none. A program of both flavours is moved so on two machines.
 pub fn worked_moves()
     ensures moves { WorkedMoves }
     ensures flavors { WorkedFlavorMove }
+    ensures flavors_by_field { WorkedFlavorRebase }
     ensures places { WorkedPlaces }
 {}

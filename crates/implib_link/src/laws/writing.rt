@@ -131,9 +131,9 @@ pub fn loader_of_flavors_writes_at_base()
         memory (map (imported_in machine) inputs) after }
 {}
 
-/// Such a loader leaves just this of the programs that were linked by hand, on each machine. Of an
-/// image whose address table lies on its lookup table it asks less than one that first reads, and
-/// without a null descriptor it does not stop.
+/// Such a loader leaves just this of the programs that were linked by hand, on each machine, and of
+/// those in memory at another base. Of an image whose address table lies on its lookup table it
+/// asks less than one that first reads, and without a null descriptor it does not stop.
 pub fn worked_writings()
     ensures { WorkedWritings }
 {}

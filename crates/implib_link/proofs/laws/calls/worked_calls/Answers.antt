@@ -1,4 +1,4 @@
-use Rattle.implib_link.proofs.Worked.Pages.{worked_pages}
+use Rattle.implib_link.proofs.Worked.Pages.{worked_flavor_pages, worked_pages}
 use Rattle.implib_link.proofs.Worked.Pointers.{worked_pointers}
 use Rattle.implib_link.proofs.Worked.DirectCalls.{worked_branch, worked_flavor_direct}
 use Rattle.implib_link.proofs.Worked.Calls.{worked_calls, worked_direct_call, worked_flavor_call, worked_reading}
@@ -13,5 +13,6 @@ returns c = record {
   flavor_direct = worked_flavor_direct;
   pointers = worked_pointers;
   pages = worked_pages;
+  flavor_pages = worked_flavor_pages;
   reading = worked_reading;
 }
