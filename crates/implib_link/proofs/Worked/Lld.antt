@@ -13,10 +13,10 @@ use Rattle.implib.proofs.Link.LinkedMembers.{among_contains}
 use Rattle.implib.proofs.Link.Ranges.{Among, all_among}
 use Rattle.implib_link.specs.Directory.{DirectoryAt}
 use Rattle.implib_link.specs.Flavors.LldImports.{IsLldProgram, comes_first, entries_of_groups, group_entries, grouped, imp_symbols_of, imports_of_lld, in_small, put_in, put_into, short_for}
-use Rattle.implib_link.specs.Flavors.LldTables.{ArePiecesAt, IsAskable, all_hints, all_names, built, built_bytes, descriptor_built, directory_built, hint_built, hints_built, tables_built, thunk_built, thunks_built}
+use Rattle.implib_link.specs.Flavors.LldTables.{ArePiecesAt, IsAskable, IsImportable, all_hints, all_names, built, built_bytes, descriptor_built, directory_built, hint_built, hints_built, tables_built, thunk_built, thunks_built}
 use Rattle.implib_link.specs.Worked.Lld.{IsOnceAt, WorkedLld, gee_bytes, lld_image, lld_linked, mid_bytes, shorts_of, three_taken, two_dlls, written_by_lld, zeta_bytes}
 use Rattle.implib_link.proofs.Flavors.LldImports.{lld_links}
-use Rattle.implib_link.proofs.Flavors.LldTables.{built_pieces}
+use Rattle.implib_link.proofs.Flavors.LldTables.{built_pieces, pieces_directory}
 use Rattle.implib_link.proofs.Search.Lists.{contains_among}
 use Rattle.implib_link.proofs.Worked.Programs.{distinct_by}
 
@@ -43,6 +43,10 @@ holds_built = among_contains (built AMD64 0x2000 two_dlls) lld_image (inl (sym i
 pieces : ArePiecesAt AMD64 lld_image 0x2000 0x2040 0x2068 0x2090 0x209E two_dlls
 unfolding lld_opened
 pieces = built_pieces AMD64 0x2000 two_dlls lld_image (tt, tt) holds_built
+
+importable : AllByRecursion IsImportable two_dlls
+unfolding IsAskable
+importable = (record { name = refl; asks = (omega arith, ((omega arith, refl), tt)) }, (record { name = refl; asks = ((omega arith, refl), tt) }, tt))
 
 -- two that are called alike in small letters are called alike
 alike : (ks : List ShortImport) → AllByRecursion (λ r. AllByRecursion (λ s. (in_small r.dll ≡ in_small s.dll) → r.dll ≡ s.dll) ks) ks →
@@ -95,6 +99,8 @@ worked_lld = record {
   imports = imports;
   written = written;
   program = program;
+  pieces = pieces;
+  by_pieces = pieces_directory AMD64 lld_image 0x2000 0x2040 0x2068 0x2090 0x209E two_dlls (omega arith, tt) (omega arith, tt) importable pieces;
   directory = subst (DirectoryAt lld_image 8 0x2000) imports (lld_links AMD64 0x2000 0x2068 three_taken lld_image lld_linked program).directory;
   zeta = zeta;
   gee = gee;

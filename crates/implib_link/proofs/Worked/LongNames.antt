@@ -1,9 +1,12 @@
 -- Full names of sections by hand, by computing.
 use Rattle.std.proofs.Common.{refl}
+use Rattle.implib.specs.declared.machine.MachineType.TheVariants.{AMD64}
 use Rattle.implib_link.specs.FullNames.{decimal_in, digits_behind, full_name, object_by_full_names, sections_by_full_names, strings_of}
 use Rattle.implib_link.specs.Worked.LongNames.{WorkedLongNames}
 use Rattle.implib_link.specs.Gnu.Program.{has_tables}
-use Rattle.implib_link.proofs.Worked.Programs.{opened}
+use Rattle.implib_link.specs.Worked.Programs.{both_inputs}
+use Rattle.implib_link.proofs.Gnu.FullNames.{members_by_full_names}
+use Rattle.implib_link.proofs.Worked.Programs.{opened, worked_programs}
 
 pub worked_long_names : WorkedLongNames
 unfolding opened object_by_full_names strings_of sections_by_full_names full_name decimal_in digits_behind has_tables
@@ -19,4 +22,6 @@ worked_long_names = record {
   no_offset = refl;
   no_nul = refl;
   short = refl;
+  members = members_by_full_names AMD64 (both_inputs AMD64) worked_programs.amd64.made;
+  nine = refl;
 }

@@ -21,6 +21,7 @@ use Rattle.implib_link.specs.Worked.MsvcSearch.{WorkedMsvcSearch, WorkedMsvcSear
 use Rattle.implib_link.specs.Worked.Programs.{symbol_on}
 use Rattle.implib_link.proofs.Search.Lists.{among_any, any_among, contains_among}
 use Rattle.implib_link.proofs.Search.Msvc.{search_takes}
+use Rattle.implib_link.proofs.Search.MsvcEnds.{short_search_bounded, short_search_ends}
 use Rattle.implib_link.proofs.Worked.Programs.{distinct_by, opened}
 
 -- whether a name pulls in no member any more
@@ -237,7 +238,7 @@ armnt = record {
 }
 
 pub worked_msvc_searches : WorkedMsvcSearches
-unfolding descriptor_symbol null_descriptor_symbol null_thunk_symbol base_name
+unfolding descriptor_symbol null_descriptor_symbol null_thunk_symbol base_name header_specs weak_specs
 worked_msvc_searches = record {
   amd64 = amd64;
   arm64 = arm64;
@@ -246,4 +247,7 @@ worked_msvc_searches = record {
   no_descriptor = λ plain. true≢false plain.descriptor;
   no_null_descriptor = λ plain. true≢false plain.null_descriptor;
   no_null_thunk = λ plain. true≢false plain.null_thunk;
+  ends = short_search_ends AMD64 (short_members AMD64) (one_wanted AMD64);
+  bounded = short_search_bounded AMD64 (short_members AMD64) (four_taken AMD64) (one_wanted AMD64) amd64_takes.in_turn;
+  members = refl;
 }

@@ -21,8 +21,9 @@ use Rattle.implib_link.specs.Directory.{DirectoryAt}
 use Rattle.implib_link.specs.Gnu.OtherLibraries.{AllTaken, DescriptorsAt, HoldsFields, IsProgramBeside, imports_of_runs, inputs_of_runs}
 use Rattle.implib_link.specs.Gnu.Program.{ClaimsNone, claimed_names, has_tables, linked_symbols, null_descriptor}
 use Rattle.implib_link.specs.Worked.OtherLibraries.{WorkedBeside, aaa, aaa_objects, beside_image, beside_objects, both_runs, caller_bytes, image_written, linker_bases, objects_of, torn_objects, zzz, zzz_objects}
-use Rattle.implib_link.proofs.Gnu.OtherLibraries.{links_beside}
-use Rattle.implib_link.proofs.Worked.Programs.{claims_none_by, distinct_by, opened}
+use Rattle.implib_link.specs.Worked.Programs.{both_inputs, program_objects, touching_8}
+use Rattle.implib_link.proofs.Gnu.OtherLibraries.{links_beside, programs_beside_none}
+use Rattle.implib_link.proofs.Worked.Programs.{claims_none_by, distinct_by, opened, worked_programs}
 use Rattle.implib_link.proofs.Worked.RefusedLinks.{are_located, number}
 
 -- by a computed answer
@@ -226,4 +227,5 @@ worked_beside = record {
   mone = mone;
   mtwo = mtwo;
   torn = torn;
+  none = programs_beside_none AMD64 touching_8 (both_inputs AMD64) (program_objects AMD64) worked_programs.amd64.program;
 }

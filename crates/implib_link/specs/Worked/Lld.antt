@@ -10,7 +10,7 @@ use Rattle.implib.specs.Link.Placement.{Placed}
 use Rattle.implib.specs.Link.Resolution.{definitions_of}
 use Rattle.implib_link.specs.Directory.{DirectoryAt, Imported}
 use Rattle.implib_link.specs.Flavors.LldImports.{IsLldProgram, imports_of_lld, placed_by_lld, short_for}
-use Rattle.implib_link.specs.Flavors.LldTables.{built_bytes}
+use Rattle.implib_link.specs.Flavors.LldTables.{ArePiecesAt, built_bytes}
 
 -- the short imports `zeta` and `mid` of beta.dll and `gee` of alpha.dll
 abbrev pub zeta_bytes : List ℕ
@@ -66,13 +66,15 @@ abbrev pub IsOnceAt : List ℕ → ℕ → Type 0
 IsOnceAt name address = definitions_of name lld_linked ≡ record { name = name; address = Some address } ∷ []
 
 -- Of the short imports' bytes, the definitions give just the bytes that lld wrote, and the premises of the law hold;
--- by the law its directory is this one. The calls in lld's code go through these entries: `call [rip + 0x106A]` behind
+-- by the laws it has five pieces at these addresses, and its directory is this one. The calls in lld's code go through these entries: `call [rip + 0x106A]` behind
 -- 0x1006, `[rip + 0x1074]` behind 0x100C and `[rip + 0x1056]` behind 0x1012. Short imports that are taken in another
 -- order, or a DLL's in another order, have other tables.
 pub record WorkedLld : Type 0 where
   pub imports : imports_of_lld three_taken ≡ two_dlls
   pub written : built_bytes AMD64 0x2000 two_dlls ≡ written_by_lld
   pub program : IsLldProgram AMD64 0x2000 0x2068 three_taken lld_image lld_linked
+  pub pieces : ArePiecesAt AMD64 lld_image 0x2000 0x2040 0x2068 0x2090 0x209E two_dlls
+  pub by_pieces : DirectoryAt lld_image 8 0x2000 two_dlls
   pub directory : DirectoryAt lld_image 8 0x2000 two_dlls
   pub zeta : IsOnceAt (codes "__imp_zeta") 0x2070
   pub gee : IsOnceAt (codes "__imp_gee") 0x2080

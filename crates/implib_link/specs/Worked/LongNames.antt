@@ -1,11 +1,14 @@
 -- Full names of sections by hand, in a file with a symbol and with two texts in its string table.
 use Rattle.std.specs.Prelude.{◌≡◌, ℕ, ◌+◌, true, List, [], ◌∷◌, ◌++◌, codes, length, map, Option, Some, None}
 use Rattle.std.specs.Option.{option_map}
+use Rattle.implib.specs.declared.machine.MachineType.TheVariants.{AMD64}
 use Rattle.implib.specs.Formats.Bytes.{u16_bytes, u32_bytes}
 use Rattle.implib.specs.Formats.Object.{ObjectSection}
+use Rattle.implib.specs.Link.LinkedMembers.{all_linked, objects_in}
 use Rattle.implib.specs.Members.ImportTables.{zeros}
 use Rattle.implib_link.specs.FullNames.{decimal_in, object_by_full_names}
 use Rattle.implib_link.specs.Gnu.Program.{has_tables}
+use Rattle.implib_link.specs.Worked.Programs.{both_inputs}
 
 -- a symbol's record of 18 bytes: the name `main`, the value 0, the section 1, the type 0, the class 2
 abbrev pub main_record : List ℕ
@@ -30,7 +33,7 @@ names_in name strings =
 
 -- The digits are decimal, all ten of them, and the string table is behind the symbol's record: `/10` is the second text and
 -- `/16` its end. Behind the last text there is no name, nor where a sign is no digit, nor where a text has no
--- NUL.
+-- NUL. The nine members of Worked/Programs read the same with full names.
 pub record WorkedLongNames : Type 0 where
   pub digits : decimal_in (codes "1029384756") ≡ Some 1029384756
   pub first : names_in (codes "/4" ++ zeros 6) two_texts ≡ Some (codes "debug" ∷ [])
@@ -44,3 +47,6 @@ pub record WorkedLongNames : Type 0 where
   pub no_offset : names_in (codes "/" ++ zeros 7) two_texts ≡ None
   pub no_nul : names_in (codes "/10" ++ zeros 5) (codes "debug" ++ 0 ∷ codes ".idata$23") ≡ None
   pub short : names_in (codes ".idata$4") two_texts ≡ Some (codes ".idata$4" ∷ [])
+  pub members : map (λ m. object_by_full_names m.bytes) (all_linked AMD64 (both_inputs AMD64))
+      ≡ map Some (objects_in (all_linked AMD64 (both_inputs AMD64)))
+  pub nine : length (all_linked AMD64 (both_inputs AMD64)) ≡ 9

@@ -1,5 +1,5 @@
 -- A search of the members for Microsoft's linker that was done by hand, and what is no such search.
-use Rattle.std.specs.Prelude.{◌≡◌, ℕ, List, [], ◌∷◌, bytes_eq, codes, map}
+use Rattle.std.specs.Prelude.{◌≡◌, ℕ, ◌≤◌, List, [], ◌∷◌, bytes_eq, codes, length, map}
 use Rattle.std.specs.List.{IsDistinct, flat_map}
 use Rattle.implib.specs.declared.flavor.Flavor.TheVariants.{Msvc}
 use Rattle.implib.specs.declared.machine.MachineType.{MachineType}
@@ -62,7 +62,8 @@ pub record WorkedMsvcSearch (machine : MachineType) : Type 0 where
   pub unfinished : TakesFor machine (short_members machine) (one_wanted machine) (baz_member machine ∷ []) → ⊥
   pub unasked : TakesFor machine (short_members machine) (codes "printf" ∷ []) (baz_member machine ∷ []) → ⊥
 
--- on each machine; and names by which only members name each other are left out
+-- on each machine; there is such a search, which takes at most the archive's six members; and names by which only
+-- members name each other are left out
 pub record WorkedMsvcSearches : Type 0 where
   pub amd64 : WorkedMsvcSearch AMD64
   pub arm64 : WorkedMsvcSearch ARM64
@@ -71,3 +72,6 @@ pub record WorkedMsvcSearches : Type 0 where
   pub no_descriptor : NamesNoHeader (codes "foo.dll") (codes "__IMPORT_DESCRIPTOR_foo" ∷ []) → ⊥
   pub no_null_descriptor : NamesNoHeader (codes "foo.dll") (codes "__NULL_IMPORT_DESCRIPTOR" ∷ []) → ⊥
   pub no_null_thunk : NamesNoHeader (codes "foo.dll") ((0x7F ∷ codes "foo_NULL_THUNK_DATA") ∷ []) → ⊥
+  pub ends : (taken : List MemberView) × TakesFor AMD64 (short_members AMD64) (one_wanted AMD64) taken
+  pub bounded : length (four_taken AMD64) ≤ length (short_members AMD64)
+  pub members : length (short_members AMD64) ≡ 6

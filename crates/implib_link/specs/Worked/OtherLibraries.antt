@@ -15,7 +15,7 @@ use Rattle.implib.specs.Worked.Statements.{plain_export}
 use Rattle.implib_link.specs.Directory.{DirectoryAt, Imported}
 use Rattle.implib_link.specs.Gnu.OtherLibraries.{IsProgramBeside, Run}
 use Rattle.implib_link.specs.Gnu.Program.{null_descriptor}
-use Rattle.implib_link.specs.Worked.Programs.{chosen_input, input_objects}
+use Rattle.implib_link.specs.Worked.Programs.{both_inputs, chosen_input, input_objects, program_objects, touching_8}
 
 -- dlltool's files: head, exports and tail of each DLL; and an object of LLVM's assembler that calls all five
 -- exports through their entries
@@ -345,7 +345,8 @@ torn_objects = objects_of (caller_bytes ∷ aaa_head_bytes ∷ aone_bytes ∷ at
 
 -- The premises of the law hold of these files, and the image that the definitions make of them is what the linker
 -- wrote, byte for byte. By the law, the directory is this, and our entries are those that the linker's map has.
--- With a library torn apart, the lookup table of aaa.dll goes on with the hint and name of `mone`.
+-- With a library torn apart, the lookup table of aaa.dll goes on with the hint and name of `mone`. The program of
+-- Worked/Programs is such a program without other libraries.
 pub record WorkedBeside : Type 0 where
   pub made : AllByRecursion (λ r. AllByRecursion (IsMade AMD64) r.inputs) both_runs
   pub program : IsProgramBeside AMD64 linker_bases both_runs beside_objects
@@ -359,3 +360,5 @@ pub record WorkedBeside : Type 0 where
   pub mtwo : addresses_of (codes "__imp_mtwo") (placed_from linker_bases beside_objects) ≡ Some 0x20B0 ∷ []
   pub torn : numbers_from (image_of AMD64 linker_bases (placed_from linker_bases torn_objects)) 8 3 0x2050
       ≡ Some (0x20D0 ∷ 0x20D8 ∷ 0x20E0 ∷ [])
+  pub none : IsProgramBeside AMD64 touching_8
+      (record { objects = []; imports = []; inputs = both_inputs AMD64 } ∷ []) (program_objects AMD64)
