@@ -1,5 +1,5 @@
-//! Tests of the library `implib` by its public calls. The library has no tests of its own, since a
-//! crate with tests is proved twice.
+//! Tests of the library `implib` by its public calls, and what was worked by hand of great counts.
+//! The library has no tests of its own, since a crate with tests is proved twice.
 #![tactic(auto)]
 
 #[cfg(test)]
@@ -8,6 +8,7 @@ mod calls;
 mod conversions;
 #[cfg(test)]
 mod displayed;
+pub mod laws;
 #[cfg(test)]
 mod many;
 #[cfg(test)]

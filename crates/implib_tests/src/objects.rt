@@ -1,5 +1,7 @@
 //! Objects of the writer, whose bytes are known from outside.
 
+ghost use Rattle.std.specs.Prelude.{◌<◌, ◌≤◌, ◌+◌, ◌≡◌, OnOk, length};
+
 use implib::coff::{ObjectWriter, Place, Relocation, Section, Symbol, class, relocation};
 use implib::{Error, MachineType};
 use std::alloc::Global;
@@ -142,5 +144,63 @@ fn an_object_of_three_sections_has_its_bytes(rt: HostRuntime) -> Result<(), Fail
     let bytes = object_of_three_sections(rt.alloc())?;
     assert_eq!(rt; bytes.len(), 258);
     assert_eq!(rt; bytes.as_slice(), THREE_SECTIONS);
+    Ok(())
+}
+
+// Adds a section of four bytes.
+fn add_one(alloc: Global, writer: &mut ObjectWriter) -> Result<(), Error>
+    requires { length writer.old.sections < 32767 }
+    ensures { OnOk result (length writer.new.sections ≡ length writer.old.sections + 1) }
+{
+    let data = Section::new(alloc, *b".data\0\0\0", 0xC030_0040, &[0; 4])?;
+    writer.add_section(data)?;
+    Ok(())
+}
+
+// Adds eight sections.
+fn add_eight(alloc: Global, writer: &mut ObjectWriter) -> Result<(), Error>
+    requires { length writer.old.sections + 8 ≤ 32767 }
+    ensures { OnOk result (length writer.new.sections ≡ length writer.old.sections + 8) }
+{
+    add_one(alloc, writer)?;
+    add_one(alloc, writer)?;
+    add_one(alloc, writer)?;
+    add_one(alloc, writer)?;
+    add_one(alloc, writer)?;
+    add_one(alloc, writer)?;
+    add_one(alloc, writer)?;
+    add_one(alloc, writer)?;
+    Ok(())
+}
+
+// Adds 64 sections.
+fn add_sixty_four(alloc: Global, writer: &mut ObjectWriter) -> Result<(), Error>
+    requires { length writer.old.sections + 64 ≤ 32767 }
+    ensures { OnOk result (length writer.new.sections ≡ length writer.old.sections + 64) }
+{
+    add_eight(alloc, writer)?;
+    add_eight(alloc, writer)?;
+    add_eight(alloc, writer)?;
+    add_eight(alloc, writer)?;
+    add_eight(alloc, writer)?;
+    add_eight(alloc, writer)?;
+    add_eight(alloc, writer)?;
+    add_eight(alloc, writer)?;
+    Ok(())
+}
+
+// The header of each section has 40 bytes and its data 4; the file header has 20, the string table 4.
+#[test]
+fn an_object_of_320_sections_is_written(rt: HostRuntime) -> Result<(), Fail> {
+    let alloc = rt.alloc();
+    let mut writer = ObjectWriter::new(alloc, MachineType::AMD64);
+    add_sixty_four(alloc, &mut writer)?;
+    add_sixty_four(alloc, &mut writer)?;
+    add_sixty_four(alloc, &mut writer)?;
+    add_sixty_four(alloc, &mut writer)?;
+    add_sixty_four(alloc, &mut writer)?;
+    let bytes = writer.write()?;
+    assert_eq!(rt; bytes.len(), 14_104);
+    assert_eq!(rt; &bytes[..4], b"\x64\x86\x40\x01".as_slice());
     Ok(())
 }
