@@ -1,19 +1,16 @@
 -- The whole way by hand, by computing and by the law.
-use Rattle.std.proofs.Common.{◌≡◌, ℕ, ◌^◌, true, false, List, [], ◌∷◌, ◌++◌, map, Some, refl, sym, inl, inr, arith, codes}
+use Rattle.std.proofs.Common.{◌≡◌, ℕ, ◌^◌, true, false, List, [], ◌∷◌, ◌++◌, refl, arith, codes}
 use Rattle.std.specs.Prelude.{bytes_eq}
-use Rattle.std.specs.List.{AllByRecursion, Contains, flat_map, list_any}
+use Rattle.std.specs.List.{AllByRecursion, flat_map, list_any}
 use Rattle.std.proofs.lemmas.Bool.{true≢false}
 use Rattle.implib.specs.declared.machine.MachineType.TheVariants.{AMD64}
 use Rattle.implib.specs.Formats.Constants.{class_external}
 use Rattle.implib.specs.Formats.Layout.{encoded_size}
-use Rattle.implib.specs.Formats.Object.{Object}
 use Rattle.implib.specs.Members.GnuMembers.{alias_specs}
 use Rattle.implib.specs.Members.Members.{refusal, renamed_refusal}
-use Rattle.implib.specs.Members.MemberSpec.{MemberView}
 use Rattle.implib.specs.Members.WeakExternal.{weak_object}
-use Rattle.implib.specs.Link.Image.{Range, image_of}
+use Rattle.implib.specs.Link.Image.{image_of}
 use Rattle.implib.specs.Link.LinkedMembers.{LinkInput, objects_in}
-use Rattle.implib.specs.Link.Placement.{next_multiple}
 use Rattle.implib.specs.Text.Parses.{Parses}
 use Rattle.implib.specs.Worked.Statements.{plain_export}
 use Rattle.implib.proofs.Worked.Statements.{opened as text_opened, parses}
@@ -30,7 +27,7 @@ use Rattle.implib_archive_link.proofs.Way.{calls_arrive}
 use Rattle.implib_link.specs.Gnu.Calls.{AreBeside, HasCall}
 use Rattle.implib_link.specs.Gnu.Program.{ClaimsNone, claimed_names, has_tables}
 use Rattle.implib_link.specs.Search.Archives.{IsArchive, archive_of, is_weak, symbols_of_library}
-use Rattle.implib_link.specs.Search.Closed.{AreLinkedFor, TakesInto, claims_of, inputs_in, listed_in, references_of, unresolved}
+use Rattle.implib_link.specs.Search.Closed.{AreLinkedFor, TakesInto, claims_of, listed_in, references_of}
 use Rattle.implib_link.specs.Search.Given.{AreGiven, symbols_kept}
 use Rattle.implib_link.specs.Search.Search.{IsTakenInTurn, Takes, names_claimed, names_undefined, undefined_in}
 use Rattle.implib_link.specs.Worked.Calls.{first_bytes, given_on, last_bytes}

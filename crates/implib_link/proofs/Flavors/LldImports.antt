@@ -3,7 +3,7 @@ use Rattle.std.proofs.Common.{◌≡◌, ℕ, zero, suc, ◌+◌, ◌*◌, ◌�
 use Rattle.std.specs.Prelude.{bytes_eq, slice_get}
 use Rattle.std.specs.List.{AllByRecursion, Contains, IsDistinct, filter, filter_map, flat_map}
 use Rattle.std.proofs.Math.Nat.{mul-suc, mul-zero}
-use Rattle.std.proofs.lemmas.List.{append-nil, length-map, map-append}
+use Rattle.std.proofs.lemmas.List.{append-nil, map-append}
 use Rattle.std.proofs.lemmas.List.Elements.{filter_map-append}
 use Rattle.implib.specs.declared.machine.MachineType.{MachineType}
 use Rattle.implib.specs.Formats.Layout.{HasNoNul}
@@ -11,7 +11,7 @@ use Rattle.implib.specs.Formats.ShortImport.{ShortImport, ask_of_short_import}
 use Rattle.implib.specs.Import.{imp_symbol}
 use Rattle.implib.specs.Link.Image.{Range}
 use Rattle.implib.specs.Link.Placement.{Addresses, At, Placed}
-use Rattle.implib.specs.Link.Resolution.{SymbolDefinition, defined_by_entry, definitions, definitions_of}
+use Rattle.implib.specs.Link.Resolution.{SymbolDefinition, defined_by_entry, definitions_of}
 use Rattle.implib.specs.Members.ImportTables.{thunk_width}
 use Rattle.implib.proofs.Link.Definitions.{only_definition}
 use Rattle.implib.proofs.Link.Descriptors.{LoadsFrom}
@@ -20,12 +20,12 @@ use Rattle.implib.proofs.Link.Ranges.{Among, all_among, among_back, among_first,
 use Rattle.implib_link.specs.Directory.{Imported}
 use Rattle.implib_link.specs.Flavors.LldImports.{IsImportedBy, IsLldProgram, LldLinks, dll_of_group, entries_of_groups, group_entries, grouped, imp_symbols_of, imported_by, imports_of_lld, in_small, placed_by_lld}
 use Rattle.implib_link.specs.Flavors.LldTables.{IsAskable, IsImportable, thunks_until}
-use Rattle.implib_link.proofs.Flavors.LldGroups.{OneDll, grouped_all, grouped_distinct, grouped_holds, grouped_one, grouped_times, in_place, key}
+use Rattle.implib_link.proofs.Flavors.LldGroups.{OneDll, grouped_all, grouped_distinct, grouped_holds, grouped_one, grouped_times, in_place}
 use Rattle.implib_link.proofs.Flavors.LldTables.{StandAt, directory_stands, pieces_stand}
 use Rattle.implib_link.proofs.Gnu.Blocks.{table_sum}
 use Rattle.implib_link.proofs.Gnu.OtherLibraries.{definitions_parts}
 use Rattle.implib_link.proofs.Gnu.Program.{gets_address}
-use Rattle.implib_link.proofs.Search.Counts.{distinct_from, few_from, times}
+use Rattle.implib_link.proofs.Search.Counts.{distinct_from, few_from}
 use Rattle.implib_link.proofs.Search.Lists.{contains_among}
 
 all_at : {X : Type 0} (P : X → Type 0) (xs : List X) (i : ℕ) (x : X) → AllByRecursion P xs → slice_get xs i ≡ Some x → P x

@@ -1,24 +1,21 @@
 -- The tables that lld makes are a directory.
-use Rattle.std.proofs.Common.{◌≡◌, ℕ, zero, suc, true, ◌+◌, ◌*◌, ◌-◌, ◌%◌, ◌^◌, ◌<◌, ◌≤◌, List, [], ◌∷◌, ◌++◌, length, refl, ap, sym, ◌∙◌, subst, arith}
+use Rattle.std.proofs.Common.{◌≡◌, ℕ, suc, true, ◌+◌, ◌*◌, ◌-◌, ◌%◌, ◌^◌, ◌<◌, ◌≤◌, List, [], ◌∷◌, ◌++◌, length, refl, ap, sym, ◌∙◌, subst, arith}
 use Rattle.std.specs.List.{AllByRecursion, Contains}
 use Rattle.std.proofs.Math.Nat.{mul-add}
 use Rattle.std.proofs.lemmas.List.{length-append, length-replicate}
 use Rattle.implib.specs.declared.machine.MachineType.{MachineType}
 use Rattle.implib.specs.declared.machine.MachineType.TheVariants.{I386, ARMNT, AMD64, ARM64}
 use Rattle.implib.specs.Formats.Bytes.{u16_bytes, u32_bytes}
-use Rattle.implib.specs.Formats.Layout.{HasNoNul}
 use Rattle.implib.specs.Import.{Ask, Name, Ordinal}
 use Rattle.implib.specs.Link.Image.{AllApart, Range, range_end}
-use Rattle.implib.specs.Link.Load.{BytesAt, NumberAt, TableAt, TextAt, WholeTableAt}
-use Rattle.implib.specs.Link.Placement.{next_multiple}
+use Rattle.implib.specs.Link.Load.{BytesAt, TableAt, WholeTableAt}
 use Rattle.implib.specs.Members.ImportTables.{thunk_width, zeros}
-use Rattle.implib.proofs.Link.Descriptors.{LoadsFrom, descriptor_loads, length-u32}
+use Rattle.implib.proofs.Link.Descriptors.{LoadsFrom, descriptor_loads}
 use Rattle.implib.proofs.Link.Placement.{at_least, length-thunk_of}
 use Rattle.implib.proofs.Link.Ranges.{address_bounds, located_parts, range_located}
 use Rattle.implib.proofs.Link.Thunks.{StrictTableAt, StrictThunkAt, length-address, length-u16, name_located, ordinal_located, zeros_number}
 use Rattle.implib_link.proofs.Search.Lists.{contains_among}
 use Rattle.implib_link.specs.Directory.{DirectoryAt, Imported}
-use Rattle.implib_link.specs.Flavors.Expansion.{thunk_asking}
 use Rattle.implib_link.specs.Flavors.LldTables.{ArePiecesAt, IsAskable, IsImportable, addresses_at, all_hints, all_names, built, built_bytes, descriptor_built, directory_built, directory_end, hint_and_text, hint_built, hints_at, hints_built, lookups_at, names_at, tables_built, thunk_built, thunks_built, thunks_until}
 
 -- DLLs from a descriptor on, whose address tables follow one another, and the null descriptor

@@ -1,13 +1,11 @@
 -- The tables that lld wrote, by computing.
-use Rattle.std.proofs.Common.{◌≡◌, ℕ, ◌+◌, ◌^◌, ◌<◌, Bool, true, false, List, [], ◌∷◌, codes, Some, refl, ap, sym, subst, arith, inl}
+use Rattle.std.proofs.Common.{◌≡◌, false, List, [], ◌∷◌, codes, refl, ap, sym, subst, arith, inl}
 use Rattle.std.specs.Prelude.{bytes_eq}
 use Rattle.std.specs.List.{AllByRecursion, Contains}
-use Rattle.std.proofs.lemmas.Slice.Eq.{bytes_eq-Decides}
 use Rattle.implib.specs.declared.machine.MachineType.TheVariants.{AMD64}
 use Rattle.implib.specs.Formats.Bytes.{u16_bytes, u32_bytes}
 use Rattle.implib.specs.Formats.Object.{u16_at, u32_at}
 use Rattle.implib.specs.Formats.ShortImport.{ShortImport, short_import_in}
-use Rattle.implib.specs.Link.Image.{Range}
 use Rattle.implib.specs.Link.Placement.{next_multiple}
 use Rattle.implib.proofs.Link.LinkedMembers.{among_contains}
 use Rattle.implib.proofs.Link.Ranges.{Among, all_among}

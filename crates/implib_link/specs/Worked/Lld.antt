@@ -1,6 +1,6 @@
 -- The import tables that lld-link 19.1.7 wrote of three short imports of llvm-dlltool 19.1.7, for two DLLs, one of them
 -- by its ordinal: what the linker read and what it wrote, byte by byte.
-use Rattle.std.specs.Prelude.{◌≡◌, ℕ, Bool, false, List, [], ◌∷◌, bytes_eq, codes, Some}
+use Rattle.std.specs.Prelude.{◌≡◌, ℕ, false, List, [], ◌∷◌, bytes_eq, codes, Some}
 use Rattle.std.specs.List.{filter_map}
 use Rattle.implib.specs.declared.machine.MachineType.TheVariants.{AMD64}
 use Rattle.implib.specs.Formats.ShortImport.{ShortImport}

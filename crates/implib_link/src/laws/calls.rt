@@ -10,8 +10,12 @@ ghost use Rattle.implib.specs.Link.Placement.{Bases, placed_from};
 ghost use Rattle.implib.specs.declared.machine.MachineType.{MachineType};
 ghost use Rattle.implib.specs.declared.machine.MachineType.TheVariants.{ARM64};
 ghost use Rattle.implib_link.specs.Directory.{imported};
-ghost use Rattle.implib_link.specs.Flavors.Program.{FlavorInput, IsCode, IsFlavorProgram, IsMadeFor, ask_in, dll_of, exports_chosen, imported_in, symbol_in};
-ghost use Rattle.implib_link.specs.Gnu.Calls.{AreBeside, CallArrives, CanBranch, Defines, DirectCallArrives, HasCall, HasDirectCall, PlacedCode, code_ranges};
+ghost use Rattle.implib_link.specs.Flavors.Program.{FlavorInput, IsCode, IsFlavorProgram};
+ghost use Rattle.implib_link.specs.Flavors.Program.{IsMadeFor, ask_in, dll_of, exports_chosen};
+ghost use Rattle.implib_link.specs.Flavors.Program.{imported_in, symbol_in};
+ghost use Rattle.implib_link.specs.Gnu.Calls.{AreBeside, CallArrives, CanBranch, Defines};
+ghost use Rattle.implib_link.specs.Gnu.Calls.{DirectCallArrives, HasCall, HasDirectCall};
+ghost use Rattle.implib_link.specs.Gnu.Calls.{PlacedCode, code_ranges};
 ghost use Rattle.implib_link.specs.Gnu.Loaded.{Writes};
 ghost use Rattle.implib_link.specs.Gnu.Pages.{HasPage, HasPageOffset, PageArrives};
 ghost use Rattle.implib_link.specs.Gnu.Pointers.{HasLoad, LoadArrives};
@@ -20,9 +24,11 @@ ghost use Rattle.implib_link.specs.Stub.{CanJump};
 ghost use Rattle.implib_link.specs.Worked.DirectCalls.{WorkedBranch, WorkedFlavorDirect};
 ghost use Rattle.implib_link.specs.Worked.Pages.{WorkedFlavorPages, WorkedPages};
 ghost use Rattle.implib_link.specs.Worked.Pointers.{WorkedPointers};
-ghost use Rattle.implib_link.specs.Worked.Calls.{WorkedCalls, WorkedDirectCall, WorkedFlavorCall, WorkedReading};
+ghost use Rattle.implib_link.specs.Worked.Calls.{WorkedCalls, WorkedDirectCall, WorkedFlavorCall};
+ghost use Rattle.implib_link.specs.Worked.Calls.{WorkedReading};
 ghost use Rattle.std.specs.List.{AllByRecursion, Contains};
-ghost use Rattle.std.specs.Prelude.{◌≡◌, ◌<◌, ◌+◌, ◌++◌, ℕ, List, Some, false, length, map, slice_get};
+ghost use Rattle.std.specs.Prelude.{◌≡◌, ◌<◌, ◌+◌, ◌++◌, ℕ, List, Some, false, length, map};
+ghost use Rattle.std.specs.Prelude.{slice_get};
 
 /// In a loaded program, a call through an export's `__imp_` symbol, in the code of any object at
 /// any place, reads the address that the DLL gives for the export.

@@ -8,13 +8,18 @@ ghost use Rattle.implib.specs.Formats.Object.{Object};
 ghost use Rattle.implib.specs.Link.Placement.{Bases, placed_from};
 ghost use Rattle.implib.specs.declared.machine.MachineType.{MachineType};
 ghost use Rattle.implib_link.specs.Flavors.Loaded.{AreLoaded};
-ghost use Rattle.implib_link.specs.Flavors.Program.{AreFlavorObjects, FlavorInput, FlavorsLink, IsCode, IsFlavorProgram, IsMadeFor, ask_in, dll_of, exports_chosen, imported_in, symbol_in, thunks_of};
-ghost use Rattle.implib_link.specs.Flavors.Texts.{FlavorSource, FlavorTextsLink, IsFlavorSource, input_of};
+ghost use Rattle.implib_link.specs.Flavors.Program.{AreFlavorObjects, FlavorInput, FlavorsLink};
+ghost use Rattle.implib_link.specs.Flavors.Program.{IsCode, IsFlavorProgram, IsMadeFor, ask_in};
+ghost use Rattle.implib_link.specs.Flavors.Program.{dll_of, exports_chosen, imported_in};
+ghost use Rattle.implib_link.specs.Flavors.Program.{symbol_in, thunks_of};
+ghost use Rattle.implib_link.specs.Flavors.Texts.{FlavorSource, FlavorTextsLink, IsFlavorSource};
+ghost use Rattle.implib_link.specs.Flavors.Texts.{input_of};
 ghost use Rattle.implib_link.specs.Gnu.Loaded.{Writes};
 ghost use Rattle.implib_link.specs.Gnu.Packed.{packed, packed_end};
 ghost use Rattle.implib_link.specs.Stub.{CallReaches, CanJump, JumpsThrough};
 ghost use Rattle.std.specs.List.{AllByRecursion};
-ghost use Rattle.std.specs.Prelude.{◌≡◌, ◌<◌, ◌+◌, ◌*◌, ◌^◌, ◌++◌, ℕ, List, Some, length, map, slice_get};
+ghost use Rattle.std.specs.Prelude.{◌≡◌, ◌<◌, ◌+◌, ◌*◌, ◌^◌, ◌++◌, ℕ, List, Some, length, map};
+ghost use Rattle.std.specs.Prelude.{slice_get};
 
 /// The chosen members of several DLLs, each for Microsoft's linker or for GNU's, and a null
 /// descriptor link among any other objects: the import directory lists just these DLLs with just

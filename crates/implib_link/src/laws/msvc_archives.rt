@@ -4,7 +4,8 @@ ghost use Rattle.implib.specs.Members.MemberSpec.{MemberView};
 ghost use Rattle.implib.specs.declared.machine.MachineType.{MachineType};
 ghost use Rattle.implib_link.specs.Search.Archives.{Library, archive_of};
 ghost use Rattle.implib_link.specs.Search.Msvc.{TakesFor};
-ghost use Rattle.implib_link.specs.Search.MsvcArchives.{IsMsvcArchive, NamesNoHeaderOf, TakesOfShorts, wanted_with_weak};
+ghost use Rattle.implib_link.specs.Search.MsvcArchives.{IsMsvcArchive, NamesNoHeaderOf};
+ghost use Rattle.implib_link.specs.Search.MsvcArchives.{TakesOfShorts, wanted_with_weak};
 ghost use Rattle.implib_link.specs.Worked.MsvcArchives.{WorkedMsvcArchives};
 ghost use Rattle.std.specs.Prelude.{ℕ, List};
 

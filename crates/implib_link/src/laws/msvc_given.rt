@@ -7,7 +7,8 @@ ghost use Rattle.implib.specs.declared.machine.MachineType.{MachineType};
 ghost use Rattle.implib_link.specs.Search.Archives.{Library, archive_of};
 ghost use Rattle.implib_link.specs.Search.Closed.{unresolved};
 ghost use Rattle.implib_link.specs.Search.MsvcArchives.{IsMsvcArchive, short_inputs};
-ghost use Rattle.implib_link.specs.Search.MsvcClosed.{AreClosedForMsvc, AreLinkedForMsvc, TakesIntoFor};
+ghost use Rattle.implib_link.specs.Search.MsvcClosed.{AreClosedForMsvc, AreLinkedForMsvc};
+ghost use Rattle.implib_link.specs.Search.MsvcClosed.{TakesIntoFor};
 ghost use Rattle.implib_link.specs.Search.MsvcGiven.{AreGivenForMsvc};
 ghost use Rattle.std.specs.Prelude.{◌<◌, List, length};
 

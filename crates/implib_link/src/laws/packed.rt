@@ -5,7 +5,8 @@ ghost use Rattle.implib.specs.Link.LinkedMembers.{IsMade, LinkInput, all_linked,
 ghost use Rattle.implib.specs.Formats.Object.{Object};
 ghost use Rattle.implib.specs.declared.machine.MachineType.{MachineType};
 ghost use Rattle.implib_link.specs.Gnu.Packed.{packed, packed_end};
-ghost use Rattle.implib_link.specs.Gnu.Program.{IsProgram, has_tables, linked_symbols, null_descriptor};
+ghost use Rattle.implib_link.specs.Gnu.Program.{IsProgram, has_tables, linked_symbols};
+ghost use Rattle.implib_link.specs.Gnu.Program.{null_descriptor};
 ghost use Rattle.std.specs.List.{AllByRecursion, IsDistinct, filter};
 ghost use Rattle.std.specs.Prelude.{◌≡◌, ◌<◌, ◌%◌, ◌^◌, ◌++◌, ◌∷◌, ℕ, List, [], bytes_eq};
 

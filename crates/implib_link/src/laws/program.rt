@@ -8,7 +8,8 @@ ghost use Rattle.implib.specs.Link.Placement.{Bases};
 ghost use Rattle.implib.specs.declared.machine.MachineType.{MachineType};
 ghost use Rattle.implib_link.specs.Directory.{DirectoryAt, Imported, WalkFinds};
 ghost use Rattle.implib_link.specs.FullNames.{WorkedFullNames, object_by_full_names};
-ghost use Rattle.implib_link.specs.Gnu.Program.{IsProgram, LinksAmong, linked_symbols, null_descriptor};
+ghost use Rattle.implib_link.specs.Gnu.Program.{IsProgram, LinksAmong, linked_symbols};
+ghost use Rattle.implib_link.specs.Gnu.Program.{null_descriptor};
 ghost use Rattle.std.specs.List.{AllByRecursion, IsDistinct};
 ghost use Rattle.std.specs.Prelude.{◌≡◌, ◌++◌, ◌∷◌, ℕ, List, Some, [], bytes_eq, map};
 

@@ -10,9 +10,14 @@ ghost use Rattle.implib.specs.declared.flavor.Flavor.TheVariants.{Gnu};
 ghost use Rattle.implib.specs.declared.machine.MachineType.{MachineType};
 ghost use Rattle.implib_link.specs.Worked.Archives.{WorkedArchives};
 ghost use Rattle.implib_link.specs.Worked.Search.{WorkedSearch};
-ghost use Rattle.implib_link.specs.Search.Archives.{IsArchive, Library, NamesNoHeadOrTailOf, TakesOfLibraries, archive_of, inputs_wanted, wanted_with};
+ghost use Rattle.implib_link.specs.Search.Archives.{IsArchive, Library, NamesNoHeadOrTailOf};
+ghost use Rattle.implib_link.specs.Search.Archives.{TakesOfLibraries, archive_of, inputs_wanted};
+ghost use Rattle.implib_link.specs.Search.Archives.{wanted_with};
 ghost use Rattle.implib_link.specs.Gnu.Program.{IsProgram, LinksAmong};
-ghost use Rattle.implib_link.specs.Search.Search.{HaveSame, ImportsWanted, IsArranged, IsLinkedOfWanted, IsLinkedWith, IsTakenInTurn, NamesNoHeadOrTail, Takes, exports_wanted, linked_if_any};
+ghost use Rattle.implib_link.specs.Search.Search.{HaveSame, ImportsWanted, IsArranged};
+ghost use Rattle.implib_link.specs.Search.Search.{IsLinkedOfWanted, IsLinkedWith, IsTakenInTurn};
+ghost use Rattle.implib_link.specs.Search.Search.{NamesNoHeadOrTail, Takes, exports_wanted};
+ghost use Rattle.implib_link.specs.Search.Search.{linked_if_any};
 ghost use Rattle.std.specs.List.{Contains, IsDistinct, flat_map};
 ghost use Rattle.std.specs.Prelude.{◌≤◌, ℕ, List, bytes_eq, length, map};
 

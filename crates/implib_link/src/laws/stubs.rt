@@ -13,7 +13,8 @@ ghost use Rattle.implib_link.specs.Gnu.Loaded.{Writes};
 ghost use Rattle.implib_link.specs.Gnu.Program.{IsProgram, thunks_before};
 ghost use Rattle.implib_link.specs.Stub.{CallReaches, CanJump, JumpsThrough};
 ghost use Rattle.std.specs.List.{AllByRecursion};
-ghost use Rattle.std.specs.Prelude.{◌≡◌, ◌+◌, ◌*◌, ◌++◌, ℕ, List, Some, false, length, map, slice_get};
+ghost use Rattle.std.specs.Prelude.{◌≡◌, ◌+◌, ◌*◌, ◌++◌, ℕ, List, Some, false, length, map};
+ghost use Rattle.std.specs.Prelude.{slice_get};
 
 /// The stub of each chosen export of code jumps through the export's own entry, wherever its code
 /// is placed.

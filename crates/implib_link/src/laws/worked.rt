@@ -49,8 +49,8 @@ pub fn worked_jumps()
     ensures targets { WorkedTargets }
 {}
 
-/// The import in an export's object by hand is read; none is where the name that it asks for, or the
-/// DLL's, has no NUL.
+/// The import in an export's object by hand is read; none is where the name that it asks for, or
+/// the DLL's, has no NUL.
 pub fn worked_readings()
     ensures { WorkedReadings }
 {}
