@@ -130,7 +130,7 @@ fn an_object_of_eight_bytes_is_written(rt: HostRuntime) -> Result<(), Fail> {
 }
 
 #[test]
-fn an_object_of_fifty_thousand_bytes_is_written(rt: HostRuntime) -> Result<(), Fail> {
-    assert_eq!(rt; written(rt.alloc(), 50_000)?, 50_064);
+fn an_object_of_seventy_thousand_bytes_is_written(rt: HostRuntime) -> Result<(), Fail> {
+    assert_eq!(rt; written(rt.alloc(), 70_000)?, 70_064);
     Ok(())
 }
