@@ -1,6 +1,8 @@
 //! Objects of the writer, whose bytes are known from outside.
 
-ghost use Rattle.std.specs.Prelude.{◌<◌, ◌≤◌, ◌+◌, ◌≡◌, OnOk, length};
+ghost use Rattle.implib.specs.Formats.Writer.{all_entries};
+ghost use Rattle.implib_tests.specs.Filled.{IsFilled};
+ghost use Rattle.std.specs.Prelude.{[], ◌<◌, ◌≤◌, ◌+◌, ◌^◌, ◌≡◌, OnOk, length};
 
 use implib::coff::{ObjectWriter, Place, Relocation, Section, Symbol, class, relocation};
 use implib::{Error, MachineType};
@@ -202,5 +204,132 @@ fn an_object_of_320_sections_is_written(rt: HostRuntime) -> Result<(), Fail> {
     let bytes = writer.write()?;
     assert_eq!(rt; bytes.len(), 14_104);
     assert_eq!(rt; &bytes[..4], b"\x64\x86\x40\x01".as_slice());
+    Ok(())
+}
+
+// Adds the first section and the first symbol.
+fn begin(alloc: Global, writer: &mut ObjectWriter) -> Result<(), Error>
+    requires no_section { writer.old.sections ≡ [] }
+    requires no_symbol { writer.old.symbols ≡ [] }
+    ensures filled { OnOk result (IsFilled writer.new 0) }
+    ensures symbols { OnOk result (length (all_entries writer.new.symbols) ≡ 1) }
+{
+    let data = Section::new(alloc, *b".data\0\0\0", 0xC030_0040, &[0; 4])?;
+    writer.add_section(data)?;
+    writer.add_symbol(Symbol::new(alloc, "f", Place::Undefined, class::EXTERNAL)?)?;
+    Ok(())
+}
+
+// Adds a relocation to a section that has so many.
+fn relocate_one(writer: &mut ObjectWriter, count: usize) -> Result<(), Error>
+    requires filled { IsFilled writer.old count }
+    requires room { count < 65535 }
+    ensures filled { OnOk result (IsFilled writer.new (count + 1)) }
+    ensures symbols { OnOk result (writer.new.symbols ≡ writer.old.symbols) }
+{
+    let place = Relocation {
+        offset: 0,
+        symbol: 0,
+        kind: relocation::AMD64_ADDR32NB,
+    };
+    writer.add_relocation(1, place)
+}
+
+// Adds eight relocations.
+fn relocate_eight(writer: &mut ObjectWriter, count: usize) -> Result<(), Error>
+    requires filled { IsFilled writer.old count }
+    requires room { count + 8 ≤ 65535 }
+    ensures filled { OnOk result (IsFilled writer.new (count + 8)) }
+    ensures symbols { OnOk result (writer.new.symbols ≡ writer.old.symbols) }
+{
+    relocate_one(writer, count)?;
+    relocate_one(writer, count + 1)?;
+    relocate_one(writer, count + 2)?;
+    relocate_one(writer, count + 3)?;
+    relocate_one(writer, count + 4)?;
+    relocate_one(writer, count + 5)?;
+    relocate_one(writer, count + 6)?;
+    relocate_one(writer, count + 7)
+}
+
+// Adds 64 relocations.
+fn relocate_sixty_four(writer: &mut ObjectWriter, count: usize) -> Result<(), Error>
+    requires filled { IsFilled writer.old count }
+    requires room { count + 64 ≤ 65535 }
+    ensures filled { OnOk result (IsFilled writer.new (count + 64)) }
+    ensures symbols { OnOk result (writer.new.symbols ≡ writer.old.symbols) }
+{
+    relocate_eight(writer, count)?;
+    relocate_eight(writer, count + 8)?;
+    relocate_eight(writer, count + 16)?;
+    relocate_eight(writer, count + 24)?;
+    relocate_eight(writer, count + 32)?;
+    relocate_eight(writer, count + 40)?;
+    relocate_eight(writer, count + 48)?;
+    relocate_eight(writer, count + 56)
+}
+
+// Adds a symbol.
+fn name_one(alloc: Global, writer: &mut ObjectWriter) -> Result<(), Error>
+    requires { length (all_entries writer.old.symbols) + 1 < 2 ^ 32 }
+    ensures { OnOk result (length (all_entries writer.new.symbols)
+        ≡ length (all_entries writer.old.symbols) + 1) }
+{
+    writer.add_symbol(Symbol::new(alloc, "f", Place::Undefined, class::EXTERNAL)?)?;
+    Ok(())
+}
+
+// Adds eight symbols.
+fn name_eight(alloc: Global, writer: &mut ObjectWriter) -> Result<(), Error>
+    requires { length (all_entries writer.old.symbols) + 8 < 2 ^ 32 }
+    ensures { OnOk result (length (all_entries writer.new.symbols)
+        ≡ length (all_entries writer.old.symbols) + 8) }
+{
+    name_one(alloc, writer)?;
+    name_one(alloc, writer)?;
+    name_one(alloc, writer)?;
+    name_one(alloc, writer)?;
+    name_one(alloc, writer)?;
+    name_one(alloc, writer)?;
+    name_one(alloc, writer)?;
+    name_one(alloc, writer)
+}
+
+// Adds 64 symbols.
+fn name_sixty_four(alloc: Global, writer: &mut ObjectWriter) -> Result<(), Error>
+    requires { length (all_entries writer.old.symbols) + 64 < 2 ^ 32 }
+    ensures { OnOk result (length (all_entries writer.new.symbols)
+        ≡ length (all_entries writer.old.symbols) + 64) }
+{
+    name_eight(alloc, writer)?;
+    name_eight(alloc, writer)?;
+    name_eight(alloc, writer)?;
+    name_eight(alloc, writer)?;
+    name_eight(alloc, writer)?;
+    name_eight(alloc, writer)?;
+    name_eight(alloc, writer)?;
+    name_eight(alloc, writer)
+}
+
+// The headers and the data have 64 bytes, each relocation 10, each symbol 18, the string table 4.
+#[test]
+fn an_object_of_320_relocations_and_321_symbols_is_written(rt: HostRuntime) -> Result<(), Fail> {
+    let alloc = rt.alloc();
+    let mut writer = ObjectWriter::new(alloc, MachineType::AMD64);
+    begin(alloc, &mut writer)?;
+    relocate_sixty_four(&mut writer, 0)?;
+    relocate_sixty_four(&mut writer, 64)?;
+    relocate_sixty_four(&mut writer, 128)?;
+    relocate_sixty_four(&mut writer, 192)?;
+    relocate_sixty_four(&mut writer, 256)?;
+    name_sixty_four(alloc, &mut writer)?;
+    name_sixty_four(alloc, &mut writer)?;
+    name_sixty_four(alloc, &mut writer)?;
+    name_sixty_four(alloc, &mut writer)?;
+    name_sixty_four(alloc, &mut writer)?;
+    let bytes = writer.write()?;
+    assert_eq!(rt; bytes.len(), 9_046);
+    assert_eq!(rt; &bytes[12..16], b"\x41\x01\0\0".as_slice());
+    assert_eq!(rt; &bytes[52..54], b"\x40\x01".as_slice());
     Ok(())
 }
