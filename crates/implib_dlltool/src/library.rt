@@ -9,7 +9,7 @@ ghost use Rattle.implib_dlltool.specs.Library.{IfBrokenOff, IfRefused, IsRefusal
 ghost use Rattle.implib_dlltool.specs.Library.{MembersFor, WritesLibrary};
 ghost use Rattle.implib_dlltool.specs.Library.{kind_for, kind_of, without_mark};
 ghost use Rattle.implib_dlltool.specs.Request.{request_view};
-ghost use Rattle.std.specs.Prelude.{◌×◌, ◌≡◌, IfErr, IfOk, MatchOption, None, OnOk, length, map};
+ghost use Rattle.std.specs.Prelude.{◌≡◌, IfErr, IfOk, MatchOption, None, OnOk, length, map};
 ghost use Rattle.std.specs.Str.{IsUtf8};
 
 use crate::linked::link_exports;
@@ -207,8 +207,8 @@ fn archive_for<'a>(
     flavor: Flavor,
 ) -> Result<Archive<'a>, Refusal>
     ensures holds { IfOk result (λ archive. archive ≡ record {
-        kind = kind_of flavor (map member_view members.now);
-        members = map member_view members.now;
+      kind = kind_of flavor (map member_view members.now);
+      members = map member_view members.now;
     }) }
     ensures accepted { OnOk result (refusal_of (kind_of flavor (map member_view members.now))
         (map member_view members.now) ≡ None) }
