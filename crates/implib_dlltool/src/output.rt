@@ -112,22 +112,24 @@ impl<'a, R: Files + AllocGlobal> NewFile<'a, R> {
     ///
     /// The system failed. Then what was there is as it was, and the new file is removed.
     pub fn finish(self) -> io::Result<()> {
-        let Some(Made { file, name, target }) = self.made else {
+        let NewFile { rt, made, .. } = self;
+        let Some(Made { file, name, target }) = made else {
             return Ok(());
         };
         drop(file);
-        let renamed = fs::rename(self.rt, name.as_str(), target.as_str());
+        let renamed = fs::rename(rt, name.as_str(), target.as_str());
         if renamed.is_err() {
-            let _ = fs::remove_file(self.rt, name.as_str());
+            let _ = fs::remove_file(rt, name.as_str());
         }
         renamed
     }
 
     /// Removes the file.
     pub fn discard(self) {
-        if let Some(Made { file, name, .. }) = self.made {
+        let NewFile { rt, made, .. } = self;
+        if let Some(Made { file, name, .. }) = made {
             drop(file);
-            let _ = fs::remove_file(self.rt, name.as_str());
+            let _ = fs::remove_file(rt, name.as_str());
         }
     }
 }
