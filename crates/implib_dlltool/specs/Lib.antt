@@ -7,3 +7,4 @@ pub mod Library
 pub mod Views
 pub mod Worked
 pub mod WorkedNames
+pub mod WorkedOptions

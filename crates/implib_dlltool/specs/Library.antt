@@ -1,6 +1,8 @@
 -- Which bytes the library of a definition has, and when there is none.
-use Rattle.std.specs.Prelude.{◌≡◌, ℕ, [], ◌∷◌, Bool, true, false, List, Option, None, Some, if◌then◌else◌, drop, length, nat_eq, nat_lt}
+use Rattle.std.specs.Prelude.{◌≡◌, ℕ, IfErr, [], ◌∷◌, Bool, true, false, List, Option, None, Some, if◌then◌else◌, drop, length, nat_eq, nat_lt}
 use Rattle.std.specs.List.{starts_with}
+use Rattle.std.specs.declared.result.Result.{Result}
+use Rattle.std.specs.Io.KnownBytes.{Appends}
 use Rattle.std.specs.Str.{IsUtf8}
 use Rattle.implib.specs.declared.error.ParseError.{ParseError}
 use Rattle.implib.specs.declared.error.ParseError.TheVariants as parse
@@ -20,10 +22,14 @@ use Rattle.implib.specs.Text.Token.{Lexed, TokenView}
 use Rattle.implib_archive.specs.declared.error.Error.{Error as ArchiveError}
 use Rattle.implib_archive.specs.declared.error.Error.TheVariants as archive
 use Rattle.implib_archive.specs.declared.error.Fault.{Fault as ArchiveFault}
+use Rattle.implib_archive.specs.declared.error.WriteError.{WriteError}
 use Rattle.implib_archive.specs.declared.kind.Kind.{Kind}
 use Rattle.implib_archive.specs.declared.kind.Kind.TheVariants.{Coff, Gnu as GnuKind}
 use Rattle.implib_archive.specs.Archive.{archive_of}
 use Rattle.implib_archive.specs.Refusal.{refusal_of}
+use Rattle.implib_archive.specs.Written.{AppendsBeginning}
+use Rattle.implib_dlltool.specs.declared.library.LibraryError.{LibraryError}
+use Rattle.implib_dlltool.specs.declared.library.LibraryError.TheVariants.{Refused, Writing}
 use Rattle.implib_dlltool.specs.declared.library.Refusal.{Refusal}
 use Rattle.implib_dlltool.specs.declared.library.Refusal.TheVariants.{NotUtf8, Syntax, NoName, Members, Archive, OutOfMemory}
 use Rattle.implib_dlltool.specs.Linked.{linked}
@@ -118,6 +124,16 @@ pub record IsLibrary (bytes : List ℕ) (request : RequestView) (file : List ℕ
   pub accepted : refusal_of (kind_for request.flavor (length members)) members ≡ None
   pub is : file ≡ archive_of (kind_for request.flavor (length members)) members
 
+-- the kind of the archive of members
+abbrev pub kind_of : Flavor → List MemberView → Kind
+kind_of flavor members = kind_for flavor (length members)
+
+-- why members have no archive for a flavour
+abbrev pub IsRefusalOfArchive : Flavor → List MemberView → Refusal → Type 0
+IsRefusalOfArchive flavor members (Archive fault) = refusal_of (kind_of flavor members) members ≡ Some fault
+IsRefusalOfArchive flavor members OutOfMemory = Unit {0}
+IsRefusalOfArchive flavor members _ = ⊥
+
 -- the bytes have members for this, which an archive cannot carry
 pub record RefusesArchive (bytes : List ℕ) (request : RequestView) (fault : ArchiveFault) : Type 0 where
   pub members : List MemberView
@@ -132,6 +148,26 @@ IsRefusalOfBytes bytes request NoName = IsRefusalOfMembers bytes request NoName
 IsRefusalOfBytes bytes request (Members fault position) = IsRefusalOfMembers bytes request (Members fault position)
 IsRefusalOfBytes bytes request (Archive fault) = RefusesArchive bytes request fault
 IsRefusalOfBytes bytes request OutOfMemory = Unit {0}
+
+-- the library was written behind what a writer had
+pub record WritesLibrary (bytes : List ℕ) (request : RequestView) (before after : Option (List ℕ)) : Type 0 where
+  pub file : List ℕ
+  pub is_library : IsLibrary bytes request file
+  pub written : Appends before after file
+
+-- a beginning of the library was written behind what a writer had
+pub record BreaksOff (bytes : List ℕ) (request : RequestView) (before after : Option (List ℕ)) (cause : WriteError) : Type 0 where
+  pub file : List ℕ
+  pub is_library : IsLibrary bytes request file
+  pub begun : AppendsBeginning before after file
+
+-- if there is no library, its refusal is so
+abbrev pub IfRefused : {T : Type 0} → Result T LibraryError → (Refusal → Type 0) → Type 0
+IfRefused result so = IfErr result (λ error. elim error [ Refused refusal ↦ so refusal | Writing cause ↦ Unit {0} ])
+
+-- if writing failed, its cause is so
+abbrev pub IfBrokenOff : {T : Type 0} → Result T LibraryError → (WriteError → Type 0) → Type 0
+IfBrokenOff result so = IfErr result (λ error. elim error [ Refused refusal ↦ Unit {0} | Writing cause ↦ so cause ])
 
 -- the exit status for a refusal: 1, and 3 for want of memory
 abbrev pub status_of : Refusal → ℕ

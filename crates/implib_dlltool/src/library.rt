@@ -2,11 +2,14 @@
 
 ghost use Rattle.implib.specs.Definition.{definition_view};
 ghost use Rattle.implib.specs.Library.{member_view};
-ghost use Rattle.implib_dlltool.specs.Library.{DefinitionFor, IsLibrary, IsRefusalOfBytes};
-ghost use Rattle.implib_dlltool.specs.Library.{IsRefusalOfMembers, IsRefusalOfText, MembersFor};
-ghost use Rattle.implib_dlltool.specs.Library.{kind_for, without_mark};
+ghost use Rattle.implib_archive.specs.Refusal.{refusal_of};
+ghost use Rattle.implib_dlltool.specs.Library.{BreaksOff, DefinitionFor, IsRefusalOfArchive};
+ghost use Rattle.implib_dlltool.specs.Library.{IsRefusalOfBytes, IsRefusalOfMembers};
+ghost use Rattle.implib_dlltool.specs.Library.{IfBrokenOff, IfRefused, IsRefusalOfText};
+ghost use Rattle.implib_dlltool.specs.Library.{MembersFor, WritesLibrary};
+ghost use Rattle.implib_dlltool.specs.Library.{kind_for, kind_of, without_mark};
 ghost use Rattle.implib_dlltool.specs.Request.{request_view};
-ghost use Rattle.std.specs.Prelude.{◌≡◌, IfErr, IfOk, MatchOption, map};
+ghost use Rattle.std.specs.Prelude.{◌≡◌, IfErr, IfOk, MatchOption, None, OnOk, length, map};
 ghost use Rattle.std.specs.Str.{IsUtf8};
 
 use crate::linked::link_exports;
@@ -15,8 +18,9 @@ use crate::places::position_of_fault;
 use crate::request::Request;
 use implib::def::{ModuleDef, Position};
 use implib::{Error, Fault, Flavor, ImportLibrary, MachineType, Member, ParseError};
-use implib_archive::{Archive, Kind};
+use implib_archive::{Archive, Kind, WriteError};
 use std::alloc::{AllocError, Global};
+use std::io;
 
 /// Why a definition has no import library here.
 #[derive(Debug, Drop)]
@@ -71,6 +75,49 @@ impl From<ParseError> for Refusal {
             ParseError::Invalid(fault, position) => Refusal::Syntax(fault, position),
             ParseError::OutOfMemory(_) => Refusal::OutOfMemory,
         }
+    }
+}
+
+/// Why a library was not written whole.
+#[derive(Debug, Drop)]
+pub enum LibraryError {
+    /// There is none.
+    Refused(Refusal),
+    /// Writing it failed.
+    Writing(WriteError),
+}
+
+impl From<Refusal> for LibraryError {
+    ghost use Rattle.implib_dlltool.specs.declared.library.LibraryError.TheVariants.{Refused};
+    ghost use Rattle.std.specs.Prelude.{◌≡◌};
+
+    ghost from_gives = { λ refusal error. error ≡ Refused refusal };
+
+    fn from(refusal: Refusal) -> LibraryError {
+        LibraryError::Refused(refusal)
+    }
+}
+
+impl From<WriteError> for LibraryError {
+    ghost use Rattle.implib_dlltool.specs.declared.library.LibraryError.TheVariants.{Writing};
+    ghost use Rattle.std.specs.Prelude.{◌≡◌};
+
+    ghost from_gives = { λ cause error. error ≡ Writing cause };
+
+    fn from(cause: WriteError) -> LibraryError {
+        LibraryError::Writing(cause)
+    }
+}
+
+impl From<io::Error> for LibraryError {
+    ghost use Rattle.implib_archive.specs.declared.error.WriteError.TheVariants.{Writer};
+    ghost use Rattle.implib_dlltool.specs.declared.library.LibraryError.TheVariants.{Writing};
+    ghost use Rattle.std.specs.Prelude.{◌≡◌};
+
+    ghost from_gives = { λ cause error. error ≡ Writing (Writer cause) };
+
+    fn from(cause: io::Error) -> LibraryError {
+        LibraryError::Writing(WriteError::Writer(cause))
     }
 }
 
@@ -153,18 +200,50 @@ pub fn kind_for(flavor: Flavor, count: usize) -> Kind
     }
 }
 
-/// The bytes of the import library that is asked for.
+// The archive of members for a flavour.
+fn archive_for<'a>(
+    alloc: Global,
+    members: &'a [Member],
+    flavor: Flavor,
+) -> Result<Archive<'a>, Refusal>
+    ensures holds { IfOk result (λ archive. archive ≡ record {
+      kind = kind_of flavor (map member_view members.now);
+      members = map member_view members.now;
+    }) }
+    ensures accepted { OnOk result (refusal_of (kind_of flavor (map member_view members.now))
+        (map member_view members.now) ≡ None) }
+    ensures refused { IfErr result (IsRefusalOfArchive flavor (map member_view members.now)) }
+{
+    let kind = kind_for(flavor, members.len());
+    Ok(Archive::new(alloc, members, kind)?)
+}
+
+/// Writes the import library that is asked for. It is never held beside its members.
+///
+/// It calls `write` a few times for each member, so a writer to a file wants a `BufWriter` before
+/// it. It does not flush.
 ///
 /// # Errors
 ///
-/// What [`members_for`] refuses, and what an archive cannot carry.
-pub fn library_for(alloc: Global, bytes: &[u8], request: &Request) -> Result<Vec<u8>, Refusal>
-    ensures made { IfOk result (λ file. IsLibrary bytes.now (request_view request.now)
-        file.items) }
-    ensures refused { IfErr result (IsRefusalOfBytes bytes.now (request_view request.now)) }
+/// `Refused`: what [`members_for`] refuses, and what an archive cannot carry; nothing was written.
+/// `Writing`: the writer failed, or an allocation; it has a beginning of the library, where its
+/// bytes are known.
+pub fn write_library<W: io::Write>(
+    alloc: Global,
+    bytes: &[u8],
+    request: &Request,
+    writer: &mut W,
+) -> Result<(), LibraryError>
+    ensures written { OnOk result (WritesLibrary bytes.now (request_view request.now)
+        (W.contents writer.old) (W.contents writer.new)) }
+    ensures refused { IfRefused result (λ refusal.
+        IsRefusalOfBytes bytes.now (request_view request.now) refusal
+        × (writer.new ≡ writer.old)) }
+    ensures failed { IfBrokenOff result (BreaksOff bytes.now (request_view request.now)
+        (W.contents writer.old) (W.contents writer.new)) }
 {
     let members = members_for(alloc, bytes, request)?;
-    let kind = kind_for(request.flavor, members.len());
-    let archive = Archive::new(alloc, members.as_slice(), kind)?;
-    Ok(archive.to_vec(alloc)?)
+    let archive = archive_for(alloc, members.as_slice(), request.flavor)?;
+    archive.write_to(alloc, writer)?;
+    Ok(())
 }

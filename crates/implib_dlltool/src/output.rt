@@ -1,63 +1,35 @@
 //! The file of a library: made beside the old one, and renamed.
 
-use std::alloc::{AllocError, Global};
+use std::alloc::Global;
 use std::fs::{File, Files, OpenOptions};
-use std::io::{ErrorKind, Write};
+use std::io::ErrorKind;
 use std::path::Path;
-use std::{fmt, fs, io};
-
-/// Why a library's file was not written. The file is as it was.
-#[derive(Debug, Drop)]
-pub enum OutputError {
-    /// There is something that is no file.
-    NotAFile,
-    /// The system failed.
-    System(io::Error),
-    /// An allocation failed.
-    OutOfMemory,
-}
-
-impl From<io::Error> for OutputError {
-    fn from(cause: io::Error) -> OutputError {
-        OutputError::System(cause)
-    }
-}
-
-impl From<AllocError> for OutputError {
-    fn from(_refused: AllocError) -> OutputError {
-        OutputError::OutOfMemory
-    }
-}
-
-impl fmt::Display for OutputError {
-    fn fmt<W: fmt::Write>(&self, f: &mut fmt::Formatter<W>) -> fmt::Result {
-        match self {
-            OutputError::NotAFile => f.write_str("not a regular file; it is left as it is"),
-            OutputError::System(cause) => write!(f, "{cause}"),
-            OutputError::OutOfMemory => f.write_str("out of memory"),
-        }
-    }
-}
+use std::{fs, io};
 
 // How many symbolic links are followed, and how many names are tried.
 const LINKS: u32 = 40;
 
 const NAMES: u32 = 1000;
 
+// There is something that is no file.
+fn no_file() -> io::Error {
+    io::Error::other("not a regular file; it is left as it is")
+}
+
 // The file that a path leads to by its symbolic links. It need not be there.
-fn followed<R: Files + AllocGlobal>(rt: &R, path: &str) -> Result<String, OutputError> {
+fn followed<R: Files + AllocGlobal>(rt: &R, path: &str) -> io::Result<String> {
     let mut target = String::from_str(rt.alloc(), path)?;
     for _ in 0..LINKS {
         let metadata = match fs::symlink_metadata(rt, target.as_str()) {
             Ok(metadata) => metadata,
             Err(error) if error.kind() == ErrorKind::NotFound => return Ok(target),
-            Err(error) => return Err(OutputError::System(error)),
+            Err(error) => return Err(error),
         };
         if metadata.is_file() {
             return Ok(target);
         }
         if !metadata.is_symlink() {
-            return Err(OutputError::NotAFile);
+            return Err(no_file());
         }
         let link = fs::read_link(rt, target.as_str())?;
         let next = match Path::new(target.as_str()).parent() {
@@ -66,11 +38,11 @@ fn followed<R: Files + AllocGlobal>(rt: &R, path: &str) -> Result<String, Output
         };
         target = next.into_string();
     }
-    Err(OutputError::NotAFile)
+    Err(no_file())
 }
 
 // The name of a new file beside another.
-fn beside(alloc: Global, path: &str, id: u32, number: u32) -> Result<String, OutputError> {
+fn beside(alloc: Global, path: &str, id: u32, number: u32) -> io::Result<String> {
     let name = format!(in alloc; ".implib_dlltool-{id}-{number}")?;
     let path = Path::new(path).with_file_name(alloc, name.as_str())?;
     Ok(path.into_string())
@@ -81,7 +53,7 @@ fn open_beside<R: Files + AllocGlobal>(
     rt: &R,
     path: &str,
     id: u32,
-) -> Result<(R::File, String), OutputError> {
+) -> io::Result<(R::File, String)> {
     let mut how = OpenOptions::new();
     how.write(true);
     how.create_new(true);
@@ -90,36 +62,93 @@ fn open_beside<R: Files + AllocGlobal>(
         match how.open(rt, name.as_str()) {
             Ok(file) => return Ok((file, name)),
             Err(error) if error.kind() == ErrorKind::AlreadyExists => {}
-            Err(error) => return Err(OutputError::System(error)),
+            Err(error) => return Err(error),
         }
     }
-    Err(OutputError::System(io::Error::from(ErrorKind::AlreadyExists)))
+    Err(io::Error::from(ErrorKind::AlreadyExists))
 }
 
-/// Writes a library's file: into a new file beside the one that the path leads to, which is then
-/// renamed. `id` is a number for the new file's name.
+// A file that was made, its name, and that of the file whose place it takes.
+#[derive(Drop)]
+struct Made<F> {
+    file: F,
+    name: String,
+    target: String,
+}
+
+/// A file that takes the place of another one when it is whole.
 ///
-/// # Errors
-///
-/// What is there is no regular file, or the system or an allocation failed. Then what was there is
-/// as it was, and the new file is removed.
-pub fn put_library<R: Files + AllocGlobal>(
-    rt: &R,
-    path: &str,
+/// It is made beside the one that the path leads to when it is first written to, so that a library
+/// that is refused makes none. Where there is something that is no file, each write fails.
+#[derive(Drop)]
+pub struct NewFile<'a, R: Files + AllocGlobal> {
+    rt: &'a R,
+    path: &'a str,
     id: u32,
-    library: &[u8],
-) -> Result<(), OutputError> {
-    let target = followed(rt, path)?;
-    let (mut file, name) = open_beside(rt, target.as_str(), id)?;
-    let written = file.write_all(library);
-    drop(file);
-    let renamed = match written {
-        Ok(()) => fs::rename(rt, name.as_str(), target.as_str()),
-        Err(error) => Err(error),
-    };
-    if let Err(error) = renamed {
-        let _ = fs::remove_file(rt, name.as_str());
-        return Err(OutputError::System(error));
+    made: Option<Made<R::File>>,
+}
+
+impl<'a, R: Files + AllocGlobal> NewFile<'a, R> {
+    /// A file for the path; `id` is a number for its name until it is whole.
+    pub fn new(rt: &'a R, path: &'a str, id: u32) -> NewFile<'a, R> {
+        NewFile {
+            rt,
+            path,
+            id,
+            made: None,
+        }
     }
-    Ok(())
+
+    // Makes the file.
+    fn make(&self) -> io::Result<Made<R::File>> {
+        let target = followed(self.rt, self.path)?;
+        let (file, name) = open_beside(self.rt, target.as_str(), self.id)?;
+        Ok(Made { file, name, target })
+    }
+
+    /// Puts the file into its place.
+    ///
+    /// # Errors
+    ///
+    /// The system failed. Then what was there is as it was, and the new file is removed.
+    pub fn finish(self) -> io::Result<()> {
+        let NewFile { rt, made, .. } = self;
+        let Some(Made { file, name, target }) = made else {
+            return Ok(());
+        };
+        drop(file);
+        let renamed = fs::rename(rt, name.as_str(), target.as_str());
+        if renamed.is_err() {
+            let _ = fs::remove_file(rt, name.as_str());
+        }
+        renamed
+    }
+
+    /// Removes the file.
+    pub fn discard(self) {
+        let NewFile { rt, made, .. } = self;
+        if let Some(Made { file, name, .. }) = made {
+            drop(file);
+            let _ = fs::remove_file(rt, name.as_str());
+        }
+    }
+}
+
+impl<'a, R: Files + AllocGlobal> io::Write for NewFile<'a, R> {
+    fn write(&mut self, bytes: &[u8]) -> io::Result<usize> {
+        if self.made.is_none() {
+            self.made = Some(self.make()?);
+        }
+        match &mut self.made {
+            Some(made) => made.file.write(bytes),
+            None => Ok(0),
+        }
+    }
+
+    fn flush(&mut self) -> io::Result<()> {
+        match &mut self.made {
+            Some(made) => made.file.flush(),
+            None => Ok(()),
+        }
+    }
 }

@@ -4,16 +4,16 @@ ghost use Rattle.implib_dlltool.specs.Library.{status_of};
 ghost use Rattle.std.specs.Prelude.{◌≡◌};
 
 use crate::arguments::{ReadWordsError, read_words};
-use crate::library::{Refusal, library_for};
+use crate::library::{LibraryError, Refusal, write_library};
 use crate::message::position_of;
-use crate::output::put_library;
+use crate::output::NewFile;
 use crate::request::{CallError, Request, Task, default_machine, task_of};
 use implib::def::Position;
 use std::alloc::AllocError;
 use std::env::Env;
 use std::fmt::Write as _;
 use std::fs::Files;
-use std::io::{Read, Write};
+use std::io::{BufWriter, Read, Write};
 use std::{env, fmt, fs, io};
 
 // What the program prints for `--help`.
@@ -43,6 +43,9 @@ Status: 0 made; 1 FILE is refused; 2 wrong call; 3 a file or memory failed.
 
 // What the program prints for `--version`.
 const VERSION: &str = "implib_dlltool 0.1.0\n";
+
+// How many bytes are written to a file at once.
+const BUFFER: usize = 1 << 16;
 
 // A writer that text is written to.
 #[derive(Drop)]
@@ -108,6 +111,34 @@ fn bytes_of<R: Files + AllocGlobal, I: Read>(
     Ok(bytes)
 }
 
+// Writes a library to the file that is asked for, whole or not at all; or checks that there is one.
+fn put<R: Files + AllocGlobal>(
+    rt: &R,
+    id: u32,
+    bytes: &[u8],
+    request: &Request<'_>,
+) -> Result<(), LibraryError> {
+    let Some(path) = request.output else {
+        return write_library(rt.alloc(), bytes, request, &mut io::sink());
+    };
+    let file = NewFile::new(rt, path, id);
+    let mut writer = BufWriter::with_capacity(rt.alloc(), BUFFER, file)?;
+    let written = write_library(rt.alloc(), bytes, request, &mut writer);
+    let written = match written {
+        Ok(()) => writer.flush().map_err(LibraryError::from),
+        refused => refused,
+    };
+    // What a failed write left in the buffer is not written again.
+    let (file, _) = writer.into_parts();
+    match written {
+        Ok(()) => Ok(file.finish()?),
+        refused => {
+            file.discard();
+            refused
+        }
+    }
+}
+
 // Makes a library, and gives the exit status.
 fn make<R: Files + AllocGlobal, I: Read, E: Write>(
     rt: &R,
@@ -120,16 +151,12 @@ fn make<R: Files + AllocGlobal, I: Read, E: Write>(
         Ok(bytes) => bytes,
         Err(error) => return complain(faults, request.definition, error, 3),
     };
-    let library = match library_for(rt.alloc(), bytes.as_slice(), request) {
-        Ok(library) => library,
-        Err(refusal) => return refuse(faults, request.definition, &refusal),
-    };
-    let Some(path) = request.output else {
-        return 0;
-    };
-    match put_library(rt, path, id, library.as_slice()) {
+    match put(rt, id, bytes.as_slice(), request) {
         Ok(()) => 0,
-        Err(error) => complain(faults, path, error, 3),
+        Err(LibraryError::Refused(refusal)) => refuse(faults, request.definition, &refusal),
+        Err(LibraryError::Writing(cause)) => {
+            complain(faults, request.output.unwrap_or("-"), cause, 3)
+        }
     }
 }
 

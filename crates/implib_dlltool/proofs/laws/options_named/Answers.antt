@@ -1,0 +1,35 @@
+use Rattle.std.proofs.Common.{refl}
+use Rattle.implib_dlltool.specs.Arguments.{read_behind}
+use Rattle.implib_dlltool.specs.WorkedOptions.{OptionsNamed}
+use Rattle.implib_dlltool.proofs.laws.options_named.Goals as goal
+
+options : OptionsNamed
+unfolding read_behind
+options = record {
+  values = refl;
+  no_values = refl;
+  refused = refl;
+  definition = refl;
+  output = refl;
+  machine = refl;
+  dll = refl;
+  flavor = refl;
+  assembler = refl;
+  flags = refl;
+  prefix = refl;
+  kill_at = refl;
+  no_leading_underscore = refl;
+  deterministic = refl;
+  verbose = refl;
+  help = refl;
+  version = refl;
+  i386 = refl;
+  amd64 = refl;
+  armnt = refl;
+  arm64 = refl;
+  no_machine = refl;
+  flavors = refl;
+}
+
+pub returns : goal.returns
+returns c = options
