@@ -441,7 +441,7 @@ impl<'a> fmt::Display for Told<'a> {
                 write!(f, "the DLL is asked for `{word}`; -k asks for `{killed}`")
             }
             Notice::NotExported(word) => {
-                write!(f, "`{word}` is no export here; its import is added")
+                write!(f, "`{word}` is no export here; the DLL is asked for it")
             }
             Notice::SecondHeading => {
                 f.write_str("the name of the DLL is given twice; the last counts")

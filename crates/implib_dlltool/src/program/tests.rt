@@ -170,6 +170,7 @@ fn warnings_are_told(rt: HostRuntime) -> Result<(), Fail> {
     let amd64 = ["-d", "-", "--flavor", "gnu"].as_slice();
     let named = ["-d", "-", "-D", "zoo.dll"].as_slice();
     let msvc = ["-d", "-", "--flavor", "msvc"].as_slice();
+    let msvc_i386 = ["-d", "-", "--flavor", "msvc", "-m", "i386"].as_slice();
     for (words, text, said) in [
         (
             amd64,
@@ -213,6 +214,11 @@ fn warnings_are_told(rt: HostRuntime) -> Result<(), Fail> {
         (killing, "LIBRARY zoo\nEXPORTS F@8\n", ""),
         (amd64, "LIBRARY zoo\nEXPORTS F@8\n a == b\n", ""),
         (msvc, "LIBRARY zoo\nEXPORTS a == a\n b == c PRIVATE\n", ""),
+        (
+            msvc_i386,
+            "LIBRARY zoo\nEXPORTS swab == _swab\n dup == _dup @7 NONAME\n",
+            "-:2:9: warning: `_swab` is no export here; the DLL is asked for it\n",
+        ),
         (amd64, "LIBRARY zoo\n", "-:1:1: warning: no export\n"),
         (
             amd64,
