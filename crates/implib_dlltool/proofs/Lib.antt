@@ -2,3 +2,9 @@ pub mod Reading
 pub mod TokensGiven
 pub mod Parts
 pub mod Made
+pub mod Positions
+pub mod Firsts
+pub mod Ordinals
+pub mod Warned
+pub mod InOrder
+pub mod Named

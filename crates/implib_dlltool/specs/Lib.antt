@@ -4,7 +4,10 @@ pub mod Names
 pub mod Request
 pub mod Linked
 pub mod Library
+pub mod Places
+pub mod Warnings
 pub mod Views
 pub mod Worked
 pub mod WorkedNames
 pub mod WorkedOptions
+pub mod WorkedWarnings

@@ -9,7 +9,7 @@ use Rattle.implib.specs.declared.flavor.Flavor.TheVariants.{Msvc, Gnu}
 use Rattle.implib.specs.declared.machine.MachineType.{MachineType}
 use Rattle.implib.specs.declared.machine.MachineType.TheVariants.{I386, ARMNT, AMD64, ARM64}
 use Rattle.implib_dlltool.specs.declared.options.Setting.TheVariants.{Definition, Output, Machine, Dll, Flavor as FlavorSetting, Assembler, AssemblerFlags, TemporaryPrefix}
-use Rattle.implib_dlltool.specs.declared.options.Switch.TheVariants.{Help, KillAt, NoLeadingUnderscore, Version}
+use Rattle.implib_dlltool.specs.declared.options.Switch.TheVariants.{Help, KillAt, NoLeadingUnderscore, Verbose, Version}
 use Rattle.implib_dlltool.specs.declared.request.CallError.{CallError}
 use Rattle.implib_dlltool.specs.declared.request.CallError.TheVariants as error
 use Rattle.implib_dlltool.specs.declared.request.CallFault.{CallFault}
@@ -34,6 +34,8 @@ pub record RequestView : Type 0 where
   pub dll : Option (List ℕ)
   -- how names are read on I386
   pub naming : NamingView
+  -- whether warnings are written
+  pub is_verbose : Bool
 
 -- the view of a request of the program
 abbrev pub request_view : Request → RequestView
@@ -44,6 +46,7 @@ request_view r = record {
   flavor = r.flavor;
   dll = option_map (λ text. text.now) r.dll;
   naming = naming_view r.naming;
+  is_verbose = r.is_verbose;
 }
 
 -- what a command line asks for
@@ -188,7 +191,15 @@ request_of unnamed options (Some definition) =
     with (machine_in unnamed options) (λ machine.
     with (flavor_in machine output options) (λ flavor.
     with (dll_in options) (λ dll.
-    Ok (record { definition = definition; output = output; machine = machine; flavor = flavor; dll = dll; naming = naming_in options })))))
+    Ok (record {
+      definition = definition;
+      output = output;
+      machine = machine;
+      flavor = flavor;
+      dll = dll;
+      naming = naming_in options;
+      is_verbose = is_switched Verbose options;
+    })))))
 
 -- the library that options ask for
 abbrev pub request_in : MachineType → List OccurrenceView → Asked RequestView

@@ -6,7 +6,7 @@ use Rattle.implib.specs.declared.machine.MachineType.TheVariants.{I386, ARMNT, A
 use Rattle.implib.specs.Definition.{empty_export}
 use Rattle.implib_dlltool.specs.declared.options.Setting.TheVariants.{Definition, Output, Machine, Dll, TemporaryPrefix}
 use Rattle.implib_dlltool.specs.declared.options.Setting.TheVariants.{Flavor as FlavorSetting}
-use Rattle.implib_dlltool.specs.declared.options.Switch.TheVariants.{Help}
+use Rattle.implib_dlltool.specs.declared.options.Switch.TheVariants.{Help, Verbose}
 use Rattle.implib_dlltool.specs.Arguments.{Given, Switched}
 use Rattle.implib_dlltool.specs.Linked.{NamingView, linked_export}
 use Rattle.implib_dlltool.specs.Names.{dll_name, lacks_name}
@@ -72,6 +72,7 @@ pub record CallsAnswered : Type 0 where
     flavor = Gnu;
     dll = Some (codes "zoo.dll");
     naming = plain;
+    is_verbose = false;
   }))
   pub mingw : task_of I386 mingw_options ≡ Ok (Asks (record {
     definition = codes "X.def";
@@ -80,6 +81,7 @@ pub record CallsAnswered : Type 0 where
     flavor = Gnu;
     dll = None;
     naming = killing;
+    is_verbose = false;
   }))
   pub by_ending : task_of AMD64 (Given Definition (codes "-") ∷ Given Output (codes "a.lib") ∷ []) ≡ Ok (Asks (record {
     definition = codes "-";
@@ -88,6 +90,7 @@ pub record CallsAnswered : Type 0 where
     flavor = Msvc;
     dll = None;
     naming = usual;
+    is_verbose = false;
   }))
   pub arm64 : task_of AMD64 (Given Definition (codes "a") ∷ Given Machine (codes "AArch64") ∷ []) ≡ Ok (Asks (record {
     definition = codes "a";
@@ -96,6 +99,16 @@ pub record CallsAnswered : Type 0 where
     flavor = Msvc;
     dll = None;
     naming = usual;
+    is_verbose = false;
+  }))
+  pub verbose : task_of AMD64 (Given Definition (codes "a") ∷ Switched Verbose ∷ []) ≡ Ok (Asks (record {
+    definition = codes "a";
+    output = None;
+    machine = AMD64;
+    flavor = Gnu;
+    dll = None;
+    naming = usual;
+    is_verbose = true;
   }))
   pub help : task_of AMD64 (Switched Help ∷ []) ≡ Ok AsksHelp
   pub no_definition : task_of AMD64 (Given Output (codes "a.lib") ∷ []) ≡ Err LacksDefinition

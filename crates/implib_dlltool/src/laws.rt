@@ -1,8 +1,11 @@
 //! Laws: what is proved of the definitions.
 
+ghost use Rattle.implib_dlltool.specs.Places.{AreAtWords};
+ghost use Rattle.implib_dlltool.specs.Warnings.{AreInOrder, RepeatsStandBefore};
 ghost use Rattle.implib_dlltool.specs.Worked.{CallsRead};
 ghost use Rattle.implib_dlltool.specs.WorkedNames.{CallsAnswered, DllsNamed, ExportsLinked};
 ghost use Rattle.implib_dlltool.specs.WorkedOptions.{OptionsNamed};
+ghost use Rattle.implib_dlltool.specs.WorkedWarnings.{PlacesWorked, WarningsWorked, WordsJudged};
 
 /// Command lines as rustc and mingw-w64 write them, and wrong ones, are read as was worked by hand.
 pub fn calls_read()
@@ -29,4 +32,34 @@ pub fn exports_linked()
 /// DLLs have the names that were worked by hand.
 pub fn dlls_named()
     ensures { DllsNamed }
+{}
+
+/// Words that may be meant for something else are told from others as was worked by hand.
+pub fn words_judged()
+    ensures { WordsJudged }
+{}
+
+/// The tokens of a text have the places that were worked by hand.
+pub fn places_worked()
+    ensures { PlacesWorked }
+{}
+
+/// Definitions have the warnings that were worked by hand, in this order, and none without `-v`.
+pub fn warnings_worked()
+    ensures { WarningsWorked }
+{}
+
+/// An export repeats a word or an ordinal just where one before it has that.
+pub fn repeats_stand_before()
+    ensures { RepeatsStandBefore }
+{}
+
+/// The warnings of a text are in the order of their offsets.
+pub fn warnings_in_order()
+    ensures { AreInOrder }
+{}
+
+/// The tokens that are taken for names of exports are the words of the definition's exports.
+pub fn exports_at_words()
+    ensures { AreAtWords }
 {}

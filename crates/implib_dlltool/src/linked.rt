@@ -100,8 +100,8 @@ fn asked_of<'a>(machine: MachineType, naming: Naming, word: &'a str, target: &'a
     }
 }
 
-// The word by which an export is linked: its name, or its external name where it has one.
-fn word_of(export: &ShortExport) -> &str
+/// The word by which an export is linked: its name, or its external name where it has one.
+pub fn word_of(export: &ShortExport) -> &str
     ensures { result.now ≡ word_of (export_view export.now) }
 {
     match &export.ext_name {

@@ -17,6 +17,7 @@ mod output;
 mod places;
 pub mod program;
 pub mod request;
+pub mod warnings;
 
 use crate::program::perform;
 use std::process;

@@ -38,7 +38,7 @@ pub enum Switch {
     NoLeadingUnderscore,
     /// `--deterministic-libraries`: they are so in any case.
     DeterministicLibraries,
-    /// `-v`, `--verbose`
+    /// `-v`, `--verbose`: warnings are written.
     Verbose,
     /// `-h`, `--help`
     Help,

@@ -4,12 +4,15 @@ ghost use Rattle.implib_dlltool.specs.Library.{status_of};
 ghost use Rattle.std.specs.Prelude.{◌≡◌};
 
 use crate::arguments::{ReadWordsError, read_words};
-use crate::library::{LibraryError, Refusal, write_library};
+use crate::library::{LibraryError, Refusal, members_for, text_in, write_library};
 use crate::message::position_of;
 use crate::output::NewFile;
+use crate::places::places_of;
 use crate::request::{CallError, Request, Task, default_machine, task_of};
-use implib::def::Position;
-use std::alloc::AllocError;
+use crate::warnings::{Told, export_lines, warnings_for};
+use implib::def::{ModuleDef, Position};
+use implib::{Error, Flavor, MachineType};
+use std::alloc::{AllocError, Global};
 use std::env::Env;
 use std::fmt::Write as _;
 use std::fs::Files;
@@ -32,11 +35,12 @@ Makes the import library of a module definition.
   -k, --kill-at            on I386 ask for names without @ and what follows it
       --no-leading-underscore
                            on I386 take symbols as they are written
+  -v, --verbose            write warnings of FILE on standard error
   -h, --help
   -V, --version
 
 Taken and ignored: -S --as, -f --as-flags, -t --temp-prefix, each with a value;
--v, --verbose; --deterministic-libraries.
+--deterministic-libraries.
 
 Status: 0 made; 1 FILE is refused; 2 wrong call; 3 a file or memory failed.
 ";
@@ -111,6 +115,49 @@ fn bytes_of<R: Files + AllocGlobal, I: Read>(
     Ok(bytes)
 }
 
+// How many members the library for Microsoft's linker has; elsewhere it is of no account.
+fn member_count(alloc: Global, bytes: &[u8], request: &Request<'_>) -> usize {
+    if let Flavor::Gnu = request.flavor {
+        return 0;
+    }
+    match members_for(alloc, bytes, request) {
+        Ok(members) => members.len(),
+        Err(_) => 0,
+    }
+}
+
+// Writes the warnings of a definition that is read, where they are asked for.
+fn warn<E: Write>(
+    alloc: Global,
+    bytes: &[u8],
+    request: &Request<'_>,
+    faults: &mut E,
+) -> Result<(), AllocError> {
+    if !request.is_verbose {
+        return Ok(());
+    }
+    let Some(text) = text_in(bytes) else {
+        return Ok(());
+    };
+    let def = match ModuleDef::parse(alloc, text, MachineType::AMD64) {
+        Ok(def) => def,
+        Err(Error::Invalid(_)) => return Ok(()),
+        Err(Error::OutOfMemory(refused)) => return Err(refused),
+    };
+    let exports = def.exports.as_slice();
+    let places = places_of(alloc, text)?;
+    let count = member_count(alloc, bytes, request);
+    let warnings = warnings_for(alloc, exports, places.as_slice(), request, count)?;
+    let export_lines = export_lines(alloc, places.as_slice())?;
+    let path = request.definition;
+    let mut lines = Lines { writer: faults };
+    for warning in warnings.iter() {
+        let told = Told(warning.notice, export_lines.as_slice());
+        let _ = writeln!(lines, "{path}:{}: warning: {told}", warning.position);
+    }
+    Ok(())
+}
+
 // Writes a library to the file that is asked for, whole or not at all; or checks that there is one.
 fn put<R: Files + AllocGlobal>(
     rt: &R,
@@ -151,6 +198,9 @@ fn make<R: Files + AllocGlobal, I: Read, E: Write>(
         Ok(bytes) => bytes,
         Err(error) => return complain(faults, request.definition, error, 3),
     };
+    if warn(rt.alloc(), bytes.as_slice(), request, faults).is_err() {
+        return refuse(faults, request.definition, &Refusal::OutOfMemory);
+    }
     match put(rt, id, bytes.as_slice(), request) {
         Ok(()) => 0,
         Err(LibraryError::Refused(refusal)) => refuse(faults, request.definition, &refusal),

@@ -32,6 +32,8 @@ pub struct Request<'a> {
     pub dll: Option<&'a str>,
     /// How names are read on I386.
     pub naming: Naming,
+    /// Whether warnings are written (`-v`).
+    pub is_verbose: bool,
 }
 
 /// What a command line asks for.
@@ -258,6 +260,7 @@ fn request_in<'a>(
         flavor,
         dll,
         naming: naming_in(options),
+        is_verbose: is_switched(options, Switch::Verbose),
     })
 }
 

@@ -161,3 +161,104 @@ fn libraries_are_written(rt: HostRuntime) -> Result<(), Fail> {
     fs::remove_dir(&rt, folder.as_path())?;
     Ok(())
 }
+
+// With -v each warning is a line at its place, and the library is made; without it nothing is said.
+#[test]
+fn warnings_are_told(rt: HostRuntime) -> Result<(), Fail> {
+    let i386 = ["-d", "-", "-m", "i386"].as_slice();
+    let killing = ["-d", "-", "-m", "i386", "-k"].as_slice();
+    let amd64 = ["-d", "-", "--flavor", "gnu"].as_slice();
+    let named = ["-d", "-", "-D", "zoo.dll"].as_slice();
+    let msvc = ["-d", "-", "--flavor", "msvc"].as_slice();
+    let msvc_i386 = ["-d", "-", "--flavor", "msvc", "-m", "i386"].as_slice();
+    for (words, text, said) in [
+        (
+            amd64,
+            "LIBRARY zoo\nEXPORTS\n f\n g = f\n f @2\n\tf DATA\n",
+            "-:5:2: warning: `f` is exported twice, first in line 3\n\
+             -:6:2: warning: `f` is exported twice, first in line 3\n",
+        ),
+        (
+            amd64,
+            "LIBRARY zoo\nEXPORTS a @5\n b @ 5 NONAME\n c @7\n d @0\n e @0\n",
+            "-:3:2: warning: ordinal 5 is given twice, first in line 2\n",
+        ),
+        (
+            amd64,
+            "LIBRARY zoo\nEXPORTS\n c\n CONSTANT\n d DATA\n e ; to be kept\nPRIVATE f @1\n NONAME\n",
+            "-:4:2: warning: CONSTANT is an attribute of `c`; quote it to name an export\n\
+             -:7:1: warning: PRIVATE is an attribute of `e`; quote it to name an export\n\
+             -:8:2: warning: NONAME is an attribute of `f`; quote it to name an export\n",
+        ),
+        (
+            amd64,
+            "LIBRARY zoo\nEXPORTS a data\n Private\n \"DATA\"\n nonames\n",
+            "-:2:11: warning: `data` is an export's name here, not the attribute DATA\n\
+             -:3:2: warning: `Private` is an export's name here, not the attribute PRIVATE\n",
+        ),
+        (
+            amd64,
+            "LIBRARY zoo\nEXPORTS @1\n a @65536\n b @0x10\n @g@8\n c @5\n",
+            "-:2:9: warning: `@1` is an export's name here: an ordinal is a number from 0 to 65535, \
+             behind a name\n\
+             -:3:4: warning: `@65536` is an export's name here: an ordinal is a number from 0 to \
+             65535, behind a name\n\
+             -:4:4: warning: `@0x10` is an export's name here: an ordinal is a number from 0 to \
+             65535, behind a name\n",
+        ),
+        (
+            i386,
+            "LIBRARY zoo\nEXPORTS F@8\n @g@8\n h@@8\n ?i@8\n j@a\n k@4 == k\n l@4 PRIVATE\n m@4 @9 NONAME\n",
+            "-:2:9: warning: the DLL is asked for `F@8`; -k asks for `F`\n",
+        ),
+        (killing, "LIBRARY zoo\nEXPORTS F@8\n", ""),
+        (amd64, "LIBRARY zoo\nEXPORTS F@8\n a == b\n", ""),
+        (msvc, "LIBRARY zoo\nEXPORTS a == a\n b == c PRIVATE\n", ""),
+        (
+            msvc_i386,
+            "LIBRARY zoo\nEXPORTS swab == _swab\n dup == _dup @7 NONAME\n",
+            "-:2:9: warning: `_swab` is no export here; the DLL is asked for it\n",
+        ),
+        (amd64, "LIBRARY zoo\n", "-:1:1: warning: no export\n"),
+        (
+            amd64,
+            "LIBRARY zoo\nEXPORTS a\nNAME zoo\nEXPORTS a\nLIBRARY zoo",
+            "-:3:1: warning: the name of the DLL is given twice; the last counts\n\
+             -:4:9: warning: `a` is exported twice, first in line 2\n\
+             -:5:1: warning: the name of the DLL is given twice; the last counts\n",
+        ),
+        (named, "LIBRARY zoo\nEXPORTS a\nNAME zoo\n", ""),
+    ] {
+        let mut loud = Vec::new(rt.alloc());
+        loud.extend_from_slice(words)?;
+        loud.push("-v")?;
+        let (got, wrote) = ran(&rt, loud.as_slice(), text.as_bytes())?;
+        assert_eq!(rt; wrote.as_str(), said);
+        assert_eq!(rt; got, 0, "{text}");
+        let (got, wrote) = ran(&rt, words, text.as_bytes())?;
+        assert_eq!(rt; wrote.as_str(), "");
+        assert_eq!(rt; got, 0, "{text}");
+    }
+    Ok(())
+}
+
+// A refusal of an export follows the warnings; a text that is no definition has none.
+#[test]
+fn warnings_come_before_refusals(rt: HostRuntime) -> Result<(), Fail> {
+    for (text, said) in [
+        (
+            "LIBRARY zoo\nEXPORTS a\n a\n \"\"\n",
+            "-:3:2: warning: `a` is exported twice, first in line 2\n\
+             -:4:3: the name of the export is empty\n",
+        ),
+        (
+            "LIBRARY zoo\nEXPORTS a\n a\n =\n",
+            "-:5:1: expected a name, not the end of the file\n",
+        ),
+    ] {
+        let (got, wrote) = ran(&rt, &["-d", "-", "--verbose"], text.as_bytes())?;
+        assert_eq!(rt; wrote.as_str(), said);
+        assert_eq!(rt; got, 1);
+    }
+    Ok(())
+}

@@ -10,6 +10,7 @@ worked = record {
   mingw = refl;
   by_ending = refl;
   arm64 = refl;
+  verbose = refl;
   help = refl;
   no_definition = refl;
   to_standard = refl;

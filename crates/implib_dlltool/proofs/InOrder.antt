@@ -1,0 +1,174 @@
+-- The warnings of a text are in the order of their offsets.
+use Rattle.std.proofs.Common.{◌≡◌, ◌∙◌, ℕ, suc, ◌+◌, ◌-◌, ◌==◌, ◌≤◌, Bool, true, false, List, [], ◌∷◌, ◌++◌, Option, None, Some, ap, append_assoc, append-nil, arith, fold, length, refl, subst, sym}
+use Rattle.std.specs.Prelude.{slice_get, if◌then◌else◌}
+use Rattle.std.proofs.lemmas.List.{length-append}
+use Rattle.std.specs.Str.{trim, trim_end, trim_start}
+use Rattle.implib.specs.declared.def.lexer.TokenKind.TheVariants as kind
+use Rattle.implib.specs.declared.def.position.Position.{Position}
+use Rattle.implib.specs.Definition.{ExportView}
+use Rattle.implib.specs.Text.Position.{position_at}
+use Rattle.implib.specs.Text.Token.{Blank, Comment, CommaSign, EqualSign, EqualSigns, LastComment, Lexed, Lexeme, Quoted, TokenView, Unclosed, Word}
+use Rattle.implib.specs.Text.Token.{kind_of_word, lexeme_text, tokens_of, tokens_of_lexeme, value_start}
+use Rattle.implib_dlltool.specs.declared.places.Place.{Place}
+use Rattle.implib_dlltool.specs.declared.places.Site.{Site}
+use Rattle.implib_dlltool.specs.declared.places.Site.TheVariants as site
+use Rattle.implib_dlltool.specs.declared.places.Walk.{Walk}
+use Rattle.implib_dlltool.specs.Linked.{word_of}
+use Rattle.implib_dlltool.specs.Places.{Walked, placed, places_in, site_at, started, walk_behind, walked, walked_on}
+use Rattle.implib_dlltool.specs.Request.{RequestView}
+use Rattle.implib_dlltool.specs.Warnings.{Ascends, NoticeView, OpensLine, WarningView, export_notices, first_of_ordinal, first_of_word, heading_notice, if_export, index_after}
+use Rattle.implib_dlltool.specs.Warnings.{lowered_notice, no_export_notice, ordinal_like_notice, ordinal_notice, other_kind_notice, repeat_notice, stdcall_notice}
+use Rattle.implib_dlltool.specs.Warnings.{target_notice, warned, warnings_at, warnings_at_site, warnings_for, warnings_from, warnings_of, whole, word_before}
+
+-- each token is at this offset or behind it, and none is before the one that it follows
+abbrev TokensFrom : ℕ → List TokenView → Type 0
+TokensFrom offset [] = Unit {0}
+TokensFrom offset (token ∷ tokens) = (offset ≤ token.at) × TokensFrom token.at tokens
+
+tokens_from-less : (less offset : ℕ) (tokens : List TokenView) → less ≤ offset → TokensFrom offset tokens → TokensFrom less tokens
+tokens_from-less less offset [] order from = tt
+tokens_from-less less offset (token ∷ tokens) order from = (omega (arith, order, from.0), from.1)
+
+-- a token within its lexeme, before those of the lexemes behind it
+one_token : (offset : ℕ) (token : TokenView) (more : ℕ) (tokens : List TokenView) → offset ≤ token.at → token.at ≤ offset + more
+    → TokensFrom (offset + more) tokens → TokensFrom offset (token ∷ tokens)
+one_token offset token more tokens below within rest = (below, tokens_from-less token.at (offset + more) tokens within rest)
+
+value_start-within : (inside : List ℕ) (empty : Bool) → (if empty then 0 else length inside - length (trim_start inside)) ≤ length inside
+value_start-within inside true = omega arith
+value_start-within inside false = omega arith
+
+quoted_within : (offset : ℕ) (inside : List ℕ) → offset + 1 + value_start inside ≤ offset + suc (length (inside ++ 34 ∷ []))
+quoted_within offset inside =
+    let start = value_start-within inside (length (trim inside) == 0) in
+    let long = length-append inside (34 ∷ []) in
+    omega (arith, start, long)
+
+-- the tokens of a lexeme, and then those of the lexemes behind it
+by_lexeme : (offset : ℕ) (lexeme : Lexeme) (rest : List TokenView) → TokensFrom (offset + length (lexeme_text lexeme)) rest
+    → TokensFrom offset (tokens_of_lexeme offset lexeme ++ rest)
+by_lexeme offset (Blank character) rest from = tokens_from-less offset _ rest (omega arith) from
+by_lexeme offset (Comment line) rest from = tokens_from-less offset _ rest (omega arith) from
+by_lexeme offset (LastComment line) rest from = tokens_from-less offset _ rest (omega arith) from
+by_lexeme offset EqualSign rest from = one_token offset (record { kind = kind.Equal; value = 61 ∷ []; at = offset }) 1 rest (omega arith) (omega arith) from
+by_lexeme offset EqualSigns rest from = one_token offset (record { kind = kind.EqualEqual; value = 61 ∷ 61 ∷ []; at = offset }) 2 rest (omega arith) (omega arith) from
+by_lexeme offset CommaSign rest from = one_token offset (record { kind = kind.Comma; value = 44 ∷ []; at = offset }) 1 rest (omega arith) (omega arith) from
+by_lexeme offset (Quoted inside) rest from =
+    one_token offset (record { kind = kind.Identifier; value = trim inside; at = offset + 1 + value_start inside })
+    (suc (length (inside ++ 34 ∷ []))) rest (omega arith) (quoted_within offset inside) from
+by_lexeme offset (Unclosed inside) rest from =
+    one_token offset (record { kind = kind.Identifier; value = []; at = offset + 1 }) (suc (length inside)) rest (omega arith) (omega arith) from
+by_lexeme offset (Word run) rest from =
+    one_token offset (record { kind = kind_of_word (trim_end run); value = trim_end run; at = offset }) (length run) rest (omega arith) (omega arith) from
+
+-- the tokens of lexemes ascend
+tokens_ascend : (offset : ℕ) (lexemes : List Lexeme) → TokensFrom offset (tokens_of offset lexemes)
+tokens_ascend offset [] = (omega arith, tt)
+tokens_ascend offset (lexeme ∷ lexemes) =
+    by_lexeme offset lexeme (tokens_of (offset + length (lexeme_text lexeme)) lexemes) (tokens_ascend (offset + length (lexeme_text lexeme)) lexemes)
+
+-- each place is at this offset or behind it, and none is before the one that it follows
+abbrev PlacesFrom : ℕ → List Place → Type 0
+PlacesFrom offset [] = Unit {0}
+PlacesFrom offset (place ∷ places) = (offset ≤ place.position.offset) × PlacesFrom place.position.offset places
+
+places_from-less : (less offset : ℕ) (places : List Place) → less ≤ offset → PlacesFrom offset places → PlacesFrom less places
+places_from-less less offset [] order from = tt
+places_from-less less offset (place ∷ places) order from = (omega (arith, order, from.0), from.1)
+
+-- the places of tokens, behind what is known of those before them
+abbrev pub places_after : List ℕ → Walk → List TokenView → List Place
+places_after text walk [] = []
+places_after text walk (token ∷ tokens) =
+    placed (site_at walk (position_at text token.at).line token.kind token.value) (position_at text token.at)
+    ++ places_after text (walk_behind walk (position_at text token.at).line token.kind token.value) tokens
+
+pub walked_places : (text : List ℕ) (before : Walked) (tokens : List TokenView)
+    → (fold (walked_on text) before tokens).places ≡ before.places ++ places_after text before.walk tokens
+walked_places text before [] = sym (append-nil before.places)
+walked_places text before (token ∷ tokens) =
+    walked_places text (walked_on text before token) tokens
+    ∙ append_assoc before.places (placed (site_at before.walk (position_at text token.at).line token.kind token.value) (position_at text token.at)) _
+
+placed_first : (site : Option Site) (offset : ℕ) (position : Position) (rest : List Place) → offset ≤ position.offset
+    → PlacesFrom position.offset rest → PlacesFrom offset (placed site position ++ rest)
+placed_first None offset position rest order from = places_from-less offset position.offset rest order from
+placed_first (Some site) offset position rest order from = (order, from)
+
+-- the places of tokens that ascend do so
+places_ascend : (text : List ℕ) (walk : Walk) (offset : ℕ) (tokens : List TokenView) → TokensFrom offset tokens
+    → PlacesFrom offset (places_after text walk tokens)
+places_ascend text walk offset [] from = tt
+places_ascend text walk offset (token ∷ tokens) from =
+    placed_first (site_at walk (position_at text token.at).line token.kind token.value) offset (position_at text token.at) _ from.0
+    (places_ascend text (walk_behind walk (position_at text token.at).line token.kind token.value) token.at tokens from.1)
+
+ascends-less : (less offset : ℕ) (warnings : List WarningView) → less ≤ offset → Ascends offset warnings → Ascends less warnings
+ascends-less less offset [] order from = tt
+ascends-less less offset (warning ∷ warnings) order from = (omega (arith, order, from.0), from.1)
+
+-- a warning at the offset that the others begin at
+warned_first : (notice : Option NoticeView) (position : Position) (rest : List WarningView) → Ascends position.offset rest
+    → Ascends position.offset (warned notice position ++ rest)
+warned_first None position rest from = from
+warned_first (Some notice) position rest from = (omega arith, from)
+
+-- warnings at this position go before those from there on
+abbrev GoBefore : Position → List WarningView → Type 0
+GoBefore position warnings = (rest : List WarningView) → Ascends position.offset rest → Ascends position.offset (warnings ++ rest)
+
+one_before : (notice : Option NoticeView) (position : Position) → GoBefore position (warned notice position)
+one_before notice position = λ rest from. warned_first notice position rest from
+
+both_before : (position : Position) (first second : List WarningView) → GoBefore position first → GoBefore position second → GoBefore position (first ++ second)
+both_before position first second one other =
+    λ rest from. subst (Ascends position.offset) (sym (append_assoc first second rest)) (one (second ++ rest) (other rest from))
+
+-- the warnings of an export
+export_before : (request : RequestView) (exports : List ExportView) (index : ℕ) (position : Position) (found : Option ExportView)
+    → GoBefore position (if_export request exports index position found)
+export_before request exports index position None = λ rest from. from
+export_before request exports index position (Some e) =
+    both_before position _ _
+    (both_before position _ _
+    (both_before position _ _
+    (both_before position _ _
+    (both_before position _ _
+    (one_before (repeat_notice (word_of e) (first_of_word (word_of e) exports) index) position)
+    (one_before (ordinal_notice e.ordinal (first_of_ordinal e.ordinal exports) index) position))
+    (one_before (lowered_notice (word_of e)) position))
+    (one_before (ordinal_like_notice (word_of e)) position))
+    (one_before (stdcall_notice request.machine request.naming e) position))
+    (one_before (target_notice request.flavor e (first_of_word e.alias_target exports)) position)
+
+-- the warnings at what stands there, and others from there on
+site_first : (request : RequestView) (exports : List ExportView) (index : ℕ) (at : Site) (position : Position) (rest : List WarningView)
+    → Ascends position.offset rest → Ascends position.offset (warnings_at_site request exports index at position ++ rest)
+site_first request exports index site.Export position rest from = export_before request exports index position (slice_get exports index) rest from
+site_first request exports index (site.Attribute attribute) position rest from =
+    warned_first (Some (OpensLine attribute (word_before exports index))) position rest from
+site_first request exports index site.Heading position rest from = warned_first (heading_notice request.dll) position rest from
+
+-- the warnings at places that ascend do so
+warnings_ascend : (request : RequestView) (exports : List ExportView) (index offset : ℕ) (places : List Place) → PlacesFrom offset places
+    → Ascends offset (warnings_from request exports index places)
+unfolding warnings_from
+warnings_ascend request exports index offset [] from = tt
+warnings_ascend request exports index offset (place ∷ places) from =
+    ascends-less offset place.position.offset (warnings_at request exports index place ++ warnings_from request exports (index_after place.site index) places) from.0
+    (site_first request exports index place.site place.position _
+    (warnings_ascend request exports (index_after place.site index) place.position.offset places from.1))
+
+if_verbose : (is : Bool) (warnings : List WarningView) → Ascends 0 warnings → Ascends 0 (if is then warnings else [])
+if_verbose true warnings from = from
+if_verbose false warnings from = tt
+
+pub in_order : (text : List ℕ) (tokens : List TokenView) (request : RequestView) (exports : List ExportView) (count : ℕ) → Lexed text tokens
+    → Ascends 0 (warnings_for request exports (places_in text tokens) count)
+unfolding walked
+in_order text tokens request exports count lexed =
+    let tokens_from = subst (TokensFrom 0) (sym lexed.given) (tokens_ascend 0 lexed.lexemes) in
+    let places_from = subst (PlacesFrom 0) (sym (walked_places text started tokens)) (places_ascend text started.walk 0 tokens tokens_from) in
+    if_verbose request.is_verbose (warnings_of request exports (places_in text tokens) count)
+    (both_before whole _ _ (one_before (no_export_notice exports) whole) (one_before (other_kind_notice request.flavor count) whole) _
+    (warnings_ascend request exports 0 0 (places_in text tokens) places_from))

@@ -1,0 +1,57 @@
+use Rattle.std.proofs.Common.{◌≡◌, ◌∙◌, ◌++◌, Some, None, ap, append-nil, length, map, refl, sym}
+use Rattle.std.specs.Option.{option_map}
+use Rattle.std.specs.Prelude.{slice_get}
+use Rattle.std.proofs.lemmas.Option.{slice_get-map, slice_get_past, slice_get_read}
+use Rattle.implib.specs.Definition.{export_view}
+use Rattle.implib_dlltool.specs.Linked.{word_of}
+use Rattle.implib_dlltool.specs.Request.{request_view}
+use Rattle.implib_dlltool.specs.Warnings.{first_of_ordinal, first_of_word, if_export, lowered_notice, ordinal_like_notice, ordinal_notice, repeat_notice, target_notice, warning_view}
+use Rattle.implib_dlltool.proofs.Warned.{said_as, said_then}
+use Rattle.implib_dlltool.proofs.warnings.push_export.Goals as goal
+
+pub returns-in_default : goal.returns-in_default
+returns-in_default c =
+    let exports = map export_view c.args.exports.now in
+    let none : slice_get exports c.args.index ≡ None =
+    slice_get-map export_view c.args.exports.now c.args.index
+    ∙ ap (option_map export_view) (slice_get_past c.args.exports.now c.args.index c.in_default.ensures.lookup.3) in
+    let old = map warning_view c.args.warnings.now.items in
+    sym (append-nil old) ∙ ap (λ o. old ++ if_export (request_view c.args.request.now) exports c.args.index c.args.position o) (sym none)
+
+pub returns : goal.returns
+returns c =
+    let exports = map export_view c.args.exports.now in
+    let request = request_view c.args.request.now in
+    let e = export_view c.in-Some.export.now in
+    let index = c.args.index in
+    let old = map warning_view c.args.warnings.now.items in
+    let look = c.in-Some.ensures.lookup in
+    let found : slice_get exports index ≡ Some e =
+    slice_get-map export_view c.args.exports.now index
+    ∙ ap (option_map export_view) (slice_get_read c.args.exports.now (length c.args.exports.now) index c.in-Some.export.now refl look.3.0 look.1) in
+    let word : c.word_of-word.result.now ≡ word_of e = c.word_of-word.ensures in
+    let first : c.copied-first.result ≡ first_of_word (word_of e) exports =
+    c.copied-first.ensures ∙ c.get-2.ensures.value ∙ c.requires.words c.word_of-word.result.now ∙ ap (λ w. first_of_word w exports) word in
+    let second : c.copied-first-2.result ≡ first_of_ordinal e.ordinal exports =
+    c.copied-first-2.ensures ∙ c.get-3.ensures.value ∙ c.requires.ordinals e.ordinal in
+    let third : c.copied-first-3.result ≡ first_of_word e.alias_target exports =
+    c.copied-first-3.ensures ∙ c.get-4.ensures.value ∙ c.requires.words c.as_str.result.now ∙ ap (λ w. first_of_word w exports) c.as_str.ensures.value in
+    let repeated =
+    c.repeat_notice.ensures ∙ ap (λ f. repeat_notice c.word_of-word.result.now f index) first
+    ∙ ap (λ w. repeat_notice w (first_of_word (word_of e) exports) index) word in
+    let ordinal = c.ordinal_notice.ensures ∙ ap (λ f. ordinal_notice e.ordinal f index) second in
+    let lowered = c.lowered_notice.ensures ∙ ap lowered_notice word in
+    let like = c.ordinal_like_notice.ensures ∙ ap ordinal_like_notice word in
+    let target = c.target_notice.ensures ∙ ap (target_notice request.flavor e) third in
+    said_then _ _ _ _ _
+    (said_then _ _ _ _ _
+    (said_then _ _ _ _ _
+    (said_then _ _ _ _ _
+    (said_then _ _ _ _ _
+    (said_as _ _ _ _ c.args.position repeated c.in_ok-push_notice.ensures)
+    (said_as _ _ _ _ c.args.position ordinal c.in_ok-push_notice-2.ensures))
+    (said_as _ _ _ _ c.args.position lowered c.in_ok-push_notice-3.ensures))
+    (said_as _ _ _ _ c.args.position like c.in_ok-push_notice-4.ensures))
+    (said_as _ _ _ _ c.args.position c.stdcall_notice.ensures c.in_ok-push_notice-5.ensures))
+    (said_as _ _ _ _ c.args.position target c.in_ok-push_notice-6.ensures)
+    ∙ ap (λ o. old ++ if_export request exports index c.args.position o) (sym found)

@@ -1,0 +1,156 @@
+-- Words, places and warnings worked by hand.
+use Rattle.std.specs.Prelude.{◌≡◌, ℕ, List, [], ◌∷◌, Bool, true, false, Option, None, Some, codes}
+use Rattle.implib.specs.declared.def.lexer.TokenKind.TheVariants.{Eof, Identifier, EqualEqual, KwData, KwExports, KwLibrary, KwName, KwPrivate}
+use Rattle.implib.specs.declared.def.position.Position.{Position}
+use Rattle.implib.specs.declared.flavor.Flavor.TheVariants.{Msvc, Gnu}
+use Rattle.implib.specs.declared.machine.MachineType.TheVariants.{I386}
+use Rattle.implib.specs.Definition.{ExportView, empty_export}
+use Rattle.implib.specs.Text.Token.{TokenView}
+use Rattle.implib_dlltool.specs.declared.places.Place.{Place}
+use Rattle.implib_dlltool.specs.declared.places.Site.{Site}
+use Rattle.implib_dlltool.specs.declared.places.Site.TheVariants as site
+use Rattle.implib_dlltool.specs.declared.warnings.words.Attribute.TheVariants.{Data, Constant, Private, NoName}
+use Rattle.implib_dlltool.specs.Linked.{NamingView}
+use Rattle.implib_dlltool.specs.Places.{places_in}
+use Rattle.implib_dlltool.specs.Request.{RequestView}
+use Rattle.implib_dlltool.specs.Warnings.{HasNoExport, IsLowered, IsNotExported, IsOrdinalLike, IsOtherKind, IsRepeated, IsSecondHeading, IsStdcall}
+use Rattle.implib_dlltool.specs.Warnings.{NoticeView, OpensLine, RepeatsOrdinal, WarningView}
+use Rattle.implib_dlltool.specs.Warnings.{is_ordinal_like, is_stdcall_word, lowered_attribute, warnings_for}
+
+-- which words may be meant for something else
+pub record WordsJudged : Type 0 where
+  pub stdcall : is_stdcall_word (codes "F@8") ≡ true
+  pub stdcall_underscored : is_stdcall_word (codes "_F@120") ≡ true
+  pub fastcall : is_stdcall_word (codes "@F@8") ≡ false
+  pub vectorcall : is_stdcall_word (codes "F@@8") ≡ false
+  pub cpp : is_stdcall_word (codes "?F@8") ≡ false
+  pub letters : is_stdcall_word (codes "F@8a") ≡ false
+  pub no_number : is_stdcall_word (codes "F@") ≡ false
+  pub two_numbers : is_stdcall_word (codes "F@8@8") ≡ false
+  pub c : is_stdcall_word (codes "F8") ≡ false
+  pub large_ordinal : is_ordinal_like (codes "@65536") ≡ true
+  pub hexadecimal : is_ordinal_like (codes "@0x10") ≡ true
+  pub first_ordinal : is_ordinal_like (codes "@5") ≡ true
+  pub fastcall_name : is_ordinal_like (codes "@F@8") ≡ false
+  pub lone : is_ordinal_like (codes "@") ≡ false
+  pub stdcall_name : is_ordinal_like (codes "1@8") ≡ false
+  pub small_data : lowered_attribute (codes "data") ≡ Some Data
+  pub constant : lowered_attribute (codes "cONSTANT") ≡ Some Constant
+  pub private : lowered_attribute (codes "Private") ≡ Some Private
+  pub no_name : lowered_attribute (codes "noname") ≡ Some NoName
+  pub capitals : lowered_attribute (codes "DATA") ≡ None
+  pub longer : lowered_attribute (codes "data1") ≡ None
+
+-- the position at a line and a column
+abbrev pub at_line : ℕ → ℕ → ℕ → Position
+at_line offset line column = record { offset = offset; line = line; column = column }
+
+-- what stands at a line and a column
+abbrev pub place : Site → Position → Place
+place site position = record { site = site; position = position }
+
+-- a text of three exports, two of which have an attribute in a line of its own
+abbrev pub lined_text : List ℕ
+lined_text = codes "NAME z EXPORTS a\n DATA b == c PRIVATE\n@ 5\nNAME"
+
+-- its tokens
+abbrev pub lined_tokens : List TokenView
+lined_tokens =
+    record { kind = KwName; value = codes "NAME"; at = 0 }
+    ∷ record { kind = Identifier; value = codes "z"; at = 5 }
+    ∷ record { kind = KwExports; value = codes "EXPORTS"; at = 7 }
+    ∷ record { kind = Identifier; value = codes "a"; at = 15 }
+    ∷ record { kind = KwData; value = codes "DATA"; at = 18 }
+    ∷ record { kind = Identifier; value = codes "b"; at = 23 }
+    ∷ record { kind = EqualEqual; value = codes "=="; at = 25 }
+    ∷ record { kind = Identifier; value = codes "c"; at = 28 }
+    ∷ record { kind = KwPrivate; value = codes "PRIVATE"; at = 30 }
+    ∷ record { kind = Identifier; value = codes "@"; at = 38 }
+    ∷ record { kind = Identifier; value = codes "5"; at = 40 }
+    ∷ record { kind = KwName; value = codes "NAME"; at = 42 }
+    ∷ record { kind = Eof; value = []; at = 46 }
+    ∷ []
+
+-- its places: the names of exports, the attribute that begins a line and not the one within a line, and the
+-- second heading
+pub record PlacesWorked : Type 0 where
+  pub lined : places_in lined_text lined_tokens
+      ≡ place site.Export (at_line 15 1 16)
+      ∷ place (site.Attribute Data) (at_line 18 2 2)
+      ∷ place site.Export (at_line 23 2 7)
+      ∷ place site.Heading (at_line 42 4 1)
+      ∷ []
+
+-- an export of a word and an ordinal
+abbrev pub ordinary : List ℕ → ℕ → ExportView
+ordinary word ordinal = record empty_export { name = word; ordinal = ordinal }
+
+-- exports with something to warn of each, but for the first
+abbrev pub doubtful : List ExportView
+doubtful =
+    ordinary (codes "f") 5
+    ∷ ordinary (codes "F@8") 0
+    ∷ record empty_export { name = codes "g"; ext_name = Some (codes "f"); is_data = true }
+    ∷ ordinary (codes "data") 5
+    ∷ record empty_export { name = codes "a"; alias_target = codes "b" }
+    ∷ record empty_export { name = codes "c"; alias_target = codes "f" }
+    ∷ ordinary (codes "@70000") 0
+    ∷ record empty_export { name = codes "G@8"; private = true }
+    ∷ record empty_export { name = codes "H@8"; no_name = true; ordinal = 9 }
+    ∷ []
+
+-- where they are, with an attribute that opens a line behind the second, and a second heading
+abbrev pub doubtful_places : List Place
+doubtful_places =
+    place site.Export (at_line 8 1 9)
+    ∷ place site.Export (at_line 10 2 1)
+    ∷ place (site.Attribute Constant) (at_line 14 3 1)
+    ∷ place site.Export (at_line 24 4 1)
+    ∷ place site.Heading (at_line 26 5 1)
+    ∷ place site.Export (at_line 40 6 1)
+    ∷ place site.Export (at_line 50 7 1)
+    ∷ place site.Export (at_line 60 8 1)
+    ∷ place site.Export (at_line 70 9 1)
+    ∷ place site.Export (at_line 80 10 1)
+    ∷ place site.Export (at_line 90 11 1)
+    ∷ []
+
+-- a library for Microsoft's linker on I386
+abbrev pub asked : Bool → Bool → Option (List ℕ) → RequestView
+asked kills_at is_verbose dll = record {
+  definition = codes "-";
+  output = None;
+  machine = I386;
+  flavor = Msvc;
+  dll = dll;
+  naming = record { is_plain = false; kills_at = kills_at };
+  is_verbose = is_verbose;
+}
+
+-- a warning at a line and a column
+abbrev pub warning : NoticeView → Position → WarningView
+warning notice position = record { notice = notice; position = position }
+
+-- what is warned of
+pub record WarningsWorked : Type 0 where
+  pub verbose : warnings_for (asked false true None) doubtful doubtful_places 65535
+      ≡ warning IsOtherKind (at_line 0 1 1)
+      ∷ warning (IsStdcall (codes "F@8")) (at_line 10 2 1)
+      ∷ warning (OpensLine Constant (codes "F@8")) (at_line 14 3 1)
+      ∷ warning (IsRepeated (codes "f") 0) (at_line 24 4 1)
+      ∷ warning IsSecondHeading (at_line 26 5 1)
+      ∷ warning (RepeatsOrdinal 5 0) (at_line 40 6 1)
+      ∷ warning (IsLowered (codes "data") Data) (at_line 40 6 1)
+      ∷ warning (IsNotExported (codes "b")) (at_line 50 7 1)
+      ∷ warning (IsOrdinalLike (codes "@70000")) (at_line 70 9 1)
+      ∷ []
+  pub killed : warnings_for (asked true true (Some (codes "z.dll"))) doubtful doubtful_places 65534
+      ≡ warning (OpensLine Constant (codes "F@8")) (at_line 14 3 1)
+      ∷ warning (IsRepeated (codes "f") 0) (at_line 24 4 1)
+      ∷ warning (RepeatsOrdinal 5 0) (at_line 40 6 1)
+      ∷ warning (IsLowered (codes "data") Data) (at_line 40 6 1)
+      ∷ warning (IsNotExported (codes "b")) (at_line 50 7 1)
+      ∷ warning (IsOrdinalLike (codes "@70000")) (at_line 70 9 1)
+      ∷ []
+  pub silent : warnings_for (asked false false None) doubtful doubtful_places 65535 ≡ []
+  pub none : warnings_for (asked false true None) [] [] 3 ≡ warning HasNoExport (at_line 0 1 1) ∷ []
