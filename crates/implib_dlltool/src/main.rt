@@ -6,6 +6,7 @@
 //! [`program`]).
 #![tactic(auto)]
 
+pub mod aliases;
 pub mod arguments;
 pub mod laws;
 pub mod library;
@@ -13,6 +14,7 @@ pub mod linked;
 mod message;
 pub mod name;
 pub mod options;
+pub mod order;
 mod output;
 mod places;
 pub mod program;

@@ -1,0 +1,164 @@
+//! The imports that the aliases of a definition lead to, where no export of it is one.
+
+ghost use Rattle.implib.specs.Definition.{export_view};
+ghost use Rattle.implib_dlltool.specs.Linked.{linked_exports, lacks_target, naming_view};
+ghost use Rattle.implib_dlltool.specs.Linked.{symbols_linked, target_import, target_symbol};
+ghost use Rattle.implib_dlltool.specs.Linked.{targets_added, targets_beside, with_symbol};
+ghost use Rattle.std.specs.Prelude.{◌≡◌, ◌++◌, ◌∷◌, [], IfOk, OnOk, if◌then◌else◌, map};
+ghost use Rattle.std.specs.String.{string_bytes};
+
+use crate::linked::{Naming, is_alias_under, link_exports, symbol_linked, symbol_of};
+use implib::def::ShortExport;
+use implib::{Flavor, MachineType};
+use indexmap::IndexSet;
+use std::alloc::{AllocError, Global};
+
+// The import of an alias's target.
+fn target_import(
+    alloc: Global,
+    machine: MachineType,
+    naming: Naming,
+    export: &ShortExport,
+) -> Result<ShortExport, AllocError>
+    ensures { IfOk result (λ target. export_view target
+        ≡ target_import machine (naming_view naming) (export_view export.now)) }
+{
+    let word = export.alias_target.as_str();
+    let mut target = ShortExport::empty(alloc);
+    target.name = symbol_of(alloc, machine, naming, word)?;
+    target.asked_name = Some(String::from_str(alloc, word)?);
+    target.is_data = export.is_data;
+    target.constant = export.constant;
+    Ok(target)
+}
+
+// The symbols of the exports that are not private.
+fn symbols_linked(
+    alloc: Global,
+    machine: MachineType,
+    naming: Naming,
+    exports: &[ShortExport],
+) -> Result<IndexSet<String>, AllocError>
+    ensures { IfOk result (λ symbols. map string_bytes symbols.keys
+        ≡ symbols_linked machine (naming_view naming) (map export_view exports.now)) }
+{
+    let mut symbols = IndexSet::new(alloc);
+    for export in exports {
+        if !export.private {
+            symbols.insert(symbol_linked(alloc, machine, naming, export)?)?;
+        }
+    }
+    Ok(symbols)
+}
+
+// Adds the import of an alias's target, unless its symbol is there.
+fn push_target(
+    alloc: Global,
+    machine: MachineType,
+    naming: Naming,
+    flavor: Flavor,
+    export: &ShortExport,
+    symbols: &mut IndexSet<String>,
+    targets: &mut Vec<ShortExport>,
+) -> Result<(), AllocError>
+    ensures symbols { OnOk result (map string_bytes symbols.new.keys
+        ≡ (if lacks_target machine (naming_view naming) flavor
+        (map string_bytes symbols.old.keys) (export_view export.now)
+        then map string_bytes symbols.old.keys
+        ++ target_symbol machine (naming_view naming) (export_view export.now) ∷ []
+        else map string_bytes symbols.old.keys)) }
+    ensures targets { OnOk result (map export_view targets.new.items
+        ≡ (if lacks_target machine (naming_view naming) flavor
+        (map string_bytes symbols.old.keys) (export_view export.now)
+        then map export_view targets.old.items
+        ++ target_import machine (naming_view naming) (export_view export.now) ∷ []
+        else map export_view targets.old.items)) }
+{
+    let symbol = symbol_linked(alloc, machine, naming, export)?;
+    if !is_alias_under(flavor, symbol.as_str(), export) {
+        return Ok(());
+    }
+    let target = symbol_of(alloc, machine, naming, export.alias_target.as_str())?;
+    if symbols.insert(target)? {
+        targets.push(target_import(alloc, machine, naming, export)?)?;
+    }
+    Ok(())
+}
+
+// The imports of the targets whose symbols are not among these, in the order of their first use.
+fn targets_beside(
+    alloc: Global,
+    machine: MachineType,
+    naming: Naming,
+    flavor: Flavor,
+    mut symbols: IndexSet<String>,
+    exports: &[ShortExport],
+) -> Result<Vec<ShortExport>, AllocError>
+    ensures { IfOk result (λ targets. map export_view targets.items
+        ≡ targets_beside machine (naming_view naming) flavor
+        (map string_bytes symbols.keys) (map export_view exports.now)) }
+{
+    let mut targets = Vec::new(alloc);
+    for export in exports {
+        push_target(
+            alloc,
+            machine,
+            naming,
+            flavor,
+            export,
+            &mut symbols,
+            &mut targets,
+        )?;
+    }
+    Ok(targets)
+}
+
+// Whether an export may be an alias: there is a word behind `==`, and the flavour is Microsoft's.
+fn may_have_aliases(flavor: Flavor, exports: &[ShortExport]) -> bool {
+    match flavor {
+        Flavor::Gnu => false,
+        Flavor::Msvc => exports.iter().any(|export| !export.alias_target.is_empty()),
+    }
+}
+
+// The imports that aliases add: of each target once, if no export that is not private has its
+// symbol. Without an alias no symbol is made.
+fn targets_added(
+    alloc: Global,
+    machine: MachineType,
+    naming: Naming,
+    flavor: Flavor,
+    exports: &[ShortExport],
+) -> Result<Vec<ShortExport>, AllocError>
+    ensures { IfOk result (λ targets. map export_view targets.items
+        ≡ targets_added machine (naming_view naming) flavor (map export_view exports.now)) }
+{
+    if !may_have_aliases(flavor, exports) {
+        return Ok(Vec::new(alloc));
+    }
+    let symbols = symbols_linked(alloc, machine, naming, exports)?;
+    targets_beside(alloc, machine, naming, flavor, symbols, exports)
+}
+
+/// Gives each export its symbol, and what it asks the DLL for or is weak for, and adds the targets
+/// of aliases that are no exports, behind all others.
+///
+/// # Errors
+///
+/// An allocation failed; then some exports may be as they were.
+pub fn link_with_targets(
+    alloc: Global,
+    machine: MachineType,
+    naming: Naming,
+    flavor: Flavor,
+    exports: &mut Vec<ShortExport>,
+) -> Result<(), AllocError>
+    ensures { OnOk result (map export_view exports.new.items
+        ≡ linked_exports machine (naming_view naming) flavor
+        (map export_view exports.old.items)) }
+{
+    let mut targets = targets_added(alloc, machine, naming, flavor, exports.as_slice())?;
+    link_exports(alloc, machine, naming, flavor, exports)?;
+    exports.append(&mut targets)?;
+    Ok(())
+}
