@@ -1,13 +1,16 @@
 -- By which symbols exports are linked, and what they ask the DLL for: the rules of GNU dlltool and llvm-dlltool
 -- (docs/DECISIONS.md). A word is one of the definition as it is written.
-use Rattle.std.specs.Prelude.{ℕ, ◌==◌, Bool, true, false, not, ◌&&◌, ◌||◌, List, [], ◌∷◌, Option, Some, None, if◌then◌else◌, length, map, nat_lt}
+use Rattle.std.specs.Prelude.{ℕ, ◌==◌, Bool, true, false, not, ◌&&◌, ◌||◌, List, [], ◌∷◌, ◌++◌, Option, Some, None, if◌then◌else◌, bytes_eq, fold, length, map, nat_lt}
+use Rattle.implib.specs.declared.flavor.Flavor.{Flavor}
+use Rattle.implib.specs.declared.flavor.Flavor.TheVariants.{Msvc, Gnu}
 use Rattle.implib.specs.declared.machine.MachineType.{MachineType}
 use Rattle.implib.specs.Ascii.{at_sign, begins_with, question_mark, underscore}
-use Rattle.implib.specs.Definition.{DefinitionView, ExportView}
+use Rattle.implib.specs.Definition.{DefinitionView, ExportView, empty_export}
+use Rattle.implib.specs.Formats.ShortImport.{before_at_sign, without_prefix}
 use Rattle.implib.specs.Import.{is_empty_text}
 use Rattle.implib.specs.Machine.{has_leading_underscore}
 use Rattle.implib.specs.Renaming.{name_to_link}
-use Rattle.std.specs.List.{after_first, before_first, position_or_len}
+use Rattle.std.specs.List.{after_first, before_first, filter, list_any, position_or_len}
 use Rattle.implib_dlltool.specs.declared.linked.Naming.{Naming}
 
 -- how names are read on I386
@@ -97,12 +100,16 @@ makes symbol name =
     bytes_eq symbol name
     || (bytes_eq (without_prefix symbol) name || bytes_eq (before_at_sign (without_prefix symbol)) name)
 
+-- whether an export has a word behind `==`
+abbrev pub has_target : ExportView → Bool
+has_target e = not (is_empty_text e.alias_target)
+
 -- Whether an export of this symbol is an alias in a flavour: it has a word behind `==` that Microsoft's short
 -- import of the symbol cannot ask for. One that is private is left out, and one by ordinal asks for no name.
 abbrev pub is_alias_under : Flavor → List ℕ → ExportView → Bool
 is_alias_under Gnu symbol e = false
 is_alias_under Msvc symbol e =
-    not e.private && (not e.no_name && (not (is_empty_text e.alias_target) && not (makes symbol e.alias_target)))
+    has_target e && (not e.private && (not e.no_name && not (makes symbol e.alias_target)))
 
 -- whether an export is an alias
 abbrev pub is_linked_alias : MachineType → NamingView → Flavor → ExportView → Bool
@@ -150,19 +157,23 @@ abbrev pub symbols_linked : MachineType → NamingView → List ExportView → L
 symbols_linked machine naming exports =
     fold with_symbol [] (map (symbol_linked machine naming) (filter (λ e. not e.private) exports))
 
--- whether an alias leads to a symbol that is not among these
-abbrev pub lacks_target : MachineType → NamingView → Flavor → List (List ℕ) → ExportView → Bool
-lacks_target machine naming flavor symbols e =
-    is_linked_alias machine naming flavor e && not (is_among symbols (target_symbol machine naming e))
+-- the symbols, with that of an alias's target
+abbrev pub with_target : MachineType → NamingView → Flavor → List (List ℕ) → ExportView → List (List ℕ)
+with_target machine naming flavor symbols e =
+    if is_linked_alias machine naming flavor e then with_symbol symbols (target_symbol machine naming e) else symbols
+
+-- the import of an alias's target, if its symbol is not among these
+abbrev pub new_target : MachineType → NamingView → Flavor → List (List ℕ) → ExportView → List ExportView
+new_target machine naming flavor symbols e =
+    if is_linked_alias machine naming flavor e && not (is_among symbols (target_symbol machine naming e))
+    then target_import machine naming e ∷ [] else []
 
 -- the imports of the targets of aliases whose symbols are not among these, in the order of their first use
 abbrev pub targets_beside : MachineType → NamingView → Flavor → List (List ℕ) → List ExportView → List ExportView
 targets_beside machine naming flavor symbols [] = []
 targets_beside machine naming flavor symbols (e ∷ exports) =
-    if lacks_target machine naming flavor symbols e then
-    target_import machine naming e
-    ∷ targets_beside machine naming flavor (symbols ++ target_symbol machine naming e ∷ []) exports
-    else targets_beside machine naming flavor symbols exports
+    new_target machine naming flavor symbols e
+    ++ targets_beside machine naming flavor (with_target machine naming flavor symbols e) exports
 
 -- The imports that aliases add: of each target once, if no export that is not private has its symbol. For
 -- example, `a == b` and `c == b` add b.

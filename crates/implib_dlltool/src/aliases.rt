@@ -1,10 +1,12 @@
 //! The imports that the aliases of a definition lead to, where no export of it is one.
 
 ghost use Rattle.implib.specs.Definition.{export_view};
-ghost use Rattle.implib_dlltool.specs.Linked.{linked_exports, lacks_target, naming_view};
-ghost use Rattle.implib_dlltool.specs.Linked.{symbols_linked, target_import, target_symbol};
+ghost use Rattle.implib_dlltool.specs.Linked.{has_target, is_among, linked_exports, naming_view};
+ghost use Rattle.implib_dlltool.specs.Linked.{new_target, symbols_linked, target_import};
 ghost use Rattle.implib_dlltool.specs.Linked.{targets_added, targets_beside, with_symbol};
-ghost use Rattle.std.specs.Prelude.{◌≡◌, ◌++◌, ◌∷◌, [], IfOk, OnOk, if◌then◌else◌, map};
+ghost use Rattle.implib_dlltool.specs.Linked.{with_target};
+ghost use Rattle.std.specs.List.{list_any};
+ghost use Rattle.std.specs.Prelude.{◌≡◌, ◌++◌, IfOk, OnOk, map, not};
 ghost use Rattle.std.specs.String.{string_bytes};
 
 use crate::linked::{Naming, is_alias_under, link_exports, symbol_linked, symbol_of};
@@ -32,6 +34,16 @@ fn target_import(
     Ok(target)
 }
 
+// Adds a symbol unless it is there; whether it was not.
+fn insert_symbol(symbols: &mut IndexSet<String>, symbol: String) -> Result<bool, AllocError>
+    ensures new { IfOk result (λ is_new. is_new
+        ≡ not (is_among (map string_bytes symbols.old.keys) (string_bytes symbol))) }
+    ensures symbols { OnOk result (map string_bytes symbols.new.keys
+        ≡ with_symbol (map string_bytes symbols.old.keys) (string_bytes symbol)) }
+{
+    Ok(symbols.insert(symbol)?)
+}
+
 // The symbols of the exports that are not private.
 fn symbols_linked(
     alloc: Global,
@@ -45,7 +57,7 @@ fn symbols_linked(
     let mut symbols = IndexSet::new(alloc);
     for export in exports {
         if !export.private {
-            symbols.insert(symbol_linked(alloc, machine, naming, export)?)?;
+            insert_symbol(&mut symbols, symbol_linked(alloc, machine, naming, export)?)?;
         }
     }
     Ok(symbols)
@@ -62,24 +74,18 @@ fn push_target(
     targets: &mut Vec<ShortExport>,
 ) -> Result<(), AllocError>
     ensures symbols { OnOk result (map string_bytes symbols.new.keys
-        ≡ (if lacks_target machine (naming_view naming) flavor
-        (map string_bytes symbols.old.keys) (export_view export.now)
-        then map string_bytes symbols.old.keys
-        ++ target_symbol machine (naming_view naming) (export_view export.now) ∷ []
-        else map string_bytes symbols.old.keys)) }
+        ≡ with_target machine (naming_view naming) flavor
+        (map string_bytes symbols.old.keys) (export_view export.now)) }
     ensures targets { OnOk result (map export_view targets.new.items
-        ≡ (if lacks_target machine (naming_view naming) flavor
-        (map string_bytes symbols.old.keys) (export_view export.now)
-        then map export_view targets.old.items
-        ++ target_import machine (naming_view naming) (export_view export.now) ∷ []
-        else map export_view targets.old.items)) }
+        ≡ map export_view targets.old.items ++ new_target machine (naming_view naming) flavor
+        (map string_bytes symbols.old.keys) (export_view export.now)) }
 {
     let symbol = symbol_linked(alloc, machine, naming, export)?;
     if !is_alias_under(flavor, symbol.as_str(), export) {
         return Ok(());
     }
     let target = symbol_of(alloc, machine, naming, export.alias_target.as_str())?;
-    if symbols.insert(target)? {
+    if insert_symbol(symbols, target)? {
         targets.push(target_import(alloc, machine, naming, export)?)?;
     }
     Ok(())
@@ -113,12 +119,16 @@ fn targets_beside(
     Ok(targets)
 }
 
-// Whether an export may be an alias: there is a word behind `==`, and the flavour is Microsoft's.
-fn may_have_aliases(flavor: Flavor, exports: &[ShortExport]) -> bool {
-    match flavor {
-        Flavor::Gnu => false,
-        Flavor::Msvc => exports.iter().any(|export| !export.alias_target.is_empty()),
+// Whether an export has a word behind `==`.
+fn has_targets(exports: &[ShortExport]) -> bool
+    ensures { result ≡ list_any has_target (map export_view exports.now) }
+{
+    for export in exports {
+        if !export.alias_target.is_empty() {
+            return true;
+        }
     }
+    false
 }
 
 // The imports that aliases add: of each target once, if no export that is not private has its
@@ -133,7 +143,7 @@ fn targets_added(
     ensures { IfOk result (λ targets. map export_view targets.items
         ≡ targets_added machine (naming_view naming) flavor (map export_view exports.now)) }
 {
-    if !may_have_aliases(flavor, exports) {
+    if flavor == Flavor::Gnu || !has_targets(exports) {
         return Ok(Vec::new(alloc));
     }
     let symbols = symbols_linked(alloc, machine, naming, exports)?;

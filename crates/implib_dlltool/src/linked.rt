@@ -178,9 +178,9 @@ pub fn is_alias_under(flavor: Flavor, symbol: &str, export: &ShortExport) -> boo
     match flavor {
         Flavor::Gnu => false,
         Flavor::Msvc => {
-            !export.private
+            !export.alias_target.is_empty()
+                && !export.private
                 && !export.no_name
-                && !export.alias_target.is_empty()
                 && !makes(symbol.as_bytes(), export.alias_target.as_bytes())
         }
     }

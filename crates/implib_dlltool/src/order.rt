@@ -50,14 +50,37 @@ fn has_alias(exports: &[ShortExport]) -> bool
     false
 }
 
+// Drops the next member.
+fn pass_one(left: &mut IntoIter<Member>)
+    ensures { into_iter_items left.new ≡ drop 1 (into_iter_items left.old) }
+{
+    left.next();
+}
+
 // Moves the next member to the end of others.
-fn move_next(left: &mut IntoIter<Member>, members: &mut Vec<Member>) -> Result<(), AllocError>
+fn move_one(left: &mut IntoIter<Member>, members: &mut Vec<Member>) -> Result<(), AllocError>
     ensures left { OnOk result (into_iter_items left.new ≡ drop 1 (into_iter_items left.old)) }
     ensures members { OnOk result (members.new.items
         ≡ members.old.items ++ take 1 (into_iter_items left.old)) }
 {
     if let Some(member) = left.next() {
         members.push(member)?;
+    }
+    Ok(())
+}
+
+// Moves so many of the next members to the end of others.
+fn move_next(
+    left: &mut IntoIter<Member>,
+    members: &mut Vec<Member>,
+    count: usize,
+) -> Result<(), AllocError>
+    ensures left { OnOk result (into_iter_items left.new ≡ drop count (into_iter_items left.old)) }
+    ensures members { OnOk result (members.new.items
+        ≡ members.old.items ++ take count (into_iter_items left.old)) }
+{
+    for _moved in 0..count {
+        move_one(left, members)?;
     }
     Ok(())
 }
@@ -77,12 +100,11 @@ fn move_members(
         ++ (if is_weak (export_view export.now) then take 2 (into_iter_items left.old) else [])) }
 {
     if is_weak(export) {
-        move_next(left, aliases)?;
-        move_next(left, aliases)?;
-        let _import = left.next();
+        move_next(left, aliases, 2)?;
+        pass_one(left);
         Ok(())
     } else {
-        move_next(left, imports)
+        move_next(left, imports, 1)
     }
 }
 
@@ -97,9 +119,7 @@ fn aliases_last(library: &ImportLibrary, members: Vec<Member>) -> Result<Vec<Mem
     let mut imports = Vec::with_capacity(alloc, members.len())?;
     let mut aliases = Vec::new(alloc);
     let mut left = members.into_iter();
-    for _ in 0..HEADER_MEMBERS {
-        move_next(&mut left, &mut imports)?;
-    }
+    move_next(&mut left, &mut imports, HEADER_MEMBERS)?;
     for export in library.definition().exports.iter() {
         if !export.private {
             move_members(export, &mut left, &mut imports, &mut aliases)?;
