@@ -1,5 +1,5 @@
 -- Members in order: short imports first, weak externals last.
-use Rattle.std.proofs.Common.{◌≡◌, ℕ, ◌+◌, Bool, true, false, ◌||◌, List, [], ◌∷◌, ◌++◌, drop, if◌then◌else◌, length, map, refl, sym, ap, ◌∙◌, append_assoc, append-nil, take, subst}
+use Rattle.std.proofs.Common.{◌≡◌, ℕ, zero, suc, ◌+◌, Bool, true, false, ◌||◌, List, [], ◌∷◌, ◌++◌, drop, if◌then◌else◌, length, map, refl, sym, ap, ◌∙◌, append_assoc, append-nil, take, subst}
 use Rattle.std.specs.Prelude.{not, ◌&&◌}
 use Rattle.std.specs.List.{filter, flat_map}
 use Rattle.std.proofs.lemmas.Bool.{true≢false}
@@ -27,6 +27,12 @@ module _ {X S V : Type 0} (view : X → V) (of : S → V) (xs : List X) (front r
       sym (drop-map view n xs)
       ∙ (ap (drop n) (is ∙ map-append of front rest)
       ∙ drop_at (map of front) (map of rest) n (length-map front of ∙ long))
+
+-- one item more
+pub take-suc_front : {X : Type 0} (k : ℕ) (xs : List X) → take (suc k) xs ≡ take k xs ++ take 1 (drop k xs)
+take-suc_front zero xs = refl
+take-suc_front (suc k) [] = refl
+take-suc_front (suc k) (x ∷ xs) = ap (λ t. x ∷ t) (take-suc_front k xs)
 
 -- the members of a DLL are three
 pub length-header_specs : (machine : MachineType) (dll : List ℕ) → length (header_specs machine dll) ≡ 3

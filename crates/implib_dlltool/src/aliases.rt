@@ -1,6 +1,7 @@
 //! The imports that the aliases of a definition lead to, where no export of it is one.
 
 ghost use Rattle.implib.specs.Definition.{export_view};
+ghost use Rattle.implib.specs.declared.flavor.Flavor.TheVariants.{Msvc};
 ghost use Rattle.implib_dlltool.specs.Linked.{has_target, is_among, linked_exports, naming_view};
 ghost use Rattle.implib_dlltool.specs.Linked.{new_target, symbols_linked, target_import};
 ghost use Rattle.implib_dlltool.specs.Linked.{targets_added, targets_beside, with_symbol};
@@ -68,20 +69,19 @@ fn push_target(
     alloc: Global,
     machine: MachineType,
     naming: Naming,
-    flavor: Flavor,
     export: &ShortExport,
     symbols: &mut IndexSet<String>,
     targets: &mut Vec<ShortExport>,
 ) -> Result<(), AllocError>
     ensures symbols { OnOk result (map string_bytes symbols.new.keys
-        ≡ with_target machine (naming_view naming) flavor
+        ≡ with_target machine (naming_view naming) Msvc
         (map string_bytes symbols.old.keys) (export_view export.now)) }
     ensures targets { OnOk result (map export_view targets.new.items
-        ≡ map export_view targets.old.items ++ new_target machine (naming_view naming) flavor
+        ≡ map export_view targets.old.items ++ new_target machine (naming_view naming) Msvc
         (map string_bytes symbols.old.keys) (export_view export.now)) }
 {
     let symbol = symbol_linked(alloc, machine, naming, export)?;
-    if !is_alias_under(flavor, symbol.as_str(), export) {
+    if !is_alias_under(Flavor::Msvc, symbol.as_str(), export) {
         return Ok(());
     }
     let target = symbol_of(alloc, machine, naming, export.alias_target.as_str())?;
@@ -96,25 +96,16 @@ fn targets_beside(
     alloc: Global,
     machine: MachineType,
     naming: Naming,
-    flavor: Flavor,
     mut symbols: IndexSet<String>,
     exports: &[ShortExport],
 ) -> Result<Vec<ShortExport>, AllocError>
     ensures { IfOk result (λ targets. map export_view targets.items
-        ≡ targets_beside machine (naming_view naming) flavor
+        ≡ targets_beside machine (naming_view naming) Msvc
         (map string_bytes symbols.keys) (map export_view exports.now)) }
 {
     let mut targets = Vec::new(alloc);
     for export in exports {
-        push_target(
-            alloc,
-            machine,
-            naming,
-            flavor,
-            export,
-            &mut symbols,
-            &mut targets,
-        )?;
+        push_target(alloc, machine, naming, export, &mut symbols, &mut targets)?;
     }
     Ok(targets)
 }
@@ -131,8 +122,25 @@ fn has_targets(exports: &[ShortExport]) -> bool
     false
 }
 
+// The imports that aliases add in Microsoft's flavour. Without a word behind `==` no symbol is made.
+fn msvc_targets(
+    alloc: Global,
+    machine: MachineType,
+    naming: Naming,
+    exports: &[ShortExport],
+) -> Result<Vec<ShortExport>, AllocError>
+    ensures { IfOk result (λ targets. map export_view targets.items
+        ≡ targets_added machine (naming_view naming) Msvc (map export_view exports.now)) }
+{
+    if !has_targets(exports) {
+        return Ok(Vec::new(alloc));
+    }
+    let symbols = symbols_linked(alloc, machine, naming, exports)?;
+    targets_beside(alloc, machine, naming, symbols, exports)
+}
+
 // The imports that aliases add: of each target once, if no export that is not private has its
-// symbol. Without an alias no symbol is made.
+// symbol.
 fn targets_added(
     alloc: Global,
     machine: MachineType,
@@ -143,11 +151,10 @@ fn targets_added(
     ensures { IfOk result (λ targets. map export_view targets.items
         ≡ targets_added machine (naming_view naming) flavor (map export_view exports.now)) }
 {
-    if flavor == Flavor::Gnu || !has_targets(exports) {
-        return Ok(Vec::new(alloc));
+    match flavor {
+        Flavor::Msvc => msvc_targets(alloc, machine, naming, exports),
+        Flavor::Gnu => Ok(Vec::new(alloc)),
     }
-    let symbols = symbols_linked(alloc, machine, naming, exports)?;
-    targets_beside(alloc, machine, naming, flavor, symbols, exports)
 }
 
 /// Gives each export its symbol, and what it asks the DLL for or is weak for, and adds the targets

@@ -115,12 +115,13 @@ fn aliases_last(library: &ImportLibrary, members: Vec<Member>) -> Result<Vec<Mem
     ensures { IfOk result (λ ordered. map member_view ordered.items
         ≡ map member_of (msvc_specs library.now.machine library.now.definition)) }
 {
+    let def = library.definition();
     let alloc = *members.allocator();
     let mut imports = Vec::with_capacity(alloc, members.len())?;
     let mut aliases = Vec::new(alloc);
     let mut left = members.into_iter();
     move_next(&mut left, &mut imports, HEADER_MEMBERS)?;
-    for export in library.definition().exports.iter() {
+    for export in def.exports.iter() {
         if !export.private {
             move_members(export, &mut left, &mut imports, &mut aliases)?;
         }
