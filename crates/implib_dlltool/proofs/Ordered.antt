@@ -5,13 +5,15 @@ use Rattle.std.specs.List.{filter, flat_map}
 use Rattle.std.proofs.lemmas.Bool.{true≢false}
 use Rattle.std.proofs.lemmas.List.{drop-map, drop_at, length-map, map-append, take-map, take_at}
 use Rattle.implib.specs.declared.machine.MachineType.{MachineType}
-use Rattle.implib.specs.Definition.{ExportView}
+use Rattle.implib.specs.declared.flavor.Flavor.TheVariants.{Msvc}
+use Rattle.implib.specs.Definition.{DefinitionView, ExportView}
 use Rattle.implib.specs.Import.{imp_symbol}
+use Rattle.implib.specs.Members.Members.{member_specs}
 use Rattle.implib.specs.Members.MemberSpec.{MemberSpec, MemberView, member_of}
 use Rattle.implib.specs.Members.Msvc.{short_import_symbol}
 use Rattle.implib.specs.Members.MsvcMembers.{export_specs, header_specs, member_count, short_import_spec, weak_specs}
 use Rattle.implib.specs.Members.WeakExternal.{weak_spec}
-use Rattle.implib_dlltool.specs.Order.{has_alias, import_specs, is_weak}
+use Rattle.implib_dlltool.specs.Order.{has_alias, import_specs, is_weak, msvc_specs}
 use Rattle.implib_dlltool.proofs.Targets.{neither}
 
 -- the first of items that show what they are made of
@@ -142,6 +144,27 @@ module _ {X : Type 0} (view : X → MemberView) (machine : MachineType) (dll : L
             ∙ (sym (ap (λ (x : List ExportView). map view aliases ++ map member_of (flat_map (weak_specs machine dll) x)) (kept public)) ∙ before.aliases_are));
       }
 
+-- where the members of the DLL are found, and no more
+pub begun : {X : Type 0} (view : X → MemberView) (machine : MachineType) (dll : List ℕ) (exports : List ExportView) (xs left empty imports aliases : List X)
+    → map view xs ≡ map member_of (header_specs machine dll ++ flat_map (export_specs machine dll) (filter (λ e. not e.private) exports))
+    → left ≡ drop 3 xs → imports ≡ empty ++ take 3 xs → empty ≡ [] → aliases ≡ []
+    → Sorting machine dll
+    (map member_of (header_specs machine dll ++ flat_map (import_specs machine dll) (filter (λ e. not e.private) exports)))
+    (map member_of (flat_map (weak_specs machine dll) (filter (λ e. not e.private) exports)))
+    (map view left) (map view imports) (map view aliases) exports
+begun view machine dll exports xs left empty imports aliases all left_is imports_are empty_is aliases_are =
+    let header = header_specs machine dll in
+    let these = filter (λ e. not e.private) exports in
+    let others = flat_map (export_specs machine dll) these in
+    record {
+      left_is = ap (map view) left_is ∙ dropped view member_of xs header others 3 (length-header_specs machine dll) all;
+      imports_are =
+          ap (λ t. map view t ++ map member_of (flat_map (import_specs machine dll) these)) (imports_are ∙ ap (λ t. t ++ take 3 xs) empty_is)
+          ∙ (ap (λ t. t ++ map member_of (flat_map (import_specs machine dll) these)) (taken view member_of xs header others 3 (length-header_specs machine dll) all)
+          ∙ sym (map-append member_of header (flat_map (import_specs machine dll) these)));
+      aliases_are = ap (λ t. map view t ++ map member_of (flat_map (weak_specs machine dll) these)) aliases_are;
+    }
+
 -- where no export is left, those found are all
 pub sorted : (machine : MachineType) (dll : List ℕ) (all_imports all_aliases left imports aliases : List MemberView)
     → Sorting machine dll all_imports all_aliases left imports aliases [] → (imports ≡ all_imports) × (aliases ≡ all_aliases)
@@ -170,3 +193,9 @@ module _ (machine : MachineType) (dll : List ℕ) where
   in_order-plain (e ∷ exports) none =
       let parts = neither (not e.private && is_weak e) (has_alias exports) none in
       step e.private (is_weak e) e (filter (λ x. not x.private) exports) parts.0 refl (in_order-plain exports parts.1)
+
+-- without an alias the members of exports are in order
+pub plain_order : (machine : MachineType) (d : DefinitionView) → has_alias d.exports ≡ false
+    → map member_of (member_specs d machine Msvc) ≡ map member_of (msvc_specs machine d)
+plain_order machine d none =
+    ap (λ t. map member_of (header_specs machine d.import_name ++ t)) (in_order-plain machine d.import_name d.exports none)

@@ -130,6 +130,19 @@ fn aliases_last(library: &ImportLibrary, members: Vec<Member>) -> Result<Vec<Mem
     Ok(imports)
 }
 
+// The members for Microsoft's linker in order, which they are without an alias.
+fn msvc_in_order(library: &ImportLibrary, members: Vec<Member>) -> Result<Vec<Member>, AllocError>
+    requires { map member_view members.items
+        ≡ map member_of (member_specs library.now.definition library.now.machine Msvc) }
+    ensures { IfOk result (λ ordered. map member_view ordered.items
+        ≡ map member_of (msvc_specs library.now.machine library.now.definition)) }
+{
+    if !has_alias(library.definition().exports.as_slice()) {
+        return Ok(members);
+    }
+    aliases_last(library, members)
+}
+
 /// The members of a library in the order in which an archive is to have them.
 ///
 /// # Errors
@@ -144,9 +157,7 @@ pub fn in_order(library: &ImportLibrary, members: Vec<Member>) -> Result<Vec<Mem
         (library_specs library.now.definition library.now.machine library.now.flavor)) }
 {
     match library.flavor() {
-        Flavor::Msvc if has_alias(library.definition().exports.as_slice()) => {
-            aliases_last(library, members)
-        }
-        Flavor::Msvc | Flavor::Gnu => Ok(members),
+        Flavor::Msvc => msvc_in_order(library, members),
+        Flavor::Gnu => Ok(members),
     }
 }

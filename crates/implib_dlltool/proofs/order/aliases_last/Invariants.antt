@@ -1,8 +1,7 @@
 use Rattle.std.proofs.Common.{◌++◌, drop, map}
 use Rattle.std.specs.List.{flat_map}
-use Rattle.std.specs.String.{string_bytes}
 use Rattle.std.specs.Vec.Iter.{into_iter_items}
-use Rattle.implib.specs.Definition.{definition_view, export_view}
+use Rattle.implib.specs.Definition.{export_view}
 use Rattle.implib.specs.Import.{public_exports}
 use Rattle.implib.specs.Library.{member_view}
 use Rattle.implib.specs.Members.MemberSpec.{member_of}
@@ -11,14 +10,15 @@ use Rattle.implib_dlltool.specs.Order.{import_specs}
 use Rattle.implib_dlltool.proofs.Ordered.{Sorting}
 use Rattle.implib_dlltool.proofs.order.aliases_last.Given as goal
 
+-- the members found, and those of the exports that are left, are all
 abbrev pub invariant-loop-export : goal.invariant-loop-export
 invariant-loop-export l =
-    let dll = string_bytes l.def.import_name in
-    let exports = public_exports (definition_view l.def) in
+    let dll = l.library.definition.import_name in
+    let exports = public_exports l.library.definition in
     Sorting l.library.machine dll
     (map member_of (header_specs l.library.machine dll ++ flat_map (import_specs l.library.machine dll) exports))
     (map member_of (flat_map (weak_specs l.library.machine dll) exports))
     (map member_view (into_iter_items l.left))
     (map member_view l.imports.items)
     (map member_view l.aliases.items)
-    (map export_view (drop l.export-index l.def.exports.items))
+    (map export_view (drop l.export-index l.export-items))
