@@ -13,7 +13,7 @@ use Rattle.implib.specs.Members.MemberSpec.{MemberSpec, MemberView, member_of}
 use Rattle.implib.specs.Members.Msvc.{short_import_symbol}
 use Rattle.implib.specs.Members.MsvcMembers.{export_specs, header_specs, member_count, short_import_spec, weak_specs}
 use Rattle.implib.specs.Members.WeakExternal.{weak_spec}
-use Rattle.implib_dlltool.specs.Order.{has_alias, import_specs, is_weak, msvc_specs}
+use Rattle.implib_dlltool.specs.Order.{alias_specs, has_alias, has_code, import_specs, is_weak, kept_of_alias, msvc_specs}
 use Rattle.implib_dlltool.proofs.Targets.{neither}
 
 -- the first of items that show what they are made of
@@ -41,6 +41,11 @@ pub length-header_specs : (machine : MachineType) (dll : List ℕ) → length (h
 unfolding header_specs
 length-header_specs machine dll = refl
 
+-- of nothing nothing is kept
+none_kept : {X : Type 0} (code : Bool) (both : List X) → both ≡ [] → (if code then both else drop 1 both) ≡ []
+none_kept true both none = none
+none_kept false both none = ap (drop 1) none
+
 module _ (machine : MachineType) (dll : List ℕ) (e : ExportView) where
   weak_specs-two : is_weak e ≡ true → weak_specs machine dll e ≡ weak_spec machine dll (short_import_symbol e) e.alias_target ∷ weak_spec machine dll (imp_symbol (short_import_symbol e)) (imp_symbol e.alias_target) ∷ []
   unfolding weak_specs
@@ -64,6 +69,9 @@ module _ (machine : MachineType) (dll : List ℕ) (e : ExportView) where
   pub export_specs-own : is_weak e ≡ false → export_specs machine dll e ≡ short_import_spec machine dll e ∷ []
   export_specs-own none = ap (λ t. t ++ short_import_spec machine dll e ∷ []) (weak_specs-none none)
 
+  pub alias_specs-none : is_weak e ≡ false → alias_specs machine dll e ≡ []
+  alias_specs-none none = none_kept (has_code e) (weak_specs machine dll e) (weak_specs-none none)
+
   length-export_specs : (b : Bool) → is_weak e ≡ b → length (export_specs machine dll e) ≡ member_count e
   length-export_specs true weak =
       ap (λ t. length (t ++ short_import_spec machine dll e ∷ [])) (weak_specs-two weak)
@@ -76,7 +84,7 @@ pub record Sorting (machine : MachineType) (dll : List ℕ) (all_imports all_ali
     (exports : List ExportView) : Type 0 where
   pub left_is : left ≡ map member_of (flat_map (export_specs machine dll) (filter (λ e. not e.private) exports))
   pub imports_are : imports ++ map member_of (flat_map (import_specs machine dll) (filter (λ e. not e.private) exports)) ≡ all_imports
-  pub aliases_are : aliases ++ map member_of (flat_map (weak_specs machine dll) (filter (λ e. not e.private) exports)) ≡ all_aliases
+  pub aliases_are : aliases ++ map member_of (flat_map (alias_specs machine dll) (filter (λ e. not e.private) exports)) ≡ all_aliases
 
 -- what is found, one export more
 joined : (found more : List MemberView) (these others : List MemberSpec) → more ≡ map member_of these
@@ -100,7 +108,7 @@ module _ {X : Type 0} (view : X → MemberView) (machine : MachineType) (dll : L
   sorting-private left imports aliases private before = record {
     left_is = before.left_is ∙ ap (λ (x : List ExportView). map member_of (flat_map (export_specs machine dll) x)) (passed private);
     imports_are = sym (ap (λ (x : List ExportView). imports ++ map member_of (flat_map (import_specs machine dll) x)) (passed private)) ∙ before.imports_are;
-    aliases_are = sym (ap (λ (x : List ExportView). aliases ++ map member_of (flat_map (weak_specs machine dll) x)) (passed private)) ∙ before.aliases_are;
+    aliases_are = sym (ap (λ (x : List ExportView). aliases ++ map member_of (flat_map (alias_specs machine dll) x)) (passed private)) ∙ before.aliases_are;
   }
 
   module _ (xs : List X) (others : List MemberSpec) (here : map view xs ≡ map member_of (export_specs machine dll e ++ others)) where
@@ -112,19 +120,30 @@ module _ {X : Type 0} (view : X → MemberView) (machine : MachineType) (dll : L
         ∙ (taken view member_of xs (short_import_spec machine dll e ∷ []) others 1 refl (here ∙ ap (λ t. map member_of (t ++ others)) (export_specs-own machine dll e none))
         ∙ sym (ap (map member_of) (import_specs-own machine dll e none)))
 
-    alias_part : (b : Bool) → is_weak e ≡ b → map view (if is_weak e then take 2 xs else []) ≡ map member_of (weak_specs machine dll e)
-    alias_part true weak =
-        ap (λ b. map view (if b then take 2 xs else [])) weak
-        ∙ taken view member_of xs (weak_specs machine dll e) (short_import_spec machine dll e ∷ others) 2 (length-weak_specs machine dll e weak)
+    two_taken : is_weak e ≡ true → map view (take 2 xs) ≡ map member_of (weak_specs machine dll e)
+    two_taken weak =
+        taken view member_of xs (weak_specs machine dll e) (short_import_spec machine dll e ∷ others) 2 (length-weak_specs machine dll e weak)
         (here ∙ ap (map member_of) (append_assoc (weak_specs machine dll e) (short_import_spec machine dll e ∷ []) others))
+
+    kept_taken : (code : Bool) → is_weak e ≡ true
+        → map view (if code then take 2 xs else drop 1 (take 2 xs)) ≡ map member_of (if code then weak_specs machine dll e else drop 1 (weak_specs machine dll e))
+    kept_taken true weak = two_taken weak
+    kept_taken false weak =
+        sym (drop-map view 1 (take 2 xs))
+        ∙ (ap (drop 1) (two_taken weak)
+        ∙ drop-map member_of 1 (weak_specs machine dll e))
+
+    alias_part : (b : Bool) → is_weak e ≡ b → map view (if is_weak e then kept_of_alias e (take 2 xs) else []) ≡ map member_of (alias_specs machine dll e)
+    alias_part true weak =
+        ap (λ b. map view (if b then kept_of_alias e (take 2 xs) else [])) weak ∙ kept_taken (has_code e) weak
     alias_part false none =
-        ap (λ b. map view (if b then take 2 xs else [])) none ∙ sym (ap (map member_of) (weak_specs-none machine dll e none))
+        ap (λ b. map view (if b then kept_of_alias e (take 2 xs) else [])) none ∙ sym (ap (map member_of) (alias_specs-none machine dll e none))
 
   -- after another
   pub sorting-public : (xs left imports more_imports aliases more_aliases : List X) → e.private ≡ false
       → left ≡ drop (member_count e) xs
       → more_imports ≡ imports ++ (if is_weak e then [] else take 1 xs)
-      → more_aliases ≡ aliases ++ (if is_weak e then take 2 xs else [])
+      → more_aliases ≡ aliases ++ (if is_weak e then kept_of_alias e (take 2 xs) else [])
       → Sorting machine dll all_imports all_aliases (map view xs) (map view imports) (map view aliases) (e ∷ exports)
       → Sorting machine dll all_imports all_aliases (map view left) (map view more_imports) (map view more_aliases) exports
   sorting-public xs left imports more_imports aliases more_aliases public left_is imports_are aliases_are before =
@@ -139,9 +158,9 @@ module _ {X : Type 0} (view : X → MemberView) (machine : MachineType) (dll : L
             ∙ (joined (map view imports) (map view (if is_weak e then [] else take 1 xs)) (import_specs machine dll e) (flat_map (import_specs machine dll) these) (import_part xs others here (is_weak e) refl)
             ∙ (sym (ap (λ (x : List ExportView). map view imports ++ map member_of (flat_map (import_specs machine dll) x)) (kept public)) ∙ before.imports_are));
         aliases_are =
-            ap (λ t. t ++ map member_of (flat_map (weak_specs machine dll) these)) (ap (map view) aliases_are ∙ map-append view aliases (if is_weak e then take 2 xs else []))
-            ∙ (joined (map view aliases) (map view (if is_weak e then take 2 xs else [])) (weak_specs machine dll e) (flat_map (weak_specs machine dll) these) (alias_part xs others here (is_weak e) refl)
-            ∙ (sym (ap (λ (x : List ExportView). map view aliases ++ map member_of (flat_map (weak_specs machine dll) x)) (kept public)) ∙ before.aliases_are));
+            ap (λ t. t ++ map member_of (flat_map (alias_specs machine dll) these)) (ap (map view) aliases_are ∙ map-append view aliases (if is_weak e then kept_of_alias e (take 2 xs) else []))
+            ∙ (joined (map view aliases) (map view (if is_weak e then kept_of_alias e (take 2 xs) else [])) (alias_specs machine dll e) (flat_map (alias_specs machine dll) these) (alias_part xs others here (is_weak e) refl)
+            ∙ (sym (ap (λ (x : List ExportView). map view aliases ++ map member_of (flat_map (alias_specs machine dll) x)) (kept public)) ∙ before.aliases_are));
       }
 
 -- where the members of the DLL are found, and no more
@@ -150,7 +169,7 @@ pub begun : {X : Type 0} (view : X → MemberView) (machine : MachineType) (dll 
     → left ≡ drop 3 xs → imports ≡ empty ++ take 3 xs → empty ≡ [] → aliases ≡ []
     → Sorting machine dll
     (map member_of (header_specs machine dll ++ flat_map (import_specs machine dll) (filter (λ e. not e.private) exports)))
-    (map member_of (flat_map (weak_specs machine dll) (filter (λ e. not e.private) exports)))
+    (map member_of (flat_map (alias_specs machine dll) (filter (λ e. not e.private) exports)))
     (map view left) (map view imports) (map view aliases) exports
 begun view machine dll exports xs left empty imports aliases all left_is imports_are empty_is aliases_are =
     let header = header_specs machine dll in
@@ -162,7 +181,7 @@ begun view machine dll exports xs left empty imports aliases all left_is imports
           ap (λ t. map view t ++ map member_of (flat_map (import_specs machine dll) these)) (imports_are ∙ ap (λ t. t ++ take 3 xs) empty_is)
           ∙ (ap (λ t. t ++ map member_of (flat_map (import_specs machine dll) these)) (taken view member_of xs header others 3 (length-header_specs machine dll) all)
           ∙ sym (map-append member_of header (flat_map (import_specs machine dll) these)));
-      aliases_are = ap (λ t. map view t ++ map member_of (flat_map (weak_specs machine dll) these)) aliases_are;
+      aliases_are = ap (λ t. map view t ++ map member_of (flat_map (alias_specs machine dll) these)) aliases_are;
     }
 
 -- where no export is left, those found are all
@@ -175,14 +194,14 @@ module _ (machine : MachineType) (dll : List ℕ) where
   -- the members of exports in their order are in order without an alias
   abbrev InOrder : List ExportView → Type 0
   InOrder exports =
-      flat_map (export_specs machine dll) exports ≡ flat_map (import_specs machine dll) exports ++ flat_map (weak_specs machine dll) exports
+      flat_map (export_specs machine dll) exports ≡ flat_map (import_specs machine dll) exports ++ flat_map (alias_specs machine dll) exports
 
   in_order-cons : (e : ExportView) (exports : List ExportView) → is_weak e ≡ false → InOrder exports → InOrder (e ∷ exports)
   in_order-cons e exports none rest =
       ap (λ t. t ++ flat_map (export_specs machine dll) exports) (export_specs-own machine dll e none)
       ∙ (ap (λ t. short_import_spec machine dll e ∷ t) rest
-      ∙ (sym (ap (λ t. (t ++ flat_map (import_specs machine dll) exports) ++ flat_map (weak_specs machine dll) exports) (import_specs-own machine dll e none))
-      ∙ sym (ap (λ t. flat_map (import_specs machine dll) (e ∷ exports) ++ (t ++ flat_map (weak_specs machine dll) exports)) (weak_specs-none machine dll e none))))
+      ∙ (sym (ap (λ t. (t ++ flat_map (import_specs machine dll) exports) ++ flat_map (alias_specs machine dll) exports) (import_specs-own machine dll e none))
+      ∙ sym (ap (λ t. flat_map (import_specs machine dll) (e ∷ exports) ++ (t ++ flat_map (alias_specs machine dll) exports)) (alias_specs-none machine dll e none))))
 
   step : (private weak : Bool) (e : ExportView) (exports : List ExportView) → (not private && weak) ≡ false → is_weak e ≡ weak → InOrder exports → InOrder (if not private then e ∷ exports else exports)
   step true weak e exports none is rest = rest

@@ -4,7 +4,7 @@ use Rattle.std.specs.Prelude.{◌&&◌, not, slice_get}
 use Rattle.std.specs.List.{AllByRecursion, filter, flat_map, list_all}
 use Rattle.std.specs.Option.{option_and_then, option_map}
 use Rattle.std.proofs.lemmas.Bool.{and_parts}
-use Rattle.std.proofs.lemmas.List.{length-append, map-append}
+use Rattle.std.proofs.lemmas.List.{drop-map, length-append, map-append}
 use Rattle.implib.specs.declared.flavor.Flavor.TheVariants.{Msvc}
 use Rattle.implib.specs.declared.machine.MachineType.{MachineType}
 use Rattle.implib.specs.Definition.{DefinitionView, ExportView}
@@ -19,7 +19,7 @@ use Rattle.implib.specs.Renaming.{renamed, renamed_export}
 use Rattle.implib.proofs.Members.Import.{import_written-expected}
 use Rattle.implib.proofs.Members.MemberReadings.{map_after}
 use Rattle.implib.proofs.Members.NotRefused.{AsksNoOther, exports_ask}
-use Rattle.implib_dlltool.specs.Order.{ReadsInOrder, import_specs, is_weak, msvc_specs, own_aliases, own_imports}
+use Rattle.implib_dlltool.specs.Order.{ReadsInOrder, alias_specs, has_code, import_specs, is_weak, kept_of_alias, msvc_specs, own_imports}
 use Rattle.implib_dlltool.proofs.Ordered.{length-weak_specs, weak_specs-none}
 
 -- lists that show the same, cut in two and joined
@@ -52,6 +52,12 @@ module _ {M Y : Type 0} (F : MemberSpec → Y) (G : M → Y) (machine : MachineT
   import_shown true e same = refl
   import_shown false e same = same
 
+  kept_shown : (code : Bool) (e : ExportView) → map F (weak_specs machine dll e) ≡ map G (aliases e)
+      → map F (if code then weak_specs machine dll e else drop 1 (weak_specs machine dll e)) ≡ map G (if code then aliases e else drop 1 (aliases e))
+  kept_shown true e same = same
+  kept_shown false e same =
+      sym (drop-map F 1 (weak_specs machine dll e)) ∙ (ap (drop 1) same ∙ drop-map G 1 (aliases e))
+
   long_both : (e : ExportView) → length (export_specs machine dll e) ≡ length (aliases e ++ imports e)
   long_both e =
       length-append (weak_specs machine dll e) (short_import_spec machine dll e ∷ [])
@@ -60,14 +66,14 @@ module _ {M Y : Type 0} (F : MemberSpec → Y) (G : M → Y) (machine : MachineT
   pub shown_in_order : (exports : List ExportView)
       → map F (flat_map (export_specs machine dll) exports) ≡ map G (flat_map (λ e. aliases e ++ imports e) exports)
       → (map F (flat_map (import_specs machine dll) exports) ≡ map G (flat_map (λ e. if is_weak e then [] else imports e) exports))
-      × (map F (flat_map (weak_specs machine dll) exports) ≡ map G (flat_map aliases exports))
+      × (map F (flat_map (alias_specs machine dll) exports) ≡ map G (flat_map (λ e. kept_of_alias e (aliases e)) exports))
   shown_in_order [] same = (refl, refl)
   shown_in_order (e ∷ exports) same =
       let first = cut F G (export_specs machine dll e) (flat_map (export_specs machine dll) exports) (aliases e ++ imports e) (flat_map (λ x. aliases x ++ imports x) exports) (long_both e) same in
       let own = cut F G (weak_specs machine dll e) (short_import_spec machine dll e ∷ []) (aliases e) (imports e) (long e) first.0 in
       let rest = shown_in_order exports first.1 in (
         join F G (import_specs machine dll e) (flat_map (import_specs machine dll) exports) (if is_weak e then [] else imports e) (flat_map (λ x. if is_weak x then [] else imports x) exports) (import_shown (is_weak e) e own.1) rest.0,
-        join F G (weak_specs machine dll e) (flat_map (weak_specs machine dll) exports) (aliases e) (flat_map aliases exports) own.0 rest.1,
+        join F G (alias_specs machine dll e) (flat_map (alias_specs machine dll) exports) (kept_of_alias e (aliases e)) (flat_map (λ x. kept_of_alias x (aliases x)) exports) (kept_shown (has_code e) e own.0) rest.1,
       )
 
 -- an alias is two weak externals
@@ -103,13 +109,20 @@ module _ (machine : MachineType) (dll : List ℕ) where
   imports_expected (e ∷ exports) plain ask =
       import_expected (is_weak e) e exports (import_written-expected machine dll e plain.0 ask.0) (imports_expected exports plain.1 ask.1)
 
+  kept_meant : (code : Bool) (these : List Alias)
+      → (if code then map AnAlias these else drop 1 (map AnAlias these)) ≡ map AnAlias (if code then these else drop 1 these)
+  kept_meant true these = refl
+  kept_meant false these = drop-map AnAlias 1 these
+
   aliases_expected : (exports : List ExportView) → AllByRecursion (λ e. e.symbol_name ≡ []) exports
-      → flat_map aliases_meant exports ≡ map AnAlias (flat_map (λ e. aliases_for e.name e.alias_target) exports)
+      → flat_map (λ e. kept_of_alias e (aliases_meant e)) exports ≡ map AnAlias (flat_map (λ e. kept_of_alias e (aliases_for e.name e.alias_target)) exports)
   aliases_expected [] plain = refl
   aliases_expected (e ∷ exports) plain =
-      ap (λ (s : List ℕ). map AnAlias (aliases_for (symbol_or_name s e.name) e.alias_target) ++ flat_map aliases_meant exports) plain.0
-      ∙ (ap (λ t. map AnAlias (aliases_for e.name e.alias_target) ++ t) (aliases_expected exports plain.1)
-      ∙ sym (map-append AnAlias (aliases_for e.name e.alias_target) (flat_map (λ x. aliases_for x.name x.alias_target) exports)))
+      let others = flat_map (λ x. kept_of_alias x (aliases_meant x)) exports in
+      ap (λ (s : List ℕ). kept_of_alias e (map AnAlias (aliases_for (symbol_or_name s e.name) e.alias_target)) ++ others) plain.0
+      ∙ (ap (λ t. t ++ others) (kept_meant (has_code e) (aliases_for e.name e.alias_target))
+      ∙ (ap (λ t. map AnAlias (kept_of_alias e (aliases_for e.name e.alias_target)) ++ t) (aliases_expected exports plain.1)
+      ∙ sym (map-append AnAlias (kept_of_alias e (aliases_for e.name e.alias_target)) (flat_map (λ x. kept_of_alias x (aliases_for x.name x.alias_target)) exports))))
 
 drop_header : (machine : MachineType) (dll : List ℕ) (specs : List MemberSpec) → drop 3 (map member_of (header_specs machine dll ++ specs)) ≡ map member_of specs
 unfolding header_specs
@@ -130,7 +143,7 @@ reads_in_order d machine all members made reads once plain is =
     let header = header_specs machine dll in
     let each = flat_map (export_specs machine dll) exports in
     let imports = flat_map (import_specs machine dll) exports in
-    let aliases = flat_map (weak_specs machine dll) exports in
+    let aliases = flat_map (alias_specs machine dll) exports in
     let whole : all ≡ map member_of (header ++ each) = made.made ∙ ap (λ (x : DefinitionView). map member_of (member_specs x machine Msvc)) once in
     let ask : AllByRecursion (AsksNoOther Msvc machine) exports = subst (λ (x : DefinitionView). AllByRecursion (AsksNoOther Msvc machine) (public_exports x)) once (exports_ask d machine Msvc all made) in
     let files = λ (p : MemberSpec). option_map declared_by (file_in (member_of p).bytes) in
@@ -151,7 +164,7 @@ reads_in_order d machine all members made reads once plain is =
     ∙ (sym (ap (map (λ (m : MemberView). meaning_in m.bytes)) (ap (drop 3) whole ∙ drop_header machine dll each))
     ∙ (reads.meanings ∙ ap (λ (x : DefinitionView). map Some (flat_map (meanings_written machine dll) (public_exports x))) once)) in
     let meanings_rest = shown_in_order mean Some machine dll (aliases_meant machine dll) (import_meant machine dll) (λ e. two_each machine dll (is_weak e) e refl) (λ e. refl) exports meanings_all in
-    let meanings_members = join mean Some imports aliases (flat_map (λ e. if is_weak e then [] else import_meant machine dll e) exports) (flat_map (aliases_meant machine dll) exports) meanings_rest.0 meanings_rest.1 in
+    let meanings_members = join mean Some imports aliases (flat_map (λ e. if is_weak e then [] else import_meant machine dll e) exports) (flat_map (λ e. kept_of_alias e (aliases_meant machine dll e)) exports) meanings_rest.0 meanings_rest.1 in
     record {
       declared =
           ap (map (λ (m : MemberView). option_map declared_by (file_in m.bytes))) is
@@ -169,6 +182,6 @@ reads_in_order d machine all members made reads once plain is =
           ∙ (ap (map (λ (m : MemberView). meaning_in m.bytes)) (drop_header machine dll (imports ++ aliases))
           ∙ (map_after (λ (m : MemberView). meaning_in m.bytes) member_of (imports ++ aliases)
           ∙ (meanings_members
-          ∙ (ap (λ t. map Some (t ++ flat_map (aliases_meant machine dll) exports)) (imports_expected machine dll exports plain ask)
+          ∙ (ap (λ t. map Some (t ++ flat_map (λ e. kept_of_alias e (aliases_meant machine dll e)) exports)) (imports_expected machine dll exports plain ask)
           ∙ ap (λ t. map Some (map AnImport (own_imports machine d) ++ t)) (aliases_expected machine dll exports plain)))));
     }

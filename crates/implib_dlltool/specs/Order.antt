@@ -26,13 +26,25 @@ has_alias exports = list_any (λ e. not e.private && is_weak e) exports
 abbrev pub import_specs : MachineType → List ℕ → ExportView → List MemberSpec
 import_specs machine dll e = if is_weak e then [] else short_import_spec machine dll e ∷ []
 
+-- whether an export is a function, which has a symbol beside that of its address
+abbrev pub has_code : ExportView → Bool
+has_code e = not e.is_data && not e.constant
+
+-- of what is made for the symbol of an alias and for its address, what the library has: for data the latter alone
+abbrev pub kept_of_alias : {X : Type 0} → ExportView → List X → List X
+kept_of_alias e both = if has_code e then both else drop 1 both
+
+-- the specifications of the weak externals of an export; an import has none
+abbrev pub alias_specs : MachineType → List ℕ → ExportView → List MemberSpec
+alias_specs machine dll e = kept_of_alias e (weak_specs machine dll e)
+
 -- the members for Microsoft's linker: those of the DLL, the short imports of the exports in their order, and
 -- last the weak externals in the order of theirs
 abbrev pub msvc_specs : MachineType → DefinitionView → List MemberSpec
 msvc_specs machine d =
     header_specs machine d.import_name
     ++ (flat_map (import_specs machine d.import_name) (public_exports d)
-    ++ flat_map (weak_specs machine d.import_name) (public_exports d))
+    ++ flat_map (alias_specs machine d.import_name) (public_exports d))
 
 -- the members of a library
 abbrev pub library_specs : DefinitionView → MachineType → Flavor → List MemberSpec
@@ -44,9 +56,9 @@ abbrev pub own_imports : MachineType → DefinitionView → List Import
 own_imports machine d =
     map (expected_import machine d.import_name) (filter (λ e. not (is_weak e)) (public_exports d))
 
--- the aliases: of the symbol, and of its address
+-- the aliases: of the symbol, but for data, and of its address
 abbrev pub own_aliases : DefinitionView → List Alias
-own_aliases d = flat_map (λ e. aliases_for e.name e.alias_target) (public_exports d)
+own_aliases d = flat_map (λ e. kept_of_alias e (aliases_for e.name e.alias_target)) (public_exports d)
 
 -- What the members for Microsoft's linker are read as.
 pub record ReadsInOrder (d : DefinitionView) (machine : MachineType) (members : List MemberView) : Type 0 where

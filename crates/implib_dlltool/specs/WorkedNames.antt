@@ -102,11 +102,12 @@ pub record AliasesLinked : Type 0 where
   pub gnu : linked_exports AMD64 usual Gnu (line (codes "a") (codes "b") ∷ [])
       ≡ an_import (codes "a") (codes "b") ∷ []
 
--- a definition with an alias of an export, and one of a name that is none
+-- a definition with an alias of an export, one of a name that is none, and one of data
 abbrev pub with_aliases : DefinitionView
 with_aliases = record empty_definition {
   import_name = codes "zoo.dll";
-  exports = line (codes "a") (codes "b") ∷ line (codes "b") [] ∷ line (codes "d") (codes "c") ∷ line (codes "e") [] ∷ [];
+  exports = line (codes "a") (codes "b") ∷ line (codes "b") [] ∷ line (codes "d") (codes "c") ∷ line (codes "e") []
+      ∷ record (line (codes "f") (codes "g")) { is_data = true } ∷ [];
 }
 
 -- the archive symbols of its members, in order
@@ -118,10 +119,12 @@ pub record MembersInOrder : Type 0 where
       ∷ (codes "__imp_b" ∷ codes "b" ∷ [])
       ∷ (codes "__imp_e" ∷ codes "e" ∷ [])
       ∷ (codes "__imp_c" ∷ codes "c" ∷ [])
+      ∷ (codes "__imp_g" ∷ [])
       ∷ (codes "a" ∷ [])
       ∷ (codes "__imp_a" ∷ [])
       ∷ (codes "d" ∷ [])
       ∷ (codes "__imp_d" ∷ [])
+      ∷ (codes "__imp_f" ∷ [])
       ∷ []
 
 -- names of DLLs

@@ -8,7 +8,8 @@ ghost use Rattle.implib.specs.Members.MemberSpec.{member_of};
 ghost use Rattle.implib.specs.Members.Msvc.{short_import_symbol};
 ghost use Rattle.implib.specs.Members.MsvcMembers.{member_count};
 ghost use Rattle.implib.specs.declared.flavor.Flavor.TheVariants.{Msvc};
-ghost use Rattle.implib_dlltool.specs.Order.{has_alias, is_weak, library_specs, msvc_specs};
+ghost use Rattle.implib_dlltool.specs.Order.{has_alias, has_code, is_weak, kept_of_alias};
+ghost use Rattle.implib_dlltool.specs.Order.{library_specs, msvc_specs};
 ghost use Rattle.std.specs.Prelude.{◌≡◌, ◌++◌, [], IfOk, OnOk, drop, if◌then◌else◌, map, take};
 ghost use Rattle.std.specs.Vec.Iter.{into_iter_items};
 
@@ -85,6 +86,30 @@ fn move_next(
     Ok(())
 }
 
+// Whether an export is a function, which has a symbol beside that of its address.
+fn has_code(export: &ShortExport) -> bool
+    ensures { result ≡ has_code (export_view export.now) }
+{
+    !export.is_data && !export.constant
+}
+
+// Moves the weak externals of an alias: of its symbol, but for data, and of its address.
+fn move_aliases(
+    export: &ShortExport,
+    left: &mut IntoIter<Member>,
+    aliases: &mut Vec<Member>,
+) -> Result<(), AllocError>
+    ensures left { OnOk result (into_iter_items left.new ≡ drop 2 (into_iter_items left.old)) }
+    ensures aliases { OnOk result (aliases.new.items ≡ aliases.old.items
+        ++ kept_of_alias (export_view export.now) (take 2 (into_iter_items left.old))) }
+{
+    if has_code(export) {
+        return move_next(left, aliases, 2);
+    }
+    pass_one(left);
+    move_one(left, aliases)
+}
+
 // Moves the members of an export: a short import, or weak externals, whose short import is dropped.
 fn move_members(
     export: &ShortExport,
@@ -97,10 +122,11 @@ fn move_members(
     ensures imports { OnOk result (imports.new.items ≡ imports.old.items
         ++ (if is_weak (export_view export.now) then [] else take 1 (into_iter_items left.old))) }
     ensures aliases { OnOk result (aliases.new.items ≡ aliases.old.items
-        ++ (if is_weak (export_view export.now) then take 2 (into_iter_items left.old) else [])) }
+        ++ (if is_weak (export_view export.now)
+        then kept_of_alias (export_view export.now) (take 2 (into_iter_items left.old)) else [])) }
 {
     if is_weak(export) {
-        move_next(left, aliases, 2)?;
+        move_aliases(export, left, aliases)?;
         pass_one(left);
         Ok(())
     } else {

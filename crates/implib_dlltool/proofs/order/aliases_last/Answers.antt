@@ -5,9 +5,9 @@ use Rattle.implib.specs.Definition.{DefinitionView, ExportView, export_view}
 use Rattle.implib.specs.Import.{public_exports}
 use Rattle.implib.specs.Library.{member_view}
 use Rattle.implib.specs.Members.MemberSpec.{member_of}
-use Rattle.implib.specs.Members.MsvcMembers.{header_specs, weak_specs}
+use Rattle.implib.specs.Members.MsvcMembers.{header_specs}
 use Rattle.implib.proofs.Members.MembersLoop.{exports_from}
-use Rattle.implib_dlltool.specs.Order.{import_specs}
+use Rattle.implib_dlltool.specs.Order.{alias_specs, import_specs}
 use Rattle.implib_dlltool.proofs.Ordered.{Sorting, begun, sorting-private, sorting-public}
 use Rattle.implib_dlltool.proofs.order.aliases_last.Goals as goal
 use Rattle.implib_dlltool.proofs.order.aliases_last.Goals.{then-not-export+in_ok-move_members, else-not-export}
@@ -18,7 +18,7 @@ loop-export-init c =
     let machine = c.args.library.now.machine in
     let dll = d.import_name in
     let all_imports = map member_of (header_specs machine dll ++ flat_map (import_specs machine dll) (public_exports d)) in
-    let all_aliases = map member_of (flat_map (weak_specs machine dll) (public_exports d)) in
+    let all_aliases = map member_of (flat_map (alias_specs machine dll) (public_exports d)) in
     let exports = ap (map export_view) c.deref-export-items.ensures.value ∙ ap (λ (x : DefinitionView). x.exports) c.definition-def.ensures in
     subst (λ (es : List ExportView). Sorting machine dll all_imports all_aliases (map member_view (into_iter_items c.move_next.new.left)) (map member_view c.move_next.new.members.items) (map member_view c.new-aliases.result.items) es)
     (sym exports)
@@ -32,7 +32,7 @@ loop-export-preserved c =
     let machine = c.args.library.now.machine in
     let dll = d.import_name in
     let all_imports = map member_of (header_specs machine dll ++ flat_map (import_specs machine dll) (public_exports d)) in
-    let all_aliases = map member_of (flat_map (weak_specs machine dll) (public_exports d)) in
+    let all_aliases = map member_of (flat_map (alias_specs machine dll) (public_exports d)) in
     let items = c.deref-export-items.result.now in
     let index = c.loop-export.export-index in
     let e = export_view c.export-item.result in

@@ -5,8 +5,8 @@ use Rattle.implib.specs.Definition.{export_view}
 use Rattle.implib.specs.Import.{public_exports}
 use Rattle.implib.specs.Library.{member_view}
 use Rattle.implib.specs.Members.MemberSpec.{member_of}
-use Rattle.implib.specs.Members.MsvcMembers.{header_specs, weak_specs}
-use Rattle.implib_dlltool.specs.Order.{import_specs}
+use Rattle.implib.specs.Members.MsvcMembers.{header_specs}
+use Rattle.implib_dlltool.specs.Order.{alias_specs, import_specs}
 use Rattle.implib_dlltool.proofs.Ordered.{Sorting}
 use Rattle.implib_dlltool.proofs.order.aliases_last.Given as goal
 
@@ -17,7 +17,7 @@ invariant-loop-export l =
     let exports = public_exports l.library.definition in
     Sorting l.library.machine dll
     (map member_of (header_specs l.library.machine dll ++ flat_map (import_specs l.library.machine dll) exports))
-    (map member_of (flat_map (weak_specs l.library.machine dll) exports))
+    (map member_of (flat_map (alias_specs l.library.machine dll) exports))
     (map member_view (into_iter_items l.left))
     (map member_view l.imports.items)
     (map member_view l.aliases.items)
