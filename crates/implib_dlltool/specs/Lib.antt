@@ -3,6 +3,7 @@ pub mod Arguments
 pub mod Names
 pub mod Request
 pub mod Linked
+pub mod Order
 pub mod Library
 pub mod Places
 pub mod Warnings

@@ -1,5 +1,5 @@
 -- Which bytes the library of a definition has, and when there is none.
-use Rattle.std.specs.Prelude.{◌≡◌, ℕ, IfErr, [], ◌∷◌, Bool, true, false, List, Option, None, Some, if◌then◌else◌, drop, length, nat_eq, nat_lt}
+use Rattle.std.specs.Prelude.{◌≡◌, ℕ, IfErr, [], ◌∷◌, Bool, true, false, List, Option, None, Some, if◌then◌else◌, drop, length, map, nat_eq, nat_lt}
 use Rattle.std.specs.List.{starts_with}
 use Rattle.std.specs.declared.result.Result.{Result}
 use Rattle.std.specs.Io.KnownBytes.{Appends}
@@ -13,7 +13,7 @@ use Rattle.implib.specs.Definition.{DefinitionView}
 use Rattle.implib.specs.declared.def.position.Position.{Position}
 use Rattle.implib.specs.Fault.{Cause, cause_of}
 use Rattle.implib.specs.Members.Members.{AreMembersOf, refusal}
-use Rattle.implib.specs.Members.MemberSpec.{MemberView}
+use Rattle.implib.specs.Members.MemberSpec.{MemberView, member_of}
 use Rattle.implib.specs.Members.ReadBack.{ReadBack}
 use Rattle.implib.specs.Renaming.{renamed}
 use Rattle.implib.specs.Text.Parses.{Parses, RefusesAt}
@@ -34,6 +34,7 @@ use Rattle.implib_dlltool.specs.declared.library.Refusal.{Refusal}
 use Rattle.implib_dlltool.specs.declared.library.Refusal.TheVariants.{NotUtf8, Syntax, NoName, Members, Archive, OutOfMemory}
 use Rattle.implib_dlltool.specs.Linked.{linked}
 use Rattle.implib_dlltool.specs.Names.{dll_name, is_program, lacks_name}
+use Rattle.implib_dlltool.specs.Order.{LibraryReads, library_specs}
 use Rattle.implib_dlltool.specs.Request.{RequestView}
 
 -- the refusals of errors of the libraries
@@ -51,7 +52,7 @@ without_mark bytes = if starts_with nat_eq bytes (0xEF ∷ 0xBB ∷ 0xBF ∷ [])
 
 -- the definition under the name of its DLL, and each export as it is linked
 abbrev pub definition_for : RequestView → DefinitionView → Bool → DefinitionView
-definition_for request parsed program = linked request.machine request.naming (record parsed {
+definition_for request parsed program = linked request.machine request.naming request.flavor (record parsed {
   import_name = dll_name request.dll parsed.import_name program;
 })
 
@@ -81,14 +82,19 @@ IsRefusalOfText text request (Members fault position) = ⊥
 IsRefusalOfText text request (Archive fault) = ⊥
 IsRefusalOfText text request OutOfMemory = Unit {0}
 
--- The members of the library that is asked for: those of the definition of the bytes, which are read back as it
--- says.
+-- The members of the library that is asked for: those of the definition of the bytes, in the order of
+-- llvm-dlltool, and without the short imports of aliases. They are read back as it says.
 pub record MembersFor (bytes : List ℕ) (request : RequestView) (members : List MemberView) : Type 0 where
   pub utf8 : IsUtf8 (without_mark bytes)
   pub definition : DefinitionView
   pub of_text : DefinitionFor (without_mark bytes) request definition
-  pub made : AreMembersOf (renamed definition) request.machine request.flavor members
-  pub reads : ReadBack (renamed definition) request.machine request.flavor members
+  -- all members of the definition, which is not refused
+  pub all : List MemberView
+  pub made : AreMembersOf (renamed definition) request.machine request.flavor all
+  pub reads : ReadBack (renamed definition) request.machine request.flavor all
+  -- those of the library
+  pub is : members ≡ map member_of (library_specs (renamed definition) request.machine request.flavor)
+  pub library_reads : LibraryReads (renamed definition) request.machine request.flavor members
 
 -- the bytes have a definition for this, whose members are refused
 pub record RefusesMembers (bytes : List ℕ) (request : RequestView) (cause : Cause) : Type 0 where

@@ -1,13 +1,16 @@
 -- By which symbols exports are linked, and what they ask the DLL for: the rules of GNU dlltool and llvm-dlltool
 -- (docs/DECISIONS.md). A word is one of the definition as it is written.
-use Rattle.std.specs.Prelude.{ℕ, ◌==◌, Bool, true, false, not, ◌&&◌, ◌||◌, List, [], ◌∷◌, Option, Some, None, if◌then◌else◌, length, map, nat_lt}
+use Rattle.std.specs.Prelude.{ℕ, ◌==◌, Bool, true, false, not, ◌&&◌, ◌||◌, List, [], ◌∷◌, ◌++◌, Option, Some, None, if◌then◌else◌, bytes_eq, fold, length, map, nat_lt}
+use Rattle.implib.specs.declared.flavor.Flavor.{Flavor}
+use Rattle.implib.specs.declared.flavor.Flavor.TheVariants.{Msvc, Gnu}
 use Rattle.implib.specs.declared.machine.MachineType.{MachineType}
 use Rattle.implib.specs.Ascii.{at_sign, begins_with, question_mark, underscore}
-use Rattle.implib.specs.Definition.{DefinitionView, ExportView}
+use Rattle.implib.specs.Definition.{DefinitionView, ExportView, empty_export}
+use Rattle.implib.specs.Formats.ShortImport.{before_at_sign, without_prefix}
 use Rattle.implib.specs.Import.{is_empty_text}
 use Rattle.implib.specs.Machine.{has_leading_underscore}
 use Rattle.implib.specs.Renaming.{name_to_link}
-use Rattle.std.specs.List.{after_first, before_first, position_or_len}
+use Rattle.std.specs.List.{after_first, before_first, filter, list_any, position_or_len}
 use Rattle.implib_dlltool.specs.declared.linked.Naming.{Naming}
 
 -- how names are read on I386
@@ -76,16 +79,113 @@ asked_of machine naming word target = if is_empty_text target then word_asked ma
 abbrev pub word_of : ExportView → List ℕ
 word_of e = name_to_link e.ext_name e.name
 
--- The export as it is linked, and with what it asks for. For example, of `f == g` the symbol is f and the name
--- asked for g.
-abbrev pub linked_export : MachineType → NamingView → ExportView → ExportView
-linked_export machine naming e = record e {
-  name = symbol_of machine naming (word_of e);
+-- the symbol by which an export is linked
+abbrev pub symbol_linked : MachineType → NamingView → ExportView → List ℕ
+symbol_linked machine naming e = symbol_of machine naming (word_of e)
+
+-- An import: the export under its symbol, and with what it asks for. For example, of `f == g` the symbol is f
+-- and the name asked for g.
+abbrev pub linked_import : MachineType → NamingView → ExportView → ExportView
+linked_import machine naming e = record e {
+  name = symbol_linked machine naming e;
   ext_name = None;
   alias_target = [];
   asked_name = Some (asked_of machine naming (word_of e) e.alias_target);
 }
 
--- the definition with each export as it is linked
-abbrev pub linked : MachineType → NamingView → DefinitionView → DefinitionView
-linked machine naming d = record d { exports = map (linked_export machine naming) d.exports }
+-- Whether a name type, which is name, no prefix or undecorate, makes a name of the symbol. For example, of
+-- `_f@8` they make `_f@8`, `f@8` and f.
+abbrev pub makes : List ℕ → List ℕ → Bool
+makes symbol name =
+    bytes_eq symbol name
+    || (bytes_eq (without_prefix symbol) name || bytes_eq (before_at_sign (without_prefix symbol)) name)
+
+-- whether an export has a word behind `==`
+abbrev pub has_target : ExportView → Bool
+has_target e = not (is_empty_text e.alias_target)
+
+-- Whether an export of this symbol is an alias in a flavour: it has a word behind `==` that Microsoft's short
+-- import of the symbol cannot ask for. One that is private is left out, and one by ordinal asks for no name.
+abbrev pub is_alias_under : Flavor → List ℕ → ExportView → Bool
+is_alias_under Gnu symbol e = false
+is_alias_under Msvc symbol e =
+    has_target e && (not e.private && (not e.no_name && not (makes symbol e.alias_target)))
+
+-- whether an export is an alias
+abbrev pub is_linked_alias : MachineType → NamingView → Flavor → ExportView → Bool
+is_linked_alias machine naming flavor e = is_alias_under flavor (symbol_linked machine naming e) e
+
+-- the symbol that the word behind `==` names
+abbrev pub target_symbol : MachineType → NamingView → ExportView → List ℕ
+target_symbol machine naming e = symbol_of machine naming e.alias_target
+
+-- An alias: its symbol is weak for its target's. What it asks for is its own symbol, so that no rule on names
+-- refuses what no member asks for.
+abbrev pub linked_alias : MachineType → NamingView → ExportView → ExportView
+linked_alias machine naming e = record e {
+  name = symbol_linked machine naming e;
+  ext_name = None;
+  alias_target = target_symbol machine naming e;
+  asked_name = Some (symbol_linked machine naming e);
+}
+
+-- the export as it is linked
+abbrev pub linked_export : MachineType → NamingView → Flavor → ExportView → ExportView
+linked_export machine naming flavor e =
+    if is_linked_alias machine naming flavor e then linked_alias machine naming e
+    else linked_import machine naming e
+
+-- the import of an alias's target, which asks for the word behind `==` as it is written
+abbrev pub target_import : MachineType → NamingView → ExportView → ExportView
+target_import machine naming e = record empty_export {
+  name = target_symbol machine naming e;
+  asked_name = Some e.alias_target;
+  is_data = e.is_data;
+  constant = e.constant;
+}
+
+-- whether a symbol is among these
+abbrev pub is_among : List (List ℕ) → List ℕ → Bool
+is_among symbols symbol = list_any (bytes_eq symbol) symbols
+
+-- the symbols, and this one behind them unless it is among them
+abbrev pub with_symbol : List (List ℕ) → List ℕ → List (List ℕ)
+with_symbol symbols symbol = if is_among symbols symbol then symbols else symbols ++ symbol ∷ []
+
+-- the symbols of the exports that are not private, each once
+abbrev pub symbols_linked : MachineType → NamingView → List ExportView → List (List ℕ)
+symbols_linked machine naming exports =
+    fold with_symbol [] (map (symbol_linked machine naming) (filter (λ e. not e.private) exports))
+
+-- the symbols, with that of an alias's target
+abbrev pub with_target : MachineType → NamingView → Flavor → List (List ℕ) → ExportView → List (List ℕ)
+with_target machine naming flavor symbols e =
+    if is_linked_alias machine naming flavor e then with_symbol symbols (target_symbol machine naming e) else symbols
+
+-- the import of an alias's target, if its symbol is not among these
+abbrev pub new_target : MachineType → NamingView → Flavor → List (List ℕ) → ExportView → List ExportView
+new_target machine naming flavor symbols e =
+    if is_linked_alias machine naming flavor e && not (is_among symbols (target_symbol machine naming e))
+    then target_import machine naming e ∷ [] else []
+
+-- the imports of the targets of aliases whose symbols are not among these, in the order of their first use
+abbrev pub targets_beside : MachineType → NamingView → Flavor → List (List ℕ) → List ExportView → List ExportView
+targets_beside machine naming flavor symbols [] = []
+targets_beside machine naming flavor symbols (e ∷ exports) =
+    new_target machine naming flavor symbols e
+    ++ targets_beside machine naming flavor (with_target machine naming flavor symbols e) exports
+
+-- The imports that aliases add: of each target once, if no export that is not private has its symbol. For
+-- example, `a == b` and `c == b` add b.
+abbrev pub targets_added : MachineType → NamingView → Flavor → List ExportView → List ExportView
+targets_added machine naming flavor exports =
+    targets_beside machine naming flavor (symbols_linked machine naming exports) exports
+
+-- exports as they are linked, and behind them the targets that aliases add
+abbrev pub linked_exports : MachineType → NamingView → Flavor → List ExportView → List ExportView
+linked_exports machine naming flavor exports =
+    map (linked_export machine naming flavor) exports ++ targets_added machine naming flavor exports
+
+-- the definition with each export as it is linked, and with the targets of its aliases
+abbrev pub linked : MachineType → NamingView → Flavor → DefinitionView → DefinitionView
+linked machine naming flavor d = record d { exports = linked_exports machine naming flavor d.exports }

@@ -1,15 +1,16 @@
 -- Symbols, asked names, names of DLLs and requests worked by hand.
-use Rattle.std.specs.Prelude.{◌≡◌, ℕ, List, [], ◌∷◌, Bool, true, false, Option, None, Some, Ok, Err, codes}
+use Rattle.std.specs.Prelude.{◌≡◌, ℕ, List, [], ◌∷◌, Bool, true, false, Option, None, Some, Ok, Err, codes, map}
 use Rattle.implib.specs.declared.flavor.Flavor.TheVariants.{Msvc, Gnu}
 use Rattle.implib.specs.declared.machine.MachineType.{MachineType}
 use Rattle.implib.specs.declared.machine.MachineType.TheVariants.{I386, ARMNT, AMD64, ARM64}
-use Rattle.implib.specs.Definition.{empty_export}
+use Rattle.implib.specs.Definition.{DefinitionView, ExportView, empty_definition, empty_export}
 use Rattle.implib_dlltool.specs.declared.options.Setting.TheVariants.{Definition, Output, Machine, Dll, TemporaryPrefix}
 use Rattle.implib_dlltool.specs.declared.options.Setting.TheVariants.{Flavor as FlavorSetting}
 use Rattle.implib_dlltool.specs.declared.options.Switch.TheVariants.{Help, Verbose}
 use Rattle.implib_dlltool.specs.Arguments.{Given, Switched}
-use Rattle.implib_dlltool.specs.Linked.{NamingView, linked_export}
+use Rattle.implib_dlltool.specs.Linked.{NamingView, linked, linked_export, linked_exports}
 use Rattle.implib_dlltool.specs.Names.{dll_name, lacks_name}
+use Rattle.implib_dlltool.specs.Order.{library_specs}
 use Rattle.implib_dlltool.specs.Request.{Asks, AsksHelp, GoesToStandard, HasEmptyDll, IsUnknownFlavor, IsUnknownMachine, LacksDefinition, default_machine, task_of}
 use Rattle.implib_dlltool.specs.Worked.{mingw_options, rustc_options}
 
@@ -25,11 +26,16 @@ killing = record { is_plain = false; kills_at = true }
 abbrev pub plain : NamingView
 plain = record { is_plain = true; kills_at = false }
 
--- the export of a word, with another behind `==` or with an empty one, has this symbol and asks for this name
+-- the export of a word, with another behind `==` or with an empty one
+abbrev pub line : List ℕ → List ℕ → ExportView
+line word target = record empty_export { name = word; alias_target = target }
+
+-- in GNU's flavour the export of a word, with another behind `==` or with an empty one, has this symbol and asks
+-- for this name
 pub record Links (machine : MachineType) (naming : NamingView) (word target symbol asked : List ℕ) : Type 0 where
-  pub symbol_is : (linked_export machine naming (record empty_export { name = word; alias_target = target })).name ≡ symbol
-  pub asked_is : (linked_export machine naming (record empty_export { name = word; alias_target = target })).asked_name ≡ Some asked
-  pub target_gone : (linked_export machine naming (record empty_export { name = word; alias_target = target })).alias_target ≡ []
+  pub symbol_is : (linked_export machine naming Gnu (line word target)).name ≡ symbol
+  pub asked_is : (linked_export machine naming Gnu (line word target)).asked_name ≡ Some asked
+  pub target_gone : (linked_export machine naming Gnu (line word target)).alias_target ≡ []
 
 -- what exports are linked by, and what they ask for
 pub record ExportsLinked : Type 0 where
@@ -50,6 +56,76 @@ pub record ExportsLinked : Type 0 where
   pub other : Links AMD64 usual (codes "a") (codes "b") (codes "a") (codes "b")
   pub other_underscored : Links I386 usual (codes "a") (codes "b") (codes "_a") (codes "b")
   pub other_not_killed : Links I386 killing (codes "a@4") (codes "a@4") (codes "_a@4") (codes "a@4")
+
+-- an import as it is linked: of this symbol, and asking for this name
+abbrev pub an_import : List ℕ → List ℕ → ExportView
+an_import symbol asked = record empty_export { name = symbol; asked_name = Some asked }
+
+-- an alias as it is linked: of this symbol, and weak for that one
+abbrev pub an_alias : List ℕ → List ℕ → ExportView
+an_alias symbol target = record empty_export { name = symbol; alias_target = target; asked_name = Some symbol }
+
+-- what exports with `==` are linked as, and what they add
+pub record AliasesLinked : Type 0 where
+  pub target_added : linked_exports AMD64 usual Msvc (line (codes "a") (codes "b") ∷ [])
+      ≡ an_alias (codes "a") (codes "b") ∷ an_import (codes "b") (codes "b") ∷ []
+  pub underscored : linked_exports I386 usual Msvc (line (codes "strcasecmp") (codes "_stricmp") ∷ [])
+      ≡ an_alias (codes "_strcasecmp") (codes "__stricmp") ∷ an_import (codes "__stricmp") (codes "_stricmp") ∷ []
+  pub killed : linked_exports I386 killing Msvc (line (codes "a@4") (codes "F@8") ∷ [])
+      ≡ an_alias (codes "_a@4") (codes "_F@8") ∷ an_import (codes "_F@8") (codes "F@8") ∷ []
+  pub exported : linked_exports AMD64 usual Msvc (line (codes "a") (codes "b") ∷ line (codes "b") [] ∷ [])
+      ≡ an_alias (codes "a") (codes "b") ∷ an_import (codes "b") (codes "b") ∷ []
+  pub exported_killed : linked_exports I386 killing Msvc (line (codes "a") (codes "F@8") ∷ line (codes "F@8") [] ∷ [])
+      ≡ an_alias (codes "_a") (codes "_F@8") ∷ an_import (codes "_F@8") (codes "F") ∷ []
+  pub shared : linked_exports AMD64 usual Msvc (line (codes "a") (codes "b") ∷ line (codes "c") (codes "b") ∷ [])
+      ≡ an_alias (codes "a") (codes "b") ∷ an_alias (codes "c") (codes "b") ∷ an_import (codes "b") (codes "b") ∷ []
+  pub chained : linked_exports AMD64 usual Msvc (line (codes "a") (codes "b") ∷ line (codes "b") (codes "c") ∷ [])
+      ≡ an_alias (codes "a") (codes "b") ∷ an_alias (codes "b") (codes "c") ∷ an_import (codes "c") (codes "c") ∷ []
+  pub private_target : linked_exports AMD64 usual Msvc
+      (line (codes "a") (codes "b") ∷ record (line (codes "b") []) { private = true } ∷ [])
+      ≡ an_alias (codes "a") (codes "b") ∷ record (an_import (codes "b") (codes "b")) { private = true }
+      ∷ an_import (codes "b") (codes "b") ∷ []
+  pub of_data : linked_exports AMD64 usual Msvc (record (line (codes "a") (codes "b")) { is_data = true; ordinal = 3 } ∷ [])
+      ≡ record (an_alias (codes "a") (codes "b")) { is_data = true; ordinal = 3 }
+      ∷ record (an_import (codes "b") (codes "b")) { is_data = true } ∷ []
+  pub itself : linked_exports AMD64 usual Msvc (line (codes "X") (codes "X") ∷ [])
+      ≡ an_import (codes "X") (codes "X") ∷ []
+  pub undecorated : linked_exports I386 usual Msvc (line (codes "X@4") (codes "X") ∷ [])
+      ≡ an_import (codes "_X@4") (codes "X") ∷ []
+  pub as_symbol : linked_exports I386 usual Msvc (line (codes "swab") (codes "_swab") ∷ [])
+      ≡ an_import (codes "_swab") (codes "_swab") ∷ []
+  pub by_ordinal : linked_exports AMD64 usual Msvc
+      (record (line (codes "a") (codes "b")) { no_name = true; ordinal = 5 } ∷ [])
+      ≡ record (an_import (codes "a") (codes "b")) { no_name = true; ordinal = 5 } ∷ []
+  pub private : linked_exports AMD64 usual Msvc (record (line (codes "a") (codes "b")) { private = true } ∷ [])
+      ≡ record (an_import (codes "a") (codes "b")) { private = true } ∷ []
+  pub gnu : linked_exports AMD64 usual Gnu (line (codes "a") (codes "b") ∷ [])
+      ≡ an_import (codes "a") (codes "b") ∷ []
+
+-- a definition with an alias of an export, one of a name that is none, and one of data
+abbrev pub with_aliases : DefinitionView
+with_aliases = record empty_definition {
+  import_name = codes "zoo.dll";
+  exports = line (codes "a") (codes "b") ∷ line (codes "b") [] ∷ line (codes "d") (codes "c") ∷ line (codes "e") []
+      ∷ record (line (codes "f") (codes "g")) { is_data = true } ∷ [];
+}
+
+-- the archive symbols of its members, in order
+pub record MembersInOrder : Type 0 where
+  pub msvc : map (λ p. p.symbols) (library_specs (linked AMD64 usual Msvc with_aliases) AMD64 Msvc)
+      ≡ (codes "__IMPORT_DESCRIPTOR_zoo" ∷ [])
+      ∷ (codes "__NULL_IMPORT_DESCRIPTOR" ∷ [])
+      ∷ ((0x7F ∷ codes "zoo_NULL_THUNK_DATA") ∷ [])
+      ∷ (codes "__imp_b" ∷ codes "b" ∷ [])
+      ∷ (codes "__imp_e" ∷ codes "e" ∷ [])
+      ∷ (codes "__imp_c" ∷ codes "c" ∷ [])
+      ∷ (codes "__imp_g" ∷ [])
+      ∷ (codes "a" ∷ [])
+      ∷ (codes "__imp_a" ∷ [])
+      ∷ (codes "d" ∷ [])
+      ∷ (codes "__imp_d" ∷ [])
+      ∷ (codes "__imp_f" ∷ [])
+      ∷ []
 
 -- names of DLLs
 pub record DllsNamed : Type 0 where

@@ -3,7 +3,8 @@
 ghost use Rattle.implib_dlltool.specs.Places.{AreAtWords};
 ghost use Rattle.implib_dlltool.specs.Warnings.{AreInOrder, RepeatsStandBefore};
 ghost use Rattle.implib_dlltool.specs.Worked.{CallsRead};
-ghost use Rattle.implib_dlltool.specs.WorkedNames.{CallsAnswered, DllsNamed, ExportsLinked};
+ghost use Rattle.implib_dlltool.specs.WorkedNames.{AliasesLinked, CallsAnswered, DllsNamed};
+ghost use Rattle.implib_dlltool.specs.WorkedNames.{ExportsLinked, MembersInOrder};
 ghost use Rattle.implib_dlltool.specs.WorkedOptions.{OptionsNamed};
 ghost use Rattle.implib_dlltool.specs.WorkedWarnings.{PlacesWorked, WarningsWorked, WordsJudged};
 
@@ -27,6 +28,18 @@ pub fn calls_answered()
 /// Exports are linked by the symbols that were worked by hand, and ask for the names.
 pub fn exports_linked()
     ensures { ExportsLinked }
+{}
+
+/// Exports with `==` are in Microsoft's flavour the aliases and imports that were worked by hand,
+/// and add the targets; in GNU's they are imports.
+pub fn aliases_linked()
+    ensures { AliasesLinked }
+{}
+
+/// The members for Microsoft's linker are in the order that was worked by hand: weak externals
+/// last, and no short import of an alias.
+pub fn members_in_order()
+    ensures { MembersInOrder }
 {}
 
 /// DLLs have the names that were worked by hand.

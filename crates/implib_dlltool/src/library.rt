@@ -12,8 +12,9 @@ ghost use Rattle.implib_dlltool.specs.Request.{request_view};
 ghost use Rattle.std.specs.Prelude.{◌≡◌, IfErr, IfOk, MatchOption, None, OnOk, length, map};
 ghost use Rattle.std.specs.Str.{IsUtf8};
 
-use crate::linked::link_exports;
+use crate::aliases::link_with_targets;
 use crate::name::{dll_name, is_program, lacks_name};
+use crate::order::in_order;
 use crate::places::position_of_fault;
 use crate::request::Request;
 use implib::def::{ModuleDef, Position};
@@ -161,7 +162,13 @@ pub fn definition_for(alloc: Global, text: &str, request: &Request) -> Result<Mo
         def.import_name.as_str(),
         is_program(text),
     )?;
-    link_exports(alloc, request.machine, request.naming, &mut def.exports)?;
+    link_with_targets(
+        alloc,
+        request.machine,
+        request.naming,
+        request.flavor,
+        &mut def.exports,
+    )?;
     Ok(def)
 }
 
@@ -179,8 +186,9 @@ pub fn members_for(alloc: Global, bytes: &[u8], request: &Request) -> Result<Vec
         return Err(Refusal::NotUtf8);
     };
     let def = definition_for(alloc, text, request)?;
-    match ImportLibrary::from_def(def, request.machine, request.flavor).members() {
-        Ok(members) => Ok(members),
+    let library = ImportLibrary::from_def(def, request.machine, request.flavor);
+    match library.members() {
+        Ok(members) => Ok(in_order(&library, members)?),
         Err(Error::Invalid(fault)) => {
             let position = position_of_fault(text, &fault);
             Err(Refusal::Members(fault, position))

@@ -1,14 +1,18 @@
 //! By which symbols exports are linked, and what they ask the DLL for: the rules of `dlltool`.
 
+ghost use Rattle.implib.specs.Ascii.{at_sign};
 ghost use Rattle.implib.specs.Definition.{export_view};
-ghost use Rattle.implib_dlltool.specs.Linked.{asked_of, has_two_at_signs, keeps_word, killed};
-ghost use Rattle.implib_dlltool.specs.Linked.{linked_export, naming_view, symbol_of, word_asked};
-ghost use Rattle.implib_dlltool.specs.Linked.{word_of};
-ghost use Rattle.std.specs.Prelude.{◌≡◌, IfOk, OnOk, map};
+ghost use Rattle.implib.specs.Formats.ShortImport.{before_at_sign, without_prefix};
+ghost use Rattle.implib_dlltool.specs.Linked.{asked_of, has_two_at_signs, is_alias_under};
+ghost use Rattle.implib_dlltool.specs.Linked.{keeps_word, killed, linked_alias, linked_export};
+ghost use Rattle.implib_dlltool.specs.Linked.{linked_import, makes, naming_view, symbol_linked};
+ghost use Rattle.implib_dlltool.specs.Linked.{symbol_of, word_asked, word_of};
+ghost use Rattle.std.specs.List.{position};
+ghost use Rattle.std.specs.Prelude.{◌==◌, ◌≡◌, IfOk, OnOk, map};
 ghost use Rattle.std.specs.String.{string_bytes};
 
-use implib::MachineType;
-use implib::def::{ModuleDef, ShortExport};
+use implib::def::ShortExport;
+use implib::{Flavor, MachineType};
 use std::alloc::{AllocError, Global};
 
 /// How names are read on I386.
@@ -41,8 +45,12 @@ fn keeps_word(word: &[u8]) -> bool
     word.first() == Some(&b'@') || word.first() == Some(&b'?') || has_two_at_signs(word)
 }
 
-// The symbol that a word names.
-fn symbol_of(
+/// The symbol that a word names.
+///
+/// # Errors
+///
+/// An allocation failed.
+pub fn symbol_of(
     alloc: Global,
     machine: MachineType,
     naming: Naming,
@@ -110,15 +118,83 @@ pub fn word_of(export: &ShortExport) -> &str
     }
 }
 
-// Gives an export its symbol, and the name that it asks the DLL for.
-fn link_export(
+/// The symbol by which an export is linked.
+///
+/// # Errors
+///
+/// An allocation failed.
+pub fn symbol_linked(
+    alloc: Global,
+    machine: MachineType,
+    naming: Naming,
+    export: &ShortExport,
+) -> Result<String, AllocError>
+    ensures { IfOk result (λ symbol. string_bytes symbol
+        ≡ symbol_linked machine (naming_view naming) (export_view export.now)) }
+{
+    symbol_of(alloc, machine, naming, word_of(export))
+}
+
+// A symbol without its first byte, where that is `?`, `@` or `_`.
+fn without_prefix(symbol: &[u8]) -> &[u8]
+    ensures { result.now ≡ without_prefix symbol.now }
+{
+    match symbol {
+        [b'?' | b'@' | b'_', rest @ ..] => rest,
+        _ => symbol,
+    }
+}
+
+// The position of the first `@` of a symbol.
+fn position_of_at_sign(symbol: &[u8]) -> Option<usize>
+    ensures { result ≡ position (λ byte. byte == at_sign) symbol.now }
+{
+    symbol.iter().position(|byte| *byte == b'@')
+}
+
+// A symbol up to its first `@`.
+fn before_at_sign(symbol: &[u8]) -> &[u8]
+    ensures { result.now ≡ before_at_sign symbol.now }
+{
+    match position_of_at_sign(symbol) {
+        Some(end) => &symbol[..end],
+        None => symbol,
+    }
+}
+
+// Whether a name type makes a name of the symbol.
+fn makes(symbol: &[u8], name: &[u8]) -> bool
+    ensures { result ≡ makes symbol.now name.now }
+{
+    let plain = without_prefix(symbol);
+    symbol == name || plain == name || before_at_sign(plain) == name
+}
+
+/// Whether an export of this symbol is an alias: it has a word behind `==` that Microsoft's short
+/// import of the symbol cannot ask for.
+pub fn is_alias_under(flavor: Flavor, symbol: &str, export: &ShortExport) -> bool
+    ensures { result ≡ is_alias_under flavor symbol.now (export_view export.now) }
+{
+    match flavor {
+        Flavor::Gnu => false,
+        Flavor::Msvc => {
+            !export.alias_target.is_empty()
+                && !export.private
+                && !export.no_name
+                && !makes(symbol.as_bytes(), export.alias_target.as_bytes())
+        }
+    }
+}
+
+// Gives an import its symbol, and the name that it asks the DLL for.
+fn link_import(
     alloc: Global,
     machine: MachineType,
     naming: Naming,
     export: &mut ShortExport,
 ) -> Result<(), AllocError>
     ensures { OnOk result (export_view export.new
-        ≡ linked_export machine (naming_view naming) (export_view export.old)) }
+        ≡ linked_import machine (naming_view naming) (export_view export.old)) }
 {
     let word = word_of(export);
     let symbol = symbol_of(alloc, machine, naming, word)?;
@@ -131,8 +207,47 @@ fn link_export(
     Ok(())
 }
 
-/// Gives each export its symbol, and the name that it asks the DLL for, by its words as they are
-/// written.
+// Gives an alias its symbol, and the one that it is weak for.
+fn link_alias(
+    alloc: Global,
+    machine: MachineType,
+    naming: Naming,
+    export: &mut ShortExport,
+) -> Result<(), AllocError>
+    ensures { OnOk result (export_view export.new
+        ≡ linked_alias machine (naming_view naming) (export_view export.old)) }
+{
+    let symbol = symbol_linked(alloc, machine, naming, export)?;
+    let asked = symbol.clone()?;
+    let target = symbol_of(alloc, machine, naming, export.alias_target.as_str())?;
+    export.name = symbol;
+    export.ext_name = None;
+    export.asked_name = Some(asked);
+    export.alias_target = target;
+    Ok(())
+}
+
+// Gives an export its symbol, and what it asks the DLL for or is weak for.
+fn link_export(
+    alloc: Global,
+    machine: MachineType,
+    naming: Naming,
+    flavor: Flavor,
+    export: &mut ShortExport,
+) -> Result<(), AllocError>
+    ensures { OnOk result (export_view export.new
+        ≡ linked_export machine (naming_view naming) flavor (export_view export.old)) }
+{
+    let symbol = symbol_linked(alloc, machine, naming, export)?;
+    if is_alias_under(flavor, symbol.as_str(), export) {
+        link_alias(alloc, machine, naming, export)
+    } else {
+        link_import(alloc, machine, naming, export)
+    }
+}
+
+/// Gives each export its symbol, and what it asks the DLL for or is weak for, by its words as they
+/// are written.
 ///
 /// # Errors
 ///
@@ -141,13 +256,15 @@ pub fn link_exports(
     alloc: Global,
     machine: MachineType,
     naming: Naming,
+    flavor: Flavor,
     exports: &mut Vec<ShortExport>,
 ) -> Result<(), AllocError>
     ensures { OnOk result (map export_view exports.new.items
-        ≡ map (linked_export machine (naming_view naming)) (map export_view exports.old.items)) }
+        ≡ map (linked_export machine (naming_view naming) flavor)
+        (map export_view exports.old.items)) }
 {
     for export in exports.iter_mut() {
-        link_export(alloc, machine, naming, export)?;
+        link_export(alloc, machine, naming, flavor, export)?;
     }
     Ok(())
 }

@@ -2,10 +2,11 @@
 //!
 //! What the words of the command line ask for, which name the DLL has, and which bytes a library
 //! has, or why there is none, are decided by functions with contracts ([`arguments`], [`request`],
-//! [`name`], [`linked`], [`library`]). What then is read and written are files ([`output`],
-//! [`program`]).
+//! [`name`], [`linked`], [`aliases`], [`order`], [`library`]). What then is read and written are
+//! files ([`output`], [`program`]).
 #![tactic(auto)]
 
+pub mod aliases;
 pub mod arguments;
 pub mod laws;
 pub mod library;
@@ -13,6 +14,7 @@ pub mod linked;
 mod message;
 pub mod name;
 pub mod options;
+pub mod order;
 mod output;
 mod places;
 pub mod program;

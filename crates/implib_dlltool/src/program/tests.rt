@@ -112,20 +112,80 @@ fn wrong_calls_are_told(rt: HostRuntime) -> Result<(), Fail> {
     Ok(())
 }
 
-// Names that no name type makes of the symbol are refused for Microsoft's linker at their export.
+// A word behind `==` is taken in both flavours. A name that no name type makes of the symbol is
+// refused for Microsoft's linker where `-k` makes it of the export's own word, and a null byte in
+// both, at the export.
 #[test]
 fn other_names_are_refused_or_asked(rt: HostRuntime) -> Result<(), Fail> {
-    let text = b"LIBRARY zoo\nEXPORTS\n a @5\n b == c\n";
-    let (got, wrote) = ran(&rt, &["-d", "-", "--flavor", "msvc"], text)?;
-    assert!(rt;
-        wrote
-            .as_str()
-            .starts_with("-:4:2: not supported for Microsoft's linker")
-    );
-    assert_eq!(rt; got, 1);
-    let (got, wrote) = ran(&rt, &["-d", "-", "--flavor", "gnu"], text)?;
+    let null = "-:4:2: a name of the export has a null byte\n";
+    let other = "-:4:2: not supported for Microsoft's linker: the export asks the DLL for another \
+                 name than its symbol's; --flavor gnu can\n";
+    let killed = "LIBRARY zoo\nEXPORTS\n a @5\n _b@4 @6\n";
+    for (text, flavor, status, said) in [
+        ("LIBRARY zoo\nEXPORTS\n a @5\n b == c\n", "msvc", 0, ""),
+        ("LIBRARY zoo\nEXPORTS\n a @5\n b == c\n", "gnu", 0, ""),
+        (
+            "LIBRARY zoo\nEXPORTS\n a == d\n b == \"c\0\"\n",
+            "msvc",
+            1,
+            null,
+        ),
+        (
+            "LIBRARY zoo\nEXPORTS\n a == d\n b == \"c\0\"\n",
+            "gnu",
+            1,
+            null,
+        ),
+        (killed, "msvc", 1, other),
+        (killed, "gnu", 0, ""),
+    ] {
+        let words = [
+            "-d",
+            "-",
+            "-m",
+            "i386",
+            "-k",
+            "--no-leading-underscore",
+            "--flavor",
+            flavor,
+        ];
+        let (got, wrote) = ran(&rt, words.as_slice(), text.as_bytes())?;
+        assert_eq!(rt; wrote.as_str(), said);
+        assert_eq!(rt; got, status, "{text}");
+    }
+    Ok(())
+}
+
+// In Microsoft's flavour an alias is two weak externals behind the short imports, and its target is
+// added where it is no export: the library is that of the definition with it, whose symbols and
+// length are those of llvm-dlltool 19.
+#[test]
+fn aliases_are_weak_externals(rt: HostRuntime) -> Result<(), Fail> {
+    let file = env::temp_dir(&rt)?.join(rt.alloc(), "implib_dlltool_aliases.lib")?;
+    let words = ["-d", "-", "-m", "i386:x86-64", "-l", file.as_str()];
+    let (got, wrote) = ran(
+        &rt,
+        words.as_slice(),
+        b"LIBRARY zoo\nEXPORTS\n a == b\n b\n c == d\n",
+    )?;
     assert_eq!(rt; wrote.as_str(), "");
     assert_eq!(rt; got, 0);
+    let library = fs::read(&rt, file.as_path())?;
+    assert_eq!(rt; library.len(), 2364);
+    assert!(rt;
+        library.as_slice()[116..].starts_with(
+            b"__IMPORT_DESCRIPTOR_zoo\0__NULL_IMPORT_DESCRIPTOR\0\x7Fzoo_NULL_THUNK_DATA\0\
+              __imp_b\0b\0__imp_d\0d\0a\0__imp_a\0c\0__imp_c\0"
+        )
+    );
+    let (got, _) = ran(
+        &rt,
+        words.as_slice(),
+        b"LIBRARY zoo\nEXPORTS\n a == b\n b\n c == d\n d\n",
+    )?;
+    assert_eq!(rt; got, 0);
+    assert!(rt; fs::read(&rt, file.as_path())?.as_slice() == library.as_slice());
+    fs::remove_file(&rt, file.as_path())?;
     Ok(())
 }
 

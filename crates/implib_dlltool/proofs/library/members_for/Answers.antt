@@ -1,12 +1,16 @@
 use Rattle.std.proofs.Common.{rules}
 use Rattle.implib_dlltool.specs.Request.{request_view}
-use Rattle.implib_dlltool.proofs.Made.{members_made, members_refused}
+use Rattle.implib_dlltool.proofs.Made.{members_made, members_refused, specified}
 use Rattle.implib_dlltool.proofs.library.members_for.Goals as goal
+
+pub in_order-requires : goal.in_order-requires
+in_order-requires c =
+    specified (request_view c.args.request.now) _ c.from_def-library.result _ c.from_def-library.ensures.held c.in-Ok.ensures.ok
 
 pub returns-in-Ok-clause-made : goal.returns-in-Ok-clause-made
 returns-in-Ok-clause-made c =
-    members_made _ _ (request_view c.args.request.now) _ c.from_def.result _ c.in-Some.ensures c.in_ok-def.ensures.meant c.from_def.ensures.held c.in-Ok.ensures.ok c.in-Ok.ensures.reads
+    members_made _ _ (request_view c.args.request.now) _ c.from_def-library.result _ _ c.in-Some.ensures c.in_ok-def.ensures.meant c.from_def-library.ensures.held c.in-Ok.ensures.ok c.in-Ok.ensures.reads c.in_ok-in_order-in-Ok.ensures
 
 pub returns-in-Err-Invalid-clause-refused : goal.returns-in-Err-Invalid-clause-refused
 returns-in-Err-Invalid-clause-refused c =
-    members_refused _ _ (request_view c.args.request.now) _ c.from_def.result _ c.in-Some.ensures c.in_ok-def.ensures.meant c.from_def.ensures.held (search rules)
+    members_refused _ _ (request_view c.args.request.now) _ c.from_def-library.result _ c.in-Some.ensures c.in_ok-def.ensures.meant c.from_def-library.ensures.held (search rules)

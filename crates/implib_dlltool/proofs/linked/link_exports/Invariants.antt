@@ -7,5 +7,5 @@ use Rattle.implib_dlltool.proofs.linked.link_exports.Given as goal
 abbrev pub invariant-loop-export : goal.invariant-loop-export
 invariant-loop-export l =
     map export_view (take l.export-index l.export-items)
-    ++ map (linked_export l.fn.machine (naming_view l.fn.naming)) (map export_view (drop l.export-index l.export-items))
-    ≡ map (linked_export l.fn.machine (naming_view l.fn.naming)) (map export_view l.fn.exports.items)
+    ++ map (linked_export l.fn.machine (naming_view l.fn.naming) l.fn.flavor) (map export_view (drop l.export-index l.export-items))
+    ≡ map (linked_export l.fn.machine (naming_view l.fn.naming) l.fn.flavor) (map export_view l.fn.exports.items)
