@@ -1,5 +1,5 @@
 -- Which bytes the library of a definition has, and when there is none.
-use Rattle.std.specs.Prelude.{◌≡◌, ℕ, [], ◌∷◌, Bool, true, false, List, Option, None, Some, if◌then◌else◌, drop, length, map, nat_eq, nat_lt}
+use Rattle.std.specs.Prelude.{◌≡◌, ℕ, [], ◌∷◌, Bool, true, false, List, None, Some, if◌then◌else◌, drop, length, map, nat_eq, nat_lt}
 use Rattle.std.specs.List.{starts_with}
 use Rattle.std.specs.Str.{IsUtf8}
 use Rattle.implib.specs.declared.error.ParseError.{ParseError}
@@ -8,7 +8,6 @@ use Rattle.implib.specs.declared.flavor.Flavor.{Flavor}
 use Rattle.implib.specs.declared.flavor.Flavor.TheVariants.{Msvc, Gnu}
 use Rattle.implib.specs.declared.machine.MachineType.TheVariants.{AMD64}
 use Rattle.implib.specs.Definition.{DefinitionView}
-use Rattle.implib.specs.declared.def.position.Position.{Position}
 use Rattle.implib.specs.Fault.{Cause, cause_of}
 use Rattle.implib.specs.Members.Members.{AreMembersOf, refusal}
 use Rattle.implib.specs.Members.MemberSpec.{MemberView, member_of}
