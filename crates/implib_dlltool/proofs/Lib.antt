@@ -2,6 +2,7 @@ pub mod Reading
 pub mod TokensGiven
 pub mod Parts
 pub mod Targets
+pub mod Accepted
 pub mod Ordered
 pub mod OrderedReadings
 pub mod PlainNames

@@ -1,21 +1,20 @@
 -- What members in order are read as.
 use Rattle.std.proofs.Common.{◌≡◌, ℕ, Bool, true, false, List, [], ◌∷◌, ◌++◌, Some, arith, drop, if◌then◌else◌, length, map, refl, sym, ap, ◌∙◌, subst}
-use Rattle.std.specs.Prelude.{◌&&◌, not, slice_get}
-use Rattle.std.specs.List.{AllByRecursion, filter, flat_map, list_all}
+use Rattle.std.specs.Prelude.{not, slice_get}
+use Rattle.std.specs.List.{AllByRecursion, filter, flat_map}
 use Rattle.std.specs.Option.{option_and_then, option_map}
-use Rattle.std.proofs.lemmas.Bool.{and_parts}
 use Rattle.std.proofs.lemmas.List.{drop-map, length-append, map-append}
 use Rattle.implib.specs.declared.flavor.Flavor.TheVariants.{Msvc}
 use Rattle.implib.specs.declared.machine.MachineType.{MachineType}
 use Rattle.implib.specs.Definition.{DefinitionView, ExportView}
 use Rattle.implib.specs.Formats.File.{AnAlias, AnImport, Meaning, declared_by, dll_in, file_in, meaning_in}
-use Rattle.implib.specs.Import.{Alias, Import, aliases_for, expected_import, imp_symbol, is_empty_text, public_exports}
+use Rattle.implib.specs.Import.{Alias, aliases_for, expected_import, imp_symbol, public_exports}
 use Rattle.implib.specs.Members.Members.{AreMembersOf, member_specs}
 use Rattle.implib.specs.Members.MemberSpec.{MemberSpec, MemberView, member_of}
 use Rattle.implib.specs.Members.Msvc.{short_import_symbol, symbol_or_name}
 use Rattle.implib.specs.Members.MsvcMembers.{descriptor_spec, export_specs, header_specs, short_import_spec, weak_specs}
-use Rattle.implib.specs.Members.ReadBack.{MsvcReadBack, has_no_symbol_names, import_written, meanings_written}
-use Rattle.implib.specs.Renaming.{renamed, renamed_export}
+use Rattle.implib.specs.Members.ReadBack.{MsvcReadBack, import_written, meanings_written}
+use Rattle.implib.specs.Renaming.{renamed}
 use Rattle.implib.proofs.Members.Import.{import_written-expected}
 use Rattle.implib.proofs.Members.MemberReadings.{map_after}
 use Rattle.implib.proofs.Members.NotRefused.{AsksNoOther, exports_ask}

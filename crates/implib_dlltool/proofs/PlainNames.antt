@@ -11,9 +11,8 @@ use Rattle.implib.specs.Import.{is_empty_text, public_exports}
 use Rattle.implib.specs.Renaming.{renamed, renamed_export}
 use Rattle.implib.proofs.Members.MemberReadings.{all_append}
 use Rattle.implib.proofs.Text.SymbolNames.{parsed_lacks}
-use Rattle.implib_dlltool.specs.Library.{DefinitionFor, definition_for}
-use Rattle.implib_dlltool.specs.Linked.{NamingView, is_among, is_linked_alias, linked_alias, linked_export, linked_exports, linked_import, new_target, target_import, target_symbol, targets_added, targets_beside, with_target}
-use Rattle.implib_dlltool.specs.Names.{is_program}
+use Rattle.implib_dlltool.specs.Library.{DefinitionFor}
+use Rattle.implib_dlltool.specs.Linked.{NamingView, is_among, is_linked_alias, linked_alias, linked_export, linked_import, new_target, target_import, target_symbol, targets_added, targets_beside, with_target}
 use Rattle.implib_dlltool.specs.Request.{RequestView}
 
 -- the export has no symbol name

@@ -1,5 +1,11 @@
 //! Laws: what is proved of the definitions.
 
+ghost use Rattle.implib.specs.Definition.{ExportView};
+ghost use Rattle.implib.specs.Import.{holds, is_empty_text};
+ghost use Rattle.implib.specs.Members.NameRules.{name_refusal};
+ghost use Rattle.implib.specs.declared.flavor.Flavor.TheVariants.{Msvc};
+ghost use Rattle.implib.specs.declared.machine.MachineType.{MachineType};
+ghost use Rattle.implib_dlltool.specs.Linked.{NamingView, target_import};
 ghost use Rattle.implib_dlltool.specs.Places.{AreAtWords};
 ghost use Rattle.implib_dlltool.specs.Warnings.{AreInOrder, RepeatsStandBefore};
 ghost use Rattle.implib_dlltool.specs.Worked.{CallsRead};
@@ -7,6 +13,7 @@ ghost use Rattle.implib_dlltool.specs.WorkedNames.{AliasesLinked, CallsAnswered,
 ghost use Rattle.implib_dlltool.specs.WorkedNames.{ExportsLinked, MembersInOrder};
 ghost use Rattle.implib_dlltool.specs.WorkedOptions.{OptionsNamed};
 ghost use Rattle.implib_dlltool.specs.WorkedWarnings.{PlacesWorked, WarningsWorked, WordsJudged};
+ghost use Rattle.std.specs.Prelude.{◌≡◌, ℕ, None, false};
 
 /// Command lines as rustc and mingw-w64 write them, and wrong ones, are read as was worked by hand.
 pub fn calls_read()
@@ -34,6 +41,15 @@ pub fn exports_linked()
 /// and add the targets; in GNU's they are imports.
 pub fn aliases_linked()
     ensures { AliasesLinked }
+{}
+
+/// A target that an alias adds breaks no rule on names if its word is not empty and has no null
+/// byte: with a null byte the alias itself is refused, before it. So a refused export of a name is
+/// one of the text.
+pub fn targets_accepted()
+    ensures { (machine : MachineType) (naming : NamingView) (index : ℕ) (e : ExportView)
+        → is_empty_text e.alias_target ≡ false → holds 0 e.alias_target ≡ false
+        → name_refusal Msvc machine index (target_import machine naming e) ≡ None }
 {}
 
 /// The members for Microsoft's linker are in the order that was worked by hand: weak externals

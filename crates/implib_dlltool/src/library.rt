@@ -190,6 +190,8 @@ pub fn members_for(alloc: Global, bytes: &[u8], request: &Request) -> Result<Vec
     match library.members() {
         Ok(members) => Ok(in_order(&library, members)?),
         Err(Error::Invalid(fault)) => {
+            // The export is one of the text: the targets behind them break no rule on names that
+            // their aliases keep.
             let position = position_of_fault(text, &fault);
             Err(Refusal::Members(fault, position))
         }

@@ -1,4 +1,4 @@
-use Rattle.std.proofs.Common.{◌≡◌, ◌++◌, ◌∙◌, add-one, ap, append_assoc, drop, suc, sym, take}
+use Rattle.std.proofs.Common.{◌++◌, ◌∙◌, add-one, ap, append_assoc, drop, sym, take}
 use Rattle.std.specs.Vec.Iter.{into_iter_items}
 use Rattle.std.proofs.lemmas.List.{drop-drop}
 use Rattle.implib_dlltool.proofs.Ordered.{take-suc_front}
