@@ -1,10 +1,10 @@
 -- Symbols, asked names, names of DLLs and requests worked by hand.
-use Rattle.std.specs.Prelude.{◌≡◌, ℕ, List, [], ◌∷◌, Bool, true, false, Option, None, Some, Ok, Err, codes}
+use Rattle.std.specs.Prelude.{◌≡◌, ℕ, List, [], ◌∷◌, true, false, None, Some, Ok, Err, codes}
 use Rattle.implib.specs.declared.flavor.Flavor.TheVariants.{Msvc, Gnu}
 use Rattle.implib.specs.declared.machine.MachineType.{MachineType}
 use Rattle.implib.specs.declared.machine.MachineType.TheVariants.{I386, ARMNT, AMD64, ARM64}
 use Rattle.implib.specs.Definition.{empty_export}
-use Rattle.implib_dlltool.specs.declared.options.Setting.TheVariants.{Definition, Output, Machine, Dll, TemporaryPrefix}
+use Rattle.implib_dlltool.specs.declared.options.Setting.TheVariants.{Definition, Output, Machine, Dll}
 use Rattle.implib_dlltool.specs.declared.options.Setting.TheVariants.{Flavor as FlavorSetting}
 use Rattle.implib_dlltool.specs.declared.options.Switch.TheVariants.{Help, Verbose}
 use Rattle.implib_dlltool.specs.Arguments.{Given, Switched}
