@@ -9,7 +9,6 @@ use Rattle.std.specs.List.{list_any}
 use Rattle.implib.specs.Definition.{ExportView, export_view}
 use Rattle.implib_dlltool.specs.Linked.{word_of}
 use Rattle.implib_dlltool.specs.Warnings.{earlier, first_of_ordinal, first_of_word, first_where, ordinal_notice, repeat_notice}
-use Rattle.implib_dlltool.specs.Warnings.{NoticeView}
 
 push_first : (is last : Bool) (found all : Option ℕ) (n : ℕ) → all ≡ option_or found (if last then Some n else None)
     → (if is then Some 0 else option_map suc all) ≡ option_or (if is then Some 0 else option_map suc found) (if last then Some (suc n) else None)

@@ -1,5 +1,5 @@
 -- The warnings of a text are in the order of their offsets.
-use Rattle.std.proofs.Common.{◌≡◌, ◌∙◌, ℕ, suc, ◌+◌, ◌-◌, ◌==◌, ◌≤◌, Bool, true, false, List, [], ◌∷◌, ◌++◌, Option, None, Some, ap, append_assoc, append-nil, arith, fold, length, refl, subst, sym}
+use Rattle.std.proofs.Common.{◌≡◌, ◌∙◌, ℕ, suc, ◌+◌, ◌-◌, ◌==◌, ◌≤◌, Bool, true, false, List, [], ◌∷◌, ◌++◌, Option, None, Some, append_assoc, append-nil, arith, fold, length, subst, sym}
 use Rattle.std.specs.Prelude.{slice_get, if◌then◌else◌}
 use Rattle.std.proofs.lemmas.List.{length-append}
 use Rattle.std.specs.Str.{trim, trim_end, trim_start}
@@ -16,7 +16,7 @@ use Rattle.implib_dlltool.specs.declared.places.Walk.{Walk}
 use Rattle.implib_dlltool.specs.Linked.{word_of}
 use Rattle.implib_dlltool.specs.Places.{Walked, placed, places_in, site_at, started, walk_behind, walked, walked_on}
 use Rattle.implib_dlltool.specs.Request.{RequestView}
-use Rattle.implib_dlltool.specs.Warnings.{Ascends, NoticeView, OpensLine, WarningView, export_notices, first_of_ordinal, first_of_word, heading_notice, if_export, index_after}
+use Rattle.implib_dlltool.specs.Warnings.{Ascends, NoticeView, OpensLine, WarningView, first_of_ordinal, first_of_word, heading_notice, if_export, index_after}
 use Rattle.implib_dlltool.specs.Warnings.{lowered_notice, no_export_notice, ordinal_like_notice, ordinal_notice, other_kind_notice, repeat_notice, stdcall_notice}
 use Rattle.implib_dlltool.specs.Warnings.{target_notice, warned, warnings_at, warnings_at_site, warnings_for, warnings_from, warnings_of, whole, word_before}
 

@@ -1,25 +1,25 @@
 -- The tokens that are taken for names of exports are those of the definition's exports.
-use Rattle.std.proofs.Common.{◌≡◌, ◌≢◌, ◌∙◌, ℕ, ◌+◌, ◌==◌, ◌&&◌, inl, inr, Bool, true, false, not, List, [], ◌∷◌, ◌++◌, Option, None, Some, ap, append_assoc, bytes_eq, drop, if◌then◌else◌, is_some, length, map, nat_lt, refl, subst, sym}
+use Rattle.std.proofs.Common.{◌≡◌, ◌≢◌, ◌∙◌, ℕ, ◌+◌, ◌==◌, ◌&&◌, inl, inr, Bool, true, false, not, List, [], ◌∷◌, ◌++◌, Option, None, Some, ap, append_assoc, bytes_eq, if◌then◌else◌, is_some, length, map, nat_lt, refl, subst, sym}
 use Rattle.std.specs.List.{flat_map}
 use Rattle.std.specs.Prelude.{option_map, unwrap_or}
-use Rattle.std.specs.Str.{trim, trim_end}
+use Rattle.std.specs.Str.{trim_end}
 use Rattle.std.proofs.lemmas.Bool.{eqb-true}
 use Rattle.std.proofs.lemmas.List.{map-append}
 use Rattle.std.proofs.lemmas.Slice.Eq.{bytes_eq-Decides}
 use Rattle.implib.specs.declared.def.lexer.TokenKind.{TokenKind}
 use Rattle.implib.specs.declared.def.lexer.TokenKind.TheVariants as kind
-use Rattle.implib.specs.Ascii.{at_sign, begins_with}
-use Rattle.implib.specs.Text.Grammar.{Alias, Apart, At, Attribute, Constant, Data, Export, Exports, IsAtNumber, Heap, IsLoneAt, Joined, Later, Matches, Named, Nameless, NameOrLibrary, Number, Numbers, Of, Ordinal, Private, Region, Sentence, Sizes, Stack, StartsWith, Statement, Target, Terminal, Version, Word}
-use Rattle.implib.specs.Text.Grammar.{attribute_terminals, base_terminals, commit_terminals, export_terminals, exports_terminals, no_name_terminals, region_kind, statement_terminals, target_terminals, terminals}
+use Rattle.implib.specs.Ascii.{at_sign}
+use Rattle.implib.specs.Text.Grammar.{Alias, Apart, At, Attribute, Constant, Data, Export, Exports, IsAtNumber, Heap, IsLoneAt, Joined, Later, Matches, Named, Nameless, NameOrLibrary, Number, Numbers, Of, Ordinal, Private, Region, Sizes, Stack, StartsWith, Statement, Target, Terminal, Version, Word}
+use Rattle.implib.specs.Text.Grammar.{attribute_terminals, base_terminals, commit_terminals, exports_terminals, no_name_terminals, region_kind, statement_terminals, target_terminals, terminals}
 use Rattle.implib.specs.declared.machine.MachineType.TheVariants.{AMD64}
-use Rattle.implib.specs.Definition.{DefinitionView, ExportView}
+use Rattle.implib.specs.Definition.{DefinitionView}
 use Rattle.implib.specs.declared.def.position.Position.{Position}
 use Rattle.implib.specs.Text.Meaning.{export_meaning, exports_in}
 use Rattle.implib.specs.Renaming.{name_to_link}
 use Rattle.implib.specs.Text.Parses.{Parses}
 use Rattle.implib.specs.Text.Position.{position_at}
-use Rattle.implib.specs.Text.Number.{IsNumber, u16_limit}
-use Rattle.implib.specs.Text.Token.{Lexed, Lexeme, TokenView, keywords, kind_in, kind_of_word, lexeme_text, tokens_of, tokens_of_lexeme}
+use Rattle.implib.specs.Text.Number.{u16_limit}
+use Rattle.implib.specs.Text.Token.{Lexeme, TokenView, keywords, kind_in, kind_of_word, lexeme_text, tokens_of, tokens_of_lexeme}
 use Rattle.implib.specs.Text.Token.{Blank, Comment, CommaSign, EqualSign, EqualSigns, LastComment, Quoted, Unclosed}
 use Rattle.implib.specs.Text.Token.{Word as WordLexeme}
 use Rattle.implib.specs.Underscore.{decorated}
@@ -30,13 +30,12 @@ use Rattle.implib.proofs.Text.Words.{number_of-gives, number_of-is}
 use Rattle.implib_dlltool.specs.declared.places.Next.{Next}
 use Rattle.implib_dlltool.specs.declared.places.Next.TheVariants.{Outside, First, Inside, Within}
 use Rattle.implib_dlltool.specs.declared.places.Place.{Place}
-use Rattle.implib_dlltool.specs.declared.places.Site.{Site}
 use Rattle.implib_dlltool.specs.declared.places.Site.TheVariants as site
 use Rattle.implib_dlltool.specs.declared.places.Walk.{Walk}
 use Rattle.implib_dlltool.specs.declared.warnings.words.Attribute.{Attribute as AttributeWord}
 use Rattle.implib_dlltool.specs.Linked.{word_of}
 use Rattle.implib_dlltool.specs.Places.{ExportsStandAtWords, attribute_of, begins_export, export_positions, is_heading, is_lone_at, is_ordinal, name_first, named_after}
-use Rattle.implib_dlltool.specs.Places.{next_after, opening, placed, places_in, site_at, started, walk_behind, walked}
+use Rattle.implib_dlltool.specs.Places.{next_after, opening, placed, started, walk_behind, walked}
 use Rattle.implib_dlltool.proofs.InOrder.{places_after, walked_places}
 
 -- ---- numbers are words

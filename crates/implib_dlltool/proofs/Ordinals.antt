@@ -1,5 +1,5 @@
 -- Words with an `@` in front, and what follows it.
-use Rattle.std.proofs.Common.{◌≡◌, ◌∙◌, ℕ, Bool, List, [], ◌∷◌, Bor, Ok, Err, None, Some, Result, false, ap, arith, is_some, refl}
+use Rattle.std.proofs.Common.{◌≡◌, ℕ, List, [], ◌∷◌, Bor, Ok, Err, None, Some, Result, false, ap, arith, is_some, refl}
 use Rattle.std.specs.Prelude.{is_ok}
 use Rattle.std.specs.Result.{result_ok}
 use Rattle.std.specs.Str.Pattern.{FindsCharPrefix}

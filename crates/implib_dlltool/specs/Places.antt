@@ -1,6 +1,6 @@
 -- The places of a text that a warning can be at, by its tokens (this project's choice). A text is read from the left;
 -- what is said here counts for the tokens of a definition that the grammar allows.
-use Rattle.std.specs.Prelude.{◌≡◌, ℕ, ◌==◌, Bool, true, false, not, ◌&&◌, ◌||◌, List, [], ◌∷◌, ◌++◌, Option, None, Some, drop, if◌then◌else◌, is_some, map, nat_lt}
+use Rattle.std.specs.Prelude.{◌≡◌, ℕ, Bool, true, false, not, ◌&&◌, ◌||◌, List, [], ◌∷◌, ◌++◌, Option, None, Some, drop, if◌then◌else◌, is_some, map, nat_lt}
 use Rattle.std.specs.List.{fold}
 use Rattle.std.specs.Str.{bytes_eq}
 use Rattle.implib.specs.declared.def.lexer.TokenKind.{TokenKind}

@@ -1,5 +1,5 @@
 -- What the program warns of in a definition (this project's choice).
-use Rattle.std.specs.Prelude.{◌≡◌, ℕ, suc, ◌==◌, ◌+◌, ◌-◌, ◌≤◌, Bool, true, false, not, ◌&&◌, List, [], ◌∷◌, ◌++◌, Option, None, Some, codes, if◌then◌else◌, is_none, is_some, length, map, nat_eq, nat_lt, slice_get, slice_index, take}
+use Rattle.std.specs.Prelude.{◌≡◌, ℕ, suc, ◌==◌, ◌+◌, ◌-◌, ◌≤◌, Bool, true, false, not, ◌&&◌, List, [], ◌∷◌, ◌++◌, Option, None, Some, codes, if◌then◌else◌, is_none, is_some, length, nat_eq, nat_lt, slice_get, slice_index, take}
 use denote.Ref.{Bor}
 use Rattle.std.specs.Char.{is_ascii_digit}
 use Rattle.std.specs.HashMap.{HashMap, get, get_by}

@@ -1,8 +1,8 @@
 -- Words, places and warnings worked by hand.
 use Rattle.std.specs.Prelude.{◌≡◌, ℕ, List, [], ◌∷◌, Bool, true, false, Option, None, Some, codes}
-use Rattle.implib.specs.declared.def.lexer.TokenKind.TheVariants.{Eof, Identifier, EqualEqual, KwData, KwExports, KwLibrary, KwName, KwPrivate}
+use Rattle.implib.specs.declared.def.lexer.TokenKind.TheVariants.{Eof, Identifier, EqualEqual, KwData, KwExports, KwName, KwPrivate}
 use Rattle.implib.specs.declared.def.position.Position.{Position}
-use Rattle.implib.specs.declared.flavor.Flavor.TheVariants.{Msvc, Gnu}
+use Rattle.implib.specs.declared.flavor.Flavor.TheVariants.{Msvc}
 use Rattle.implib.specs.declared.machine.MachineType.TheVariants.{I386}
 use Rattle.implib.specs.Definition.{ExportView, empty_export}
 use Rattle.implib.specs.Text.Token.{TokenView}
@@ -10,7 +10,6 @@ use Rattle.implib_dlltool.specs.declared.places.Place.{Place}
 use Rattle.implib_dlltool.specs.declared.places.Site.{Site}
 use Rattle.implib_dlltool.specs.declared.places.Site.TheVariants as site
 use Rattle.implib_dlltool.specs.declared.warnings.words.Attribute.TheVariants.{Data, Constant, Private, NoName}
-use Rattle.implib_dlltool.specs.Linked.{NamingView}
 use Rattle.implib_dlltool.specs.Places.{places_in}
 use Rattle.implib_dlltool.specs.Request.{RequestView}
 use Rattle.implib_dlltool.specs.Warnings.{HasNoExport, IsLowered, IsNotExported, IsOrdinalLike, IsOtherKind, IsRepeated, IsSecondHeading, IsStdcall}

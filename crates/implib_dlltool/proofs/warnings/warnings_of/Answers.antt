@@ -1,4 +1,4 @@
-use Rattle.std.proofs.Common.{◌∙◌, ap, arith, get_or, map, refl}
+use Rattle.std.proofs.Common.{arith, get_or, map, refl}
 use Rattle.implib.specs.Definition.{export_view}
 use Rattle.implib_dlltool.specs.declared.places.Place.{Place}
 use Rattle.implib_dlltool.specs.declared.places.Site.TheVariants as site

@@ -1,4 +1,4 @@
-use Rattle.std.proofs.Common.{◌∙◌, ap, bytes_eq, is_some, sym}
+use Rattle.std.proofs.Common.{◌∙◌, ap, bytes_eq, sym}
 use Rattle.std.proofs.lemmas.Map.Text.{hash_map_updates_str}
 use Rattle.std.specs.HashMap.{get_by}
 use Rattle.implib_dlltool.proofs.Firsts.{none_of, noted}
