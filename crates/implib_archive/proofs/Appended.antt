@@ -11,6 +11,12 @@ use Rattle.implib_archive.specs.Pushed.{Pushes, shown}
 pub pushes_then : {a b c x y : List ℕ} → Pushes a b x → Pushes b c y → Pushes a c (x ++ y)
 pushes_then {a} {b} {c} {x} {y} p q = record { whole = q.whole ∙ ap (λ t. t ++ y) p.whole ∙ append_assoc a x y }
 
+-- bytes in front of four others
+pub behind_four : (a b c d e : List ℕ) → a ++ (b ++ c ++ d ++ e) ≡ a ++ b ++ c ++ d ++ e
+behind_four a b c d e =
+    sym (append_assoc a (b ++ c ++ d) e)
+    ∙ ap (λ t. t ++ e) (sym (append_assoc a (b ++ c) d) ∙ ap (λ t. t ++ d) (sym (append_assoc a b c)))
+
 -- the same bytes
 pub pushes_as : {a b x y : List ℕ} → x ≡ y → Pushes a b x → Pushes a b y
 pushes_as {a} e p = record { whole = p.whole ∙ ap (λ t. a ++ t) e }

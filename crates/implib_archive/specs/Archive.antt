@@ -99,7 +99,7 @@ unfoldable pub end_from : ℕ → List MemberView → ℕ
 end_from place [] = place
 end_from place (m ∷ members) = end_from (place + part_size (length m.bytes)) members
 
--- the size of the first linker member, with its header: of so many entries, whose strings have so many bytes
+-- the size of the first linker member with its header, by the number of entries and the size of their strings
 unfoldable pub first_linker_size : Kind → ℕ → ℕ → ℕ
 first_linker_size Coff entries strings = part_size (4 + 4 * entries + strings)
 first_linker_size Gnu entries strings = if nat_lt 0 entries then part_size (4 + 4 * entries + strings) else 0
@@ -113,8 +113,7 @@ second_linker_size Gnu members entries strings = 0
 unfoldable pub names_size : ℕ → ℕ
 names_size size = if nat_lt 0 size then part_size size else 0
 
--- the size of what stands before the members: of so many members and entries, whose strings and long names
--- have so many bytes
+-- the size of the front: by the numbers of members and entries, and the sizes of strings and long names
 unfoldable pub front_size : Kind → ℕ → ℕ → ℕ → ℕ → ℕ
 front_size kind members entries strings names =
     8 + first_linker_size kind entries strings + second_linker_size kind members entries strings + names_size names
@@ -157,11 +156,11 @@ linkers Gnu places entries =
 unfoldable pub names_part : List ℕ → List ℕ
 names_part names = if nat_lt 0 (length names) then padded_part_bytes names_label 10 names else []
 
--- what stands before members with these offsets, entries and long names
+-- the front of an archive: signature, linker members and long names, by member offsets, entries and long names
 unfoldable pub front : Kind → List ℕ → List (List ℕ × ℕ) → List (List ℕ × ℕ) → List ℕ
 front kind places entries names = signature ++ linkers kind places entries ++ names_part (names_bytes kind names)
 
--- what stands before the members
+-- the front of the archive of the members
 unfoldable pub front_of : Kind → List MemberView → List ℕ
 front_of kind members = front kind (places_of kind members) (entries_of kind members) (long_names kind members)
 

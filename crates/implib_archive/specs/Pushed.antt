@@ -1,5 +1,5 @@
 -- View: what the code's functions have appended and measured.
-use Rattle.std.specs.Prelude.{◌≡◌, ℕ, ◌+◌, ◌*◌, ◌^◌, ◌<◌, ◌≤◌, List, ◌++◌, Option, None, Some, length, map}
+use Rattle.std.specs.Prelude.{◌≡◌, ℕ, ◌+◌, ◌*◌, ◌^◌, ◌<◌, ◌≤◌, List, [], ◌++◌, Option, None, Some, codes, length, map}
 use Rattle.std.specs.Borrow.{Bor}
 use Rattle.std.specs.List.{All}
 use Rattle.implib_archive.specs.Archive.{end_from, entries_of, first_place, long_names, names_bytes, places_of, sorted_entries, strings_of}
@@ -10,8 +10,10 @@ use Rattle.implib_archive.specs.declared.error.Fault.{Fault}
 use Rattle.implib_archive.specs.declared.kind.Kind.{Kind}
 use Rattle.implib_archive.specs.declared.kind.Kind.TheVariants.{Coff}
 use Rattle.implib.specs.Members.MemberSpec.{MemberView}
-use Rattle.implib_archive.specs.Parts.{Label as LabelSpec}
+use Rattle.implib_archive.specs.Parts.{Label as LabelSpec, field}
 use Rattle.implib_archive.specs.declared.bytes.Label.{Label}
+use Rattle.implib_archive.specs.declared.bytes.Texts.{Texts}
+use Rattle.implib_archive.specs.declared.bytes.Texts.TheVariants as texts
 
 -- the bytes were appended
 pub record Pushes (old new bytes : List ℕ) : Type 0 where
@@ -21,11 +23,32 @@ pub record Pushes (old new bytes : List ℕ) : Type 0 where
 abbrev pub shown : List (Bor (List ℕ) × ℕ) → List (List ℕ × ℕ)
 shown pairs = map (λ e. (e.0.now, e.1)) pairs
 
+-- the date of a header, and its user and group
+abbrev pub owner_of : Texts → List ℕ
+owner_of texts.Linker = codes "0"
+owner_of texts.LongNames = []
+owner_of texts.Member = codes "0"
+
+-- the mode of a header
+abbrev pub mode_of : Texts → List ℕ
+mode_of texts.Linker = codes "0"
+mode_of texts.LongNames = []
+mode_of texts.Member = codes "644"
+
+-- the fields of date, user, group and mode
+abbrev pub middle_of : Texts → List ℕ
+middle_of t = field 12 (owner_of t) ++ field 6 (owner_of t) ++ field 6 (owner_of t) ++ field 8 (mode_of t)
+
 -- the texts of a header
 abbrev pub label_view : Label → LabelSpec
-label_view l = record { name = l.name.now ++ l.name_end.now; date = l.date.now; owner = l.owner.now; mode = l.mode.now }
+label_view l = record {
+  name = l.name.now ++ l.name_end.now;
+  date = owner_of l.texts;
+  owner = owner_of l.texts;
+  mode = mode_of l.texts;
+}
 
--- long names that were found with their offsets, and the size of their data, as far as it is below 2^32
+-- long names that were found with their offsets, and the size of their data, exact below 2^32
 pub record AreMeasured (kind : Kind) (names found : List (List ℕ × ℕ)) (size : ℕ) : Type 0 where
   pub same : size < 2 ^ 32 → found ≡ names
   pub exact : size < 2 ^ 32 → length (names_bytes kind names) ≡ size

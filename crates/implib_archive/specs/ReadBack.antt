@@ -42,8 +42,8 @@ abbrev pub PartsReadBack : Type 0
 PartsReadBack = (kind : Kind) (members : List MemberView) → refusal_of kind members ≡ None
     → stored_in (archive_of kind members) ≡ Some (parts_of kind members)
 
--- Parts stand in the bytes from an offset on, one behind another, up to the end: each is found by its
--- header at its offset, and the next header begins where the data and its padding end.
+-- Parts follow one another in the bytes from an offset to the end: each is found by its header at its offset,
+-- and the next header begins where the data and its padding end.
 unfoldable pub AreLaidOut : List ℕ → ℕ → List Stored → Type 0
 AreLaidOut bytes place [] = place ≡ length bytes
 AreLaidOut bytes place (s ∷ parts) =

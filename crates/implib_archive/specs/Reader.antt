@@ -42,7 +42,7 @@ stored_at bytes place = option_and_then
     else None)
     (data_at bytes place 60)
 
--- the parts from here on, behind so many bytes that belong to the one before
+-- the parts after the next bytes, a number of which still belong to the part before
 unfoldable pub stored_from : ℕ → List ℕ → Option (List Stored)
 stored_from zero [] = Some []
 stored_from (suc left) [] = None

@@ -1,20 +1,38 @@
 //! Headers, numbers and padding, appended.
 
 ghost use Rattle.implib_archive.specs.Parts.{field, header_bytes, padding, u16_le, u32_be, u32_le};
-ghost use Rattle.implib_archive.specs.Pushed.{Pushes, label_view};
+ghost use Rattle.implib_archive.specs.Pushed.{Pushes, label_view, middle_of};
 ghost use Rattle.std.specs.Prelude.{◌≡◌, ◌≤◌, ◌++◌, OnOk, length};
 
 use itoa::Buffer;
 use std::alloc::{AllocError, Global};
+
+// What the header of a part says beside its name and its size.
+#[derive(Clone, Copy)]
+pub(crate) enum Texts {
+    Linker,
+    LongNames,
+    Member,
+}
 
 // The texts of a header; the name is in two pieces.
 #[derive(Clone, Copy)]
 pub(crate) struct Label<'a> {
     pub(crate) name: &'a [u8],
     pub(crate) name_end: &'a [u8],
-    pub(crate) date: &'a [u8],
-    pub(crate) owner: &'a [u8],
-    pub(crate) mode: &'a [u8],
+    pub(crate) texts: Texts,
+}
+
+// The fields of date, user, group and mode, one after another.
+#[tactic(auto, unfolding(crate::specs::Parts::field))]
+fn middle(texts: Texts) -> &'static [u8]
+    ensures { result.now ≡ middle_of texts }
+{
+    match texts {
+        Texts::Linker => b"0           0     0     0       ",
+        Texts::LongNames => b"                                ",
+        Texts::Member => b"0           0     0     644     ",
+    }
 }
 
 // The width of the widest field.
@@ -39,10 +57,7 @@ pub(crate) fn push_header(out: &mut Vec<u8>, label: &Label, size: usize) -> Resu
 {
     let mut digits = Buffer::new();
     push_field(out, 16, label.name, label.name_end)?;
-    push_field(out, 12, label.date, b"")?;
-    push_field(out, 6, label.owner, b"")?;
-    push_field(out, 6, label.owner, b"")?;
-    push_field(out, 8, label.mode, b"")?;
+    out.extend_from_slice(middle(label.texts))?;
     push_field(out, 10, digits.format(size).as_bytes(), b"")?;
     out.extend_from_slice(b"`\n")
 }

@@ -1,4 +1,4 @@
-//! What stands before the members.
+//! The front of an archive: its signature, linker members and long names.
 
 ghost use Rattle.implib_archive.specs.Archive.{first_linker, front, linker_label, linkers};
 ghost use Rattle.implib_archive.specs.Archive.{name_end, names_bytes, names_label, names_part};
@@ -10,14 +10,16 @@ ghost use Rattle.std.specs.List.{All};
 ghost use Rattle.std.specs.Prelude.{◌≡◌, ◌++◌, ◌+◌, ◌*◌, ◌^◌, ◌<◌, ◌≤◌, ◌∷◌, [], OnOk, flat_map};
 ghost use Rattle.std.specs.Prelude.{length, ℕ};
 
-use crate::bytes::{Label, push_header, push_padding, push_u16_le, push_u32_be, push_u32_le};
+use crate::bytes::{
+    Label, Texts, push_header, push_padding, push_u16_le, push_u32_be, push_u32_le,
+};
 use crate::entries::sorted;
 use crate::kind::Kind;
 use crate::long_names::LongNames;
 use crate::places::strings_size;
 use std::alloc::{AllocError, Global};
 
-// Appends what stands before members with these entries, long names and offsets.
+// Appends the front of an archive with these entries, long names and member offsets.
 pub(crate) fn push_front(
     out: &mut Vec<u8>,
     alloc: Global,
@@ -188,9 +190,7 @@ fn linker_label() -> Label<'static>
     Label {
         name: b"/",
         name_end: b"",
-        date: b"0",
-        owner: b"0",
-        mode: b"0",
+        texts: Texts::Linker,
     }
 }
 
@@ -202,8 +202,6 @@ fn names_label() -> Label<'static>
     Label {
         name: b"//",
         name_end: b"",
-        date: b"",
-        owner: b"",
-        mode: b"",
+        texts: Texts::LongNames,
     }
 }

@@ -30,8 +30,8 @@ pub fn parts_read_back()
 
 /// A reader finds in each archive the members, in order, each with its whole name and its bytes.
 ///
-/// The signature, the linker members, the long names and the members fill the archive, one behind
-/// another, so no two headers overlap, and nothing else is in it.
+/// The signature, the linker members, the long names and the members follow one another and fill
+/// the archive, so no two headers overlap, and nothing else is in it.
 pub fn members_read_back()
     ensures { MembersReadBack }
 {}

@@ -10,7 +10,7 @@ ghost use Rattle.std.specs.Prelude.{◌≡◌, ◌++◌, ◌≤◌, ℕ, List, I
 ghost use Rattle.std.specs.Prelude.{unwrap_or};
 ghost use Rattle.std.specs.String.{string_bytes};
 
-use crate::bytes::{Label, push_header, push_padding};
+use crate::bytes::{Label, Texts, push_header, push_padding};
 use crate::front::push_ended;
 use crate::kind::Kind;
 use implib::Member;
@@ -18,8 +18,8 @@ use indexmap::IndexMap;
 use itoa::Buffer;
 use std::alloc::{AllocError, Global};
 
-// The long names of an archive, each once, with their offsets, and the size of their data, as far
-// as it is below 2^32.
+// The long names of an archive, each once, with their offsets, and the size of their data; exact
+// below 2^32.
 #[derive(Drop)]
 pub(crate) struct LongNames<'a> {
     pub(crate) offsets: IndexMap<&'a str, u64>,
@@ -163,8 +163,6 @@ fn label_of<'b>(name: &'b [u8], name_end: &'b [u8]) -> Label<'b>
     Label {
         name,
         name_end,
-        date: b"0",
-        owner: b"0",
-        mode: b"644",
+        texts: Texts::Member,
     }
 }

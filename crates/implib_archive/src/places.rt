@@ -1,4 +1,4 @@
-//! The sizes of what stands before the members, and the offsets of their headers.
+//! The size of an archive's front, and the offsets of the members' headers.
 
 ghost use Rattle.implib.specs.Library.{member_view};
 ghost use Rattle.implib_archive.specs.Archive.{end_from, first_linker_size, front_size, names_size};
@@ -14,8 +14,8 @@ use crate::kind::Kind;
 use implib::Member;
 use std::alloc::Global;
 
-// The offsets of the members' headers, and the offset behind the last member. Where there are no
-// members, the first offset is that one too.
+// The offset of the first member's header, those of all headers, and the archive's end, which is
+// `first` where there are no members.
 #[derive(Drop)]
 pub(crate) struct Places {
     pub(crate) first: u64,
@@ -23,10 +23,10 @@ pub(crate) struct Places {
     pub(crate) end: u64,
 }
 
-// Where sizes stop being told apart: no header is at this offset.
+// The cap of sizes: a header is at a smaller offset.
 const TOO_LONG: u64 = 1 << 32;
 
-// A size, as far as it is told apart.
+// The size, or the cap where that is smaller.
 fn capped(size: u64) -> u64
     ensures { result ≡ min size (2 ^ 32) }
 {
@@ -41,7 +41,7 @@ fn part_size(size: u64) -> u64
     60 + size + size % 2
 }
 
-// The size of the symbols of entries, each with its NUL, at most the largest number.
+// The size of the entries' symbols, each with its NUL; it saturates at 2^64 - 1.
 pub(crate) fn strings_size(entries: &[(&str, usize)]) -> u64
     ensures { result ≡ min (length (strings_of (shown entries.now))) (2 ^ 64 - 1) }
 {
@@ -97,8 +97,8 @@ fn names_size(size: u64) -> u64
     if size > 0 { part_size(size) } else { 0 }
 }
 
-// The size of what stands before the members: of so many members and entries, whose strings and
-// long names have so many bytes, each as far as it is told apart.
+// The size of the front by the numbers of members and entries and the sizes of strings and long
+// names, each capped.
 #[tactic(auto, unfolding(crate::specs::Archive::front_size))]
 pub(crate) fn front_size(
     kind: Kind,

@@ -82,7 +82,7 @@ fn a_name_with_a_line_end_is_refused_in_one_kind(rt: HostRuntime) -> Result<(), 
     Ok(())
 }
 
-// A writer that takes at most 7 bytes a call, and has room for so many in all.
+// A writer that takes at most 7 bytes a call, and `room` bytes in all.
 #[derive(Drop)]
 struct Small {
     bytes: Vec<u8>,

@@ -77,7 +77,7 @@ impl<'a> Archive<'a> {
         })
     }
 
-    /// How many bytes the archive has.
+    /// The size of the archive in bytes.
     pub fn len(&self) -> u64
         ensures { result ≡ length (archive_of self.now.kind self.now.members) }
     {
@@ -100,8 +100,8 @@ impl<'a> Archive<'a> {
 
     /// Writes the archive, without a second copy of the members.
     ///
-    /// It calls `write` for what stands before the members, and for each member two or three times,
-    /// so a writer to a file wants a `BufWriter` before it. It does not flush.
+    /// It calls `write` for the front, and two or three times for each member, so a writer to a
+    /// file wants a `BufWriter` before it. It does not flush.
     ///
     /// # Errors
     ///
@@ -116,7 +116,7 @@ impl<'a> Archive<'a> {
         write_parts(writer, alloc, front.as_slice(), &self.names, self.members)
     }
 
-    // Appends what stands before the members.
+    // Appends the front.
     fn push_start(&self, out: &mut Vec<u8>, alloc: Global) -> Result<(), AllocError>
         ensures { OnOk result (Pushes out.old.items out.new.items
             (front_of self.now.kind self.now.members)) }
@@ -138,7 +138,7 @@ fn has_too_many(kind: Kind, members: &[Member]) -> bool
     }
 }
 
-// The offset of the first member's header, as far as it is below 2^32.
+// The offset of the first member's header; exact below 2^32.
 fn first_place(kind: Kind, members: &[Member], entries: &[(&str, usize)], names: &LongNames) -> u64
     requires listed { shown entries.now ≡ entries_of kind (map member_view members.now) }
     requires measured { AreMeasured kind (long_names kind (map member_view members.now))
@@ -165,7 +165,7 @@ fn push_members(out: &mut Vec<u8>, names: &LongNames, members: &[Member]) -> Res
     Ok(())
 }
 
-// Writes what stands before the members, and the members.
+// Writes the front, and then the members.
 fn write_parts<W: io::Write>(
     writer: &mut W,
     alloc: Global,
@@ -182,7 +182,7 @@ fn write_parts<W: io::Write>(
     write_members(writer, &mut header, names, members)
 }
 
-// Writes the members. The room for a header is used again.
+// Writes the members. One buffer serves all headers.
 fn write_members<W: io::Write>(
     writer: &mut W,
     header: &mut Vec<u8>,
