@@ -116,7 +116,7 @@ IsRefusalOfMembers bytes request (Members fault position) = RefusesMembers bytes
 IsRefusalOfMembers bytes request (Archive fault) = ⊥
 IsRefusalOfMembers bytes request OutOfMemory = Unit {0}
 
--- The kind of archive for so many members: Microsoft's for its linker, where its second linker member can
+-- The kind of archive for a number of members: Microsoft's for its linker, if the second linker member can
 -- number them; else GNU's, as llvm-dlltool writes it then.
 abbrev pub kind_for : Flavor → ℕ → Kind
 kind_for Msvc count = if nat_lt count 65535 then Coff else GnuKind

@@ -53,8 +53,8 @@ is_at_sign b = b == at_sign
 abbrev pub has_at_sign : List ℕ → Bool
 has_at_sign word = nat_lt (position_or_len is_at_sign word) (length word)
 
--- a fastcall name without its `@` in front and the one behind it, if it has both; what stands behind the first
--- is given
+-- a fastcall name without its leading `@` and from its second one on, if it has both; the text after the first is
+-- given
 abbrev pub killed_fastcall : List ℕ → List ℕ → List ℕ
 killed_fastcall behind word = if has_at_sign behind then before_first is_at_sign behind else word
 

@@ -1,5 +1,5 @@
 -- The name of the DLL that an import library is for (this project's choice, after GNU dlltool and llvm-dlltool).
-use Rattle.std.specs.Prelude.{ℕ, ◌==◌, Bool, true, false, List, [], ◌∷◌, ◌++◌, Option, None, Some, codes, if◌then◌else◌, length, nat_eq}
+use Rattle.std.specs.Prelude.{ℕ, ◌==◌, Bool, true, false, List, [], ◌∷◌, ◌++◌, Option, None, Some, codes, if◌then◌else◌, length, nat_eq, not}
 use Rattle.std.specs.List.{fold, list_any}
 use Rattle.implib.specs.declared.def.lexer.TokenKind.{TokenKind}
 use Rattle.implib.specs.declared.def.lexer.TokenKind.TheVariants as kind
@@ -28,7 +28,7 @@ ending false = codes ".dll"
 abbrev pub part_after : ℕ → List ℕ → ℕ → List ℕ
 part_after separator part b = if b == separator then [] else part ++ b ∷ []
 
--- what stands behind the last separator of this kind
+-- the text after the last separator of this kind
 unfoldable pub part_behind : ℕ → List ℕ → List ℕ
 part_behind separator name = fold (part_after separator) [] name
 
@@ -47,6 +47,11 @@ with_ending name program = if has 46 name then name else name ++ ending program
 abbrev pub dll_name : Option (List ℕ) → List ℕ → Bool → List ℕ
 dll_name (Some given) own program = last_part given
 dll_name None own program = with_ending (last_part own) program
+
+-- whether the name gets an ending: it is the definition's own, and has no full stop
+abbrev pub gets_ending : Option (List ℕ) → List ℕ → Bool
+gets_ending (Some given) own = false
+gets_ending None own = not (has 46 (last_part own))
 
 -- whether there is no name, but for a directory
 abbrev pub lacks_name : Option (List ℕ) → List ℕ → Bool

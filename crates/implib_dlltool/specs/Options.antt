@@ -101,7 +101,7 @@ machine_called name =
     else if bytes_eq name (codes "aarch64") then Some ARM64
     else None
 
--- the number of an option that takes a value, by which options are told apart
+-- the number of an option that takes a value; no two have one
 abbrev pub setting_number : Setting → ℕ
 setting_number Definition = 0
 setting_number Output = 1

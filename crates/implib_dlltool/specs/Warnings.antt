@@ -70,7 +70,7 @@ is_stdcall_word word =
 pub data NoticeView : Type 0 where
   -- there is no export
   HasNoExport : NoticeView
-  -- so many members have no archive of Microsoft's kind
+  -- there are too many members for an archive of Microsoft's kind
   IsOtherKind : NoticeView
   -- the export of this index has the same word
   IsRepeated : List ℕ → ℕ → NoticeView
@@ -86,7 +86,7 @@ pub data NoticeView : Type 0 where
   IsStdcall : List ℕ → NoticeView
   -- the word behind `==` is no export
   IsNotExported : List ℕ → NoticeView
-  -- `LIBRARY` or `NAME` stands behind another of these
+  -- a second `LIBRARY` or `NAME`
   IsSecondHeading : NoticeView
 
 -- the view of a notice of the program
@@ -217,34 +217,34 @@ word_if (Some e) = word_of e
 abbrev pub word_before : List ExportView → ℕ → List ℕ
 word_before exports index = if index == 0 then [] else word_if (slice_get exports (index - 1))
 
--- the warnings at what stands behind so many exports
+-- the warnings at a site, given the number of exports before it
 abbrev pub warnings_at_site : RequestView → List ExportView → ℕ → Site → Position → List WarningView
 warnings_at_site request exports index site.Export position = export_notices request exports index position
 warnings_at_site request exports index (site.Attribute attribute) position =
     warned (Some (OpensLine attribute (word_before exports index))) position
 warnings_at_site request exports index site.Heading position = warned (heading_notice request.dll) position
 
--- the warnings at a place behind so many exports
+-- the warnings at a place, given the number of exports before it
 abbrev pub warnings_at : RequestView → List ExportView → ℕ → Place → List WarningView
 warnings_at request exports index place = warnings_at_site request exports index place.site place.position
 
--- the number of exports up to what stands there and with it
+-- the number of exports up to and including a site
 abbrev pub index_after : Site → ℕ → ℕ
 index_after site.Export index = index + 1
 index_after _ index = index
 
--- the warnings at places, in their order, behind so many exports
+-- the warnings at places, in their order, given the number of exports before them
 unfoldable pub warnings_from : RequestView → List ExportView → ℕ → List Place → List WarningView
 warnings_from request exports index [] = []
 warnings_from request exports index (place ∷ places) =
     warnings_at request exports index place ++ warnings_from request exports (index_after place.site index) places
 
--- the position of what is said of a text as a whole
+-- the position of warnings about a whole text
 abbrev pub whole : Position
 whole = record { offset = 0; line = 1; column = 1 }
 
--- the warnings of a definition of these exports and places, which has so many members: those of the whole, and
--- then those at its places, in their order
+-- the warnings of a definition of these exports and places and this number of members: those about the whole
+-- text, and then those at its places, in their order
 abbrev pub warnings_of : RequestView → List ExportView → List Place → ℕ → List WarningView
 warnings_of request exports places count =
     warned (no_export_notice exports) whole

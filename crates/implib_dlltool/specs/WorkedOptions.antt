@@ -1,5 +1,5 @@
 -- Every option, machine and flavour by each of its names, written out by hand.
-use Rattle.std.specs.Prelude.{◌≡◌, ℕ, Bool, true, false, List, [], ◌∷◌, Option, None, Some, Ok, Err, codes, map}
+use Rattle.std.specs.Prelude.{◌≡◌, ℕ, Bool, true, false, List, [], ◌∷◌, None, Some, Ok, Err, codes, map}
 use Rattle.implib.specs.declared.flavor.Flavor.TheVariants.{Msvc, Gnu}
 use Rattle.implib.specs.declared.machine.MachineType.TheVariants.{I386, ARMNT, AMD64, ARM64}
 use Rattle.implib_dlltool.specs.declared.options.Setting.TheVariants.{Definition, Output, Machine, Dll, Flavor, Assembler, AssemblerFlags, TemporaryPrefix}
@@ -56,7 +56,7 @@ switches = KillAt ∷ NoLeadingUnderscore ∷ DeterministicLibraries ∷ Verbose
 abbrev pub told_of : Switch → List Bool
 told_of switch = map (λ s. is_switched s (Switched switch ∷ [])) switches
 
--- what options, machines and flavours are called, and that options are told apart
+-- the names of options, machines and flavours; and that no two options are equal
 pub record OptionsNamed : Type 0 where
   pub values : read_words words_with_values ≡ Ok given
   pub no_values : read_words words_of_switches ≡ Ok switched

@@ -48,7 +48,7 @@ fn long_word(text: &str) -> Word<'_>
     }
 }
 
-// What an option with one letter says: `rest` is what stands behind the letter.
+// What an option of one letter says; `rest` is the text after the letter.
 fn short_word(letter: u8, rest: &str) -> Word<'_>
     ensures { word_view result ≡ short_word letter rest.now }
 {
@@ -135,7 +135,7 @@ enum Step<'a> {
     Refuses(WordFault<'a>),
 }
 
-// What a word is for, where an option that lacks its value may stand before it.
+// What a word is for; `waiting` is the option before it that lacks its value, if any.
 fn step_at<'a>(waiting: Option<Setting>, word: &'a str) -> Step<'a>
     ensures { step_view result ≡ step waiting word.now }
 {

@@ -20,8 +20,7 @@ pub fn calls_read()
     ensures { CallsRead }
 {}
 
-/// Every option, machine and flavour has the names that were worked by hand, and is told from the
-/// others.
+/// Every option, machine and flavour has the names that were worked by hand, and equals no other.
 pub fn options_named()
     ensures { OptionsNamed }
 {}

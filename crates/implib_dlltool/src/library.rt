@@ -13,7 +13,7 @@ ghost use Rattle.std.specs.Prelude.{◌≡◌, IfErr, IfOk, MatchOption, None, O
 ghost use Rattle.std.specs.Str.{IsUtf8};
 
 use crate::aliases::link_with_targets;
-use crate::name::{dll_name, is_program, lacks_name};
+use crate::name::{dll_name, gets_ending, is_program, lacks_name};
 use crate::order::in_order;
 use crate::places::position_of_fault;
 use crate::request::Request;
@@ -21,7 +21,7 @@ use implib::def::{ModuleDef, Position};
 use implib::{Error, Fault, Flavor, ImportLibrary, MachineType, Member, ParseError};
 use implib_archive::{Archive, Kind, WriteError};
 use std::alloc::{AllocError, Global};
-use std::io;
+use std::{io, mem};
 
 /// Why a definition has no import library here.
 #[derive(Debug, Drop)]
@@ -122,7 +122,7 @@ impl From<io::Error> for LibraryError {
     }
 }
 
-// The bytes without the mark of UTF-8 in front of them.
+// The bytes without a leading byte order mark of UTF-8.
 fn without_mark(bytes: &[u8]) -> &[u8]
     ensures { result.now ≡ without_mark bytes.now }
 {
@@ -153,15 +153,13 @@ pub fn definition_for(alloc: Global, text: &str, request: &Request) -> Result<Mo
 {
     // The words are read as they are written, as on a machine without an underscore.
     let mut def = ModuleDef::parse_with_position(alloc, text, MachineType::AMD64)?;
-    if lacks_name(request.dll, def.import_name.as_str()) {
+    let own = def.import_name.as_str();
+    if lacks_name(request.dll, own) {
         return Err(Refusal::NoName);
     }
-    def.import_name = dll_name(
-        alloc,
-        request.dll,
-        def.import_name.as_str(),
-        is_program(text),
-    )?;
+    // The headings of the text are looked for only where the ending depends on them.
+    let is_program = gets_ending(request.dll, own) && is_program(text);
+    def.import_name = dll_name(alloc, request.dll, own, is_program)?;
     link_with_targets(
         alloc,
         request.machine,
@@ -199,8 +197,8 @@ pub fn members_for(alloc: Global, bytes: &[u8], request: &Request) -> Result<Vec
     }
 }
 
-/// The kind of archive for so many members: Microsoft's for its linker, up to what its index
-/// numbers, and else GNU's.
+/// The kind of archive for a number of members: Microsoft's for its linker, if the index can number
+/// them, and else GNU's.
 pub fn kind_for(flavor: Flavor, count: usize) -> Kind
     ensures { result ≡ kind_for flavor count }
 {
@@ -255,5 +253,8 @@ pub fn write_library<W: io::Write>(
     let members = members_for(alloc, bytes, request)?;
     let archive = archive_for(alloc, members.as_slice(), request.flavor)?;
     archive.write_to(alloc, writer)?;
+    drop(archive);
+    // The program ends now. Freeing each name and symbol would take a fifth of its time.
+    mem::forget(members);
     Ok(())
 }

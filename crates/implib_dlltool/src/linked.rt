@@ -191,13 +191,15 @@ fn link_import(
     alloc: Global,
     machine: MachineType,
     naming: Naming,
+    symbol: String,
     export: &mut ShortExport,
 ) -> Result<(), AllocError>
+    requires { string_bytes symbol
+        ≡ symbol_linked machine (naming_view naming) (export_view export.old) }
     ensures { OnOk result (export_view export.new
         ≡ linked_import machine (naming_view naming) (export_view export.old)) }
 {
     let word = word_of(export);
-    let symbol = symbol_of(alloc, machine, naming, word)?;
     let target = export.alias_target.as_str();
     let asked = String::from_str(alloc, asked_of(machine, naming, word, target))?;
     export.name = symbol;
@@ -212,12 +214,14 @@ fn link_alias(
     alloc: Global,
     machine: MachineType,
     naming: Naming,
+    symbol: String,
     export: &mut ShortExport,
 ) -> Result<(), AllocError>
+    requires { string_bytes symbol
+        ≡ symbol_linked machine (naming_view naming) (export_view export.old) }
     ensures { OnOk result (export_view export.new
         ≡ linked_alias machine (naming_view naming) (export_view export.old)) }
 {
-    let symbol = symbol_linked(alloc, machine, naming, export)?;
     let asked = symbol.clone()?;
     let target = symbol_of(alloc, machine, naming, export.alias_target.as_str())?;
     export.name = symbol;
@@ -240,9 +244,9 @@ fn link_export(
 {
     let symbol = symbol_linked(alloc, machine, naming, export)?;
     if is_alias_under(flavor, symbol.as_str(), export) {
-        link_alias(alloc, machine, naming, export)
+        link_alias(alloc, machine, naming, symbol, export)
     } else {
-        link_import(alloc, machine, naming, export)
+        link_import(alloc, machine, naming, symbol, export)
     }
 }
 

@@ -1,7 +1,7 @@
 //! The name of the DLL that an import library is for.
 
 ghost use Rattle.implib.specs.Text.Token.{Lexed, TokenView};
-ghost use Rattle.implib_dlltool.specs.Names.{dll_name, ending, heading_after, is_program};
+ghost use Rattle.implib_dlltool.specs.Names.{dll_name, ending, gets_ending, heading_after, is_program};
 ghost use Rattle.implib_dlltool.specs.Names.{lacks_name, last_part, part_behind};
 ghost use Rattle.std.specs.List.{after_first, position_or_len};
 ghost use Rattle.std.specs.Option.{option_map};
@@ -33,7 +33,7 @@ fn heading_after(before: bool, kind: TokenKind) -> bool
     }
 }
 
-// What stands behind the first separator of this kind, if there is one.
+// The text after the first separator of this kind, if there is one.
 fn behind_first(name: &str, separator: char) -> Option<&str>
     requires { separator < 128 }
     ensures { MatchOption result (
@@ -47,7 +47,7 @@ fn behind_first(name: &str, separator: char) -> Option<&str>
     }
 }
 
-// What stands behind the last separator of this kind; all of the name where there is none.
+// The text after the last separator of this kind, or all of the name.
 fn part_behind(name: &str, separator: char) -> &str
     requires { separator < 128 }
     ensures { result.now ≡ part_behind separator name.now }
@@ -59,7 +59,7 @@ fn part_behind(name: &str, separator: char) -> &str
     part
 }
 
-/// The name without its directory: what stands behind its last `/` and then behind its last `\\`.
+/// The name without its directory: the text after its last `/`, and then after its last `\\`.
 pub fn last_part(name: &str) -> &str
     ensures { result.now ≡ last_part name.now }
 {
@@ -81,6 +81,17 @@ fn ending(is_program: bool) -> &'static str
     ensures { result.now ≡ ending is_program }
 {
     if is_program { ".exe" } else { ".dll" }
+}
+
+/// Whether the name of the DLL gets an ending: it is the definition's own, and without its directory
+/// it has no full stop.
+pub fn gets_ending(given: Option<&str>, own: &str) -> bool
+    ensures { result ≡ gets_ending (option_map (λ text. text.now) given.entry) own.now }
+{
+    match given {
+        Some(_) => false,
+        None => !last_part(own).as_bytes().contains(&b'.'),
+    }
 }
 
 /// The name of the DLL: the one that is given, or the definition's own, with an ending where it has

@@ -47,7 +47,7 @@ pub enum Switch {
 }
 
 impl Setting {
-    // The number of the option, by which options are told apart.
+    // The option's number; no two options have one.
     fn number(self) -> u8
         ensures { result ≡ setting_number self }
     {
@@ -72,7 +72,7 @@ impl Setting {
 }
 
 impl Switch {
-    // The number of the option, by which options are told apart.
+    // The option's number; no two options have one.
     fn number(self) -> u8
         ensures { result ≡ switch_number self }
     {

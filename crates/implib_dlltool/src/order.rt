@@ -70,7 +70,7 @@ fn move_one(left: &mut IntoIter<Member>, members: &mut Vec<Member>) -> Result<()
     Ok(())
 }
 
-// Moves so many of the next members to the end of others.
+// Moves the next `count` members to the end of others.
 fn move_next(
     left: &mut IntoIter<Member>,
     members: &mut Vec<Member>,

@@ -115,7 +115,7 @@ fn bytes_of<R: Files + AllocGlobal, I: Read>(
     Ok(bytes)
 }
 
-// How many members the library for Microsoft's linker has; elsewhere it is of no account.
+// The number of members for Microsoft's linker; 0 for GNU's, where no warning needs it.
 fn member_count(alloc: Global, bytes: &[u8], request: &Request<'_>) -> usize {
     if let Flavor::Gnu = request.flavor {
         return 0;

@@ -33,7 +33,7 @@ use std::fmt;
 pub enum Notice<'a> {
     /// There is no export.
     NoExport,
-    /// So many members have no archive of Microsoft's kind.
+    /// There are too many members for an archive of Microsoft's kind.
     OtherKind,
     /// The export of this index has the same word.
     Repeated(&'a str, usize),
@@ -49,7 +49,7 @@ pub enum Notice<'a> {
     Stdcall(&'a str),
     /// The word behind `==` is no export.
     NotExported(&'a str),
-    /// `LIBRARY` or `NAME` stands behind another of these.
+    /// A second `LIBRARY` or `NAME`.
     SecondHeading,
 }
 
@@ -62,7 +62,7 @@ pub struct Warning<'a> {
     pub position: Position,
 }
 
-// The position of what is said of a text as a whole.
+// The position of warnings about a whole text.
 const WHOLE: Position = Position {
     offset: 0,
     line: 1,
@@ -171,7 +171,7 @@ fn target_notice<'a>(
     }
 }
 
-// That `LIBRARY` or `NAME` stands twice, unless the name is given otherwise.
+// That there is a second `LIBRARY` or `NAME`, unless the name is given otherwise.
 fn heading_notice<'a>(dll: Option<&str>) -> Option<Notice<'a>>
     ensures { option_map notice_view result
         ≡ heading_notice (option_map (λ text. text.now) dll.entry) }
@@ -193,7 +193,7 @@ fn no_export_notice<'a>(exports: &[ShortExport]) -> Option<Notice<'a>>
     }
 }
 
-// That so many members have no archive of Microsoft's kind.
+// That there are too many members for an archive of Microsoft's kind.
 fn other_kind_notice<'a>(flavor: Flavor, count: usize) -> Option<Notice<'a>>
     ensures { option_map notice_view result ≡ other_kind_notice flavor count }
 {
@@ -275,7 +275,7 @@ fn word_before(exports: &[ShortExport], index: usize) -> &str
     }
 }
 
-// Appends the warnings at a place behind so many exports.
+// Appends the warnings at a place; `index` counts the exports before it.
 fn push_place<'a>(
     warnings: &mut Vec<Warning<'a>>,
     words: &HashMap<&'a str, usize>,
@@ -309,7 +309,7 @@ fn push_place<'a>(
     }
 }
 
-// The number of exports up to a place and with it.
+// The number of exports up to and including a place.
 fn index_after(site: Site, index: usize) -> usize
     requires { index < 2 ^ 64 - 1 }
     ensures { result ≡ index_after site index }
@@ -320,7 +320,7 @@ fn index_after(site: Site, index: usize) -> usize
     }
 }
 
-// The warnings of a definition of these exports and places, which has so many members.
+// The warnings of a definition of these exports and places and this number of members.
 fn warnings_of<'a>(
     alloc: Global,
     exports: &'a [ShortExport],
@@ -356,8 +356,8 @@ fn warnings_of<'a>(
     Ok(warnings)
 }
 
-/// The warnings that are asked for, of a definition of these exports and places, which has so many
-/// members: none but for `-v`.
+/// The warnings that are asked for, of a definition of these exports and places and this number of
+/// members; none without `-v`.
 ///
 /// # Errors
 ///
