@@ -220,7 +220,7 @@ fn begin(alloc: Global, writer: &mut ObjectWriter) -> Result<(), Error>
     Ok(())
 }
 
-// Adds a relocation to a section that has so many.
+// Adds a relocation to a section that has `count` of them.
 fn relocate_one(writer: &mut ObjectWriter, count: usize) -> Result<(), Error>
     requires filled { IsFilled writer.old count }
     requires room { count < 65535 }

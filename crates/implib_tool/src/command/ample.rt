@@ -91,7 +91,7 @@ fn count_members(listing: &[u8]) -> Result<usize, Fail> {
     Ok(count)
 }
 
-/// A definition of a DLL of this number, with so many exports.
+/// A definition of a DLL of this number, with `exports` exports.
 fn definition(alloc: Global, number: usize, exports: usize) -> Result<String, Fail> {
     let mut text = format!(in alloc; "LIBRARY d{number}.dll\nEXPORTS\n")?;
     for index in 0..exports {
@@ -129,13 +129,13 @@ fn a_document_of_many_members_is_listed_among_others(rt: HostRuntime) -> Result<
     Ok(())
 }
 
-// The input has more than 16 MiB.
+// The input has 17 MiB, so more than 16 MiB before its last piece is read, too.
 #[test]
 fn a_very_long_input_is_listed(rt: HostRuntime) -> Result<(), Fail> {
     let short = "LIBRARY foo.dll\nEXPORTS\nbar\n";
-    let mut long = ";;;;;;;;;;;;;;;\n".repeat(rt.alloc(), 1_048_576)?;
+    let mut long = ";;;;;;;;;;;;;;;\n".repeat(rt.alloc(), 1_114_112)?;
     long.push_str(short)?;
-    assert!(rt; long.len() > 16_777_216);
+    assert!(rt; long.len() > 17_825_792);
     let target = ["AMD64", "msvc"];
     let (_, want, _) = performed(rt.alloc(), &target, short.as_bytes())?;
     let (status, listing, fault) = performed(rt.alloc(), &target, long.as_bytes())?;
