@@ -14,6 +14,7 @@ ghost use Rattle.std.specs.String.{string_bytes};
 use implib::def::ShortExport;
 use implib::{Flavor, MachineType};
 use std::alloc::{AllocError, Global};
+use std::mem;
 
 /// How names are read on I386.
 #[derive(Clone, Copy, Debug, PartialEq, Eq)]
@@ -201,8 +202,14 @@ fn link_import(
 {
     let word = word_of(export);
     let target = export.alias_target.as_str();
-    let asked = String::from_str(alloc, asked_of(machine, naming, word, target))?;
-    export.name = symbol;
+    let asked = asked_of(machine, naming, word, target);
+    let asked = if asked == export.name.as_str() {
+        mem::replace(&mut export.name, symbol)
+    } else {
+        let asked = String::from_str(alloc, asked)?;
+        export.name = symbol;
+        asked
+    };
     export.ext_name = None;
     export.asked_name = Some(asked);
     export.alias_target = String::new(alloc);
