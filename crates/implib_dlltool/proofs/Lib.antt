@@ -1,6 +1,7 @@
 pub mod Reading
 pub mod TokensGiven
 pub mod Parts
+pub mod Asked
 pub mod Targets
 pub mod Accepted
 pub mod Ordered
@@ -8,6 +9,7 @@ pub mod OrderedReadings
 pub mod PlainNames
 pub mod Made
 pub mod Positions
+pub mod NameOffsets
 pub mod Firsts
 pub mod Ordinals
 pub mod Warned

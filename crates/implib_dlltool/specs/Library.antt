@@ -34,6 +34,7 @@ use Rattle.implib_dlltool.specs.declared.library.Refusal.TheVariants.{NotUtf8, S
 use Rattle.implib_dlltool.specs.Linked.{linked}
 use Rattle.implib_dlltool.specs.Names.{dll_name, is_program, lacks_name}
 use Rattle.implib_dlltool.specs.Order.{LibraryReads, library_specs}
+use Rattle.implib_dlltool.specs.Places.{IsAtFault}
 use Rattle.implib_dlltool.specs.Request.{RequestView}
 
 -- the refusals of errors of the libraries
@@ -112,7 +113,8 @@ abbrev pub IsRefusalOfMembers : List ℕ → RequestView → Refusal → Type 0
 IsRefusalOfMembers bytes request NotUtf8 = ¬ (IsUtf8 (without_mark bytes))
 IsRefusalOfMembers bytes request (Syntax fault position) = RefusesText bytes request (Syntax fault position)
 IsRefusalOfMembers bytes request NoName = RefusesText bytes request NoName
-IsRefusalOfMembers bytes request (Members fault position) = RefusesMembers bytes request (cause_of fault)
+IsRefusalOfMembers bytes request (Members fault position) =
+    RefusesMembers bytes request (cause_of fault) × IsAtFault (without_mark bytes) (cause_of fault) position
 IsRefusalOfMembers bytes request (Archive fault) = ⊥
 IsRefusalOfMembers bytes request OutOfMemory = Unit {0}
 

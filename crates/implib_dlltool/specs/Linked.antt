@@ -1,13 +1,13 @@
 -- By which symbols exports are linked, and what they ask the DLL for: the rules of GNU dlltool and llvm-dlltool
 -- (docs/DECISIONS.md). A word is one of the definition as it is written.
-use Rattle.std.specs.Prelude.{ℕ, ◌==◌, Bool, true, false, not, ◌&&◌, ◌||◌, List, [], ◌∷◌, ◌++◌, Some, None, if◌then◌else◌, bytes_eq, fold, length, map, nat_lt}
+use Rattle.std.specs.Prelude.{ℕ, ◌≡◌, ◌==◌, Bool, true, false, not, ◌&&◌, ◌||◌, List, [], ◌∷◌, ◌++◌, Option, Some, None, if◌then◌else◌, bytes_eq, fold, length, map, nat_lt}
 use Rattle.implib.specs.declared.flavor.Flavor.{Flavor}
 use Rattle.implib.specs.declared.flavor.Flavor.TheVariants.{Msvc, Gnu}
 use Rattle.implib.specs.declared.machine.MachineType.{MachineType}
 use Rattle.implib.specs.Ascii.{at_sign, begins_with, question_mark, underscore}
 use Rattle.implib.specs.Definition.{DefinitionView, ExportView, empty_export}
 use Rattle.implib.specs.Formats.ShortImport.{before_at_sign, without_prefix}
-use Rattle.implib.specs.Import.{is_empty_text}
+use Rattle.implib.specs.Import.{is_empty_text, name_asked}
 use Rattle.implib.specs.Machine.{has_leading_underscore}
 use Rattle.implib.specs.Renaming.{name_to_link}
 use Rattle.std.specs.List.{after_first, before_first, filter, list_any, position_or_len}
@@ -83,6 +83,12 @@ word_of e = name_to_link e.ext_name e.name
 abbrev pub symbol_linked : MachineType → NamingView → ExportView → List ℕ
 symbol_linked machine naming e = symbol_of machine naming (word_of e)
 
+-- The asked name that an import gives. Where symbols have no underscore, an export without one asks for its symbol,
+-- so a name that is the symbol is not given.
+abbrev pub name_given : MachineType → List ℕ → List ℕ → Option (List ℕ)
+name_given machine symbol asked =
+    if not (has_leading_underscore machine) && bytes_eq symbol asked then None else Some asked
+
 -- An import: the export under its symbol, and with what it asks for. For example, of `f == g` the symbol is f
 -- and the name asked for g.
 abbrev pub linked_import : MachineType → NamingView → ExportView → ExportView
@@ -90,8 +96,15 @@ linked_import machine naming e = record e {
   name = symbol_linked machine naming e;
   ext_name = None;
   alias_target = [];
-  asked_name = Some (asked_of machine naming (word_of e) e.alias_target);
+  asked_name = name_given machine (symbol_linked machine naming e) (asked_of machine naming (word_of e) e.alias_target);
 }
+
+-- An export that is linked as an import asks for the word behind `==`, or else for what its own word says, given or
+-- not.
+abbrev pub AsksAsLinked : Type 0
+AsksAsLinked =
+    (machine : MachineType) (naming : NamingView) (e : ExportView)
+    → name_asked machine (linked_import machine naming e) ≡ asked_of machine naming (word_of e) e.alias_target
 
 -- Whether a name type, which is name, no prefix or undecorate, makes a name of the symbol. For example, of
 -- `_f@8` they make `_f@8`, `f@8` and f.

@@ -1,6 +1,6 @@
 -- The places of a text that a warning can be at, by its tokens (this project's choice). A text is read from the left;
 -- what is said here counts for the tokens of a definition that the grammar allows.
-use Rattle.std.specs.Prelude.{◌≡◌, ℕ, Bool, true, false, not, ◌&&◌, ◌||◌, List, [], ◌∷◌, ◌++◌, Option, None, Some, drop, if◌then◌else◌, is_some, map, nat_lt}
+use Rattle.std.specs.Prelude.{◌≡◌, ℕ, Bool, true, false, not, ◌&&◌, ◌||◌, List, [], ◌∷◌, ◌++◌, Option, None, Some, drop, get_or, if◌then◌else◌, is_some, map, nat_lt}
 use Rattle.std.specs.List.{fold}
 use Rattle.std.specs.Str.{bytes_eq}
 use Rattle.implib.specs.declared.def.lexer.TokenKind.{TokenKind}
@@ -9,6 +9,7 @@ use Rattle.implib.specs.declared.def.position.Position.{Position}
 use Rattle.implib.specs.declared.machine.MachineType.TheVariants.{AMD64}
 use Rattle.implib.specs.Ascii.{at_sign, begins_with}
 use Rattle.implib.specs.Definition.{DefinitionView}
+use Rattle.implib.specs.Fault.{Cause, export_index}
 use Rattle.implib.specs.Text.Number.{u16_limit}
 use Rattle.implib.specs.Text.Parses.{Parses}
 use Rattle.implib.specs.Text.Position.{position_at}
@@ -143,6 +144,21 @@ abbrev pub named_after : Next → List TokenView → List TokenView
 named_after next [] = []
 named_after next (token ∷ tokens) =
     name_first (begins_export next token.kind token.value) token (named_after (next_after next token.kind token.value) tokens)
+
+-- the offset of the name of the export at an index, by the tokens of a text; 0 where there is none
+abbrev pub name_offset : List TokenView → ℕ → ℕ
+name_offset tokens index = get_or (map (λ t. t.at) (named_after Outside tokens)) index 0
+
+-- the offset of a fault: that of the name of its export, or the beginning of the text
+abbrev pub fault_offset : List TokenView → Option ℕ → ℕ
+fault_offset tokens None = 0
+fault_offset tokens (Some index) = name_offset tokens index
+
+-- the position is that of a fault in a text
+pub record IsAtFault (text : List ℕ) (cause : Cause) (position : Position) : Type 0 where
+  pub tokens : List TokenView
+  pub lexed : Lexed text tokens
+  pub is : position ≡ position_at text (fault_offset tokens (export_index cause))
 
 -- the positions of exports among places
 abbrev pub position_first : Site → Position → List Position → List Position

@@ -1,8 +1,16 @@
--- View: arguments of the program as lists.
-use Rattle.std.specs.Prelude.{ℕ, List, Option, None, Some}
+-- View: arguments of the program as lists, and what its functions test.
+use Rattle.std.specs.Prelude.{ℕ, Bool, ◌&&◌, not, List, Option, None, Some, is_none}
 use Rattle.std.specs.Borrow.{Bor}
+use Rattle.implib.specs.declared.machine.MachineType.{MachineType}
+use Rattle.implib.specs.Definition.{ExportView}
+use Rattle.implib.specs.Import.{is_empty_text}
+use Rattle.implib.specs.Machine.{has_leading_underscore}
 
 -- the bytes of a text that may be given
 abbrev pub given_bytes : Option (Bor (List ℕ)) → Option (List ℕ)
 given_bytes None = None
 given_bytes (Some text) = Some text.now
+
+-- whether an export's word is its symbol and what it asks for
+abbrev pub is_linked : MachineType → ExportView → Bool
+is_linked machine e = not (has_leading_underscore machine) && (is_none e.ext_name && is_empty_text e.alias_target)

@@ -4,6 +4,7 @@ use Rattle.implib.specs.declared.flavor.Flavor.TheVariants.{Msvc, Gnu}
 use Rattle.implib.specs.declared.machine.MachineType.{MachineType}
 use Rattle.implib.specs.declared.machine.MachineType.TheVariants.{I386, ARMNT, AMD64, ARM64}
 use Rattle.implib.specs.Definition.{DefinitionView, ExportView, empty_definition, empty_export}
+use Rattle.implib.specs.Import.{name_asked}
 use Rattle.implib_dlltool.specs.declared.options.Setting.TheVariants.{Definition, Output, Machine, Dll}
 use Rattle.implib_dlltool.specs.declared.options.Setting.TheVariants.{Flavor as FlavorSetting}
 use Rattle.implib_dlltool.specs.declared.options.Switch.TheVariants.{Help, Verbose}
@@ -34,7 +35,7 @@ line word target = record empty_export { name = word; alias_target = target }
 -- for this name
 pub record Links (machine : MachineType) (naming : NamingView) (word target symbol asked : List ℕ) : Type 0 where
   pub symbol_is : (linked_export machine naming Gnu (line word target)).name ≡ symbol
-  pub asked_is : (linked_export machine naming Gnu (line word target)).asked_name ≡ Some asked
+  pub asked_is : name_asked machine (linked_export machine naming Gnu (line word target)) ≡ asked
   pub target_gone : (linked_export machine naming Gnu (line word target)).alias_target ≡ []
 
 -- what exports are linked by, and what they ask for
@@ -56,10 +57,19 @@ pub record ExportsLinked : Type 0 where
   pub other : Links AMD64 usual (codes "a") (codes "b") (codes "a") (codes "b")
   pub other_underscored : Links I386 usual (codes "a") (codes "b") (codes "_a") (codes "b")
   pub other_not_killed : Links I386 killing (codes "a@4") (codes "a@4") (codes "_a@4") (codes "a@4")
+  pub c_given : (linked_export I386 usual Msvc (line (codes "f") [])).asked_name ≡ Some (codes "f")
+  pub plain_given : (linked_export I386 plain Msvc (line (codes "_J") [])).asked_name ≡ Some (codes "_J")
+  pub other_given : (linked_export ARM64 usual Gnu (line (codes "a") (codes "b"))).asked_name ≡ Some (codes "b")
+  pub own_not_given : (linked_export AMD64 killing Msvc (line (codes "F@8") [])).asked_name ≡ None
+  pub target_not_given : (linked_export ARMNT usual Gnu (line (codes "a") (codes "a"))).asked_name ≡ None
 
 -- an import as it is linked: of this symbol, and asking for this name
 abbrev pub an_import : List ℕ → List ℕ → ExportView
 an_import symbol asked = record empty_export { name = symbol; asked_name = Some asked }
+
+-- an import as it is linked that asks for its symbol and gives no name
+abbrev pub a_plain_import : List ℕ → ExportView
+a_plain_import symbol = record empty_export { name = symbol }
 
 -- an alias as it is linked: of this symbol, and weak for that one
 abbrev pub an_alias : List ℕ → List ℕ → ExportView
@@ -74,7 +84,7 @@ pub record AliasesLinked : Type 0 where
   pub killed : linked_exports I386 killing Msvc (line (codes "a@4") (codes "F@8") ∷ [])
       ≡ an_alias (codes "_a@4") (codes "_F@8") ∷ an_import (codes "_F@8") (codes "F@8") ∷ []
   pub exported : linked_exports AMD64 usual Msvc (line (codes "a") (codes "b") ∷ line (codes "b") [] ∷ [])
-      ≡ an_alias (codes "a") (codes "b") ∷ an_import (codes "b") (codes "b") ∷ []
+      ≡ an_alias (codes "a") (codes "b") ∷ a_plain_import (codes "b") ∷ []
   pub exported_killed : linked_exports I386 killing Msvc (line (codes "a") (codes "F@8") ∷ line (codes "F@8") [] ∷ [])
       ≡ an_alias (codes "_a") (codes "_F@8") ∷ an_import (codes "_F@8") (codes "F") ∷ []
   pub shared : linked_exports AMD64 usual Msvc (line (codes "a") (codes "b") ∷ line (codes "c") (codes "b") ∷ [])
@@ -83,13 +93,13 @@ pub record AliasesLinked : Type 0 where
       ≡ an_alias (codes "a") (codes "b") ∷ an_alias (codes "b") (codes "c") ∷ an_import (codes "c") (codes "c") ∷ []
   pub private_target : linked_exports AMD64 usual Msvc
       (line (codes "a") (codes "b") ∷ record (line (codes "b") []) { private = true } ∷ [])
-      ≡ an_alias (codes "a") (codes "b") ∷ record (an_import (codes "b") (codes "b")) { private = true }
+      ≡ an_alias (codes "a") (codes "b") ∷ record (a_plain_import (codes "b")) { private = true }
       ∷ an_import (codes "b") (codes "b") ∷ []
   pub of_data : linked_exports AMD64 usual Msvc (record (line (codes "a") (codes "b")) { is_data = true; ordinal = 3 } ∷ [])
       ≡ record (an_alias (codes "a") (codes "b")) { is_data = true; ordinal = 3 }
       ∷ record (an_import (codes "b") (codes "b")) { is_data = true } ∷ []
   pub itself : linked_exports AMD64 usual Msvc (line (codes "X") (codes "X") ∷ [])
-      ≡ an_import (codes "X") (codes "X") ∷ []
+      ≡ a_plain_import (codes "X") ∷ []
   pub undecorated : linked_exports I386 usual Msvc (line (codes "X@4") (codes "X") ∷ [])
       ≡ an_import (codes "_X@4") (codes "X") ∷ []
   pub as_symbol : linked_exports I386 usual Msvc (line (codes "swab") (codes "_swab") ∷ [])

@@ -5,7 +5,7 @@ ghost use Rattle.implib.specs.Import.{holds, is_empty_text};
 ghost use Rattle.implib.specs.Members.NameRules.{name_refusal};
 ghost use Rattle.implib.specs.declared.flavor.Flavor.TheVariants.{Msvc};
 ghost use Rattle.implib.specs.declared.machine.MachineType.{MachineType};
-ghost use Rattle.implib_dlltool.specs.Linked.{NamingView, target_import};
+ghost use Rattle.implib_dlltool.specs.Linked.{AsksAsLinked, NamingView, target_import};
 ghost use Rattle.implib_dlltool.specs.Places.{AreAtWords};
 ghost use Rattle.implib_dlltool.specs.Warnings.{AreInOrder, RepeatsStandBefore};
 ghost use Rattle.implib_dlltool.specs.Worked.{CallsRead};
@@ -34,6 +34,12 @@ pub fn calls_answered()
 /// Exports are linked by the symbols that were worked by hand, and ask for the names.
 pub fn exports_linked()
     ensures { ExportsLinked }
+{}
+
+/// An export that is linked as an import asks for what its words say, whether it gives the name or
+/// not.
+pub fn asks_as_linked()
+    ensures { AsksAsLinked }
 {}
 
 /// Exports with `==` are in Microsoft's flavour the aliases and imports that were worked by hand,

@@ -5,16 +5,17 @@ ghost use Rattle.implib.specs.Definition.{export_view};
 ghost use Rattle.implib.specs.Formats.ShortImport.{before_at_sign, without_prefix};
 ghost use Rattle.implib_dlltool.specs.Linked.{asked_of, has_two_at_signs, is_alias_under};
 ghost use Rattle.implib_dlltool.specs.Linked.{keeps_word, killed, linked_alias, linked_export};
-ghost use Rattle.implib_dlltool.specs.Linked.{linked_import, makes, naming_view, symbol_linked};
+ghost use Rattle.implib_dlltool.specs.Linked.{linked_import, makes, name_given, naming_view};
+ghost use Rattle.implib_dlltool.specs.Views.{is_linked};
+ghost use Rattle.implib_dlltool.specs.Linked.{symbol_linked};
 ghost use Rattle.implib_dlltool.specs.Linked.{symbol_of, word_asked, word_of};
 ghost use Rattle.std.specs.List.{position};
-ghost use Rattle.std.specs.Prelude.{◌==◌, ◌≡◌, IfOk, OnOk, map};
+ghost use Rattle.std.specs.Prelude.{◌==◌, ◌≡◌, IfOk, OnOk, map, option_map};
 ghost use Rattle.std.specs.String.{string_bytes};
 
 use implib::def::ShortExport;
 use implib::{Flavor, MachineType};
 use std::alloc::{AllocError, Global};
-use std::mem;
 
 /// How names are read on I386.
 #[derive(Clone, Copy, Debug, PartialEq, Eq)]
@@ -187,6 +188,23 @@ pub fn is_alias_under(flavor: Flavor, symbol: &str, export: &ShortExport) -> boo
     }
 }
 
+// The asked name that an import gives: none where its members ask for its symbol and that is the
+// name.
+fn name_given(
+    alloc: Global,
+    machine: MachineType,
+    symbol: &str,
+    asked: &str,
+) -> Result<Option<String>, AllocError>
+    ensures { IfOk result
+        (λ given. option_map string_bytes given ≡ name_given machine symbol.now asked.now) }
+{
+    if machine != MachineType::I386 && symbol == asked {
+        return Ok(None);
+    }
+    Ok(Some(String::from_str(alloc, asked)?))
+}
+
 // Gives an import its symbol, and the name that it asks the DLL for.
 fn link_import(
     alloc: Global,
@@ -203,15 +221,10 @@ fn link_import(
     let word = word_of(export);
     let target = export.alias_target.as_str();
     let asked = asked_of(machine, naming, word, target);
-    let asked = if asked == export.name.as_str() {
-        mem::replace(&mut export.name, symbol)
-    } else {
-        let asked = String::from_str(alloc, asked)?;
-        export.name = symbol;
-        asked
-    };
+    let given = name_given(alloc, machine, symbol.as_str(), asked)?;
+    export.name = symbol;
     export.ext_name = None;
-    export.asked_name = Some(asked);
+    export.asked_name = given;
     export.alias_target = String::new(alloc);
     Ok(())
 }
@@ -238,6 +251,14 @@ fn link_alias(
     Ok(())
 }
 
+// Whether an export that gives no asked name is linked as it is: its word is its symbol, and what it
+// asks for.
+fn is_linked(machine: MachineType, export: &ShortExport) -> bool
+    ensures { result ≡ is_linked machine (export_view export.now) }
+{
+    machine != MachineType::I386 && export.ext_name.is_none() && export.alias_target.is_empty()
+}
+
 // Gives an export its symbol, and what it asks the DLL for or is weak for.
 fn link_export(
     alloc: Global,
@@ -249,6 +270,10 @@ fn link_export(
     ensures { OnOk result (export_view export.new
         ≡ linked_export machine (naming_view naming) flavor (export_view export.old)) }
 {
+    if is_linked(machine, export) {
+        export.asked_name = None;
+        return Ok(());
+    }
     let symbol = symbol_linked(alloc, machine, naming, export)?;
     if is_alias_under(flavor, symbol.as_str(), export) {
         link_alias(alloc, machine, naming, symbol, export)

@@ -1,9 +1,11 @@
 //! The places of a text that a fault or a warning is at.
 
+ghost use Rattle.implib.specs.Fault.{cause_of};
 ghost use Rattle.implib.specs.Text.Position.{position_at};
 ghost use Rattle.implib.specs.Text.Token.{Lexed, TokenView};
-ghost use Rattle.implib_dlltool.specs.Places.{attribute_of, begins_export, is_heading, is_ordinal};
-ghost use Rattle.implib_dlltool.specs.Places.{next_after, placed, places_in, site_at, walk_behind};
+ghost use Rattle.implib_dlltool.specs.Places.{IsAtFault, attribute_of, begins_export, is_heading};
+ghost use Rattle.implib_dlltool.specs.Places.{is_ordinal, name_offset, next_after, placed};
+ghost use Rattle.implib_dlltool.specs.Places.{places_in, site_at, walk_behind};
 ghost use Rattle.std.specs.Prelude.{◌≡◌, ◌++◌, IfOk, List, OnOk};
 
 use crate::warnings::words::Attribute;
@@ -225,8 +227,11 @@ pub fn places_of(alloc: Global, text: &str) -> Result<Vec<Place>, AllocError>
     Ok(places)
 }
 
-// The offset of the name of an export by its index; 0 where there is none.
-fn export_offset(text: &str, index: usize) -> usize {
+// The offset of the name of the export at an index; 0 where there is none.
+fn name_offset(text: &str, index: usize) -> usize
+    ensures { (tokens : List TokenView) × Lexed text.now tokens
+        × (result ≡ name_offset tokens index) }
+{
     let mut left = index;
     let mut next = Next::Outside;
     for token in Lexer::new(text) {
@@ -242,9 +247,11 @@ fn export_offset(text: &str, index: usize) -> usize {
 }
 
 /// Where a fault of members is: at the name of its export, or at the beginning of the text.
-pub fn position_of_fault(text: &str, fault: &Fault) -> Position {
+pub fn position_of_fault(text: &str, fault: &Fault) -> Position
+    ensures { IsAtFault text.now (cause_of fault.now) result }
+{
     let offset = match fault.export_index() {
-        Some(index) => export_offset(text, index),
+        Some(index) => name_offset(text, index),
         None => 0,
     };
     Position::at(text, offset)

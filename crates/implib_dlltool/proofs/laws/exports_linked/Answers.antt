@@ -21,6 +21,11 @@ worked = record {
   other = record { symbol_is = refl; asked_is = refl; target_gone = refl };
   other_underscored = record { symbol_is = refl; asked_is = refl; target_gone = refl };
   other_not_killed = record { symbol_is = refl; asked_is = refl; target_gone = refl };
+  c_given = refl;
+  plain_given = refl;
+  other_given = refl;
+  own_not_given = refl;
+  target_not_given = refl;
 }
 
 pub returns : goal.returns
