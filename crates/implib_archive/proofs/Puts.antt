@@ -6,9 +6,9 @@ use Rattle.std.proofs.lemmas.Bool.{true≢false}
 use Rattle.std.proofs.lemmas.Grind.{flat_map-append}
 use Rattle.std.proofs.lemmas.List.{take_more, take_rest, take-append-drop}
 use Rattle.implib.specs.Members.MemberSpec.{MemberView}
-use Rattle.implib_archive.specs.Archive.{member_label, member_part}
-use Rattle.implib_archive.specs.Parts.{header_bytes, padding, part_bytes}
-use Rattle.implib_archive.specs.Pushed.{Pushes}
+use Rattle.implib_archive.specs.Archive.{member_part}
+use Rattle.implib_archive.specs.Parts.{padding, part_bytes}
+use Rattle.implib_archive.specs.Pushed.{header_of}
 use Rattle.implib_archive.specs.Written.{AppendsBeginning, AppendsUpTo, Writes}
 
 pub appends_then : (a b c : Option (List ℕ)) (x y : List ℕ) → Appends a b x → Appends b c y → Appends a c (x ++ y)
@@ -85,9 +85,9 @@ module _ {X : Type 0} (f : X → List ℕ) (xs : List X) (i : ℕ) (d : X) (with
       (begins_more a c (flat_map f (take i xs) ++ f (get_or xs i d)) (flat_map f (drop (i + 1) xs)) (begins_then a b c (flat_map f (take i xs)) (f (get_or xs i d)) p q))
 
 -- a header, data and padding are a member's part
-pub member_whole : (names : List (List ℕ × ℕ)) (m : MemberView) {start header slice bytes : List ℕ} → start ≡ [] → Pushes start header (header_bytes (member_label names m.name) (length m.bytes)) → slice ≡ header → bytes ≡ m.bytes
+pub member_whole : (names : List (List ℕ × ℕ)) (m : MemberView) {header slice bytes : List ℕ} → header ≡ header_of names m → slice ≡ header → bytes ≡ m.bytes
     → slice ++ bytes ++ padding 10 (length bytes) ≡ member_part names m
 unfolding member_part part_bytes
-member_whole names m {start} {header} {slice} {bytes} empty pushed same data' =
-    ap (λ t. t ++ bytes ++ padding 10 (length bytes)) (same ∙ pushed.whole ∙ ap (λ t. t ++ header_bytes (member_label names m.name) (length m.bytes)) empty)
-    ∙ ap (λ t. header_bytes (member_label names m.name) (length m.bytes) ++ t ++ padding 10 (length t)) data'
+member_whole names m {header} {slice} {bytes} headed same data' =
+    ap (λ t. t ++ bytes ++ padding 10 (length bytes)) (same ∙ headed)
+    ∙ ap (λ t. header_of names m ++ t ++ padding 10 (length t)) data'

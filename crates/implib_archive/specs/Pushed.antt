@@ -2,7 +2,7 @@
 use Rattle.std.specs.Prelude.{◌≡◌, ℕ, ◌+◌, ◌*◌, ◌^◌, ◌<◌, ◌≤◌, List, [], ◌++◌, Option, None, Some, codes, length, map}
 use Rattle.std.specs.Borrow.{Bor}
 use Rattle.std.specs.List.{All}
-use Rattle.implib_archive.specs.Archive.{end_from, entries_of, first_place, long_names, names_bytes, places_of, sorted_entries, strings_of}
+use Rattle.implib_archive.specs.Archive.{end_from, entries_of, first_place, long_names, member_label, names_bytes, places_of, sorted_entries, strings_of}
 use Rattle.implib_archive.specs.Refusal.{refusal_of}
 use Rattle.implib_archive.specs.declared.error.Error.{Error}
 use Rattle.implib_archive.specs.declared.error.Error.TheVariants.{Invalid, OutOfMemory}
@@ -10,7 +10,9 @@ use Rattle.implib_archive.specs.declared.error.Fault.{Fault}
 use Rattle.implib_archive.specs.declared.kind.Kind.{Kind}
 use Rattle.implib_archive.specs.declared.kind.Kind.TheVariants.{Coff}
 use Rattle.implib.specs.Members.MemberSpec.{MemberView}
-use Rattle.implib_archive.specs.Parts.{Label as LabelSpec, field}
+use Rattle.implib.specs.Library.{member_view}
+use Rattle.implib.specs.declared.member.Member.{Member}
+use Rattle.implib_archive.specs.Parts.{Label as LabelSpec, field, header_bytes}
 use Rattle.implib_archive.specs.declared.bytes.Label.{Label}
 use Rattle.implib_archive.specs.declared.bytes.Texts.{Texts}
 use Rattle.implib_archive.specs.declared.bytes.Texts.TheVariants as texts
@@ -76,3 +78,12 @@ pub record IsMade (kind : Kind) (members : List MemberView) (entries offsets : L
   pub sized : size ≡ length (names_bytes kind (long_names kind members))
   pub placed : places ≡ places_of kind members
   pub ends : end' ≡ end_from (first_place kind members) members
+
+-- the header of a member
+abbrev pub header_of : List (List ℕ × ℕ) → MemberView → List ℕ
+header_of names m = header_bytes (member_label names m.name) (length m.bytes)
+
+-- the bytes are the header of the member before, where there is one
+abbrev pub IsHeaderOf : List (List ℕ × ℕ) → Option (Bor Member) → List ℕ → Type 0
+IsHeaderOf names None bytes = Unit {0}
+IsHeaderOf names (Some before) bytes = bytes ≡ header_of names (member_view before.now)

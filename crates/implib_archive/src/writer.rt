@@ -3,7 +3,8 @@
 ghost use Rattle.implib.specs.Library.{member_view};
 ghost use Rattle.implib_archive.specs.Archive.{archive_of, entries_of, first_place, front_of};
 ghost use Rattle.implib_archive.specs.Archive.{long_names, member_part};
-ghost use Rattle.implib_archive.specs.Pushed.{AreMeasured, IsRefusal, Pushes, shown};
+ghost use Rattle.implib_archive.specs.Pushed.{AreMeasured, IsHeaderOf, IsRefusal, Pushes};
+ghost use Rattle.implib_archive.specs.Pushed.{header_of, shown};
 ghost use Rattle.implib_archive.specs.Refusal.{has_too_many, refusal_of};
 ghost use Rattle.implib_archive.specs.Written.{Writes};
 ghost use Rattle.std.specs.Prelude.{◌≡◌, ◌++◌, ◌^◌, IfErr, IfOk, None, OnOk, flat_map, length, map};
@@ -182,6 +183,27 @@ fn write_parts<W: io::Write>(
     write_members(writer, &mut header, names, members)
 }
 
+// Makes a header that of a member. It keeps the header of the member before, where name and size are
+// the same, as they are of most short imports.
+fn renew_header(
+    header: &mut Vec<u8>,
+    names: &LongNames,
+    before: Option<&Member>,
+    member: &Member,
+) -> Result<(), AllocError>
+    requires { IsHeaderOf (shown names.now.offsets.entries) before header.old.items }
+    ensures { OnOk result (header.new.items
+        ≡ header_of (shown names.now.offsets.entries) (member_view member.now)) }
+{
+    if let Some(before) = before {
+        if before.name == member.name && before.bytes.len() == member.bytes.len() {
+            return Ok(());
+        }
+    }
+    header.clear();
+    names.push_member_header(header, member)
+}
+
 // Writes the members. One buffer serves all headers.
 fn write_members<W: io::Write>(
     writer: &mut W,
@@ -193,24 +215,29 @@ fn write_members<W: io::Write>(
         (flat_map (member_part (shown names.now.offsets.entries)) (map member_view members.now))
         result }
 {
+    let mut before = None;
     for member in members {
-        write_member(writer, header, names, member)?;
+        write_member(writer, header, names, before, member)?;
+        before = Some(member);
     }
     Ok(())
 }
 
-// Writes a member.
+// Writes a member; the header is that of the member before.
 fn write_member<W: io::Write>(
     writer: &mut W,
     header: &mut Vec<u8>,
     names: &LongNames,
+    before: Option<&Member>,
     member: &Member,
 ) -> Result<(), WriteError>
-    ensures { Writes (W.contents writer.old) (W.contents writer.new)
+    requires { IsHeaderOf (shown names.now.offsets.entries) before header.old.items }
+    ensures written { Writes (W.contents writer.old) (W.contents writer.new)
         (member_part (shown names.now.offsets.entries) (member_view member.now)) result }
+    ensures header { OnOk result (header.new.items
+        ≡ header_of (shown names.now.offsets.entries) (member_view member.now)) }
 {
-    header.clear();
-    names.push_member_header(header, member)?;
+    renew_header(header, names, before, member)?;
     put_part(writer, header.as_slice(), member.bytes.as_slice())?;
     Ok(())
 }
