@@ -1,5 +1,5 @@
 -- The entries of the index, in the maps and lists of the code.
-use Rattle.std.proofs.Common.{◌≡◌, ℕ, ◌+◌, ◌<◌, ◌≤◌, Bool, true, false, ◌||◌, List, [], ◌∷◌, ◌++◌, Option, Some, bytes_eq, drop, fold, get_or, if◌then◌else◌, is_some, length, map, refl, sym, ap, take, ◌∙◌, append_assoc, append-nil}
+use Rattle.std.proofs.Common.{◌≡◌, ℕ, ◌+◌, ◌<◌, ◌≤◌, Bool, true, false, ◌||◌, List, [], ◌∷◌, ◌++◌, Option, Some, bytes_eq, drop, fold, get_or, if◌then◌else◌, is_some, length, map, refl, sym, ap, take, ◌∙◌, append_assoc, append-nil, add-one, zero-add, suc, zero, arith}
 use Rattle.std.specs.Borrow.{Bor}
 use Rattle.std.specs.Map.{lookup}
 use Rattle.indexmap.specs.IndexMap.{insert_entry}
@@ -63,3 +63,26 @@ entries_more found pushed number view xs i d within e = ap (λ t. t ++ entries_f
 pub entries_all : (found : List (List ℕ × ℕ)) (number : ℕ) {X : Type 0} (view : X → MemberView) (xs : List X) (i : ℕ) → length xs ≤ i → found ++ entries_from number (map view (drop i xs)) ≡ found
 unfolding entries_from
 entries_all found number view xs i past = ap (λ t. found ++ entries_from number (map view t)) (drop_all i xs past) ∙ append-nil found
+
+length-symbols : (number : ℕ) (symbols : List (List ℕ)) (entries : List (List ℕ × ℕ)) → length (map (λ symbol. (symbol, number)) symbols ++ entries) ≡ length symbols + length entries
+length-symbols number [] entries = sym (zero-add (length entries))
+length-symbols number (s ∷ symbols) entries = omega (arith, length-symbols number symbols entries)
+
+count_suc : {X : Type 0} (number : ℕ) (view : X → MemberView) (xs : List X) (i : ℕ) (d : X) → i < length xs
+    → length (entries_from number (map view (take (suc i) xs))) ≡ length (entries_from number (map view (take i xs))) + length (view (get_or xs i d)).symbols
+unfolding entries_from
+count_suc number view [] i d within = absurd (omega arith)
+count_suc number view (x ∷ xs) zero d within = omega (arith, length-symbols number (view x).symbols [])
+count_suc number view (x ∷ xs) (suc i) d within =
+    let w : i < length xs = omega arith in
+    omega (
+      arith,
+      count_suc (number + 1) view xs i d w,
+      length-symbols number (view x).symbols (entries_from (number + 1) (map view (take (suc i) xs))),
+      length-symbols number (view x).symbols (entries_from (number + 1) (map view (take i xs))),
+    )
+
+-- the symbols of one member more
+pub count_more : {X : Type 0} (number : ℕ) (view : X → MemberView) (xs : List X) (i : ℕ) (d : X) → i < length xs
+    → length (entries_from number (map view (take (i + 1) xs))) ≡ length (entries_from number (map view (take i xs))) + length (view (get_or xs i d)).symbols
+count_more number view xs i d within = ap (λ k. length (entries_from number (map view (take k xs)))) (add-one i) ∙ count_suc number view xs i d within

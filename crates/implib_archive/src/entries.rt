@@ -4,7 +4,7 @@ ghost use Rattle.implib.specs.Library.{member_view};
 ghost use Rattle.implib_archive.specs.Archive.{entries_from, entries_of, sorted_entries};
 ghost use Rattle.implib_archive.specs.Archive.{with_first};
 ghost use Rattle.implib_archive.specs.Pushed.{shown};
-ghost use Rattle.std.specs.Prelude.{◌≡◌, ◌++◌, [], IfOk, OnOk, fold, map};
+ghost use Rattle.std.specs.Prelude.{◌≡◌, ◌++◌, ◌-◌, ◌^◌, [], IfOk, OnOk, fold, length, map, min};
 ghost use Rattle.std.specs.String.{string_bytes};
 
 use crate::kind::Kind;
@@ -37,13 +37,25 @@ fn all_entries<'a>(
     ensures { IfOk result (λ entries. shown entries.items
         ≡ entries_from 1 (map member_view members.now)) }
 {
-    let mut entries = Vec::new(alloc);
+    let mut entries = Vec::with_capacity(alloc, count_of(members))?;
     let mut number = 0;
     for member in members {
         number += 1;
         push_entries(&mut entries, member.symbols.as_slice(), number)?;
     }
     Ok(entries)
+}
+
+// The number of the members' symbols; it saturates at 2^64 - 1.
+fn count_of(members: &[Member]) -> usize
+    ensures { result
+        ≡ min (length (entries_from 1 (map member_view members.now))) (2 ^ 64 - 1) }
+{
+    let mut count: usize = 0;
+    for member in members {
+        count = count.saturating_add(member.symbols.as_slice().len());
+    }
+    count
 }
 
 // Appends the entries of a member.
@@ -70,7 +82,7 @@ fn first_entries<'a>(
     ensures { IfOk result (λ firsts. shown firsts.items ≡ fold with_first [] (shown entries.now)) }
 {
     let mut listed = IndexMap::new(alloc);
-    let mut firsts = Vec::new(alloc);
+    let mut firsts = Vec::with_capacity(alloc, entries.len())?;
     for entry in entries {
         push_first(&mut listed, &mut firsts, entry.0, entry.1)?;
     }
