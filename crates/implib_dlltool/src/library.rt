@@ -186,12 +186,7 @@ pub fn members_for(alloc: Global, bytes: &[u8], request: &Request) -> Result<Vec
     let def = definition_for(alloc, text, request)?;
     let library = ImportLibrary::from_def(def, request.machine, request.flavor);
     match library.members() {
-        Ok(members) => {
-            let members = in_order(&library, members)?;
-            // The program ends soon. Freeing each name of the definition would take its time.
-            mem::forget(library);
-            Ok(members)
-        }
+        Ok(members) => Ok(in_order(&library, members)?),
         Err(Error::Invalid(fault)) => {
             // The export is one of the text: the targets behind them break no rule on names that
             // their aliases keep.

@@ -11,7 +11,7 @@ in_order-requires c =
 
 pub returns-in-Ok-clause-made : goal.returns-in-Ok-clause-made
 returns-in-Ok-clause-made c =
-    members_made _ _ (request_view c.args.request.now) _ c.from_def-library.result _ _ c.in-Some.ensures c.in_ok-def.ensures.meant c.from_def-library.ensures.held c.in-Ok.ensures.ok c.in-Ok.ensures.reads c.in_ok-members-in-Ok.ensures
+    members_made _ _ (request_view c.args.request.now) _ c.from_def-library.result _ _ c.in-Some.ensures c.in_ok-def.ensures.meant c.from_def-library.ensures.held c.in-Ok.ensures.ok c.in-Ok.ensures.reads c.in_ok-in_order-in-Ok.ensures
 
 pub returns-in-Err-Invalid-clause-refused : goal.returns-in-Err-Invalid-clause-refused
 returns-in-Err-Invalid-clause-refused c =
