@@ -1,5 +1,6 @@
 pub mod Text
 pub mod Formats
+pub mod LibraryNames
 pub mod Members
 pub mod Link
 pub mod Worked

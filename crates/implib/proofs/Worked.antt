@@ -8,6 +8,7 @@ pub mod MemberSpecs
 pub mod Layouts
 pub mod Members
 pub mod Gnu
+pub mod LibraryNames
 pub mod Links
 pub mod Refused
 pub mod Records

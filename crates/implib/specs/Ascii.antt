@@ -6,6 +6,10 @@ use Rattle.std.specs.List.{list_any}
 abbrev pub at_sign : ℕ
 at_sign = 0x40
 
+-- a line feed, which ends a line
+abbrev pub line_feed : ℕ
+line_feed = 0x0A
+
 -- `.`
 abbrev pub full_stop : ℕ
 full_stop = 0x2E

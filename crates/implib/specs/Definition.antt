@@ -23,6 +23,7 @@ pub record ExportView : Type 0 where
 pub record DefinitionView : Type 0 where
   pub exports : List ExportView
   pub import_name : List ℕ
+  pub library_name : Option (List ℕ)
   pub image_base : ℕ
   pub stack_reserve : ℕ
   pub stack_commit : ℕ
@@ -57,6 +58,7 @@ abbrev pub definition_view : ModuleDef → DefinitionView
 definition_view d = record {
   exports = map export_view d.exports.items;
   import_name = string_bytes d.import_name;
+  library_name = option_map string_bytes d.library_name;
   image_base = d.image_base;
   stack_reserve = d.stack_reserve;
   stack_commit = d.stack_commit;
@@ -83,11 +85,12 @@ empty_export = record {
   constant = false;
 }
 
--- a definition with no exports, an empty name and all numbers 0
+-- a definition with no exports, an empty name, no name of the library and all numbers 0
 abbrev pub empty_definition : DefinitionView
 empty_definition = record {
   exports = [];
   import_name = [];
+  library_name = None;
   image_base = 0;
   stack_reserve = 0;
   stack_commit = 0;

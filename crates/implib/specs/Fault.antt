@@ -17,6 +17,9 @@ pub data Cause : Type 0 where
   LoneAt : Cause
   EmptyImportName : Cause
   NulInImportName : Cause
+  EmptyLibraryName : Cause
+  NulInLibraryName : Cause
+  LineEndInLibraryName : Cause
   EmptyName : ℕ → Cause
   NulInExport : ℕ → Cause
   EmptyAskedName : ℕ → Cause
@@ -33,6 +36,9 @@ cause_of (fault.InvalidOrdinal value) = InvalidOrdinal (string_bytes value)
 cause_of fault.LoneAt = LoneAt
 cause_of fault.EmptyImportName = EmptyImportName
 cause_of fault.NulInImportName = NulInImportName
+cause_of fault.EmptyLibraryName = EmptyLibraryName
+cause_of fault.NulInLibraryName = NulInLibraryName
+cause_of fault.LineEndInLibraryName = LineEndInLibraryName
 cause_of (fault.EmptyName index) = EmptyName index
 cause_of (fault.NulInExport index) = NulInExport index
 cause_of (fault.EmptyAskedName index) = EmptyAskedName index

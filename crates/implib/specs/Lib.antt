@@ -3,6 +3,7 @@ pub mod Machine
 pub mod Underscore
 pub mod Conversions
 pub mod Definition
+pub mod LibraryName
 pub mod Fault
 pub mod Renaming
 pub mod Import

@@ -4,6 +4,7 @@ pub mod Statements
 pub mod Positions
 pub mod Members
 pub mod Gnu
+pub mod LibraryNames
 pub mod Objects
 pub mod Links
 pub mod Digits

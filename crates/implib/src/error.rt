@@ -39,6 +39,15 @@ pub enum Fault {
     /// `members`: the import name holds a NUL.
     #[error("import name contains null byte")]
     NulInImportName,
+    /// `members`: the library's name for the linker is empty.
+    #[error("library name is empty")]
+    EmptyLibraryName,
+    /// `members`: the library's name for the linker holds a NUL.
+    #[error("library name contains null byte")]
+    NulInLibraryName,
+    /// `members`: the library's name for the linker holds a line feed.
+    #[error("library name contains line end")]
+    LineEndInLibraryName,
     /// `members`: this export's name is empty.
     #[error("export name is empty")]
     EmptyName(usize),

@@ -5,6 +5,7 @@ pub mod asked;
 pub mod definition;
 pub mod grammar;
 pub mod kinds;
+pub mod library_name;
 pub mod link;
 pub mod members;
 pub mod objects;

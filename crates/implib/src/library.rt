@@ -117,7 +117,8 @@ impl ImportLibrary {
     ///
     /// # Errors
     ///
-    /// The first error that applies: `EmptyImportName` or `NulInImportName`; then, export by
+    /// The first error that applies: `EmptyImportName` or `NulInImportName`; `EmptyLibraryName`,
+    /// `NulInLibraryName` or `LineEndInLibraryName`, where the library has a name; then, export by
     /// export, private ones left out, `EmptyName`, `NulInExport` (of its name, symbol name, asked
     /// name or alias target), `EmptyAskedName` or, for Microsoft's linker, `NoNameType`, with the
     /// index of the export in the definition; then `MemberTooLong` for a member of more than

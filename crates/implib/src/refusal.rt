@@ -4,9 +4,9 @@ ghost use Rattle.implib.specs.Definition.{definition_view, export_view};
 ghost use Rattle.implib.specs.Fault.{cause_of};
 ghost use Rattle.implib.specs.Import.{holds};
 ghost use Rattle.implib.specs.Members.NameRules.{definition_names_refusal, import_name_refusal};
-ghost use Rattle.implib.specs.Members.NameRules.{name_refusal, names_refusal};
+ghost use Rattle.implib.specs.Members.NameRules.{library_name_refusal, name_refusal, names_refusal};
 ghost use Rattle.std.specs.Option.{option_map};
-ghost use Rattle.std.specs.Prelude.{map, string_bytes, ◌≡◌};
+ghost use Rattle.std.specs.Prelude.{None, Some, map, string_bytes, ◌≡◌};
 
 use crate::def::definition::{ModuleDef, ShortExport};
 use crate::error::Fault;
@@ -14,13 +14,16 @@ use crate::flavor::Flavor;
 use crate::import_name::{asks_another, given_name, name_to_ask};
 use crate::machine::MachineType;
 
-/// The first rule on names that the definition breaks: of the import name, then of each export that
-/// is not private, in order.
+/// The first rule on names that the definition breaks: of the import name, of the library's name
+/// for the linker, then of each export that is not private, in order.
 pub(crate) fn names_fault(def: &ModuleDef, machine: MachineType, flavor: Flavor) -> Option<Fault>
     ensures { option_map cause_of result
         ≡ definition_names_refusal (definition_view def.now) machine flavor }
 {
     if let Some(fault) = import_name_fault(def.import_name.as_str()) {
+        return Some(fault);
+    }
+    if let Some(fault) = library_name_fault(def) {
         return Some(fault);
     }
     for (index, export) in def.exports.iter().enumerate() {
@@ -48,6 +51,32 @@ fn import_name_fault(name: &str) -> Option<Fault>
         Some(Fault::EmptyImportName)
     } else if holds_nul(name) {
         Some(Fault::NulInImportName)
+    } else {
+        None
+    }
+}
+
+// The rule on the library's name for the linker that it breaks, if there is one and it breaks any.
+fn library_name_fault(def: &ModuleDef) -> Option<Fault>
+    ensures { option_map cause_of result
+        ≡ library_name_refusal (definition_view def.now).library_name }
+{
+    match &def.library_name {
+        Some(name) => name_fault(name.as_str()),
+        None => None,
+    }
+}
+
+// The rule that a library's name breaks, if any.
+fn name_fault(name: &str) -> Option<Fault>
+    ensures { option_map cause_of result ≡ library_name_refusal (Some name.now) }
+{
+    if name.is_empty() {
+        Some(Fault::EmptyLibraryName)
+    } else if holds_nul(name) {
+        Some(Fault::NulInLibraryName)
+    } else if name.as_bytes().contains(&b'\n') {
+        Some(Fault::LineEndInLibraryName)
     } else {
         None
     }

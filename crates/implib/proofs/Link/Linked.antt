@@ -25,6 +25,7 @@ use Rattle.implib.proofs.Link.Descriptors.{LoadsFrom, descriptor_loads}
 use Rattle.implib.proofs.Link.Placement.{AreAligned, descriptors_end, address_definition, after_head, aligned_after, aligned_all, aligned_head, at_least, code_definition, defined_after, definitions-after, ends_of_all, ends_of_export, ends_of_exports, ends_of_head, ends_of_tail, head, placed-export, placed-head, placed-tail, placed_export, placed_head}
 use Rattle.implib.proofs.Link.Tables.{CanBeAsked, addresses_end, addresses_filled, descriptors_filled, filled_first, hint_bytes, hint_names_end, hint_names_filled, lookups_end, lookups_filled, table_at, thunk_bytes}
 use Rattle.implib.proofs.Link.Thunks.{StrictTableAt, same_number}
+use Rattle.implib.specs.LibraryName.{NamesOfDll}
 
 pub same_order : (n : ℕ) → n ≤ n
 same_order n = omega arith
@@ -52,12 +53,12 @@ all_append P (x ∷ xs) ys first second = (first.0, all_append P xs ys first.1 s
 abbrev pub HasAddress : List Placed → List ℕ → Type 0
 HasAddress linked name = (address : ℕ) × (first_address (definitions_of name linked) ≡ Some address)
 
-module _ (machine : MachineType) (dll : List ℕ) (linked : List Placed) where
+module _ (machine : MachineType) (dll : NamesOfDll) (linked : List Placed) where
   -- the descriptor, relocated
   descriptor_linked : Bases → List ℕ
   descriptor_linked b = relocated machine linked (placed_head machine dll b) (relocation machine 0 3 ∷ relocation machine 16 2 ∷ relocation machine 12 5 ∷ []) (zeros 20)
 
-  descriptor_is : (b : Bases) (n : ℕ) → first_address (definitions_of (iname_symbol machine dll) linked) ≡ Some (n + 0) →
+  descriptor_is : (b : Bases) (n : ℕ) → first_address (definitions_of (iname_symbol machine dll.linked) linked) ≡ Some (n + 0) →
       descriptor_linked b ≡ u32_bytes ((0 + (b.lookups + 0)) % 2 ^ 32) ++ (zeros 4 ++ (zeros 4 ++ (u32_bytes ((0 + (n + 0)) % 2 ^ 32) ++ u32_bytes ((0 + (b.addresses + 0)) % 2 ^ 32))))
   unfolding descriptor_linked head_object with_address u32_bytes u32_at
   descriptor_is b n is = rw (same_number machine, is) refl
@@ -65,12 +66,12 @@ module _ (machine : MachineType) (dll : List ℕ) (linked : List Placed) where
   -- where the DLL's name is, and what is filled in after it
   name_located : (image : List Range) (es : List ExportView) (b : Bases) (rest : List Object) → AreAligned b →
       BytesAt image b.dll_names (filled b.dll_names (contributions machine linked DllNames (placed_from b (after_head machine dll es rest)))) →
-      BytesAt image (next_multiple 4 (ends_of_exports machine dll b es).dll_names) (dll ++ 0 ∷ [])
+      BytesAt image (next_multiple 4 (ends_of_exports machine dll b es).dll_names) (dll.text ++ 0 ∷ [])
       × BytesAt image (ends_of_all machine dll b es).dll_names (filled (ends_of_all machine dll b es).dll_names (contributions machine linked DllNames (placed_from (ends_of_all machine dll b es) rest)))
   unfolding ends_of_exports tail_object export_object with_address u32_bytes u32_at
   name_located image [] b rest even located =
       let others : List Contribution = contributions machine linked DllNames (placed_from (ends_of_tail machine dll b) rest) in
-      let own : Contribution = record { address = next_multiple 4 b.dll_names; bytes = dll ++ 0 ∷ [] } in
+      let own : Contribution = record { address = next_multiple 4 b.dll_names; bytes = dll.text ++ 0 ∷ [] } in
       let here : BytesAt image b.dll_names (filled b.dll_names (own ∷ others)) =
       subst (λ ps. BytesAt image b.dll_names (filled b.dll_names (contributions machine linked DllNames ps))) (placed-tail machine dll b rest even) located in
       contribution_located image b.dll_names own others (at_least 4 b.dll_names) here
@@ -87,7 +88,7 @@ module _ (machine : MachineType) (dll : List ℕ) (linked : List Placed) where
 
   -- the name's definition is the last one
   name_defined : (es : List ExportView) (b : Bases) →
-      Among (record { name = iname_symbol machine dll; address = Some (next_multiple 4 (ends_of_exports machine dll b es).dll_names + 0) }) (defined_after machine dll b es)
+      Among (record { name = iname_symbol machine dll.linked; address = Some (next_multiple 4 (ends_of_exports machine dll b es).dll_names + 0) }) (defined_after machine dll b es)
   unfolding ends_of_exports defined_after
   name_defined [] b = among_first _ _
   name_defined (e ∷ es) b =
@@ -109,18 +110,18 @@ module _ (machine : MachineType) (dll : List ℕ) (linked : List Placed) where
 
   -- each export needs the head's symbol alone, and the tail none
   undefined_by_export : (b : Bases) (e : ExportView) (others : List Placed) →
-      undefined_names (placed_export machine dll b e ∷ others) ≡ head_symbol machine dll ∷ undefined_names others
+      undefined_names (placed_export machine dll b e ∷ others) ≡ head_symbol machine dll.linked ∷ undefined_names others
   unfolding export_object
   undefined_by_export b e others = elim (cases_Bool e.is_data) [ inl is ↦ rw is refl | inr is ↦ rw is refl ]
 
-  undefined_after : (es : List ExportView) (b : Bases) (rest : List Object) → AreAligned b → IsDefinedAt linked (head_symbol machine dll) →
+  undefined_after : (es : List ExportView) (b : Bases) (rest : List Object) → AreAligned b → IsDefinedAt linked (head_symbol machine dll.linked) →
       AllByRecursion (IsDefinedAt linked) (undefined_names (placed_from (ends_of_all machine dll b es) rest)) →
       AllByRecursion (IsDefinedAt linked) (undefined_names (placed_from b (after_head machine dll es rest)))
   unfolding tail_object ends_of_exports
   undefined_after [] b rest even once others = subst (AllByRecursion (IsDefinedAt linked)) (sym (ap undefined_names (placed-tail machine dll b rest even))) others
   undefined_after (e ∷ es) b rest even once others =
       let later : Bases = ends_of_export machine dll b e in
-      let same : undefined_names (placed_from b (after_head machine dll (e ∷ es) rest)) ≡ head_symbol machine dll ∷ undefined_names (placed_from later (after_head machine dll es rest)) =
+      let same : undefined_names (placed_from b (after_head machine dll (e ∷ es) rest)) ≡ head_symbol machine dll.linked ∷ undefined_names (placed_from later (after_head machine dll es rest)) =
       ap undefined_names (placed-export machine dll b e (after_head machine dll es rest) even) ∙ undefined_by_export b e (placed_from later (after_head machine dll es rest)) in
       subst (AllByRecursion (IsDefinedAt linked)) (sym same) (once, undefined_after es later rest (aligned_after machine dll b e even) once others)
 
@@ -174,12 +175,12 @@ module _ (machine : MachineType) (dll : List ℕ) (linked : List Placed) where
             ((next_multiple 2 b.hint_names + 0, hint_name_found b e), tt)
       ]
 
-  export_finds : (b : Bases) (e : ExportView) → HasAddress linked (head_symbol machine dll) → AllFind linked (placed_export machine dll b e)
+  export_finds : (b : Bases) (e : ExportView) → HasAddress linked (head_symbol machine dll.linked) → AllFind linked (placed_export machine dll b e)
   unfolding export_object
   export_finds b e head_at =
       (stub_finds b e, (tt, (tt, ((head_at, tt), (thunk_finds b e, (thunk_finds b e, (tt, tt)))))))
 
-  targets_after : (es : List ExportView) (b : Bases) (rest : List Object) → AreAligned b → HasAddress linked (head_symbol machine dll) →
+  targets_after : (es : List ExportView) (b : Bases) (rest : List Object) → AreAligned b → HasAddress linked (head_symbol machine dll.linked) →
       AllByRecursion (AllFind linked) (placed_from (ends_of_all machine dll b es) rest) →
       AllByRecursion (AllFind linked) (placed_from b (after_head machine dll es rest))
   unfolding tail_object ends_of_exports
@@ -191,7 +192,7 @@ module _ (machine : MachineType) (dll : List ℕ) (linked : List Placed) where
 
 -- The objects of one DLL link to an import of these exports at the first descriptor, and their part of
 -- the address tables begins where these begin.
-pub record BlockLinks (machine : MachineType) (linked : List Placed) (image : List Range) (b : Bases) (dll : List ℕ) (es : List ExportView) : Type 0 where
+pub record BlockLinks (machine : MachineType) (linked : List Placed) (image : List Range) (b : Bases) (dll : NamesOfDll) (es : List ExportView) : Type 0 where
   pub strictly : LinksStrictlyAt machine image linked b.descriptors dll es
   pub addresses : strictly.loads.plain.addresses ≡ b.addresses
 
@@ -204,20 +205,20 @@ pub record LocatedFrom (machine : MachineType) (linked : List Placed) (image : L
   pub dll_names : BytesAt image b.dll_names (filled b.dll_names (contributions machine linked DllNames (placed_from b objects)))
 
 -- what the objects of one DLL define
-unfoldable pub head_definition : MachineType → List ℕ → Bases → SymbolDefinition
-head_definition machine dll b = record { name = head_symbol machine dll; address = Some (b.descriptors + 0) }
+unfoldable pub head_definition : MachineType → NamesOfDll → Bases → SymbolDefinition
+head_definition machine dll b = record { name = head_symbol machine dll.linked; address = Some (b.descriptors + 0) }
 
-unfoldable pub block_definitions : MachineType → List ℕ → Bases → List ExportView → List SymbolDefinition
+unfoldable pub block_definitions : MachineType → NamesOfDll → Bases → List ExportView → List SymbolDefinition
 block_definitions machine dll b es = head_definition machine dll b ∷ defined_after machine dll (ends_of_head machine dll b) es
 
 -- the ends after the objects of one DLL
-abbrev pub ends_of_block : MachineType → List ℕ → Bases → List ExportView → Bases
+abbrev pub ends_of_block : MachineType → NamesOfDll → Bases → List ExportView → Bases
 ends_of_block machine dll b es = ends_of_all machine dll (ends_of_head machine dll b) es
 
-pub aligned_block : (machine : MachineType) (dll : List ℕ) (b : Bases) (es : List ExportView) → AreAligned b → AreAligned (ends_of_block machine dll b es)
+pub aligned_block : (machine : MachineType) (dll : NamesOfDll) (b : Bases) (es : List ExportView) → AreAligned b → AreAligned (ends_of_block machine dll b es)
 aligned_block machine dll b es even = aligned_all machine dll (ends_of_head machine dll b) es (aligned_head machine dll b even)
 
-pub definitions-block : (machine : MachineType) (dll : List ℕ) (b : Bases) (es : List ExportView) (rest : List Object) → AreAligned b →
+pub definitions-block : (machine : MachineType) (dll : NamesOfDll) (b : Bases) (es : List ExportView) (rest : List Object) → AreAligned b →
     definitions (placed_from b (head machine dll ∷ after_head machine dll es rest)) ≡ block_definitions machine dll b es ++ definitions (placed_from (ends_of_block machine dll b es) rest)
 unfolding head_object head_definition block_definitions
 definitions-block machine dll b es rest even =
@@ -225,9 +226,9 @@ definitions-block machine dll b es rest even =
     ∙ ap (λ others. head_definition machine dll b ∷ others) (definitions-after machine dll (ends_of_head machine dll b) es rest (aligned_head machine dll b even))
 
 -- the objects of one DLL among others: they are placed after what ends at b
-module _ (machine : MachineType) (dll : List ℕ) (es : List ExportView) (b : Bases) (rest : List Object) (linked : List Placed) (image : List Range)
+module _ (machine : MachineType) (dll : NamesOfDll) (es : List ExportView) (b : Bases) (rest : List Object) (linked : List Placed) (image : List Range)
     (starts : AllByRecursion (λ r. 0 < r.start) image) (ends : AllByRecursion (λ r. range_end r < 2 ^ 31) image)
-    (dll_text : HasNoNul dll) (fit : AllByRecursion (CanBeAsked machine) es) (even : AreAligned b)
+    (dll_text : HasNoNul dll.text) (fit : AllByRecursion (CanBeAsked machine) es) (even : AreAligned b)
     (only : (d : SymbolDefinition) → Among d (block_definitions machine dll b es) → definitions_of d.name linked ≡ d ∷ [])
     (located : LocatedFrom machine linked image b (head machine dll ∷ after_head machine dll es rest)) where
   abbrev later : Bases
@@ -290,18 +291,18 @@ module _ (machine : MachineType) (dll : List ℕ) (es : List ExportView) (b : Ba
   name_place : ℕ
   name_place = next_multiple 4 (ends_of_exports machine dll later es).dll_names
 
-  name_parts : BytesAt image name_place (dll ++ 0 ∷ [])
+  name_parts : BytesAt image name_place (dll.text ++ 0 ∷ [])
       × BytesAt image last.dll_names (filled last.dll_names (contributions machine linked DllNames (placed_from last rest)))
   unfolding head_object name_place
   name_parts =
       name_located machine dll linked image es later rest later_even
       (subst (BytesAt image b.dll_names) (ap (λ ps. filled b.dll_names (contributions machine linked DllNames ps)) placed_is) located.dll_names)
 
-  name_once : definitions_of (iname_symbol machine dll) linked ≡ record { name = iname_symbol machine dll; address = Some (name_place + 0) } ∷ []
+  name_once : definitions_of (iname_symbol machine dll.linked) linked ≡ record { name = iname_symbol machine dll.linked; address = Some (name_place + 0) } ∷ []
   unfolding name_place block_definitions
   name_once = only _ (among_later _ _ _ (name_defined machine dll linked es later))
 
-  name_address : first_address (definitions_of (iname_symbol machine dll) linked) ≡ Some (name_place + 0)
+  name_address : first_address (definitions_of (iname_symbol machine dll.linked) linked) ≡ Some (name_place + 0)
   name_address = ap first_address name_once
 
   length-descriptor : length (descriptor_linked machine dll linked b) ≡ 20
@@ -339,23 +340,23 @@ module _ (machine : MachineType) (dll : List ℕ) (es : List ExportView) (b : Ba
   address_table : StrictTableAt image (thunk_width machine) b.addresses (map (expected_ask machine) es)
   address_table = table_at machine dll linked image starts ends es later b.addresses fit addresses_parts.0 hints_parts.0
 
-  name_text : TextAt image name_place dll
+  name_text : TextAt image name_place dll.text
   name_text = record { no_nul = dll_text; located = name_parts.0 }
 
-  block_loads : LoadsFrom image (thunk_width machine) b.descriptors b.addresses dll (map (expected_ask machine) es)
+  block_loads : LoadsFrom image (thunk_width machine) b.descriptors b.addresses dll.text (map (expected_ask machine) es)
   block_loads =
-      descriptor_loads machine image starts ends b.descriptors b.lookups b.addresses name_place dll (map (expected_ask machine) es)
+      descriptor_loads machine image starts ends b.descriptors b.lookups b.addresses name_place dll.text (map (expected_ask machine) es)
       (subst (BytesAt image b.descriptors) (descriptor_is machine dll linked b name_place name_address) descriptor_parts.0) lookup_table address_table name_text
 
   block_entries : EntriesAt linked (thunk_width machine) b.addresses es
   unfolding block_definitions
   block_entries = entries_at machine dll linked es later (λ d m. only d (among_later d _ _ m))
 
-  block_head : definitions_of (head_symbol machine dll) linked ≡ record { name = head_symbol machine dll; address = Some b.descriptors } ∷ []
+  block_head : definitions_of (head_symbol machine dll.linked) linked ≡ record { name = head_symbol machine dll.linked; address = Some b.descriptors } ∷ []
   unfolding block_definitions head_definition
   block_head =
       let plain : b.descriptors + 0 ≡ b.descriptors = omega arith in
-      only _ (among_first _ _) ∙ ap (λ n. record { name = head_symbol machine dll; address = Some n } ∷ []) plain
+      only _ (among_first _ _) ∙ ap (λ n. record { name = head_symbol machine dll.linked; address = Some n } ∷ []) plain
 
   -- the block's descriptor is the first, and its address table is where the addresses begin
   pub block_links : BlockLinks machine linked image b dll es

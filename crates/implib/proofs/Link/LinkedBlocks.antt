@@ -18,15 +18,16 @@ use Rattle.implib.proofs.Link.Placement.{AreAligned, after_head, head, names-aft
 use Rattle.implib.proofs.Link.Definitions.{only_definition}
 use Rattle.implib.proofs.Link.Tables.{CanBeAsked}
 use Rattle.implib.proofs.Link.Linked.{BlockLinks, LocatedFrom, aligned_block, all_append, bases_of_ranges, block_defined, block_definitions, block_links, block_targets, definitions-block, ends_of_block, head_definition, rest_located}
+use Rattle.implib.specs.LibraryName.{NamesOfDll}
 
 -- what a DLL's objects are made of
 pub record Block : Type 0 where
-  pub dll : List ℕ
+  pub dll : NamesOfDll
   pub exports : List ExportView
 
 -- the symbols that a DLL's members are listed for
-abbrev pub linked_symbols : MachineType → List ℕ → List ExportView → List (List ℕ)
-linked_symbols machine dll es = head_symbol machine dll ∷ (flat_map archive_symbols es ++ iname_symbol machine dll ∷ [])
+abbrev pub linked_symbols : MachineType → NamesOfDll → List ExportView → List (List ℕ)
+linked_symbols machine dll es = head_symbol machine dll.linked ∷ (flat_map archive_symbols es ++ iname_symbol machine dll.linked ∷ [])
 
 -- the objects of DLLs, and others behind them
 abbrev pub blocks_objects : MachineType → List Block → List Object → List Object
@@ -35,7 +36,7 @@ blocks_objects machine (k ∷ blocks) rest = head machine k.dll ∷ after_head m
 
 -- a block whose texts have no NUL and whose exports can be asked
 pub record CanBeLinked (machine : MachineType) (k : Block) : Type 0 where
-  pub dll : HasNoNul k.dll
+  pub dll : HasNoNul k.dll.text
   pub exports : AllByRecursion (CanBeAsked machine) k.exports
 
 pub blocks_definitions : MachineType → Bases → List Block → List SymbolDefinition
@@ -58,10 +59,10 @@ definitions-blocks machine b (k ∷ blocks) rest even =
     ∙ ap (λ ds. block_definitions machine k.dll b k.exports ++ ds) (definitions-blocks machine later blocks rest (aligned_block machine k.dll b k.exports even))
     ∙ sym (append_assoc (block_definitions machine k.dll b k.exports) (blocks_definitions machine later blocks) others)
 
-names-block : (machine : MachineType) (dll : List ℕ) (b : Bases) (es : List ExportView) →
+names-block : (machine : MachineType) (dll : NamesOfDll) (b : Bases) (es : List ExportView) →
     map (λ (d : SymbolDefinition). d.name) (block_definitions machine dll b es) ≡ linked_symbols machine dll es
 unfolding block_definitions head_definition
-names-block machine dll b es = ap (λ rest. head_symbol machine dll ∷ rest) (names-after machine dll _ es)
+names-block machine dll b es = ap (λ rest. head_symbol machine dll.linked ∷ rest) (names-after machine dll _ es)
 
 pub names-blocks : (machine : MachineType) (b : Bases) (blocks : List Block) →
     map (λ (d : SymbolDefinition). d.name) (blocks_definitions machine b blocks) ≡ flat_map (λ (k : Block). linked_symbols machine k.dll k.exports) blocks
@@ -157,7 +158,7 @@ defined_once linked [] all = tt
 defined_once linked (name ∷ names) all = ((record { name = name; address = Some all.0.0 }, all.0.1), defined_once linked names all.1)
 
 -- what was strict is plain
-pub links_plainly : (machine : MachineType) (linked : List Placed) (image : List Range) (descriptor : ℕ) (dll : List ℕ) (es : List ExportView) →
+pub links_plainly : (machine : MachineType) (linked : List Placed) (image : List Range) (descriptor : ℕ) (dll : NamesOfDll) (es : List ExportView) →
     LinksStrictlyAt machine image linked descriptor dll es → LinksAt machine image linked dll es
 links_plainly machine linked ranges descriptor dll es strictly =
     record { descriptor = descriptor; head = strictly.head; loads = strictly.loads.plain; entries = strictly.entries }
@@ -196,10 +197,10 @@ module _ (machine : MachineType) (b : Bases) (blocks : List Block) (fit : AllByR
   )
 
 -- the objects of one DLL
-abbrev pub linked_objects : MachineType → List ℕ → List ExportView → List Object
+abbrev pub linked_objects : MachineType → NamesOfDll → List ExportView → List Object
 linked_objects machine dll es = head machine dll ∷ after_head machine dll es []
 
-pub objects_link : (machine : MachineType) (dll : List ℕ) (es : List ExportView) (b : Bases) → HasNoNul dll → AllByRecursion (CanBeAsked machine) es →
+pub objects_link : (machine : MachineType) (dll : NamesOfDll) (es : List ExportView) (b : Bases) → HasNoNul dll.text → AllByRecursion (CanBeAsked machine) es →
     IsDistinct bytes_eq (linked_symbols machine dll es) → IsAdmissible machine b (linked_objects machine dll es) → Links machine b dll es (linked_objects machine dll es)
 objects_link machine dll es b text fit distinct admissible =
     let block : Block = record { dll = dll; exports = es } in

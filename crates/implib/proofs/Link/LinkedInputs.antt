@@ -24,10 +24,12 @@ use Rattle.implib.specs.Link.LinkedMembers.{IsMade, IsAscending, IsPrefixOf, Com
 use Rattle.implib.proofs.Link.LinkedBlocks.{Block, CanBeLinked, blocks_link, blocks_objects, linked_objects, linked_symbols}
 use Rattle.implib.proofs.Link.LinkedMembers.{members_among, members_read, members_named, members_rise, same_cmp, dll_free, exports_fit, objects_are, symbols_are}
 use Rattle.implib.proofs.Link.Placement.{export, head, tail}
+use Rattle.implib.specs.LibraryName.{NamesOfDll, linked_name, names_in}
+use Rattle.implib.specs.declared.flavor.Flavor.TheVariants.{Gnu}
 
 -- what a part's objects are made of
 abbrev pub block_of : LinkInput → Block
-block_of p = record { dll = p.definition.import_name; exports = chosen_exports p.definition p.chosen }
+block_of p = record { dll = names_in Gnu p.definition; exports = chosen_exports p.definition p.chosen }
 
 pub gnu_inputs_fit : (machine : MachineType) (ps : List LinkInput) → AllByRecursion (IsMade machine) ps → AllByRecursion (CanBeLinked machine) (map block_of ps)
 gnu_inputs_fit machine [] are = tt
@@ -43,7 +45,7 @@ pub gnu_inputs_objects : (machine : MachineType) (ps : List LinkInput) → AllBy
 gnu_inputs_objects machine [] are = refl
 gnu_inputs_objects machine (p ∷ ps) are =
     let own : List MemberView = linked_members p.definition machine p.chosen in
-    let dll : List ℕ = p.definition.import_name in
+    let dll : NamesOfDll = names_in Gnu p.definition in
     filter_map-append (λ (m : MemberView). object_in m.bytes) own (all_linked machine ps)
     ∙ ap (λ objects. objects ++ objects_in (all_linked machine ps)) (objects_are p.definition machine p.members p.chosen are.0)
     ∙ ap (λ rest. linked_objects machine dll (chosen_exports p.definition p.chosen) ++ rest) (gnu_inputs_objects machine ps are.1)
@@ -56,7 +58,7 @@ gnu_inputs_symbols machine [] are = refl
 gnu_inputs_symbols machine (p ∷ ps) are =
     flat_map-append (λ (m : MemberView). m.symbols) (linked_members p.definition machine p.chosen) (all_linked machine ps)
     ∙ ap (λ symbols. symbols ++ flat_map (λ (m : MemberView). m.symbols) (all_linked machine ps)) (symbols_are p.definition machine p.members p.chosen are.0)
-    ∙ ap (λ rest. linked_symbols machine p.definition.import_name (chosen_exports p.definition p.chosen) ++ rest) (gnu_inputs_symbols machine ps are.1)
+    ∙ ap (λ rest. linked_symbols machine (names_in Gnu p.definition) (chosen_exports p.definition p.chosen) ++ rest) (gnu_inputs_symbols machine ps are.1)
 
 pub all_of_map : {X Y : Type 0} (f : X → Y) (P : Y → Type 0) (xs : List X) → AllByRecursion P (map f xs) → AllByRecursion (λ x. P (f x)) xs
 all_of_map f P [] all = tt
@@ -123,13 +125,13 @@ cmp_apart (x ∷ xs) (y ∷ ys) after behind less apart =
     ]
 
 tail_before_head : (first second : DefinitionView) → ComesBefore (member_prefix first) (member_prefix second) → (IsPrefixOf (member_prefix first) (member_prefix second) → ⊥) →
-    ComesBefore (tail_name first.import_name) (head_name second.import_name)
+    ComesBefore (tail_name (linked_name first)) (head_name (linked_name second))
 unfolding tail_name head_name
 tail_before_head first second before apart =
     let joined : ComesBefore (member_prefix first ++ codes "t.o") (member_prefix second ++ codes "h.o") =
     cmp_apart (member_prefix first) (member_prefix second) (codes "t.o") (codes "h.o") before apart in
-    subst (λ name. ComesBefore name (head_name second.import_name)) (append_assoc (mangled_name first.import_name) (codes "_a_") (codes "t.o"))
-    (subst (λ name. ComesBefore (member_prefix first ++ codes "t.o") name) (append_assoc (mangled_name second.import_name) (codes "_a_") (codes "h.o")) joined)
+    subst (λ name. ComesBefore name (head_name (linked_name second))) (append_assoc (mangled_name (linked_name first)) (codes "_a_") (codes "t.o"))
+    (subst (λ name. ComesBefore (member_prefix first ++ codes "t.o") name) (append_assoc (mangled_name (linked_name second)) (codes "_a_") (codes "h.o")) joined)
 
 rise_on : (names : List (List ℕ)) (last next : List ℕ) (others : List (List ℕ)) → IsAscending (names ++ last ∷ []) → ComesBefore last next → IsAscending (next ∷ others) →
     IsAscending ((names ++ last ∷ []) ++ next ∷ others)
@@ -148,7 +150,7 @@ gnu_inputs_rise machine (p ∷ []) are rise apart =
     subst (λ members. IsAscending (names_of members)) (sym (append-nil (linked_members p.definition machine p.chosen)))
     (members_rise p.definition machine p.members p.chosen are.0.made are.0.numbers are.0.in_order)
 gnu_inputs_rise machine (p ∷ q ∷ ps) are rise apart =
-    let dll : List ℕ = p.definition.import_name in
+    let dll : List ℕ = linked_name p.definition in
     let own : List (List ℕ) = head_name dll ∷ map (export_name dll) p.chosen in
     let named : names_of (linked_members p.definition machine p.chosen) ≡ own ++ tail_name dll ∷ [] =
     members_named p.definition machine p.members p.chosen are.0.made are.0.numbers in
@@ -159,4 +161,4 @@ gnu_inputs_rise machine (p ∷ q ∷ ps) are rise apart =
     map-append (λ (m : MemberView). m.name) (linked_members p.definition machine p.chosen) (all_linked machine (q ∷ ps))
     ∙ ap (λ names. names ++ names_of (all_linked machine (q ∷ ps))) named in
     subst IsAscending (sym joined)
-    (rise_on own (tail_name dll) (head_name q.definition.import_name) _ own_rise (tail_before_head p.definition q.definition rise.0 apart.0.0.0) behind)
+    (rise_on own (tail_name dll) (head_name (linked_name q.definition)) _ own_rise (tail_before_head p.definition q.definition rise.0 apart.0.0.0) behind)

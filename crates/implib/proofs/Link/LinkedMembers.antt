@@ -27,12 +27,13 @@ use Rattle.implib.specs.Formats.Writer.{WriterState, written_object, layout_of}
 use Rattle.implib.proofs.Members.GnuObjects.{Fits-export_object, Fits-head_object, Fits-tail_object}
 use Rattle.implib.proofs.Link.LinkedBlocks.{linked_objects, linked_symbols, objects_link}
 use Rattle.implib.proofs.Members.MemberReadings.{map_after}
-use Rattle.implib.proofs.Members.NotRefused.{Sound, exports_sound, import_name_is_free, name_asked_free, none_long, short_enough}
+use Rattle.implib.proofs.Members.NotRefused.{Sound, exports_sound, import_name_is_free, linked_is_free, name_asked_free, none_long, short_enough}
 use Rattle.implib.proofs.Formats.ObjectReading.{object_in-encoded}
 use Rattle.implib.proofs.Link.Placement.{export, head, tail}
 use Rattle.implib.proofs.Link.Ranges.{Among, among_back, among_first, among_front, among_later}
 use Rattle.implib.proofs.Link.Tables.{CanBeAsked}
 use Rattle.implib.proofs.Formats.WriterLayout.{object_of-layout_of}
+use Rattle.implib.specs.LibraryName.{NamesOfDll, linked_name, names_in}
 
 -- what a writer wrote reads as what it holds
 held_reads : (h : WriterState) → Fits (layout_of h) → encoded_size (layout_of h) ≤ 0xFFFF_FFFF → object_in (encoded (layout_of h)) ≡ Some (written_object h)
@@ -109,36 +110,36 @@ among_contains x (y ∷ xs) (inr m) =
     (suc later.0, omega arith, later.2)
 
 -- the chosen exports of a list, which breaks no rule
-module _ (machine : MachineType) (dll : List ℕ) (exports : List ExportView) (dll_free : holds 0 dll ≡ false) (sound : AllByRecursion Sound exports)
+module _ (machine : MachineType) (dll : NamesOfDll) (exports : List ExportView) (linked_free : holds 0 dll.linked ≡ false) (sound : AllByRecursion Sound exports)
     (short : list_any is_too_long (gnu_specs machine dll exports) ≡ false) where
   pub tail_among : Among (tail_spec machine dll) (gnu_specs machine dll exports)
   tail_among = among_first _ _
 
-  pub head_among : Among (head_spec machine dll) (gnu_specs machine dll exports)
+  pub head_among : Among (head_spec machine dll.linked) (gnu_specs machine dll exports)
   head_among = among_later _ _ _ (among_first _ _)
 
-  pub export_among : (n : ℕ) (e : ExportView) → slice_get exports n ≡ Some e → Among (export_spec machine dll n e) (gnu_specs machine dll exports)
+  pub export_among : (n : ℕ) (e : ExportView) → slice_get exports n ≡ Some e → Among (export_spec machine dll.linked n e) (gnu_specs machine dll exports)
   export_among n e is =
       let position : 0 + n ≡ n = omega arith in
       among_later _ _ _ (among_later _ _ _ (among_reverse _ _
-      (subst (λ m. Among (export_spec machine dll m e) (numbered_specs machine dll 0 exports)) position (numbered_among machine dll exports 0 n e is))))
+      (subst (λ m. Among (export_spec machine dll.linked m e) (numbered_specs machine dll.linked 0 exports)) position (numbered_among machine dll.linked exports 0 n e is))))
 
   size_of : (p : MemberSpec) → Among p (gnu_specs machine dll exports) → file_size p.contents ≤ 0xFFFF_FFFF
   size_of p m = short_enough p (none_among is_too_long p (gnu_specs machine dll exports) m short)
 
   pub tail_reads : object_in (member_of (tail_spec machine dll)).bytes ≡ Some (tail machine dll)
   unfolding tail_spec
-  tail_reads = held_reads (tail_object machine dll) (Fits-tail_object machine dll dll_free) (size_of (tail_spec machine dll) tail_among)
+  tail_reads = held_reads (tail_object machine dll) (Fits-tail_object machine dll linked_free) (size_of (tail_spec machine dll) tail_among)
 
-  pub head_reads : object_in (member_of (head_spec machine dll)).bytes ≡ Some (head machine dll)
+  pub head_reads : object_in (member_of (head_spec machine dll.linked)).bytes ≡ Some (head machine dll)
   unfolding head_spec
-  head_reads = held_reads (head_object machine dll) (Fits-head_object machine dll dll_free) (size_of (head_spec machine dll) head_among)
+  head_reads = held_reads (head_object machine dll.linked) (Fits-head_object machine dll.linked linked_free) (size_of (head_spec machine dll.linked) head_among)
 
-  pub export_reads : (n : ℕ) (e : ExportView) → slice_get exports n ≡ Some e → object_in (member_of (export_spec machine dll n e)).bytes ≡ Some (export machine dll e)
+  pub export_reads : (n : ℕ) (e : ExportView) → slice_get exports n ≡ Some e → object_in (member_of (export_spec machine dll.linked n e)).bytes ≡ Some (export machine dll e)
   unfolding export_spec
   export_reads n e is =
       let good = all_at Sound exports n e sound is in
-      held_reads (export_object machine dll e) (Fits-export_object machine dll e dll_free good.name good.filled) (size_of (export_spec machine dll n e) (export_among n e is))
+      held_reads (export_object machine dll.linked e) (Fits-export_object machine dll.linked e linked_free good.name good.filled) (size_of (export_spec machine dll.linked n e) (export_among n e is))
 
   export_asks : (n : ℕ) (e : ExportView) → slice_get exports n ≡ Some e → CanBeAsked machine e
   export_asks n e is =
@@ -150,7 +151,7 @@ module _ (machine : MachineType) (dll : List ℕ) (exports : List ExportView) (d
 
   -- what is linked after the head
   abbrev pub member_specs_after : List ℕ → List MemberSpec
-  member_specs_after ns = filter_map (numbered_spec machine dll exports) ns ++ tail_spec machine dll ∷ []
+  member_specs_after ns = filter_map (numbered_spec machine dll.linked exports) ns ++ tail_spec machine dll ∷ []
 
   abbrev chosen_of : List ℕ → List ExportView
   chosen_of ns = filter_map (slice_get exports) ns
@@ -170,34 +171,34 @@ module _ (machine : MachineType) (dll : List ℕ) (exports : List ExportView) (d
   chosen_read : (ns : List ℕ) → map (λ (p : MemberSpec). object_in (member_of p).bytes) (member_specs_after ns) ≡ map Some (map (export machine dll) (chosen_of ns) ++ tail machine dll ∷ [])
   chosen_read [] = ap (λ o. o ∷ []) tail_reads
   chosen_read (n ∷ ns) =
-      by_place (λ o. map (λ (p : MemberSpec). object_in (member_of p).bytes) (cons_option (option_map (export_spec machine dll n) o) (filter_map (numbered_spec machine dll exports) ns) ++ tail_spec machine dll ∷ [])
+      by_place (λ o. map (λ (p : MemberSpec). object_in (member_of p).bytes) (cons_option (option_map (export_spec machine dll.linked n) o) (filter_map (numbered_spec machine dll.linked exports) ns) ++ tail_spec machine dll ∷ [])
       ≡ map Some (map (export machine dll) (cons_option o (chosen_of ns)) ++ tail machine dll ∷ [])) n (slice_get exports n) refl
       (λ is. chosen_read ns)
       (λ e is. ap (λ o. o ∷ map (λ (p : MemberSpec). object_in (member_of p).bytes) (member_specs_after ns)) (export_reads n e is) ∙ ap (λ rest. Some (export machine dll e) ∷ rest) (chosen_read ns))
 
-  chosen_listed : (ns : List ℕ) → flat_map (λ (p : MemberSpec). p.symbols) (member_specs_after ns) ≡ flat_map archive_symbols (chosen_of ns) ++ iname_symbol machine dll ∷ []
+  chosen_listed : (ns : List ℕ) → flat_map (λ (p : MemberSpec). p.symbols) (member_specs_after ns) ≡ flat_map archive_symbols (chosen_of ns) ++ iname_symbol machine dll.linked ∷ []
   unfolding tail_spec export_spec
   chosen_listed [] = refl
   chosen_listed (n ∷ ns) =
-      by_place (λ o. flat_map (λ (p : MemberSpec). p.symbols) (cons_option (option_map (export_spec machine dll n) o) (filter_map (numbered_spec machine dll exports) ns) ++ tail_spec machine dll ∷ [])
-      ≡ flat_map archive_symbols (cons_option o (chosen_of ns)) ++ iname_symbol machine dll ∷ []) n (slice_get exports n) refl
+      by_place (λ o. flat_map (λ (p : MemberSpec). p.symbols) (cons_option (option_map (export_spec machine dll.linked n) o) (filter_map (numbered_spec machine dll.linked exports) ns) ++ tail_spec machine dll ∷ [])
+      ≡ flat_map archive_symbols (cons_option o (chosen_of ns)) ++ iname_symbol machine dll.linked ∷ []) n (slice_get exports n) refl
       (λ is. chosen_listed ns)
-      (λ e is. ap (λ rest. archive_symbols e ++ rest) (chosen_listed ns) ∙ sym (append_assoc (archive_symbols e) (flat_map archive_symbols (chosen_of ns)) (iname_symbol machine dll ∷ [])))
+      (λ e is. ap (λ rest. archive_symbols e ++ rest) (chosen_listed ns) ∙ sym (append_assoc (archive_symbols e) (flat_map archive_symbols (chosen_of ns)) (iname_symbol machine dll.linked ∷ [])))
 
-  chosen_names : (ns : List ℕ) → AllByRecursion (λ n. n < length exports) ns → map (λ (p : MemberSpec). p.name) (member_specs_after ns) ≡ map (export_name dll) ns ++ tail_name dll ∷ []
+  chosen_names : (ns : List ℕ) → AllByRecursion (λ n. n < length exports) ns → map (λ (p : MemberSpec). p.name) (member_specs_after ns) ≡ map (export_name dll.linked) ns ++ tail_name dll.linked ∷ []
   unfolding tail_spec export_spec
   chosen_names [] within = refl
   chosen_names (n ∷ ns) within =
       let first : n < length exports = within.0 in
-      by_place (λ o. map (λ (p : MemberSpec). p.name) (cons_option (option_map (export_spec machine dll n) o) (filter_map (numbered_spec machine dll exports) ns) ++ tail_spec machine dll ∷ [])
-      ≡ export_name dll n ∷ (map (export_name dll) ns ++ tail_name dll ∷ [])) n (slice_get exports n) refl
+      by_place (λ o. map (λ (p : MemberSpec). p.name) (cons_option (option_map (export_spec machine dll.linked n) o) (filter_map (numbered_spec machine dll.linked exports) ns) ++ tail_spec machine dll ∷ [])
+      ≡ export_name dll.linked n ∷ (map (export_name dll.linked) ns ++ tail_name dll.linked ∷ [])) n (slice_get exports n) refl
       (λ is. let past : length exports ≤ n = past_end exports n is in absurd (omega arith))
-      (λ e is. ap (λ rest. export_name dll n ∷ rest) (chosen_names ns within.1))
+      (λ e is. ap (λ rest. export_name dll.linked n ∷ rest) (chosen_names ns within.1))
 
   pub chosen_among : (ns : List ℕ) → AllByRecursion (λ p. Among p (gnu_specs machine dll exports)) (member_specs_after ns)
   chosen_among [] = (tail_among, tt)
   chosen_among (n ∷ ns) =
-      by_place (λ o. AllByRecursion (λ p. Among p (gnu_specs machine dll exports)) (cons_option (option_map (export_spec machine dll n) o) (filter_map (numbered_spec machine dll exports) ns) ++ tail_spec machine dll ∷ [])) n (slice_get exports n) refl
+      by_place (λ o. AllByRecursion (λ p. Among p (gnu_specs machine dll exports)) (cons_option (option_map (export_spec machine dll.linked n) o) (filter_map (numbered_spec machine dll.linked exports) ns) ++ tail_spec machine dll ∷ [])) n (slice_get exports n) refl
       (λ is. chosen_among ns)
       (λ e is. (export_among n e is, chosen_among ns))
 
@@ -247,62 +248,65 @@ module _ (d : DefinitionView) (machine : MachineType) (members : List MemberView
   pub dll_free : holds 0 d.import_name ≡ false
   dll_free = import_name_is_free d machine Gnu members made
 
+  pub linked_free : holds 0 (linked_name d) ≡ false
+  linked_free = linked_is_free d machine Gnu members made
+
   pub sound : AllByRecursion Sound public
   sound = exports_sound d machine Gnu members made
 
-  pub not_long : list_any is_too_long (gnu_specs machine d.import_name public) ≡ false
+  pub not_long : list_any is_too_long (gnu_specs machine (names_in Gnu d) public) ≡ false
   not_long = none_long d machine Gnu members made
 
   pub members_among : AllByRecursion (Contains members) (linked_members d machine chosen)
   members_among =
       subst (λ ms. AllByRecursion (Contains ms) (linked_members d machine chosen)) (sym made.made)
-      (all_contained member_of (gnu_specs machine d.import_name public) (linked_specs d machine chosen) (
-        head_among machine d.import_name public dll_free sound not_long,
-        chosen_among machine d.import_name public dll_free sound not_long chosen,
+      (all_contained member_of (gnu_specs machine (names_in Gnu d) public) (linked_specs d machine chosen) (
+        head_among machine (names_in Gnu d) public linked_free sound not_long,
+        chosen_among machine (names_in Gnu d) public linked_free sound not_long chosen,
       ))
 
   pub members_named : AllByRecursion (λ n. n < length (public_exports (renamed d))) chosen →
-      map (λ (m : MemberView). m.name) (linked_members d machine chosen) ≡ head_name d.import_name ∷ (map (export_name d.import_name) chosen ++ tail_name d.import_name ∷ [])
+      map (λ (m : MemberView). m.name) (linked_members d machine chosen) ≡ head_name (linked_name d) ∷ (map (export_name (linked_name d)) chosen ++ tail_name (linked_name d) ∷ [])
   unfolding head_spec
   members_named within =
       map_after (λ (m : MemberView). m.name) member_of (linked_specs d machine chosen)
-      ∙ ap (λ names. head_name d.import_name ∷ names) (chosen_names machine d.import_name public dll_free sound not_long chosen within)
+      ∙ ap (λ names. head_name (linked_name d) ∷ names) (chosen_names machine (names_in Gnu d) public linked_free sound not_long chosen within)
 
-  pub members_rise : AllByRecursion (λ n. n < length (public_exports (renamed d))) chosen → IsAscending (map (export_name d.import_name) chosen) →
+  pub members_rise : AllByRecursion (λ n. n < length (public_exports (renamed d))) chosen → IsAscending (map (export_name (linked_name d)) chosen) →
       IsAscending (map (λ (m : MemberView). m.name) (linked_members d machine chosen))
-  members_rise within rise = subst IsAscending (sym (members_named within)) (names_rise d.import_name chosen rise)
+  members_rise within rise = subst IsAscending (sym (members_named within)) (names_rise (linked_name d) chosen rise)
 
-  pub read_as : map (λ (m : MemberView). object_in m.bytes) (linked_members d machine chosen) ≡ map Some (linked_objects machine d.import_name (chosen_exports d chosen))
+  pub read_as : map (λ (m : MemberView). object_in m.bytes) (linked_members d machine chosen) ≡ map Some (linked_objects machine (names_in Gnu d) (chosen_exports d chosen))
   read_as =
       map_after (λ (m : MemberView). object_in m.bytes) member_of (linked_specs d machine chosen)
-      ∙ ap (λ o. o ∷ map (λ (p : MemberSpec). object_in (member_of p).bytes) (member_specs_after machine d.import_name public dll_free sound not_long chosen))
-      (head_reads machine d.import_name public dll_free sound not_long)
-      ∙ ap (λ rest. Some (head machine d.import_name) ∷ rest) (chosen_read machine d.import_name public dll_free sound not_long chosen)
+      ∙ ap (λ o. o ∷ map (λ (p : MemberSpec). object_in (member_of p).bytes) (member_specs_after machine (names_in Gnu d) public linked_free sound not_long chosen))
+      (head_reads machine (names_in Gnu d) public linked_free sound not_long)
+      ∙ ap (λ rest. Some (head machine (names_in Gnu d)) ∷ rest) (chosen_read machine (names_in Gnu d) public linked_free sound not_long chosen)
 
-  pub objects_are : objects_in (linked_members d machine chosen) ≡ linked_objects machine d.import_name (chosen_exports d chosen)
+  pub objects_are : objects_in (linked_members d machine chosen) ≡ linked_objects machine (names_in Gnu d) (chosen_exports d chosen)
   objects_are =
       filter_map-present (λ (m : MemberView). object_in m.bytes) (linked_members d machine chosen)
       ∙ ap present read_as
-      ∙ present-some (linked_objects machine d.import_name (chosen_exports d chosen))
+      ∙ present-some (linked_objects machine (names_in Gnu d) (chosen_exports d chosen))
 
   pub members_read : map (λ (m : MemberView). object_in m.bytes) (linked_members d machine chosen) ≡ map Some (objects_in (linked_members d machine chosen))
   members_read = read_as ∙ ap (map Some) (sym objects_are)
 
-  pub symbols_are : flat_map (λ (m : MemberView). m.symbols) (linked_members d machine chosen) ≡ linked_symbols machine d.import_name (chosen_exports d chosen)
+  pub symbols_are : flat_map (λ (m : MemberView). m.symbols) (linked_members d machine chosen) ≡ linked_symbols machine (names_in Gnu d) (chosen_exports d chosen)
   unfolding head_spec
   symbols_are =
       flat_map_map (λ (m : MemberView). m.symbols) member_of (linked_specs d machine chosen)
-      ∙ ap (λ rest. head_symbol machine d.import_name ∷ rest) (chosen_listed machine d.import_name public dll_free sound not_long chosen)
+      ∙ ap (λ rest. head_symbol machine (linked_name d) ∷ rest) (chosen_listed machine (names_in Gnu d) public linked_free sound not_long chosen)
 
   pub exports_fit : AllByRecursion (CanBeAsked machine) (chosen_exports d chosen)
-  exports_fit = chosen_fit machine d.import_name public dll_free sound not_long chosen
+  exports_fit = chosen_fit machine (names_in Gnu d) public linked_free sound not_long chosen
 
   pub members_link : (bases : Bases) → IsDistinct bytes_eq (flat_map (λ (m : MemberView). m.symbols) (linked_members d machine chosen)) →
       IsAdmissible machine bases (objects_in (linked_members d machine chosen)) →
-      Links machine bases d.import_name (chosen_exports d chosen) (objects_in (linked_members d machine chosen))
+      Links machine bases (names_in Gnu d) (chosen_exports d chosen) (objects_in (linked_members d machine chosen))
   members_link bases distinct admissible =
-      subst (Links machine bases d.import_name (chosen_exports d chosen)) (sym objects_are)
-      (objects_link machine d.import_name (chosen_exports d chosen) bases dll_free
-      (chosen_fit machine d.import_name public dll_free sound not_long chosen)
+      subst (Links machine bases (names_in Gnu d) (chosen_exports d chosen)) (sym objects_are)
+      (objects_link machine (names_in Gnu d) (chosen_exports d chosen) bases dll_free
+      (chosen_fit machine (names_in Gnu d) public linked_free sound not_long chosen)
       (subst (IsDistinct bytes_eq) symbols_are distinct)
       (subst (IsAdmissible machine bases) objects_are admissible))

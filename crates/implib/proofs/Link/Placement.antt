@@ -14,6 +14,7 @@ use Rattle.implib.specs.Link.Resolution.{SymbolDefinition, defined_by, definitio
 use Rattle.implib.specs.Members.ImportTables.{thunk_width, zeros}
 use Rattle.implib.specs.Formats.Object.{Object}
 use Rattle.implib.specs.Formats.Writer.{written_object}
+use Rattle.implib.specs.LibraryName.{NamesOfDll}
 
 pub aligned : (n : ℕ) → n % 4 ≡ 0 → next_multiple 4 n ≡ n
 unfolding next_multiple
@@ -51,15 +52,15 @@ pub record AreAligned (b : Bases) : Type 0 where
   pub lookups : b.lookups % 4 ≡ 0
   pub addresses : b.addresses % 4 ≡ 0
 
-module _ (machine : MachineType) (dll : List ℕ) where
+module _ (machine : MachineType) (dll : NamesOfDll) where
   abbrev pub head : Object
-  head = written_object (head_object machine dll)
+  head = written_object (head_object machine dll.linked)
 
   abbrev pub tail : Object
   tail = written_object (tail_object machine dll)
 
   abbrev pub export : ExportView → Object
-  export e = written_object (export_object machine dll e)
+  export e = written_object (export_object machine dll.linked e)
 
   -- exports, the tail after them, and other objects
   abbrev pub after_head : List ExportView → List Object → List Object
@@ -103,7 +104,7 @@ module _ (machine : MachineType) (dll : List ℕ) where
     lookups = b.lookups + thunk_width machine;
     addresses = b.addresses + thunk_width machine;
     hint_names = b.hint_names;
-    dll_names = next_multiple 4 b.dll_names + length (dll ++ 0 ∷ []);
+    dll_names = next_multiple 4 b.dll_names + length (dll.text ++ 0 ∷ []);
   }
 
   pub aligned_after : (b : Bases) (e : ExportView) → AreAligned b → AreAligned (ends_of_export b e)
@@ -159,7 +160,7 @@ module _ (machine : MachineType) (dll : List ℕ) where
   address_definition b e = record { name = imp_symbol e.name; address = Some (b.addresses + 0) }
 
   unfoldable pub defined_after : Bases → List ExportView → List SymbolDefinition
-  defined_after b [] = record { name = iname_symbol machine dll; address = Some (next_multiple 4 b.dll_names + 0) } ∷ []
+  defined_after b [] = record { name = iname_symbol machine dll.linked; address = Some (next_multiple 4 b.dll_names + 0) } ∷ []
   defined_after b (e ∷ es) = code_definition e ++ address_definition b e ∷ defined_after (ends_of_export b e) es
 
   defined_by_export : (b : Bases) (e : ExportView) (rest : List SymbolDefinition) →
@@ -178,7 +179,7 @@ module _ (machine : MachineType) (dll : List ℕ) where
       ∙ ap (λ others. code_definition e ++ address_definition b e ∷ others) (definitions-after (ends_of_export b e) es rest (aligned_after b e even))
       ∙ sym (append_assoc (code_definition e) (address_definition b e ∷ defined_after (ends_of_export b e) es) (definitions (placed_from (ends_of_all (ends_of_export b e) es) rest)))
 
-  pub names-after : (b : Bases) (es : List ExportView) → map (λ (d : SymbolDefinition). d.name) (defined_after b es) ≡ flat_map archive_symbols es ++ iname_symbol machine dll ∷ []
+  pub names-after : (b : Bases) (es : List ExportView) → map (λ (d : SymbolDefinition). d.name) (defined_after b es) ≡ flat_map archive_symbols es ++ iname_symbol machine dll.linked ∷ []
   unfolding defined_after hint_name
   names-after b [] = refl
   names-after b (e ∷ es) =

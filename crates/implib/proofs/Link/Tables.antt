@@ -18,6 +18,7 @@ use Rattle.implib.specs.Formats.Layout.{HasNoNul}
 use Rattle.implib.proofs.Link.Ranges.{located_parts}
 use Rattle.implib.proofs.Link.Placement.{AreAligned, after_head, aligned_after, at_least, ends_of_all, ends_of_export, ends_of_exports, ends_of_tail, length-thunk_of, placed-export, placed-tail, placed_export}
 use Rattle.implib.proofs.Link.Thunks.{StrictTableAt, StrictThunkAt, length-address, name_located, ordinal_located, ordinal_thunk, same_number, with_address-zeros, zeros_number}
+use Rattle.implib.specs.LibraryName.{NamesOfDll}
 
 -- an export whose ordinal is a 16-bit number and whose asked name has no NUL
 pub record CanBeAsked (machine : MachineType) (e : ExportView) : Type 0 where
@@ -31,7 +32,7 @@ filled_first a n bytes rest long =
     let none : a - a ≡ 0 = omega arith in
     rw (none, long) refl
 
-module _ (machine : MachineType) (dll : List ℕ) (linked : List Placed) where
+module _ (machine : MachineType) (dll : NamesOfDll) (linked : List Placed) where
   -- an export's thunk, relocated
   pub thunk_linked : Bases → ExportView → List ℕ
   thunk_linked b e = relocated machine linked (placed_export machine dll b e) (relocations_of_thunk machine e) (thunk machine e)

@@ -21,6 +21,7 @@ use Rattle.implib.specs.Views.Writer.{IsSound, IsSoundSection, IsSoundSymbol}
 use Rattle.implib.proofs.Members.MsvcObjects.{plain_section_fits, relocation_fits}
 use Rattle.implib.proofs.Formats.Table.{CanBeHeld-from_sound, LieWithin}
 use Rattle.implib.proofs.Formats.WriterLayout.{layout_of-fits}
+use Rattle.implib.specs.LibraryName.{NamesOfDll}
 
 -- Names.
 
@@ -145,10 +146,10 @@ CanBeHeld-head_object machine dll free =
 
 -- The tail.
 
-pub IsSound-tail_object : (machine : MachineType) (dll : List ℕ) → holds 0 dll ≡ false → IsSound (tail_object machine dll) 3
+pub IsSound-tail_object : (machine : MachineType) (dll : NamesOfDll) → holds 0 dll.linked ≡ false → IsSound (tail_object machine dll) 3
 unfolding tail_object
 IsSound-tail_object machine dll free =
-    let name = iname_symbol machine dll in
+    let name = iname_symbol machine dll.linked in
     let symbols = tail_symbols name in
     record {
       few = omega arith;
@@ -159,18 +160,18 @@ IsSound-tail_object machine dll free =
           (plain_sound symbols (codes ".idata$7") _ _ refl (omega arith));
       symbols = (
         file_symbol_sound 6,
-        (symbol_sound 6 name (Section 6) class_external (filled-iname_symbol machine dll) (holds-iname_symbol machine dll free) (omega arith, omega arith), tt),
+        (symbol_sound 6 name (Section 6) class_external (filled-iname_symbol machine dll.linked) (holds-iname_symbol machine dll.linked free) (omega arith, omega arith), tt),
       );
     }
 
-pub Fits-tail_object : (machine : MachineType) (dll : List ℕ) → holds 0 dll ≡ false → Fits (layout_of (tail_object machine dll))
+pub Fits-tail_object : (machine : MachineType) (dll : NamesOfDll) → holds 0 dll.linked ≡ false → Fits (layout_of (tail_object machine dll))
 Fits-tail_object machine dll free = layout_of-fits (tail_object machine dll) 3 (IsSound-tail_object machine dll free)
 
-tail_within : (machine : MachineType) (dll : List ℕ) → AllByRecursion LieWithin (tail_object machine dll).sections
+tail_within : (machine : MachineType) (dll : NamesOfDll) → AllByRecursion LieWithin (tail_object machine dll).sections
 unfolding tail_object
 tail_within machine dll = (tt, (tt, (tt, (tt, (tt, (tt, tt))))))
 
-pub CanBeHeld-tail_object : (machine : MachineType) (dll : List ℕ) → holds 0 dll ≡ false → CanBeHeld (tail_object machine dll)
+pub CanBeHeld-tail_object : (machine : MachineType) (dll : NamesOfDll) → holds 0 dll.linked ≡ false → CanBeHeld (tail_object machine dll)
 CanBeHeld-tail_object machine dll free =
     CanBeHeld-from_sound (tail_object machine dll) 3 (IsSound-tail_object machine dll free) (omega arith) (tail_within machine dll)
 

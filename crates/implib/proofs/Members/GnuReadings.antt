@@ -32,9 +32,10 @@ use Rattle.implib.proofs.Members.GnuLoop.{list_any-reverse, map-reverse}
 use Rattle.implib.proofs.Members.GnuObjects.{Fits-export_object, Fits-head_object, Fits-tail_object}
 use Rattle.implib.proofs.Members.MemberMeanings.{DeclaresListed, all_aliases, no_imports, read_declares, weak_declares}
 use Rattle.implib.proofs.Members.MemberReadings.{ReadsBack, all_append, each_length, each_read, machine_number_nonzero, map_after, map_same, object_reads, weak_reads}
-use Rattle.implib.proofs.Members.NotRefused.{Sound, exports_sound, import_name_is_free, name_asked_free, none_long, short_enough}
+use Rattle.implib.proofs.Members.NotRefused.{Sound, exports_sound, import_name_is_free, linked_is_free, name_asked_free, none_long, short_enough}
 use Rattle.implib.proofs.Formats.Symbols.{before_nul-ended}
 use Rattle.implib.proofs.Formats.WriterLayout.{object_of-layout_of}
+use Rattle.implib.specs.LibraryName.{NamesOfDll, linked_name, names_in}
 
 -- The specifications read back.
 
@@ -81,9 +82,9 @@ module _ (machine : MachineType) (dll : List ℕ) (dll_free : holds 0 dll ≡ fa
 held_declares : (h : WriterState) (listed : List (List ℕ)) → declared_by (ObjectFile (written_object h)) ≡ listed → declared_by (ObjectFile (object_of (layout_of h))) ≡ listed
 held_declares h listed declares = ap (λ o. declared_by (ObjectFile o)) (object_of-layout_of h) ∙ declares
 
-tail_declares : (machine : MachineType) (dll : List ℕ) → DeclaresListed (tail_spec machine dll)
+tail_declares : (machine : MachineType) (dll : NamesOfDll) → DeclaresListed (tail_spec machine dll)
 unfolding tail_spec tail_object
-tail_declares machine dll = held_declares (tail_object machine dll) (iname_symbol machine dll ∷ []) refl
+tail_declares machine dll = held_declares (tail_object machine dll) (iname_symbol machine dll.linked ∷ []) refl
 
 head_declares : (machine : MachineType) (dll : List ℕ) → DeclaresListed (head_spec machine dll)
 unfolding head_spec head_object
@@ -150,11 +151,11 @@ unfolding export_object
 no_alias machine dll e true = refl
 no_alias machine dll e false = refl
 
-dll_found : (machine : MachineType) (dll : List ℕ) (e : ExportView) → holds 0 dll ≡ false →
-    dll_by_names (written_object (export_object machine dll e)) (written_object (head_object machine dll)) (written_object (tail_object machine dll)) ≡ Some dll
+dll_found : (machine : MachineType) (dll : NamesOfDll) (e : ExportView) → holds 0 dll.text ≡ false →
+    dll_by_names (written_object (export_object machine dll.linked e)) (written_object (head_object machine dll.linked)) (written_object (tail_object machine dll)) ≡ Some dll.text
 unfolding export_object head_object tail_object
 dll_found machine dll e free =
-    rw (same_bytes (head_symbol machine dll), same_bytes (iname_symbol machine dll)) (before_nul-ended dll [] free)
+    rw (same_bytes (head_symbol machine dll.linked), same_bytes (iname_symbol machine dll.linked)) (before_nul-ended dll.text [] free)
 
 code_by : (machine : MachineType) (dll : List ℕ) (e : ExportView) (is_data : Bool) →
     code_relocations (written_object (export_object machine dll (record e { is_data = is_data }))) ≡ Some (expected_code machine (record e { is_data = is_data }))
@@ -167,9 +168,9 @@ code_by ARM64 dll e false = refl
 
 -- What the specifications mean.
 
-module _ (machine : MachineType) (dll : List ℕ) (dll_free : holds 0 dll ≡ false) where
+module _ (machine : MachineType) (dll : NamesOfDll) (linked_free : holds 0 dll.linked ≡ false) (text_free : holds 0 dll.text ≡ false) where
   abbrev head_file : File
-  head_file = ObjectFile (object_of (layout_of (head_object machine dll)))
+  head_file = ObjectFile (object_of (layout_of (head_object machine dll.linked)))
 
   abbrev tail_file : File
   tail_file = ObjectFile (object_of (layout_of (tail_object machine dll)))
@@ -179,30 +180,30 @@ module _ (machine : MachineType) (dll : List ℕ) (dll_free : holds 0 dll ≡ fa
   specified p = meaning_with head_file tail_file (file_of p.contents)
 
   import_found : (e : ExportView) → Sound e →
-      import_of (written_object (export_object machine dll e)) (written_object (head_object machine dll)) (written_object (tail_object machine dll)) ≡ Some (expected_import machine dll e)
+      import_of (written_object (export_object machine dll.linked e)) (written_object (head_object machine dll.linked)) (written_object (tail_object machine dll)) ≡ Some (expected_import machine dll.text e)
   import_found e sound =
-      let o = written_object (export_object machine dll e) in
+      let o = written_object (export_object machine dll.linked e) in
       let fits : e.ordinal < 2 ^ 16 = ltb-true e.ordinal 0x1_0000 sound.ordinal in
       let asks : ask_of_export o ≡ Some (expected_ask machine e) =
-      asks_by machine dll e fits (name_asked_free machine e sound) e.is_data e.no_name in
-      let declared : externals_in o (codes ".idata$5") ++ externals_in o text_section ≡ import_symbols e.is_data e.name = declared_by_import machine dll e e.is_data in
-      let named = dll_found machine dll e dll_free in
+      asks_by machine dll.linked e fits (name_asked_free machine e sound) e.is_data e.no_name in
+      let declared : externals_in o (codes ".idata$5") ++ externals_in o text_section ≡ import_symbols e.is_data e.name = declared_by_import machine dll.linked e e.is_data in
+      let named = dll_found machine dll e text_free in
       ap (λ found. option_and_then (λ name. option_map
       (λ ask. record { dll = name; declared = externals_in o (codes ".idata$5") ++ externals_in o text_section; ask = ask })
       (ask_of_export o)) found) named
-      ∙ (ap (λ found. option_map (λ ask. record { dll = dll; declared = externals_in o (codes ".idata$5") ++ externals_in o text_section; ask = ask }) found) asks
-      ∙ ap (λ symbols. Some (record { dll = dll; declared = symbols; ask = expected_ask machine e })) declared)
+      ∙ (ap (λ found. option_map (λ ask. record { dll = dll.text; declared = externals_in o (codes ".idata$5") ++ externals_in o text_section; ask = ask }) found) asks
+      ∙ ap (λ symbols. Some (record { dll = dll.text; declared = symbols; ask = expected_ask machine e })) declared)
 
-  export_specified : (number : ℕ) (e : ExportView) → Sound e → specified (export_spec machine dll number e) ≡ Some (AnImport (expected_import machine dll e))
+  export_specified : (number : ℕ) (e : ExportView) → Sound e → specified (export_spec machine dll.linked number e) ≡ Some (AnImport (expected_import machine dll.text e))
   unfolding export_spec
   export_specified number e sound =
-      let export = written_object (export_object machine dll e) in
-      let head = written_object (head_object machine dll) in
+      let export = written_object (export_object machine dll.linked e) in
+      let head = written_object (head_object machine dll.linked) in
       let tail = written_object (tail_object machine dll) in
-      ap (λ o. meaning_with head_file tail_file (ObjectFile o)) (object_of-layout_of (export_object machine dll e))
-      ∙ (ap (λ o. meaning_with (ObjectFile o) tail_file (ObjectFile export)) (object_of-layout_of (head_object machine dll))
+      ap (λ o. meaning_with head_file tail_file (ObjectFile o)) (object_of-layout_of (export_object machine dll.linked e))
+      ∙ (ap (λ o. meaning_with (ObjectFile o) tail_file (ObjectFile export)) (object_of-layout_of (head_object machine dll.linked))
       ∙ (ap (λ o. meaning_with (ObjectFile head) (ObjectFile o) (ObjectFile export)) (object_of-layout_of (tail_object machine dll))
-      ∙ (ap (λ a. alias_or_import a (import_of export head tail)) (no_alias machine dll e e.is_data)
+      ∙ (ap (λ a. alias_or_import a (import_of export head tail)) (no_alias machine dll.linked e e.is_data)
       ∙ ap (option_map AnImport) (import_found e sound))))
 
   weak_specified : (weak target : List ℕ) → meaning_with head_file tail_file (ObjectFile (object_of (weak_object machine weak target))) ≡ Some (AnAlias (record { weak = weak; target = target }))
@@ -219,23 +220,23 @@ module _ (machine : MachineType) (dll : List ℕ) (dll_free : holds 0 dll ≡ fa
       ap (λ x. x ∷ meaning_with head_file tail_file (ObjectFile (object_of (weak_object machine (imp_symbol e.name) (imp_symbol e.alias_target)))) ∷ []) one
       ∙ ap (λ x. Some (AnAlias (record { weak = e.name; target = e.alias_target })) ∷ x ∷ []) two
 
-  of_export_specified : (number : ℕ) (e : ExportView) → Sound e → map specified (numbered_specs_of machine dll number e) ≡ map (λ m. Some m) (expected_meanings machine dll e)
+  of_export_specified : (number : ℕ) (e : ExportView) → Sound e → map specified (numbered_specs_of machine dll.linked number e) ≡ map (λ m. Some m) (expected_meanings machine dll.text e)
   unfolding alias_specs
   of_export_specified number e sound =
-      map-append specified (alias_specs machine dll number e) (export_spec machine dll number e ∷ [])
-      ∙ (ap (λ x. x ++ specified (export_spec machine dll number e) ∷ []) (chosen_specified e (is_alias e.alias_target e.name) _ _)
+      map-append specified (alias_specs machine dll.linked number e) (export_spec machine dll.linked number e ∷ [])
+      ∙ (ap (λ x. x ++ specified (export_spec machine dll.linked number e) ∷ []) (chosen_specified e (is_alias e.alias_target e.name) _ _)
       ∙ (ap (λ x. map (λ a. Some (AnAlias a)) (aliases_for e.name e.alias_target) ++ x ∷ []) (export_specified number e sound)
-      ∙ sym (map-append (λ m. Some m) (map AnAlias (aliases_for e.name e.alias_target)) (AnImport (expected_import machine dll e) ∷ [])
-      ∙ ap (λ x. x ++ Some (AnImport (expected_import machine dll e)) ∷ []) (map_after (λ m. Some m) AnAlias (aliases_for e.name e.alias_target)))))
+      ∙ sym (map-append (λ m. Some m) (map AnAlias (aliases_for e.name e.alias_target)) (AnImport (expected_import machine dll.text e) ∷ [])
+      ∙ ap (λ x. x ++ Some (AnImport (expected_import machine dll.text e)) ∷ []) (map_after (λ m. Some m) AnAlias (aliases_for e.name e.alias_target)))))
 
   numbered_specified : (number : ℕ) (exports : List ExportView) → AllByRecursion Sound exports →
-      map specified (numbered_specs machine dll number exports) ≡ map (λ m. Some m) (flat_map (expected_meanings machine dll) exports)
+      map specified (numbered_specs machine dll.linked number exports) ≡ map (λ m. Some m) (flat_map (expected_meanings machine dll.text) exports)
   numbered_specified number [] sound = refl
   numbered_specified number (e ∷ exports) sound =
-      map-append specified (numbered_specs_of machine dll number e) (numbered_specs machine dll (number + 1) exports)
-      ∙ (ap (λ x. x ++ map specified (numbered_specs machine dll (number + 1) exports)) (of_export_specified number e sound.0)
-      ∙ (ap (λ x. map (λ m. Some m) (expected_meanings machine dll e) ++ x) (numbered_specified (number + 1) exports sound.1)
-      ∙ sym (map-append (λ m. Some m) (expected_meanings machine dll e) (flat_map (expected_meanings machine dll) exports))))
+      map-append specified (numbered_specs_of machine dll.linked number e) (numbered_specs machine dll.linked (number + 1) exports)
+      ∙ (ap (λ x. x ++ map specified (numbered_specs machine dll.linked (number + 1) exports)) (of_export_specified number e sound.0)
+      ∙ (ap (λ x. map (λ m. Some m) (expected_meanings machine dll.text e) ++ x) (numbered_specified (number + 1) exports sound.1)
+      ∙ sym (map-append (λ m. Some m) (expected_meanings machine dll.text e) (flat_map (expected_meanings machine dll.text) exports))))
 
   -- the code of a specification's file
   abbrev specified_code : MemberSpec → Option (List CodeRelocation)
@@ -250,53 +251,53 @@ module _ (machine : MachineType) (dll : List ℕ) (dll_free : holds 0 dll ≡ fa
   chosen_code e false first second = refl
   chosen_code e true first second = rw (weak_code e.name e.alias_target, weak_code (imp_symbol e.name) (imp_symbol e.alias_target)) refl
 
-  export_code : (number : ℕ) (e : ExportView) → specified_code (export_spec machine dll number e) ≡ Some (expected_code machine e)
+  export_code : (number : ℕ) (e : ExportView) → specified_code (export_spec machine dll.linked number e) ≡ Some (expected_code machine e)
   unfolding export_spec
   export_code number e =
-      let export = written_object (export_object machine dll e) in
-      ap (λ o. code_of_export (ObjectFile o)) (object_of-layout_of (export_object machine dll e))
-      ∙ (ap (λ a. elim a [ None ↦ code_relocations export | Some found ↦ None ]) (no_alias machine dll e e.is_data) ∙ code_by machine dll e e.is_data)
+      let export = written_object (export_object machine dll.linked e) in
+      ap (λ o. code_of_export (ObjectFile o)) (object_of-layout_of (export_object machine dll.linked e))
+      ∙ (ap (λ a. elim a [ None ↦ code_relocations export | Some found ↦ None ]) (no_alias machine dll.linked e e.is_data) ∙ code_by machine dll.linked e e.is_data)
 
   one_kept : {X Y : Type 0} (f : X → Option Y) (x : X) (y : Y) → f x ≡ Some y → filter_map f (x ∷ []) ≡ y ∷ []
   one_kept f x y same = rw same refl
 
-  of_export_code : (number : ℕ) (e : ExportView) → filter_map specified_code (numbered_specs_of machine dll number e) ≡ expected_code machine e ∷ []
+  of_export_code : (number : ℕ) (e : ExportView) → filter_map specified_code (numbered_specs_of machine dll.linked number e) ≡ expected_code machine e ∷ []
   unfolding alias_specs
   of_export_code number e =
-      filter_map-append specified_code (alias_specs machine dll number e) (export_spec machine dll number e ∷ [])
-      ∙ (ap (λ x. x ++ filter_map specified_code (export_spec machine dll number e ∷ [])) (chosen_code e (is_alias e.alias_target e.name) _ _)
-      ∙ one_kept specified_code (export_spec machine dll number e) (expected_code machine e) (export_code number e))
+      filter_map-append specified_code (alias_specs machine dll.linked number e) (export_spec machine dll.linked number e ∷ [])
+      ∙ (ap (λ x. x ++ filter_map specified_code (export_spec machine dll.linked number e ∷ [])) (chosen_code e (is_alias e.alias_target e.name) _ _)
+      ∙ one_kept specified_code (export_spec machine dll.linked number e) (expected_code machine e) (export_code number e))
 
-  numbered_code : (number : ℕ) (exports : List ExportView) → filter_map specified_code (numbered_specs machine dll number exports) ≡ map (expected_code machine) exports
+  numbered_code : (number : ℕ) (exports : List ExportView) → filter_map specified_code (numbered_specs machine dll.linked number exports) ≡ map (expected_code machine) exports
   numbered_code number [] = refl
   numbered_code number (e ∷ exports) =
-      filter_map-append specified_code (numbered_specs_of machine dll number e) (numbered_specs machine dll (number + 1) exports)
-      ∙ (ap (λ x. x ++ filter_map specified_code (numbered_specs machine dll (number + 1) exports)) (of_export_code number e)
+      filter_map-append specified_code (numbered_specs_of machine dll.linked number e) (numbered_specs machine dll.linked (number + 1) exports)
+      ∙ (ap (λ x. x ++ filter_map specified_code (numbered_specs machine dll.linked (number + 1) exports)) (of_export_code number e)
       ∙ ap (λ x. expected_code machine e ∷ x) (numbered_code (number + 1) exports))
 
   -- the imports and the aliases among what is expected
-  one_import : (e : ExportView) → filter_map import_among (expected_meanings machine dll e) ≡ expected_import machine dll e ∷ []
+  one_import : (e : ExportView) → filter_map import_among (expected_meanings machine dll.text e) ≡ expected_import machine dll.text e ∷ []
   one_import e =
-      filter_map-append import_among (map AnAlias (aliases_for e.name e.alias_target)) (AnImport (expected_import machine dll e) ∷ [])
-      ∙ ap (λ x. x ++ expected_import machine dll e ∷ []) (no_imports (aliases_for e.name e.alias_target))
+      filter_map-append import_among (map AnAlias (aliases_for e.name e.alias_target)) (AnImport (expected_import machine dll.text e) ∷ [])
+      ∙ ap (λ x. x ++ expected_import machine dll.text e ∷ []) (no_imports (aliases_for e.name e.alias_target))
 
-  pub all_imports : (exports : List ExportView) → filter_map import_among (flat_map (expected_meanings machine dll) exports) ≡ map (expected_import machine dll) exports
+  pub all_imports : (exports : List ExportView) → filter_map import_among (flat_map (expected_meanings machine dll.text) exports) ≡ map (expected_import machine dll.text) exports
   all_imports [] = refl
   all_imports (e ∷ exports) =
-      filter_map-append import_among (expected_meanings machine dll e) (flat_map (expected_meanings machine dll) exports)
-      ∙ (ap (λ x. x ++ filter_map import_among (flat_map (expected_meanings machine dll) exports)) (one_import e)
-      ∙ ap (λ x. expected_import machine dll e ∷ x) (all_imports exports))
+      filter_map-append import_among (expected_meanings machine dll.text e) (flat_map (expected_meanings machine dll.text) exports)
+      ∙ (ap (λ x. x ++ filter_map import_among (flat_map (expected_meanings machine dll.text) exports)) (one_import e)
+      ∙ ap (λ x. expected_import machine dll.text e ∷ x) (all_imports exports))
 
-  its_aliases : (e : ExportView) → filter_map alias_among (expected_meanings machine dll e) ≡ aliases_for e.name e.alias_target
+  its_aliases : (e : ExportView) → filter_map alias_among (expected_meanings machine dll.text e) ≡ aliases_for e.name e.alias_target
   its_aliases e =
-      filter_map-append alias_among (map AnAlias (aliases_for e.name e.alias_target)) (AnImport (expected_import machine dll e) ∷ [])
+      filter_map-append alias_among (map AnAlias (aliases_for e.name e.alias_target)) (AnImport (expected_import machine dll.text e) ∷ [])
       ∙ (ap (λ x. x ++ []) (all_aliases (aliases_for e.name e.alias_target)) ∙ append-nil (aliases_for e.name e.alias_target))
 
-  pub aliases_among : (exports : List ExportView) → filter_map alias_among (flat_map (expected_meanings machine dll) exports) ≡ flat_map (λ e. aliases_for e.name e.alias_target) exports
+  pub aliases_among : (exports : List ExportView) → filter_map alias_among (flat_map (expected_meanings machine dll.text) exports) ≡ flat_map (λ e. aliases_for e.name e.alias_target) exports
   aliases_among [] = refl
   aliases_among (e ∷ exports) =
-      filter_map-append alias_among (expected_meanings machine dll e) (flat_map (expected_meanings machine dll) exports)
-      ∙ (ap (λ x. x ++ filter_map alias_among (flat_map (expected_meanings machine dll) exports)) (its_aliases e)
+      filter_map-append alias_among (expected_meanings machine dll.text e) (flat_map (expected_meanings machine dll.text) exports)
+      ∙ (ap (λ x. x ++ filter_map alias_among (flat_map (expected_meanings machine dll.text) exports)) (its_aliases e)
       ∙ ap (λ x. aliases_for e.name e.alias_target ++ x) (aliases_among exports))
 
 -- The members.
@@ -323,27 +324,30 @@ module _ (d : DefinitionView) (machine : MachineType) (members : List MemberView
   exports = public_exports (renamed d)
 
   abbrev built : List MemberSpec
-  built = numbered_specs machine d.import_name 0 exports
+  built = numbered_specs machine (linked_name d) 0 exports
 
-  free : holds 0 d.import_name ≡ false
-  free = import_name_is_free d machine Gnu members made
+  free : holds 0 (linked_name d) ≡ false
+  free = linked_is_free d machine Gnu members made
 
-  tail_short : (is_too_long (tail_spec machine d.import_name) ≡ false) × (is_too_long (head_spec machine d.import_name) || list_any is_too_long (reverse built) ≡ false)
-  tail_short = or_parts (is_too_long (tail_spec machine d.import_name)) _ (none_long d machine Gnu members made)
+  text_free : holds 0 d.import_name ≡ false
+  text_free = import_name_is_free d machine Gnu members made
 
-  head_short : (is_too_long (head_spec machine d.import_name) ≡ false) × (list_any is_too_long (reverse built) ≡ false)
-  head_short = or_parts (is_too_long (head_spec machine d.import_name)) (list_any is_too_long (reverse built)) tail_short.1
+  tail_short : (is_too_long (tail_spec machine (names_in Gnu d)) ≡ false) × (is_too_long (head_spec machine (linked_name d)) || list_any is_too_long (reverse built) ≡ false)
+  tail_short = or_parts (is_too_long (tail_spec machine (names_in Gnu d))) _ (none_long d machine Gnu members made)
+
+  head_short : (is_too_long (head_spec machine (linked_name d)) ≡ false) × (list_any is_too_long (reverse built) ≡ false)
+  head_short = or_parts (is_too_long (head_spec machine (linked_name d))) (list_any is_too_long (reverse built)) tail_short.1
 
   built_read : AllByRecursion (λ p. ReadsBack p.contents) built
-  built_read = numbered_read machine d.import_name free 0 exports (exports_sound d machine Gnu members made) (sym (list_any-reverse is_too_long built) ∙ head_short.1)
+  built_read = numbered_read machine (linked_name d) free 0 exports (exports_sound d machine Gnu members made) (sym (list_any-reverse is_too_long built) ∙ head_short.1)
 
-  tail_back : ReadsBack (AnObject (layout_of (tail_object machine d.import_name)))
+  tail_back : ReadsBack (AnObject (layout_of (tail_object machine (names_in Gnu d))))
   unfolding tail_spec
-  tail_back = held_reads (tail_object machine d.import_name) (Fits-tail_object machine d.import_name free) (short_enough (tail_spec machine d.import_name) tail_short.0)
+  tail_back = held_reads (tail_object machine (names_in Gnu d)) (Fits-tail_object machine (names_in Gnu d) free) (short_enough (tail_spec machine (names_in Gnu d)) tail_short.0)
 
-  head_back : ReadsBack (AnObject (layout_of (head_object machine d.import_name)))
+  head_back : ReadsBack (AnObject (layout_of (head_object machine (linked_name d))))
   unfolding head_spec
-  head_back = held_reads (head_object machine d.import_name) (Fits-head_object machine d.import_name free) (short_enough (head_spec machine d.import_name) head_short.0)
+  head_back = held_reads (head_object machine (linked_name d)) (Fits-head_object machine (linked_name d) free) (short_enough (head_spec machine (linked_name d)) head_short.0)
 
   pub member_specs_read : AllByRecursion (λ p. ReadsBack p.contents) (member_specs (renamed d) machine Gnu)
   unfolding tail_spec head_spec
@@ -358,11 +362,11 @@ module _ (d : DefinitionView) (machine : MachineType) (members : List MemberView
       ap (λ (x : List MemberView). reverse (drop 2 x)) made.made
       ∙ (sym (map-reverse member_of (reverse built)) ∙ ap (map member_of) (reverse-reverse built))
 
-  first_file : file_at (map member_of (member_specs (renamed d) machine Gnu)) 0 ≡ Some (tail_file machine d.import_name free)
+  first_file : file_at (map member_of (member_specs (renamed d) machine Gnu)) 0 ≡ Some (tail_file machine (names_in Gnu d) free text_free)
   unfolding tail_spec
   first_file = tail_back.read
 
-  second_file : file_at (map member_of (member_specs (renamed d) machine Gnu)) 1 ≡ Some (head_file machine d.import_name free)
+  second_file : file_at (map member_of (member_specs (renamed d) machine Gnu)) 1 ≡ Some (head_file machine (names_in Gnu d) free text_free)
   unfolding head_spec
   second_file = head_back.read
 
@@ -378,21 +382,21 @@ module _ (d : DefinitionView) (machine : MachineType) (members : List MemberView
         of_members (λ m. option_map declared_by (file_in m.bytes))
         ∙ (map_same (λ (p : MemberSpec). option_map declared_by (file_in (file_bytes p.contents))) (λ (p : MemberSpec). Some p.symbols) (member_specs (renamed d) machine Gnu)
         (read_declares (member_specs (renamed d) machine Gnu) member_specs_read
-        (tail_declares machine d.import_name, (head_declares machine d.import_name, reversed_all DeclaresListed built (numbered_declare machine d.import_name 0 exports))))
+        (tail_declares machine (names_in Gnu d), (head_declares machine (linked_name d), reversed_all DeclaresListed built (numbered_declare machine (linked_name d) 0 exports))))
         ∙ sym (of_members (λ m. Some m.symbols)));
-    tail = tail_file machine d.import_name free;
-    head = head_file machine d.import_name free;
+    tail = tail_file machine (names_in Gnu d) free text_free;
+    head = head_file machine (names_in Gnu d) free text_free;
     tail_read = ap (λ (x : List MemberView). file_at x 0) made.made ∙ first_file;
     head_read = ap (λ (x : List MemberView). file_at x 1) made.made ∙ second_file;
     meanings = flat_map (expected_meanings machine d.import_name) exports;
     meanings_read =
-        ap (map (λ (m : MemberView). option_and_then (meaning_with (head_file machine d.import_name free) (tail_file machine d.import_name free)) (file_in m.bytes))) behind
-        ∙ (read_meaning (head_file machine d.import_name free) (tail_file machine d.import_name free) built built_read
-        ∙ numbered_specified machine d.import_name free 0 exports (exports_sound d machine Gnu members made));
+        ap (map (λ (m : MemberView). option_and_then (meaning_with (head_file machine (names_in Gnu d) free text_free) (tail_file machine (names_in Gnu d) free text_free)) (file_in m.bytes))) behind
+        ∙ (read_meaning (head_file machine (names_in Gnu d) free text_free) (tail_file machine (names_in Gnu d) free text_free) built built_read
+        ∙ numbered_specified machine (names_in Gnu d) free text_free 0 exports (exports_sound d machine Gnu members made));
     by_export = refl;
-    imports = all_imports machine d.import_name free exports;
-    aliases = aliases_among machine d.import_name free exports;
+    imports = all_imports machine (names_in Gnu d) free text_free exports;
+    aliases = aliases_among machine (names_in Gnu d) free text_free exports;
     code =
         ap (filter_map (λ (m : MemberView). option_and_then code_of_export (file_in m.bytes))) behind
-        ∙ (read_code built built_read ∙ numbered_code machine d.import_name free 0 exports);
+        ∙ (read_code built built_read ∙ numbered_code machine (names_in Gnu d) free text_free 0 exports);
   }

@@ -29,6 +29,7 @@ use Rattle.implib.proofs.Members.MemberReadings.{ReadsBack, machine_number_nonze
 use Rattle.implib.proofs.Members.MsvcObjects.{Fits-weak_object}
 use Rattle.implib.proofs.Members.NotRefused.{AsksNoOther, exports_ask, import_name_is_free}
 use Rattle.implib.proofs.Formats.Symbols.{before_nul-ended}
+use Rattle.implib.specs.LibraryName.{NamesOfDll, names_in}
 
 -- What is declared.
 
@@ -36,7 +37,7 @@ use Rattle.implib.proofs.Formats.Symbols.{before_nul-ended}
 abbrev pub DeclaresListed : MemberSpec → Type 0
 DeclaresListed p = declared_by (file_of p.contents) ≡ p.symbols
 
-header_declares : (machine : MachineType) (dll : List ℕ) → AllByRecursion DeclaresListed (header_specs machine dll)
+header_declares : (machine : MachineType) (dll : NamesOfDll) → AllByRecursion DeclaresListed (header_specs machine dll)
 unfolding header_specs descriptor_spec null_descriptor_spec null_thunk_spec descriptor null_descriptor null_thunk object_of entries_of name_text
 header_declares machine dll = (refl, (refl, (refl, tt)))
 
@@ -44,7 +45,7 @@ pub weak_declares : (machine : MachineType) (dll weak target : List ℕ) → Dec
 unfolding weak_object object_of entries_of name_text
 weak_declares machine dll weak target = refl
 
-short_import_declares : (machine : MachineType) (dll : List ℕ) (e : ExportView) → DeclaresListed (short_import_spec machine dll e)
+short_import_declares : (machine : MachineType) (dll : NamesOfDll) (e : ExportView) → DeclaresListed (short_import_spec machine dll e)
 short_import_declares machine dll e = ap (λ is_data. import_symbols is_data (short_import_symbol e)) (import_type_is_data e.is_data e.constant)
 
 chosen_declare : (machine : MachineType) (dll : List ℕ) (e : ExportView) (test : Bool) →
@@ -53,12 +54,12 @@ chosen_declare machine dll e false = tt
 chosen_declare machine dll e true =
     (weak_declares machine dll (short_import_symbol e) e.alias_target, (weak_declares machine dll (imp_symbol (short_import_symbol e)) (imp_symbol e.alias_target), tt))
 
-exports_declare : (machine : MachineType) (dll : List ℕ) (exports : List ExportView) → AllByRecursion DeclaresListed (flat_map (export_specs machine dll) exports)
+exports_declare : (machine : MachineType) (dll : NamesOfDll) (exports : List ExportView) → AllByRecursion DeclaresListed (flat_map (export_specs machine dll) exports)
 unfolding weak_specs
 exports_declare machine dll [] = tt
 exports_declare machine dll (e ∷ exports) =
     all_append DeclaresListed (export_specs machine dll e) (flat_map (export_specs machine dll) exports)
-    (all_append DeclaresListed (weak_specs machine dll e) (short_import_spec machine dll e ∷ []) (chosen_declare machine dll e (is_alias e.alias_target (short_import_symbol e))) (short_import_declares machine dll e, tt))
+    (all_append DeclaresListed (weak_specs machine dll.linked e) (short_import_spec machine dll e ∷ []) (chosen_declare machine dll.linked e (is_alias e.alias_target (short_import_symbol e))) (short_import_declares machine dll e, tt))
     (exports_declare machine dll exports)
 
 pub read_declares : (specs : List MemberSpec) → AllByRecursion (λ p. ReadsBack p.contents) specs → AllByRecursion DeclaresListed specs →
@@ -102,24 +103,24 @@ chosen_mean machine dll e true =
     let second = weak_means machine (imp_symbol (short_import_symbol e)) (imp_symbol e.alias_target) in
     rw (first, second) refl
 
-export_means : (machine : MachineType) (dll : List ℕ) (e : ExportView) →
-    map (λ (p : MemberSpec). meaning_of (file_of p.contents)) (export_specs machine dll e) ≡ map (λ m. Some m) (meanings_written machine dll e)
+export_means : (machine : MachineType) (dll : NamesOfDll) (e : ExportView) →
+    map (λ (p : MemberSpec). meaning_of (file_of p.contents)) (export_specs machine dll e) ≡ map (λ m. Some m) (meanings_written machine dll.text e)
 unfolding weak_specs
 export_means machine dll e =
-    map-append (λ (p : MemberSpec). meaning_of (file_of p.contents)) (weak_specs machine dll e) (short_import_spec machine dll e ∷ [])
-    ∙ (ap (λ x. x ++ meaning_of (file_of (AShortImport (short_import_of machine dll e))) ∷ []) (chosen_mean machine dll e (is_alias e.alias_target (short_import_symbol e)))
-    ∙ (ap (λ x. map (λ a. Some (AnAlias a)) (aliases_for (short_import_symbol e) e.alias_target) ++ x ∷ []) (short_import_means machine dll e)
-    ∙ sym (map-append (λ m. Some m) (map AnAlias (aliases_for (short_import_symbol e) e.alias_target)) (AnImport (import_written machine dll e) ∷ [])
-    ∙ ap (λ x. x ++ Some (AnImport (import_written machine dll e)) ∷ []) (map_after (λ m. Some m) AnAlias (aliases_for (short_import_symbol e) e.alias_target)))))
+    map-append (λ (p : MemberSpec). meaning_of (file_of p.contents)) (weak_specs machine dll.linked e) (short_import_spec machine dll e ∷ [])
+    ∙ (ap (λ x. x ++ meaning_of (file_of (AShortImport (short_import_of machine dll.text e))) ∷ []) (chosen_mean machine dll.linked e (is_alias e.alias_target (short_import_symbol e)))
+    ∙ (ap (λ x. map (λ a. Some (AnAlias a)) (aliases_for (short_import_symbol e) e.alias_target) ++ x ∷ []) (short_import_means machine dll.text e)
+    ∙ sym (map-append (λ m. Some m) (map AnAlias (aliases_for (short_import_symbol e) e.alias_target)) (AnImport (import_written machine dll.text e) ∷ [])
+    ∙ ap (λ x. x ++ Some (AnImport (import_written machine dll.text e)) ∷ []) (map_after (λ m. Some m) AnAlias (aliases_for (short_import_symbol e) e.alias_target)))))
 
-exports_mean : (machine : MachineType) (dll : List ℕ) (exports : List ExportView) →
-    map (λ (p : MemberSpec). meaning_of (file_of p.contents)) (flat_map (export_specs machine dll) exports) ≡ map (λ m. Some m) (flat_map (meanings_written machine dll) exports)
+exports_mean : (machine : MachineType) (dll : NamesOfDll) (exports : List ExportView) →
+    map (λ (p : MemberSpec). meaning_of (file_of p.contents)) (flat_map (export_specs machine dll) exports) ≡ map (λ m. Some m) (flat_map (meanings_written machine dll.text) exports)
 exports_mean machine dll [] = refl
 exports_mean machine dll (e ∷ exports) =
     map-append (λ (p : MemberSpec). meaning_of (file_of p.contents)) (export_specs machine dll e) (flat_map (export_specs machine dll) exports)
     ∙ (ap (λ x. x ++ map (λ (p : MemberSpec). meaning_of (file_of p.contents)) (flat_map (export_specs machine dll) exports)) (export_means machine dll e)
-    ∙ (ap (λ x. map (λ m. Some m) (meanings_written machine dll e) ++ x) (exports_mean machine dll exports)
-    ∙ sym (map-append (λ m. Some m) (meanings_written machine dll e) (flat_map (meanings_written machine dll) exports))))
+    ∙ (ap (λ x. map (λ m. Some m) (meanings_written machine dll.text e) ++ x) (exports_mean machine dll exports)
+    ∙ sym (map-append (λ m. Some m) (meanings_written machine dll.text e) (flat_map (meanings_written machine dll.text) exports))))
 
 -- Without symbol names.
 
@@ -183,21 +184,21 @@ public_plain (e ∷ exports) plain =
 
 -- The whole.
 
-dll_of_descriptor : (machine : MachineType) (dll : List ℕ) → holds 0 dll ≡ false → dll_of (ObjectFile (object_of (descriptor machine dll))) ≡ Some dll
+dll_of_descriptor : (machine : MachineType) (dll : NamesOfDll) → holds 0 dll.text ≡ false → dll_of (ObjectFile (object_of (descriptor machine dll))) ≡ Some dll.text
 unfolding descriptor object_of
-dll_of_descriptor machine dll free = before_nul-ended dll [] free
+dll_of_descriptor machine dll free = before_nul-ended dll.text [] free
 
 -- what all specifications after the first three mean
-after_header : (machine : MachineType) (dll : List ℕ) (specs : List MemberSpec) → AllByRecursion (λ p. ReadsBack p.contents) (header_specs machine dll ++ specs) →
+after_header : (machine : MachineType) (dll : NamesOfDll) (specs : List MemberSpec) → AllByRecursion (λ p. ReadsBack p.contents) (header_specs machine dll ++ specs) →
     AllByRecursion (λ p. ReadsBack p.contents) specs
 unfolding header_specs descriptor_spec null_descriptor_spec null_thunk_spec
 after_header machine dll specs reads = reads.1.1.1
 
-drop_header : (machine : MachineType) (dll : List ℕ) (specs : List MemberSpec) → drop 3 (map member_of (header_specs machine dll ++ specs)) ≡ map member_of specs
+drop_header : (machine : MachineType) (dll : NamesOfDll) (specs : List MemberSpec) → drop 3 (map member_of (header_specs machine dll ++ specs)) ≡ map member_of specs
 unfolding header_specs descriptor_spec null_descriptor_spec null_thunk_spec
 drop_header machine dll specs = refl
 
-first_reads : (machine : MachineType) (dll : List ℕ) (specs : List MemberSpec) → AllByRecursion (λ p. ReadsBack p.contents) (header_specs machine dll ++ specs) →
+first_reads : (machine : MachineType) (dll : NamesOfDll) (specs : List MemberSpec) → AllByRecursion (λ p. ReadsBack p.contents) (header_specs machine dll ++ specs) →
     option_and_then (λ (m : MemberView). dll_in m.bytes) (slice_get (map member_of (header_specs machine dll ++ specs)) 0) ≡ dll_of (ObjectFile (object_of (descriptor machine dll)))
 unfolding header_specs descriptor_spec null_descriptor_spec null_thunk_spec
 first_reads machine dll specs reads = ap (option_and_then dll_of) reads.0.read
@@ -214,11 +215,11 @@ member_specs_mean (p ∷ specs) reads =
 module _ (d : DefinitionView) (machine : MachineType) (members : List MemberView) (made : AreMembersOf d machine Msvc members) where
   meanings_read : map (λ (m : MemberView). meaning_in m.bytes) (drop 3 members) ≡ map (λ m. Some m) (flat_map (meanings_written machine d.import_name) (public_exports (renamed d)))
   meanings_read =
-      let exports = flat_map (export_specs machine d.import_name) (public_exports (renamed d)) in
+      let exports = flat_map (export_specs machine (names_in Msvc d)) (public_exports (renamed d)) in
       ap (λ x. map (λ (m : MemberView). meaning_in m.bytes) (drop 3 x)) made.made
-      ∙ (ap (map (λ (m : MemberView). meaning_in m.bytes)) (drop_header machine d.import_name exports)
-      ∙ (member_specs_mean exports (after_header machine d.import_name exports (member_specs_read_back d machine members made))
-      ∙ exports_mean machine d.import_name (public_exports (renamed d))))
+      ∙ (ap (map (λ (m : MemberView). meaning_in m.bytes)) (drop_header machine (names_in Msvc d) exports)
+      ∙ (member_specs_mean exports (after_header machine (names_in Msvc d) exports (member_specs_read_back d machine members made))
+      ∙ exports_mean machine (names_in Msvc d) (public_exports (renamed d))))
 
   pub reads_for_msvc : MsvcReadBack d machine members
   reads_for_msvc = record {
@@ -228,13 +229,13 @@ module _ (d : DefinitionView) (machine : MachineType) (members : List MemberView
         of_members d machine members made (λ m. option_map declared_by (file_in m.bytes))
         ∙ (map_same (λ (p : MemberSpec). option_map declared_by (file_in (file_bytes p.contents))) (λ (p : MemberSpec). Some p.symbols) (member_specs (renamed d) machine Msvc)
         (read_declares (member_specs (renamed d) machine Msvc) (member_specs_read_back d machine members made)
-        (all_append DeclaresListed (header_specs machine d.import_name) (flat_map (export_specs machine d.import_name) (public_exports (renamed d)))
-        (header_declares machine d.import_name) (exports_declare machine d.import_name (public_exports (renamed d)))))
+        (all_append DeclaresListed (header_specs machine (names_in Msvc d)) (flat_map (export_specs machine (names_in Msvc d)) (public_exports (renamed d)))
+        (header_declares machine (names_in Msvc d)) (exports_declare machine (names_in Msvc d) (public_exports (renamed d)))))
         ∙ sym (of_members d machine members made (λ m. Some m.symbols)));
     dll =
         ap (λ (x : List MemberView). option_and_then (λ (m : MemberView). dll_in m.bytes) (slice_get x 0)) made.made
-        ∙ (first_reads machine d.import_name (flat_map (export_specs machine d.import_name) (public_exports (renamed d))) (member_specs_read_back d machine members made)
-        ∙ dll_of_descriptor machine d.import_name (import_name_is_free d machine Msvc members made));
+        ∙ (first_reads machine (names_in Msvc d) (flat_map (export_specs machine (names_in Msvc d)) (public_exports (renamed d))) (member_specs_read_back d machine members made)
+        ∙ dll_of_descriptor machine (names_in Msvc d) (import_name_is_free d machine Msvc members made));
     meanings = meanings_read;
   }
 

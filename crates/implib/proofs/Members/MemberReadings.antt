@@ -28,9 +28,10 @@ use Rattle.implib.specs.Formats.ShortImport.{ShortImport, is_short_import, short
 use Rattle.implib.specs.Renaming.{renamed}
 use Rattle.implib.proofs.Members.Import.{FitsShortImport-short_import_of, symbol_without_nul}
 use Rattle.implib.proofs.Members.MsvcObjects.{Fits-descriptor, Fits-null_descriptor, Fits-null_thunk, Fits-weak_object}
-use Rattle.implib.proofs.Members.NotRefused.{Sound, exports_sound, import_name_is_free, none_long, short_enough}
+use Rattle.implib.proofs.Members.NotRefused.{Sound, exports_sound, import_name_is_free, linked_is_free, none_long, short_enough}
 use Rattle.implib.proofs.Formats.ObjectReading.{length-encoded, object_in-encoded}
 use Rattle.implib.proofs.Members.ShortImport.{length-short_import_bytes, short_import_in-short_import_bytes}
+use Rattle.implib.specs.LibraryName.{NamesOfDll, names_in}
 
 -- the file of a specification reads as what was specified
 pub record ReadsBack (contents : Contents) : Type 0 where
@@ -86,28 +87,28 @@ weak_reads machine weak target weak_free target_free short =
     object_reads (weak_object machine weak target) (Fits-weak_object machine weak target weak_free target_free) (machine_number_nonzero machine) short
 
 -- what the specifications of a list of exports are read as, one after another
-module _ (machine : MachineType) (dll : List ℕ) (dll_free : holds 0 dll ≡ false) where
+module _ (machine : MachineType) (dll : NamesOfDll) (linked_free : holds 0 dll.linked ≡ false) (text_free : holds 0 dll.text ≡ false) where
   weak_specs_read : (e : ExportView) → Sound e → (test : Bool) →
-      list_any is_too_long (if test then weak_spec machine dll (short_import_symbol e) e.alias_target ∷ weak_spec machine dll (imp_symbol (short_import_symbol e)) (imp_symbol e.alias_target) ∷ [] else []) ≡ false →
-      AllByRecursion (λ p. ReadsBack p.contents) (if test then weak_spec machine dll (short_import_symbol e) e.alias_target ∷ weak_spec machine dll (imp_symbol (short_import_symbol e)) (imp_symbol e.alias_target) ∷ [] else [])
+      list_any is_too_long (if test then weak_spec machine dll.linked (short_import_symbol e) e.alias_target ∷ weak_spec machine dll.linked (imp_symbol (short_import_symbol e)) (imp_symbol e.alias_target) ∷ [] else []) ≡ false →
+      AllByRecursion (λ p. ReadsBack p.contents) (if test then weak_spec machine dll.linked (short_import_symbol e) e.alias_target ∷ weak_spec machine dll.linked (imp_symbol (short_import_symbol e)) (imp_symbol e.alias_target) ∷ [] else [])
   weak_specs_read e sound false short = tt
   weak_specs_read e sound true short =
-      let first = or_parts (is_too_long (weak_spec machine dll (short_import_symbol e) e.alias_target)) _ short in
-      let second = or_parts (is_too_long (weak_spec machine dll (imp_symbol (short_import_symbol e)) (imp_symbol e.alias_target))) false first.1 in
+      let first = or_parts (is_too_long (weak_spec machine dll.linked (short_import_symbol e) e.alias_target)) _ short in
+      let second = or_parts (is_too_long (weak_spec machine dll.linked (imp_symbol (short_import_symbol e)) (imp_symbol e.alias_target))) false first.1 in
       let symbol_free : holds 0 (short_import_symbol e) ≡ false = symbol_without_nul e.symbol_name e.name sound.symbol_name sound.name in (
-        weak_reads machine (short_import_symbol e) e.alias_target symbol_free sound.alias_target (short_enough (weak_spec machine dll (short_import_symbol e) e.alias_target) first.0),
-        (weak_reads machine (imp_symbol (short_import_symbol e)) (imp_symbol e.alias_target) symbol_free sound.alias_target (short_enough (weak_spec machine dll (imp_symbol (short_import_symbol e)) (imp_symbol e.alias_target)) second.0), tt),
+        weak_reads machine (short_import_symbol e) e.alias_target symbol_free sound.alias_target (short_enough (weak_spec machine dll.linked (short_import_symbol e) e.alias_target) first.0),
+        (weak_reads machine (imp_symbol (short_import_symbol e)) (imp_symbol e.alias_target) symbol_free sound.alias_target (short_enough (weak_spec machine dll.linked (imp_symbol (short_import_symbol e)) (imp_symbol e.alias_target)) second.0), tt),
       )
 
   export_specs_read : (e : ExportView) → Sound e → list_any is_too_long (export_specs machine dll e) ≡ false → AllByRecursion (λ p. ReadsBack p.contents) (export_specs machine dll e)
   unfolding weak_specs
   export_specs_read e sound short =
-      let parts = or_parts (list_any is_too_long (weak_specs machine dll e)) (is_too_long (short_import_spec machine dll e) || false)
-      (sym (list_any-append is_too_long (weak_specs machine dll e) (short_import_spec machine dll e ∷ [])) ∙ short) in
+      let parts = or_parts (list_any is_too_long (weak_specs machine dll.linked e)) (is_too_long (short_import_spec machine dll e) || false)
+      (sym (list_any-append is_too_long (weak_specs machine dll.linked e) (short_import_spec machine dll e ∷ [])) ∙ short) in
       let last = or_parts (is_too_long (short_import_spec machine dll e)) false parts.1 in
-      all_append (λ p. ReadsBack p.contents) (weak_specs machine dll e) (short_import_spec machine dll e ∷ [])
+      all_append (λ p. ReadsBack p.contents) (weak_specs machine dll.linked e) (short_import_spec machine dll e ∷ [])
       (weak_specs_read e sound (is_alias e.alias_target (short_import_symbol e)) parts.0)
-      (short_import_reads (short_import_of machine dll e) (FitsShortImport-short_import_of machine dll e sound.name sound.symbol_name dll_free sound.ordinal) (short_enough (short_import_spec machine dll e) last.0), tt)
+      (short_import_reads (short_import_of machine dll.text e) (FitsShortImport-short_import_of machine dll.text e sound.name sound.symbol_name text_free sound.ordinal) (short_enough (short_import_spec machine dll e) last.0), tt)
 
   exports_specs_read : (exports : List ExportView) → AllByRecursion Sound exports → list_any is_too_long (flat_map (export_specs machine dll) exports) ≡ false →
       AllByRecursion (λ p. ReadsBack p.contents) (flat_map (export_specs machine dll) exports)
@@ -123,11 +124,11 @@ module _ (machine : MachineType) (dll : List ℕ) (dll_free : holds 0 dll ≡ fa
   header_specs_read short =
       let first = or_parts (nat_lt 0xFFFF_FFFF (encoded_size (descriptor machine dll))) _ short in
       let second = or_parts (nat_lt 0xFFFF_FFFF (encoded_size (null_descriptor machine))) _ first.1 in
-      let third = or_parts (nat_lt 0xFFFF_FFFF (encoded_size (null_thunk machine dll))) false second.1 in (
-        object_reads (descriptor machine dll) (Fits-descriptor machine dll dll_free) (machine_number_nonzero machine) (ltb-false _ _ first.0),
+      let third = or_parts (nat_lt 0xFFFF_FFFF (encoded_size (null_thunk machine dll.linked))) false second.1 in (
+        object_reads (descriptor machine dll) (Fits-descriptor machine dll linked_free) (machine_number_nonzero machine) (ltb-false _ _ first.0),
         (
           object_reads (null_descriptor machine) (Fits-null_descriptor machine) (machine_number_nonzero machine) (ltb-false _ _ second.0),
-          (object_reads (null_thunk machine dll) (Fits-null_thunk machine dll dll_free) (machine_number_nonzero machine) (ltb-false _ _ third.0), tt),
+          (object_reads (null_thunk machine dll.linked) (Fits-null_thunk machine dll.linked linked_free) (machine_number_nonzero machine) (ltb-false _ _ third.0), tt),
         ),
       )
 
@@ -163,7 +164,7 @@ each_length (p ∷ specs) reads = (reads.0.length, each_length specs reads.1)
 module _ (d : DefinitionView) (machine : MachineType) (members : List MemberView) (made : AreMembersOf d machine Msvc members) where
   pub member_specs_read_back : AllByRecursion (λ p. ReadsBack p.contents) (member_specs (renamed d) machine Msvc)
   member_specs_read_back =
-      member_specs_read machine d.import_name (import_name_is_free d machine Msvc members made) (public_exports (renamed d))
+      member_specs_read machine (names_in Msvc d) (linked_is_free d machine Msvc members made) (import_name_is_free d machine Msvc members made) (public_exports (renamed d))
       (exports_sound d machine Msvc members made) (none_long d machine Msvc members made)
 
   -- a fact of each member's file is a fact of what was specified

@@ -9,6 +9,7 @@ use Rattle.implib.specs.declared.def.definition.ShortExport.{ShortExport}
 use Rattle.implib.specs.declared.flavor.Flavor.TheVariants.{Msvc}
 use Rattle.implib.specs.declared.machine.MachineType.{MachineType}
 use Rattle.implib.specs.Definition.{ExportView, export_view}
+use Rattle.implib.specs.LibraryName.{NamesOfDll}
 use Rattle.implib.specs.Members.MemberSpec.{MemberView, member_of}
 use Rattle.implib.specs.Members.MsvcMembers.{export_specs}
 use Rattle.implib.specs.Members.Members.{has_u16_ordinal, is_too_long}
@@ -16,14 +17,14 @@ use Rattle.implib.specs.Members.NameRules.{name_refusal, names_refusal}
 use Rattle.implib.proofs.Members.NotRefused.{first_none}
 
 -- the members so far and those of the exports that are left are all; none so far is too long
-pub record Left (machine : MachineType) (dll : List ℕ) (all : List MemberView) (long sound : Bool)
+pub record Left (machine : MachineType) (dll : NamesOfDll) (all : List MemberView) (long sound : Bool)
     (index : ℕ) (members : List MemberView) (exports : List ExportView) : Type 0 where
   pub named : names_refusal Msvc machine index exports ≡ None
   pub made : members ++ map member_of (flat_map (export_specs machine dll) (filter (λ e. not e.private) exports)) ≡ all
   pub fit : list_any is_too_long (flat_map (export_specs machine dll) (filter (λ e. not e.private) exports)) ≡ long
   pub ordinals : list_all has_u16_ordinal (filter (λ e. not e.private) exports) ≡ sound
 
-module _ (machine : MachineType) (dll : List ℕ) (all : List MemberView) (long sound : Bool) (index : ℕ) (members : List MemberView) (e : ExportView) (exports : List ExportView) where
+module _ (machine : MachineType) (dll : NamesOfDll) (all : List MemberView) (long sound : Bool) (index : ℕ) (members : List MemberView) (e : ExportView) (exports : List ExportView) where
   rest_named : names_refusal Msvc machine index (e ∷ exports) ≡ None → names_refusal Msvc machine (index + 1) exports ≡ None
   rest_named named = (first_none (if e.private then None else name_refusal Msvc machine index e) (names_refusal Msvc machine (index + 1) exports) named).1
 

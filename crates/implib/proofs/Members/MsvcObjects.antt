@@ -14,6 +14,7 @@ use Rattle.implib.specs.Members.MsvcObjects.{descriptor_characteristics, base_na
 use Rattle.implib.specs.Members.WeakExternal.{weak_auxiliary, weak_object}
 use Rattle.implib.specs.Formats.Object.{ObjectSection}
 use Rattle.implib.specs.Formats.Layout.{symbol, ObjectLayout, LayoutSymbol, Fits, FitsRelocation, FitsSection, FitsSymbol, InRecord, InStringTable}
+use Rattle.implib.specs.LibraryName.{NamesOfDll}
 
 -- the front of a text without NUL has none
 holds-take : (n : ℕ) (text : List ℕ) → holds 0 text ≡ false → holds 0 (take n text) ≡ false
@@ -81,10 +82,10 @@ pub plain_section_fits : (name contents : List ℕ) (flags : ℕ) → length nam
 plain_section_fits name contents flags eight flags_fit = record { name = eight; flags = flags_fit; count = omega arith; relocations = tt }
 
 -- the import descriptor fits
-pub Fits-descriptor : (machine : MachineType) (dll : List ℕ) → holds 0 dll ≡ false → Fits (descriptor machine dll)
+pub Fits-descriptor : (machine : MachineType) (dll : NamesOfDll) → holds 0 dll.linked ≡ false → Fits (descriptor machine dll)
 unfolding descriptor
 Fits-descriptor machine dll free =
-    let strings = descriptor_symbol dll ∷ null_descriptor_symbol ∷ null_thunk_symbol dll ∷ [] in
+    let strings = descriptor_symbol dll.linked ∷ null_descriptor_symbol ∷ null_thunk_symbol dll.linked ∷ [] in
     record {
       machine = machine_fits machine;
       characteristics = descriptor_characteristics_fits machine;
@@ -124,10 +125,10 @@ Fits-descriptor machine dll free =
         ),
       );
       strings = (
-        holds-descriptor_symbol dll free,
+        holds-descriptor_symbol dll.linked free,
         (
           holds-null_descriptor_symbol,
-          (holds-null_thunk_symbol dll free, tt),
+          (holds-null_thunk_symbol dll.linked free, tt),
         ),
       );
     }

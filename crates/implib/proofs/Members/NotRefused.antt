@@ -1,18 +1,22 @@
 -- What is known of a definition that no rule refuses, in either flavour.
-use Rattle.std.proofs.Common.{◌≡◌, ℕ, ◌+◌, ◌≤◌, Bool, true, false, if◌then◌else◌, ◌||◌, List, [], ◌∷◌, map, Option, Some, None, refl, ◌∙◌}
+use Rattle.std.proofs.Common.{◌≡◌, ℕ, ◌+◌, ◌≤◌, Bool, true, false, if◌then◌else◌, ◌||◌, List, [], ◌∷◌, ◌++◌, codes, map, Option, Some, None, refl, ◌∙◌}
 use Rattle.std.specs.Prelude.{◌==◌, ◌&&◌, bytes_eq, is_some, not, unwrap_or}
 use Rattle.std.specs.List.{AllByRecursion, filter, list_all, list_any}
-use Rattle.std.proofs.lemmas.Bool.{and_parts, ltb-false, or_parts}
+use Rattle.std.specs.Option.{option_map}
+use Rattle.std.proofs.lemmas.Bool.{and_parts, ltb-false, or_from, or_parts}
+use Rattle.std.proofs.lemmas.List.Folds.{list_any-append}
 use Rattle.std.proofs.lemmas.Slice.Eq.{bytes_eq-Decides}
 use Rattle.implib.specs.declared.flavor.Flavor.{Flavor}
+use Rattle.implib.specs.declared.flavor.Flavor.TheVariants.{Msvc, Gnu}
 use Rattle.implib.specs.declared.machine.MachineType.{MachineType}
 use Rattle.implib.specs.Definition.{DefinitionView, ExportView, given_name}
-use Rattle.implib.specs.Fault.{Cause, EmptyAskedName, EmptyImportName, NoNameType, NulInImportName, EmptyName, NulInExport, MemberTooLong}
-use Rattle.implib.specs.Ascii.{without_first}
+use Rattle.implib.specs.Fault.{Cause, EmptyAskedName, EmptyImportName, EmptyLibraryName, LineEndInLibraryName, NoNameType, NulInImportName, NulInLibraryName, EmptyName, NulInExport, MemberTooLong}
+use Rattle.implib.specs.Ascii.{line_feed, without_first}
+use Rattle.implib.specs.LibraryName.{linked_in}
 use Rattle.implib.specs.Import.{holds, is_empty_text, name_asked, public_exports}
 use Rattle.implib.specs.Members.Members.{AreMembersOf, has_u16_ordinal, is_too_long, length_refusal, member_specs, refusal, renamed_refusal}
 use Rattle.implib.specs.Members.MemberSpec.{MemberView, MemberSpec, file_size}
-use Rattle.implib.specs.Members.NameRules.{asked_in, asks_another, definition_names_refusal, first_of_both, holds_nul, import_name_refusal, name_refusal, name_to_ask, names_refusal}
+use Rattle.implib.specs.Members.NameRules.{asked_in, asks_another, definition_names_refusal, first_of_both, holds_nul, import_name_refusal, library_name_refusal, name_refusal, name_to_ask, names_refusal}
 use Rattle.implib.specs.Renaming.{renamed, renamed_export}
 use Rattle.implib.specs.Underscore.{asked_name, has_underscore}
 
@@ -36,6 +40,26 @@ if_none false x otherwise none = (refl, none)
 pub first_none : (first second : Option Cause) → first_of_both first second ≡ None → (first ≡ None) × (second ≡ None)
 first_none (Some cause) second none = cc
 first_none None second none = (refl, none)
+
+-- the name for the linker has no NUL
+library_name_free : (name : List ℕ) → library_name_refusal (Some name) ≡ None → holds 0 name ≡ false
+library_name_free name none =
+    let filled = if_none (is_empty_text name) EmptyLibraryName (if holds 0 name then Some NulInLibraryName else if holds line_feed name then Some LineEndInLibraryName else None) none in
+    (if_none (holds 0 name) NulInLibraryName _ filled.1).0
+
+linked_name_free : (given : Option (List ℕ)) (dll : List ℕ) → library_name_refusal given ≡ None → holds 0 dll ≡ false → holds 0 (unwrap_or given dll) ≡ false
+linked_name_free None dll none free = free
+linked_name_free (Some name) dll none free = library_name_free name none
+
+linked_dll_free : (given : Option (List ℕ)) (dll : List ℕ) → library_name_refusal given ≡ None → holds 0 dll ≡ false →
+    holds 0 (unwrap_or (option_map (λ name. name ++ codes ".dll") given) dll) ≡ false
+linked_dll_free None dll none free = free
+linked_dll_free (Some name) dll none free =
+    list_any-append (λ b. b == 0) name (codes ".dll") ∙ or_from (holds 0 name) false (library_name_free name none) refl
+
+pub linked_free : (flavor : Flavor) (d : DefinitionView) → library_name_refusal d.library_name ≡ None → holds 0 d.import_name ≡ false → holds 0 (linked_in flavor d) ≡ false
+linked_free Msvc d none free = linked_dll_free d.library_name d.import_name none free
+linked_free Gnu d none free = linked_name_free d.library_name d.import_name none free
 
 import_name_free : (name : List ℕ) → import_name_refusal name ≡ None → holds 0 name ≡ false
 import_name_free name none =
@@ -130,11 +154,18 @@ module _ (d : DefinitionView) (machine : MachineType) (flavor : Flavor) (members
   unfolding refusal renamed_refusal
   refusals = first_none (definition_names_refusal (renamed d) machine flavor) (length_refusal (member_specs (renamed d) machine flavor)) made.accepted
 
-  name_refusals : (import_name_refusal d.import_name ≡ None) × (names_refusal flavor machine 0 (map renamed_export d.exports) ≡ None)
-  name_refusals = first_none (import_name_refusal d.import_name) (names_refusal flavor machine 0 (map renamed_export d.exports)) refusals.0
+  library_refusals : (import_name_refusal d.import_name ≡ None)
+      × (first_of_both (library_name_refusal d.library_name) (names_refusal flavor machine 0 (map renamed_export d.exports)) ≡ None)
+  library_refusals = first_none (import_name_refusal d.import_name) _ refusals.0
+
+  name_refusals : (library_name_refusal d.library_name ≡ None) × (names_refusal flavor machine 0 (map renamed_export d.exports) ≡ None)
+  name_refusals = first_none (library_name_refusal d.library_name) (names_refusal flavor machine 0 (map renamed_export d.exports)) library_refusals.1
 
   pub import_name_is_free : holds 0 d.import_name ≡ false
-  import_name_is_free = import_name_free d.import_name name_refusals.0
+  import_name_is_free = import_name_free d.import_name library_refusals.0
+
+  pub linked_is_free : holds 0 (linked_in flavor d) ≡ false
+  linked_is_free = linked_free flavor d name_refusals.0 import_name_is_free
 
   pub exports_sound : AllByRecursion Sound (public_exports (renamed d))
   exports_sound = all_sound flavor machine 0 (map renamed_export d.exports) name_refusals.1 made.ordinals

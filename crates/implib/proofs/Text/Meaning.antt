@@ -37,6 +37,7 @@ abbrev gathered : MachineType → DefinitionView → List Statement → List Exp
 gathered machine d items exports = record {
   exports = exports;
   import_name = last_or d.import_name import_name_in items;
+  library_name = d.library_name;
   image_base = last_or d.image_base image_base_in items;
   stack_reserve = last_or d.stack_reserve stack_reserve_in items;
   stack_commit = last_or d.stack_commit stack_commit_in items;

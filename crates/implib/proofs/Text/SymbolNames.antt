@@ -41,4 +41,5 @@ parsed_lacks text machine definition parsed =
       asks_as_parsed = parsed_ask machine exports;
       asks_as_renamed = renamed_ask machine exports;
       renamed = renamed_lack machine exports;
+      library_name = refl;
     })

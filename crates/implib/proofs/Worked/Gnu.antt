@@ -20,7 +20,7 @@ use Rattle.implib.specs.Worked.Members.{Means}
 use Rattle.implib.proofs.Worked.Statements.{opened as text_opened, parses}
 
 -- what the computing has to open
-abbrev opened : Unit {0}
+unfoldable pub opened : Unit {0}
 unfolding text_opened refusal renamed_refusal weak_object digits alias_specs export_spec head_spec tail_spec export_object five_digits head_name head_object head_symbol hint_name iname_symbol numbered_name relocations_of_stub relocations_of_thunk mangled_name stub tail_name tail_object thunk auxiliary_bytes auxiliary_count contents contents_offset section_size header_bytes encoded encoded_size name_field offsets_from pointer_or_zero record_count records relocation_bytes section_header section_headers string_bytes_of string_offsets string_size string_table strings_size symbol_bytes symbol_table_offset u16_bytes u32_bytes long_names name_location layout_of symbol_written with_long_name with_name
 opened = tt
 

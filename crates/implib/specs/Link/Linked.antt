@@ -9,6 +9,8 @@ use Rattle.implib.specs.Definition.{ExportView}
 use Rattle.implib.specs.Members.Gnu.{head_symbol}
 use Rattle.implib.specs.Link.Image.{Range, image_of}
 use Rattle.implib.specs.Import.{imp_symbol, expected_ask}
+use Rattle.implib.specs.LibraryName.{NamesOfDll, names_in}
+use Rattle.implib.specs.declared.flavor.Flavor.TheVariants.{Gnu}
 use Rattle.implib.specs.Link.LinkedMembers.{LinkInput, chosen_exports, linked_members, objects_in}
 use Rattle.implib.specs.Link.Load.{Loads, LoadsStrictly}
 use Rattle.implib.specs.Members.ImportTables.{thunk_width}
@@ -58,27 +60,27 @@ AllFind linked p = AllByRecursion (λ s. AllByRecursion (FindsTarget linked p) s
 -- for, in their order; each export's `__imp_` symbol is its own entry of the address table. For example, with
 -- the address table of foo.dll at 0x1040 on AMD64, `__imp_bar` is 0x1040 and `__imp_baz` 0x1048
 -- (Worked/Links).
-pub record LinksAt (machine : MachineType) (image : List Range) (linked : List Placed) (dll : List ℕ)
+pub record LinksAt (machine : MachineType) (image : List Range) (linked : List Placed) (dll : NamesOfDll)
     (exports : List ExportView)
     : Type 0 where
   pub descriptor : ℕ
-  pub head : definitions_of (head_symbol machine dll) linked
-      ≡ record { name = head_symbol machine dll; address = Some descriptor } ∷ []
-  pub loads : Loads image (thunk_width machine) descriptor dll (map (expected_ask machine) exports)
+  pub head : definitions_of (head_symbol machine dll.linked) linked
+      ≡ record { name = head_symbol machine dll.linked; address = Some descriptor } ∷ []
+  pub loads : Loads image (thunk_width machine) descriptor dll.text (map (expected_ask machine) exports)
   pub entries : EntriesAt linked (thunk_width machine) loads.addresses exports
 
 -- The same at this address, for a strict loader.
 pub record LinksStrictlyAt (machine : MachineType) (image : List Range) (linked : List Placed)
-    (descriptor : ℕ) (dll : List ℕ)
+    (descriptor : ℕ) (dll : NamesOfDll)
     (exports : List ExportView) : Type 0 where
-  pub head : definitions_of (head_symbol machine dll) linked
-      ≡ record { name = head_symbol machine dll; address = Some descriptor } ∷ []
-  pub loads : LoadsStrictly image (thunk_width machine) descriptor dll (map (expected_ask machine) exports)
+  pub head : definitions_of (head_symbol machine dll.linked) linked
+      ≡ record { name = head_symbol machine dll.linked; address = Some descriptor } ∷ []
+  pub loads : LoadsStrictly image (thunk_width machine) descriptor dll.text (map (expected_ask machine) exports)
   pub entries : EntriesAt linked (thunk_width machine) loads.plain.addresses exports
 
 -- Objects that are placed at bases link to an import of these exports from the DLL, and no symbol
 -- stays undefined or is ambiguous.
-pub record Links (machine : MachineType) (bases : Bases) (dll : List ℕ) (exports : List ExportView)
+pub record Links (machine : MachineType) (bases : Bases) (dll : NamesOfDll) (exports : List ExportView)
     (objects : List Object)
     : Type 0 where
   pub imports : LinksAt machine (image_of machine bases (placed_from bases objects))
@@ -98,7 +100,7 @@ pub record AllLink (machine : MachineType) (bases : Bases) (inputs : List LinkIn
   pub linked : AllByRecursion (IsLinked machine) inputs
   pub imports : AllByRecursion
       (λ p. LinksAt machine (image_of machine bases (placed_from bases objects)) (placed_from bases objects)
-      p.definition.import_name (chosen_exports p.definition p.chosen))
+      (names_in Gnu p.definition) (chosen_exports p.definition p.chosen))
       inputs
   pub defined : AllByRecursion (IsDefinedOnce (placed_from bases objects))
       (undefined_names (placed_from bases objects))

@@ -16,6 +16,7 @@ use Rattle.implib.specs.declared.member.Member.{Member}
 use Rattle.std.specs.declared.vec.Vec.{Vec}
 use Rattle.implib.specs.Members.Gnu.{export_name, mangled_name}
 use Rattle.implib.specs.Import.{public_exports}
+use Rattle.implib.specs.LibraryName.{linked_name, names_in}
 use Rattle.implib.specs.Members.Members.{AreMembersOf}
 use Rattle.implib.specs.Members.MemberSpec.{MemberView, MemberSpec, member_of}
 use Rattle.implib.specs.Members.GnuMembers.{export_spec, head_spec, tail_spec}
@@ -35,9 +36,9 @@ numbered_spec machine dll exports number =
 -- the specifications of what is linked: the head, the members of the selected exports, the tail
 abbrev pub linked_specs : DefinitionView → MachineType → List ℕ → List MemberSpec
 linked_specs d machine chosen =
-    head_spec machine d.import_name
-    ∷ (filter_map (numbered_spec machine d.import_name (public_exports (renamed d))) chosen
-    ++ tail_spec machine d.import_name ∷ [])
+    head_spec machine (linked_name d)
+    ∷ (filter_map (numbered_spec machine (linked_name d) (public_exports (renamed d))) chosen
+    ++ tail_spec machine (names_in Gnu d) ∷ [])
 
 -- what is linked
 abbrev pub linked_members : DefinitionView → MachineType → List ℕ → List MemberView
@@ -99,11 +100,12 @@ IsMade machine p = AreMembersOf p.definition machine Gnu p.members
 pub record IsLinkInput (machine : MachineType) (p : LinkInput) : Type 0 where
   pub made : AreMembersOf p.definition machine Gnu p.members
   pub numbers : AllByRecursion (λ n. n < length (public_exports (renamed p.definition))) p.chosen
-  pub in_order : IsAscending (map (export_name p.definition.import_name) p.chosen)
+  pub in_order : IsAscending (map (export_name (linked_name p.definition)) p.chosen)
 
--- What the names of a definition's members begin with. For example, `foo_dll_a_` of foo.dll.
+-- What the names of a definition's members begin with. For example, `foo_dll_a_` of foo.dll, and `foo_1_a_`
+-- where its library has the name foo.1.
 abbrev pub member_prefix : DefinitionView → List ℕ
-member_prefix d = mangled_name d.import_name ++ codes "_a_"
+member_prefix d = mangled_name (linked_name d) ++ codes "_a_"
 
 -- a text is the beginning of another
 abbrev pub IsPrefixOf : List ℕ → List ℕ → Type 0

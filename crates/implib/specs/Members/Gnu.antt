@@ -14,6 +14,7 @@ use Rattle.implib.specs.Formats.Constants.{align_4bytes, align_16bytes, mem_exec
 use Rattle.implib.specs.Formats.Constants.{class_external, class_static, class_file, i386_dir32, amd64_rel32}
 use Rattle.implib.specs.Formats.Constants.{arm_rel32, arm64_pagebase_rel21, arm64_pageoffset_12l}
 use Rattle.implib.specs.Definition.{ExportView}
+use Rattle.implib.specs.LibraryName.{NamesOfDll}
 use Rattle.implib.specs.Underscore.{leading_underscore}
 use Rattle.implib.specs.Import.{imp_symbol, name_asked, underscore}
 use Rattle.implib.specs.Members.ImportTables.{address_table_offset, descriptor_size, lookup_table_offset, name_offset}
@@ -25,7 +26,7 @@ use Rattle.implib.specs.Formats.Writer.{AddedSymbol, WriterState}
 abbrev pub without_full_stop : ℕ → ℕ
 without_full_stop byte = if byte == full_stop then underscore else byte
 
--- What the names of a DLL's members and symbols are made of: its name with each `.` as `_`. For example,
+-- What the names of a library's members and symbols are made of: its name with each `.` as `_`. For example,
 -- `a_b_dll_dll` of a.b.dll.dll.
 unfoldable pub mangled_name : List ℕ → List ℕ
 mangled_name dll = map without_full_stop dll
@@ -158,12 +159,12 @@ tail_symbols name =
     ∷ added name (Section 6) class_external  -- 2
     ∷ []
 
--- the tail
-unfoldable pub tail_object : MachineType → List ℕ → WriterState
+-- the tail: the names of its symbols are for the linker, its text is the DLL's name
+unfoldable pub tail_object : MachineType → NamesOfDll → WriterState
 tail_object machine dll = record {
   machine = machine;
-  sections = tail_sections machine dll;
-  symbols = tail_symbols (iname_symbol machine dll);
+  sections = tail_sections machine dll.text;
+  symbols = tail_symbols (iname_symbol machine dll.linked);
 }
 
 -- the instructions that jump to the address of an import (this project's choice)

@@ -2,6 +2,7 @@
 use Rattle.std.specs.Prelude.{ℕ, ◌+◌, List, [], ◌∷◌, ◌++◌, reverse, if◌then◌else◌}
 use Rattle.implib.specs.declared.machine.MachineType.{MachineType}
 use Rattle.implib.specs.Definition.{ExportView}
+use Rattle.implib.specs.LibraryName.{NamesOfDll}
 use Rattle.implib.specs.Members.Gnu.{archive_symbols, export_name, export_object, head_name, head_object, head_symbol}
 use Rattle.implib.specs.Members.Gnu.{iname_symbol, tail_name, tail_object, weak_address_name, weak_name}
 use Rattle.implib.specs.Import.{imp_symbol, is_alias}
@@ -10,11 +11,11 @@ use Rattle.implib.specs.Formats.Writer.{layout_of}
 use Rattle.implib.specs.Members.MemberSpec.{AnObject, MemberSpec}
 
 -- the specification of the tail
-unfoldable pub tail_spec : MachineType → List ℕ → MemberSpec
+unfoldable pub tail_spec : MachineType → NamesOfDll → MemberSpec
 tail_spec machine dll = record {
-  name = tail_name dll;
+  name = tail_name dll.linked;
   contents = AnObject (layout_of (tail_object machine dll));
-  symbols = iname_symbol machine dll ∷ [];
+  symbols = iname_symbol machine dll.linked ∷ [];
 }
 
 -- the specification of the head
@@ -59,6 +60,7 @@ numbered_specs machine dll number (e ∷ exports) =
 
 -- The tail, the head, and what was built, from the last to the first. For example, for bar and qux in
 -- foo.dll: `foo_dll_a_t.o`, `foo_dll_a_h.o`, `foo_dll_a_s00001.o` and `foo_dll_a_s00000.o`.
-abbrev pub gnu_specs : MachineType → List ℕ → List ExportView → List MemberSpec
+abbrev pub gnu_specs : MachineType → NamesOfDll → List ExportView → List MemberSpec
 gnu_specs machine dll exports =
-    tail_spec machine dll ∷ head_spec machine dll ∷ reverse (numbered_specs machine dll 0 exports)
+    tail_spec machine dll ∷ head_spec machine dll.linked
+    ∷ reverse (numbered_specs machine dll.linked 0 exports)

@@ -2,6 +2,7 @@
 use Rattle.std.specs.Prelude.{ℕ, List, [], ◌∷◌, ◌++◌, if◌then◌else◌}
 use Rattle.implib.specs.declared.machine.MachineType.{MachineType}
 use Rattle.implib.specs.Definition.{ExportView}
+use Rattle.implib.specs.LibraryName.{NamesOfDll}
 use Rattle.implib.specs.Import.{imp_symbol, is_alias}
 use Rattle.implib.specs.Members.Msvc.{short_import_of, short_import_symbols, short_import_symbol}
 use Rattle.implib.specs.Members.MsvcObjects.{descriptor, descriptor_symbol, null_descriptor, null_descriptor_symbol}
@@ -10,11 +11,11 @@ use Rattle.implib.specs.Members.WeakExternal.{weak_spec}
 use Rattle.implib.specs.Members.MemberSpec.{AShortImport, AnObject, MemberSpec}
 
 -- the specification of the import descriptor
-unfoldable pub descriptor_spec : MachineType → List ℕ → MemberSpec
+unfoldable pub descriptor_spec : MachineType → NamesOfDll → MemberSpec
 descriptor_spec machine dll = record {
-  name = dll;
+  name = dll.linked;
   contents = AnObject (descriptor machine dll);
-  symbols = descriptor_symbol dll ∷ [];
+  symbols = descriptor_symbol dll.linked ∷ [];
 }
 
 -- the specification of the null descriptor
@@ -34,9 +35,9 @@ null_thunk_spec machine dll = record {
 }
 
 -- the header members: import descriptor, null descriptor, null thunk
-unfoldable pub header_specs : MachineType → List ℕ → List MemberSpec
+unfoldable pub header_specs : MachineType → NamesOfDll → List MemberSpec
 header_specs machine dll =
-    descriptor_spec machine dll ∷ null_descriptor_spec machine dll ∷ null_thunk_spec machine dll ∷ []
+    descriptor_spec machine dll ∷ null_descriptor_spec machine dll.linked ∷ null_thunk_spec machine dll.linked ∷ []
 
 -- the specifications of the weak externals of an export: of its symbol, and of its address
 unfoldable pub weak_specs : MachineType → List ℕ → ExportView → List MemberSpec
@@ -48,10 +49,10 @@ weak_specs machine dll e =
     else []
 
 -- the specification of an export's short import
-abbrev pub short_import_spec : MachineType → List ℕ → ExportView → MemberSpec
+abbrev pub short_import_spec : MachineType → NamesOfDll → ExportView → MemberSpec
 short_import_spec machine dll e = record {
-  name = dll;
-  contents = AShortImport (short_import_of machine dll e);
+  name = dll.linked;
+  contents = AShortImport (short_import_of machine dll.text e);
   symbols = short_import_symbols e;
 }
 
@@ -60,5 +61,5 @@ abbrev pub member_count : ExportView → ℕ
 member_count e = if is_alias e.alias_target (short_import_symbol e) then 3 else 1
 
 -- the specifications of an export
-abbrev pub export_specs : MachineType → List ℕ → ExportView → List MemberSpec
-export_specs machine dll e = weak_specs machine dll e ++ short_import_spec machine dll e ∷ []
+abbrev pub export_specs : MachineType → NamesOfDll → ExportView → List MemberSpec
+export_specs machine dll e = weak_specs machine dll.linked e ++ short_import_spec machine dll e ∷ []

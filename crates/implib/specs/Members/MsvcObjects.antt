@@ -6,6 +6,7 @@ use Rattle.implib.specs.declared.machine.MachineType.{MachineType}
 use Rattle.implib.specs.Formats.Constants.{cnt_initialized_data, align_2bytes}
 use Rattle.implib.specs.Formats.Constants.{mem_read_write, machine_32bit, class_external, class_static, class_section}
 use Rattle.implib.specs.Formats.Constants.{section_undefined}
+use Rattle.implib.specs.LibraryName.{NamesOfDll}
 use Rattle.implib.specs.Machine.{machine_number, is_32bit}
 use Rattle.implib.specs.Formats.Object.{ObjectSection}
 use Rattle.implib.specs.Formats.Layout.{symbol, ObjectLayout, LayoutSymbol, InRecord, InStringTable}
@@ -47,34 +48,39 @@ descriptor_symbols =
     ∷ symbol (InStringTable 2) section_undefined class_external  -- 6: THUNK
     ∷ []
 
--- The import descriptor: `.idata$2` is 20 zero bytes, relocated at 12 to the name, at 0 to the lookup table
--- and at 16 to the address table. For example, that of foo.dll has 358 bytes.
-unfoldable pub descriptor : MachineType → List ℕ → ObjectLayout
+-- The sections of the import descriptor: `.idata$2` is 20 zero bytes, relocated at 12 to the name, at 0 to the
+-- lookup table and at 16 to the address table; `.idata$6` is the DLL's name.
+abbrev pub descriptor_sections : MachineType → List ℕ → List ObjectSection
+descriptor_sections machine dll =
+    -- 1
+    record {
+      name = codes ".idata$2";
+      flags = table_flags;  -- 0xC0300040
+      bytes = zeros descriptor_size;
+      relocations =
+          relocation machine name_offset 2  -- at 12, to `.idata$6`
+          ∷ relocation machine lookup_table_offset 3  -- at 0, to `.idata$4`
+          ∷ relocation machine address_table_offset 4  -- at 16, to `.idata$5`
+          ∷ [];
+    }
+    -- 2
+    ∷ record {
+      name = codes ".idata$6";
+      flags = cnt_initialized_data + align_2bytes + mem_read_write;  -- 0xC0200040
+      bytes = dll ++ 0 ∷ [];
+      relocations = [];
+    }
+    ∷ []
+
+-- The import descriptor: its symbols are named after the library, its text is the DLL's name. For example, that
+-- of foo.dll has 358 bytes.
+unfoldable pub descriptor : MachineType → NamesOfDll → ObjectLayout
 descriptor machine dll = record {
   machine = machine_number machine;
   characteristics = descriptor_characteristics machine;
-  sections =
-      -- 1
-      record {
-        name = codes ".idata$2";
-        flags = table_flags;  -- 0xC0300040
-        bytes = zeros descriptor_size;
-        relocations =
-            relocation machine name_offset 2  -- at 12, to `.idata$6`
-            ∷ relocation machine lookup_table_offset 3  -- at 0, to `.idata$4`
-            ∷ relocation machine address_table_offset 4  -- at 16, to `.idata$5`
-            ∷ [];
-      }
-      -- 2
-      ∷ record {
-        name = codes ".idata$6";
-        flags = cnt_initialized_data + align_2bytes + mem_read_write;  -- 0xC0200040
-        bytes = dll ++ 0 ∷ [];
-        relocations = [];
-      }
-      ∷ [];
+  sections = descriptor_sections machine dll.text;
   symbols = descriptor_symbols;
-  strings = descriptor_symbol dll ∷ null_descriptor_symbol ∷ null_thunk_symbol dll ∷ [];
+  strings = descriptor_symbol dll.linked ∷ null_descriptor_symbol ∷ null_thunk_symbol dll.linked ∷ [];
 }
 
 -- the section of the null descriptor

@@ -5,9 +5,11 @@ use Rattle.implib.specs.declared.error.Error.{Error}
 use Rattle.implib.specs.declared.flavor.Flavor.{Flavor}
 use Rattle.implib.specs.declared.flavor.Flavor.TheVariants.{Msvc, Gnu}
 use Rattle.implib.specs.declared.machine.MachineType.{MachineType}
+use Rattle.implib.specs.Ascii.{line_feed}
 use Rattle.implib.specs.Definition.{DefinitionView, ExportView, given_name}
 use Rattle.implib.specs.Fault.{Cause, EmptyImportName, NulInImportName, EmptyName, NulInExport}
-use Rattle.implib.specs.Fault.{EmptyAskedName, NoNameType, error_cause}
+use Rattle.implib.specs.Fault.{EmptyAskedName, EmptyLibraryName, LineEndInLibraryName, NoNameType}
+use Rattle.implib.specs.Fault.{NulInLibraryName, error_cause}
 use Rattle.implib.specs.Import.{holds, is_empty_text, name_asked}
 use Rattle.implib.specs.Members.Msvc.{asked_by_short_import}
 use Rattle.implib.specs.Renaming.{renamed}
@@ -60,10 +62,21 @@ import_name_refusal name =
     else if holds 0 name then Some NulInImportName
     else None
 
+-- the first rule on the library's name for the linker that is broken, where there is one; in an archive's table
+-- of long names a line feed ends a name
+abbrev pub library_name_refusal : Option (List ℕ) → Option Cause
+library_name_refusal None = None
+library_name_refusal (Some name) =
+    if is_empty_text name then Some EmptyLibraryName
+    else if holds 0 name then Some NulInLibraryName
+    else if holds line_feed name then Some LineEndInLibraryName
+    else None
+
 -- the first rule on names that a definition breaks, its exports under their names to link by
 abbrev pub definition_names_refusal : DefinitionView → MachineType → Flavor → Option Cause
 definition_names_refusal d machine flavor =
-    first_of_both (import_name_refusal d.import_name) (names_refusal flavor machine 0 d.exports)
+    first_of_both (import_name_refusal d.import_name)
+    (first_of_both (library_name_refusal d.library_name) (names_refusal flavor machine 0 d.exports))
 
 -- where a rule on names refuses the definition, the answer is that refusal, whatever memory there is
 abbrev pub RefusesAlways : {T : Type 0} → DefinitionView → MachineType → Flavor → Result T Error → Type 0

@@ -118,6 +118,7 @@ abbrev pub meaning : MachineType → List Statement → DefinitionView
 meaning machine statements = record {
   exports = map (export_meaning machine) (flat_map exports_in statements);
   import_name = last_or [] import_name_in statements;
+  library_name = None;
   image_base = last_or 0 image_base_in statements;
   stack_reserve = last_or 0 stack_reserve_in statements;
   stack_commit = last_or 0 stack_commit_in statements;

@@ -363,6 +363,7 @@ abbrev pub with_settings : DefinitionView → Statement → DefinitionView
 with_settings d s = record {
   exports = d.exports;
   import_name = unwrap_or (import_name_in s) d.import_name;
+  library_name = d.library_name;
   image_base = unwrap_or (image_base_in s) d.image_base;
   stack_reserve = unwrap_or (stack_reserve_in s) d.stack_reserve;
   stack_commit = unwrap_or (stack_commit_in s) d.stack_commit;

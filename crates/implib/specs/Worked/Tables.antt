@@ -16,6 +16,7 @@ use Rattle.implib.specs.Worked.Machines.{numbers}
 use Rattle.implib.specs.Worked.Objects.{descriptor, function, function_asking, function_by_ordinal, head}
 use Rattle.implib.specs.Worked.Objects.{null_descriptor, null_thunk, tail, variable, variable_by_ordinal, weak}
 use Rattle.implib.specs.Worked.Statements.{plain_export}
+use Rattle.implib.specs.LibraryName.{own_names}
 
 -- the import name
 abbrev pub foo_dll : List ℕ
@@ -23,7 +24,7 @@ foo_dll = codes "foo.dll"
 
 -- The objects for Microsoft's linker, and both weak externals that make foo weak for baz.
 pub record WorkedMsvcTables (machine : MachineType) : Type 0 where
-  pub descriptor : msvc.descriptor machine foo_dll ≡ descriptor (numbers machine)
+  pub descriptor : msvc.descriptor machine (own_names foo_dll) ≡ descriptor (numbers machine)
   pub null_descriptor : msvc.null_descriptor machine ≡ null_descriptor (numbers machine)
   pub null_thunk : msvc.null_thunk machine foo_dll ≡ null_thunk (numbers machine)
   pub weak : weak_object machine (codes "foo") (codes "baz")
@@ -40,7 +41,7 @@ bar = plain_export (codes "bar")
 -- The objects for GNU's linker.
 pub record WorkedGnuTables (machine : MachineType) : Type 0 where
   pub head : layout_of (head_object machine foo_dll) ≡ head (numbers machine)
-  pub tail : layout_of (tail_object machine foo_dll) ≡ tail (numbers machine)
+  pub tail : layout_of (tail_object machine (own_names foo_dll)) ≡ tail (numbers machine)
   pub function : gnu_export machine bar ≡ function (numbers machine)
   pub function_by_ordinal : gnu_export machine (record bar { no_name = true; ordinal = 258 })
       ≡ function_by_ordinal (numbers machine)

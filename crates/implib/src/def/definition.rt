@@ -49,6 +49,13 @@ pub struct ModuleDef {
     /// The name of the DLL or program; empty where no statement gives it. An import library of an
     /// empty name has no members: `ImportLibrary::members` refuses it with `EmptyImportName`.
     pub import_name: String,
+    /// The library's own name for the linker, where it is not the DLL's: it holds the library's
+    /// members together. No statement gives it. The members for GNU's linker and their symbols are
+    /// named after it; those for Microsoft's are named `B.dll`, and their symbols after `B`, for
+    /// the name `B`. Two libraries of one DLL in one link need different names. It is not empty and
+    /// has no NUL and no line feed: `ImportLibrary::members` refuses others with
+    /// `EmptyLibraryName`, `NulInLibraryName` and `LineEndInLibraryName`.
+    pub library_name: Option<String>,
     /// `BASE`: the preferred address of the image, in bytes; 0 where none is given. No alignment is
     /// required.
     pub image_base: u64,
@@ -137,13 +144,14 @@ impl ShortExport {
 }
 
 impl ModuleDef {
-    /// A definition with no exports, an empty name and all numbers 0.
+    /// A definition with no exports, an empty name, no name of the library and all numbers 0.
     pub fn empty(alloc: Global) -> Self
         ensures { definition_view result ≡ empty_definition }
     {
         ModuleDef {
             exports: Vec::new(alloc),
             import_name: String::new(alloc),
+            library_name: None,
             image_base: 0,
             stack_reserve: 0,
             stack_commit: 0,
@@ -165,9 +173,14 @@ impl ModuleDef {
         ensures ok { IfOk result (λ copy. definition_view copy ≡ definition_view self.now) }
         ensures memory { IfErr result (λ error. error_cause error ≡ None) }
     {
+        let library_name = match &self.library_name {
+            Some(name) => Some(name.clone()?),
+            None => None,
+        };
         Ok(ModuleDef {
             exports: clone_exports(&self.exports)?,
             import_name: self.import_name.clone()?,
+            library_name,
             image_base: self.image_base,
             stack_reserve: self.stack_reserve,
             stack_commit: self.stack_commit,

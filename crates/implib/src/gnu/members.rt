@@ -5,6 +5,7 @@ ghost use Rattle.implib.specs.Fault.{IfInvalid};
 ghost use Rattle.implib.specs.Members.Gnu.{archive_symbols, head_symbol};
 ghost use Rattle.implib.specs.Import.{imp_symbol, holds, is_alias, is_empty_text, public_exports};
 ghost use Rattle.implib.specs.Library.{member_view};
+ghost use Rattle.implib.specs.LibraryName.{linked_name};
 ghost use Rattle.implib.specs.Members.Members.{AreMembersOf, has_u16_ordinal, member_specs};
 ghost use Rattle.implib.specs.Members.Members.{refusal};
 ghost use Rattle.implib.specs.Members.NameRules.{RefusesAlways, definition_names_refusal};
@@ -55,6 +56,16 @@ pub(crate) fn members(def: &ModuleDef, machine: MachineType) -> Result<Vec<Membe
     }
 }
 
+// The name that the members and their symbols are named after.
+fn linked_name(def: &ModuleDef) -> &str
+    ensures { result.now ≡ linked_name (definition_view def.now) }
+{
+    match &def.library_name {
+        Some(name) => name.as_str(),
+        None => def.import_name.as_str(),
+    }
+}
+
 // The members of a definition that breaks no rule on names, in order.
 #[tactic(auto, using(crate::proofs::Members::GnuLoop::long_built))]
 fn named_members(def: &ModuleDef, machine: MachineType) -> Result<Vec<Member>, Error>
@@ -63,10 +74,10 @@ fn named_members(def: &ModuleDef, machine: MachineType) -> Result<Vec<Member>, E
     ensures ordinals { OnOk result
         (list_all has_u16_ordinal (public_exports (definition_view def.now)) ≡ true) }
 {
-    let dll = def.import_name.as_str();
-    let head = head_symbol(*def.exports.allocator(), machine, dll)?;
+    let library = linked_name(def);
+    let head = head_symbol(*def.exports.allocator(), machine, library)?;
     let mut members = build(def, machine, head.as_str())?;
-    push_head_and_tail(&mut members, machine, dll)?;
+    push_head_and_tail(&mut members, machine, library, def.import_name.as_str())?;
     members.reverse();
     Ok(members)
 }
@@ -75,18 +86,18 @@ fn named_members(def: &ModuleDef, machine: MachineType) -> Result<Vec<Member>, E
 // tail.
 fn build(def: &ModuleDef, machine: MachineType, head: &str) -> Result<Vec<Member>, Error>
     requires names { definition_names_refusal (definition_view def.now) machine Gnu ≡ None }
-    requires head { head.now ≡ head_symbol machine (definition_view def.now).import_name }
-    ensures made { MakesMembers (numbered_specs machine (definition_view def.now).import_name 0
+    requires head { head.now ≡ head_symbol machine (linked_name (definition_view def.now)) }
+    ensures made { MakesMembers (numbered_specs machine (linked_name (definition_view def.now)) 0
         (public_exports (definition_view def.now))) result }
     ensures ordinals { OnOk result
         (list_all has_u16_ordinal (public_exports (definition_view def.now)) ≡ true) }
 {
-    let dll = def.import_name.as_str();
+    let library = linked_name(def);
     let mut members = Vec::with_capacity(*def.exports.allocator(), member_count(def))?;
     let mut number = 0usize;
     for export in def.exports.iter() {
         if !export.private {
-            push_export(&mut members, export, number, machine, dll, head)?;
+            push_export(&mut members, export, number, machine, library, head)?;
             number += 1;
         }
     }
@@ -119,39 +130,47 @@ fn has_aliases(export: &ShortExport) -> bool
     is_alias(export.alias_target.as_str(), export.name.as_str())
 }
 
+// Pushes the head and the tail of a library of this name for the linker and of this DLL.
 fn push_head_and_tail(
     members: &mut Vec<Member>,
     machine: MachineType,
+    library: &str,
     dll: &str,
 ) -> Result<(), Error>
-    requires { holds 0 dll.now ≡ false }
-    ensures { PushesMembers (head_spec machine dll.now ∷ tail_spec machine dll.now ∷ [])
+    requires { holds 0 library.now ≡ false }
+    ensures { PushesMembers (head_spec machine library.now
+        ∷ tail_spec machine (record { linked = library.now; text = dll.now }) ∷ [])
         members.old.items members.new.items result }
 {
-    members.push(head_member(*members.allocator(), machine, dll)?)?;
-    members.push(tail_member(*members.allocator(), machine, dll)?)?;
+    members.push(head_member(*members.allocator(), machine, library)?)?;
+    members.push(tail_member(*members.allocator(), machine, library, dll)?)?;
     Ok(())
 }
 
 #[tactic(auto, unfolding(crate::specs::Members::GnuMembers::head_spec))]
-fn head_member(alloc: Global, machine: MachineType, dll: &str) -> Result<Member, Error>
-    requires { holds 0 dll.now ≡ false }
-    ensures { MakesMember (head_spec machine dll.now) result }
+fn head_member(alloc: Global, machine: MachineType, library: &str) -> Result<Member, Error>
+    requires { holds 0 library.now ≡ false }
+    ensures { MakesMember (head_spec machine library.now) result }
 {
-    let symbol = head_symbol(alloc, machine, dll)?;
-    let name = iname_symbol(alloc, machine, dll)?;
-    let bytes = head_object(alloc, machine, dll, symbol.as_str(), name.as_str())?;
-    Ok(Member::of_symbol(alloc, head_name(alloc, dll)?, bytes, symbol)?)
+    let symbol = head_symbol(alloc, machine, library)?;
+    let name = iname_symbol(alloc, machine, library)?;
+    let bytes = head_object(alloc, machine, library, symbol.as_str(), name.as_str())?;
+    Ok(Member::of_symbol(alloc, head_name(alloc, library)?, bytes, symbol)?)
 }
 
 #[tactic(auto, unfolding(crate::specs::Members::GnuMembers::tail_spec))]
-fn tail_member(alloc: Global, machine: MachineType, dll: &str) -> Result<Member, Error>
-    requires { holds 0 dll.now ≡ false }
-    ensures { MakesMember (tail_spec machine dll.now) result }
+fn tail_member(
+    alloc: Global,
+    machine: MachineType,
+    library: &str,
+    dll: &str,
+) -> Result<Member, Error>
+    requires { holds 0 library.now ≡ false }
+    ensures { MakesMember (tail_spec machine (record { linked = library.now; text = dll.now })) result }
 {
-    let symbol = iname_symbol(alloc, machine, dll)?;
-    let bytes = tail_object(alloc, machine, dll, symbol.as_str())?;
-    Ok(Member::of_symbol(alloc, tail_name(alloc, dll)?, bytes, symbol)?)
+    let symbol = iname_symbol(alloc, machine, library)?;
+    let bytes = tail_object(alloc, machine, library, dll, symbol.as_str())?;
+    Ok(Member::of_symbol(alloc, tail_name(alloc, library)?, bytes, symbol)?)
 }
 
 // Pushes the weak externals of an export, if any, and then the member of the export.
@@ -161,22 +180,22 @@ fn push_export(
     export: &ShortExport,
     number: usize,
     machine: MachineType,
-    dll: &str,
+    library: &str,
     head: &str,
 ) -> Result<(), Error>
-    requires dll_text { holds 0 dll.now ≡ false }
-    requires head { head.now ≡ head_symbol machine dll.now }
+    requires library_text { holds 0 library.now ≡ false }
+    requires head { head.now ≡ head_symbol machine library.now }
     requires nul { holds_nul (export_view export.now) ≡ false }
     requires filled { is_empty_text (export_view export.now).name ≡ false }
     ensures pushed { PushesMembers
-        (numbered_specs_of machine dll.now number (export_view export.now))
+        (numbered_specs_of machine library.now number (export_view export.now))
         members.old.items members.new.items result }
     ensures ordinal { OnOk result (has_u16_ordinal (export_view export.now) ≡ true) }
 {
     if has_aliases(export) {
-        push_weak_externals(members, export, number, machine, dll)?;
+        push_weak_externals(members, export, number, machine, library)?;
     }
-    members.push(export_member(*members.allocator(), export, number, machine, dll, head)?)?;
+    members.push(export_member(*members.allocator(), export, number, machine, library, head)?)?;
     Ok(())
 }
 
@@ -187,22 +206,22 @@ fn push_weak_externals(
     export: &ShortExport,
     number: usize,
     machine: MachineType,
-    dll: &str,
+    library: &str,
 ) -> Result<(), Error>
     requires nul { holds_nul (export_view export.now) ≡ false }
     requires aliases { is_alias (export_view export.now).alias_target (export_view export.now).name
         ≡ true }
-    ensures { PushesMembers (alias_specs machine dll.now number (export_view export.now))
+    ensures { PushesMembers (alias_specs machine library.now number (export_view export.now))
         members.old.items members.new.items result }
 {
     let alloc = *members.allocator();
     let weak = export.name.as_str();
     let target = export.alias_target.as_str();
-    let name = weak_name(alloc, dll, number)?;
+    let name = weak_name(alloc, library, number)?;
     members.push(weak_member(alloc, machine, name, weak, target)?)?;
     let weak = imp_symbol(alloc, weak)?;
     let target = imp_symbol(alloc, target)?;
-    let name = weak_address_name(alloc, dll, number)?;
+    let name = weak_address_name(alloc, library, number)?;
     members.push(weak_member(alloc, machine, name, weak.as_str(), target.as_str())?)?;
     Ok(())
 }
@@ -231,23 +250,23 @@ fn export_member(
     export: &ShortExport,
     number: usize,
     machine: MachineType,
-    dll: &str,
+    library: &str,
     head: &str,
 ) -> Result<Member, Error>
-    requires dll_text { holds 0 dll.now ≡ false }
-    requires head { head.now ≡ head_symbol machine dll.now }
+    requires library_text { holds 0 library.now ≡ false }
+    requires head { head.now ≡ head_symbol machine library.now }
     requires name_text { holds 0 (export_view export.now).name ≡ false }
     requires filled { is_empty_text (export_view export.now).name ≡ false }
     ensures made { MakesMember
-        (export_spec machine dll.now number (export_view export.now)) result }
+        (export_spec machine library.now number (export_view export.now)) result }
     ensures ordinal { OnOk result (has_u16_ordinal (export_view export.now) ≡ true) }
 {
     // This brings the range of the ordinal, 16 bits, into the proof.
     let _ordinal = export.ordinal;
     let address = imp_symbol(alloc, export.name.as_str())?;
-    let bytes = export_object(alloc, export, machine, dll, head, address.as_str())?;
+    let bytes = export_object(alloc, export, machine, library, head, address.as_str())?;
     let symbols = archive_symbols(alloc, export, address)?;
-    let name = export_name(alloc, dll, number)?;
+    let name = export_name(alloc, library, number)?;
     Ok(Member {
         name,
         bytes,

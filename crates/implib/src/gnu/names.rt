@@ -18,11 +18,11 @@ fn position_of_full_stop(text: &[u8]) -> Option<usize>
     text.iter().position(|byte| *byte == b'.')
 }
 
-// Appends the DLL's name with each full stop as an underscore.
-fn push_mangled_name(out: &mut String, dll: &str) -> Result<(), AllocError>
-    ensures { OnOk result (string_bytes out.new ≡ string_bytes out.old ++ mangled_name dll.now) }
+// Appends the library's name with each full stop as an underscore.
+fn push_mangled_name(out: &mut String, library: &str) -> Result<(), AllocError>
+    ensures { OnOk result (string_bytes out.new ≡ string_bytes out.old ++ mangled_name library.now) }
 {
-    let mut rest = dll;
+    let mut rest = library;
     while let Some(position) = position_of_full_stop(rest.as_bytes()) {
         out.push_str(&rest[..position])?;
         out.push_str("_")?;
@@ -35,28 +35,28 @@ fn push_mangled_name(out: &mut String, dll: &str) -> Result<(), AllocError>
 // Room for what mostly follows the mangled name: `_a_s00000.o`.
 const AFTER_MANGLED_NAME: usize = 11;
 
-// The mangled DLL name followed by this text, with room for more.
-fn mangled_name_with(alloc: Global, dll: &str, end: &str) -> Result<String, AllocError>
-    ensures { IfOk result (λ name. string_bytes name ≡ mangled_name dll.now ++ end.now) }
+// The mangled name of the library followed by this text, with room for more.
+fn mangled_name_with(alloc: Global, library: &str, end: &str) -> Result<String, AllocError>
+    ensures { IfOk result (λ name. string_bytes name ≡ mangled_name library.now ++ end.now) }
 {
-    let mut name = String::with_capacity(alloc, dll.len().saturating_add(AFTER_MANGLED_NAME))?;
-    push_mangled_name(&mut name, dll)?;
+    let mut name = String::with_capacity(alloc, library.len().saturating_add(AFTER_MANGLED_NAME))?;
+    push_mangled_name(&mut name, library)?;
     name.push_str(end)?;
     Ok(name)
 }
 
 #[tactic(auto, unfolding(crate::specs::Members::Gnu::head_name))]
-pub(crate) fn head_name(alloc: Global, dll: &str) -> Result<String, AllocError>
-    ensures { IfOk result (λ name. string_bytes name ≡ head_name dll.now) }
+pub(crate) fn head_name(alloc: Global, library: &str) -> Result<String, AllocError>
+    ensures { IfOk result (λ name. string_bytes name ≡ head_name library.now) }
 {
-    mangled_name_with(alloc, dll, "_a_h.o")
+    mangled_name_with(alloc, library, "_a_h.o")
 }
 
 #[tactic(auto, unfolding(crate::specs::Members::Gnu::tail_name))]
-pub(crate) fn tail_name(alloc: Global, dll: &str) -> Result<String, AllocError>
-    ensures { IfOk result (λ name. string_bytes name ≡ tail_name dll.now) }
+pub(crate) fn tail_name(alloc: Global, library: &str) -> Result<String, AllocError>
+    ensures { IfOk result (λ name. string_bytes name ≡ tail_name library.now) }
 {
-    mangled_name_with(alloc, dll, "_a_t.o")
+    mangled_name_with(alloc, library, "_a_t.o")
 }
 
 // Appends a number with at least five digits.
@@ -70,13 +70,13 @@ fn push_five_digits(out: &mut String, number: usize) -> Result<(), AllocError>
 #[tactic(auto, unfolding(crate::specs::Members::Gnu::numbered_name))]
 fn numbered_name(
     alloc: Global,
-    dll: &str,
+    library: &str,
     letter: &str,
     number: usize,
 ) -> Result<String, AllocError>
-    ensures { IfOk result (λ name. string_bytes name ≡ numbered_name dll.now letter.now number) }
+    ensures { IfOk result (λ name. string_bytes name ≡ numbered_name library.now letter.now number) }
 {
-    let mut name = mangled_name_with(alloc, dll, "_a_")?;
+    let mut name = mangled_name_with(alloc, library, "_a_")?;
     name.push_str(letter)?;
     push_five_digits(&mut name, number)?;
     name.push_str(".o")?;
@@ -84,28 +84,28 @@ fn numbered_name(
 }
 
 /// The name of the member of the export of this number.
-pub(crate) fn export_name(alloc: Global, dll: &str, number: usize) -> Result<String, AllocError>
-    ensures { IfOk result (λ name. string_bytes name ≡ export_name dll.now number) }
+pub(crate) fn export_name(alloc: Global, library: &str, number: usize) -> Result<String, AllocError>
+    ensures { IfOk result (λ name. string_bytes name ≡ export_name library.now number) }
 {
-    numbered_name(alloc, dll, "s", number)
+    numbered_name(alloc, library, "s", number)
 }
 
 /// The name of the weak external of the symbol of the export of this number.
-pub(crate) fn weak_name(alloc: Global, dll: &str, number: usize) -> Result<String, AllocError>
-    ensures { IfOk result (λ name. string_bytes name ≡ weak_name dll.now number) }
+pub(crate) fn weak_name(alloc: Global, library: &str, number: usize) -> Result<String, AllocError>
+    ensures { IfOk result (λ name. string_bytes name ≡ weak_name library.now number) }
 {
-    numbered_name(alloc, dll, "w", number)
+    numbered_name(alloc, library, "w", number)
 }
 
 /// The name of the weak external of the address of the export of this number.
 pub(crate) fn weak_address_name(
     alloc: Global,
-    dll: &str,
+    library: &str,
     number: usize,
 ) -> Result<String, AllocError>
-    ensures { IfOk result (λ name. string_bytes name ≡ weak_address_name dll.now number) }
+    ensures { IfOk result (λ name. string_bytes name ≡ weak_address_name library.now number) }
 {
-    numbered_name(alloc, dll, "x", number)
+    numbered_name(alloc, library, "x", number)
 }
 
 /// The symbol of the import descriptor.
@@ -113,13 +113,13 @@ pub(crate) fn weak_address_name(
 pub(crate) fn head_symbol(
     alloc: Global,
     machine: MachineType,
-    dll: &str,
+    library: &str,
 ) -> Result<String, AllocError>
-    ensures { IfOk result (λ symbol. string_bytes symbol ≡ head_symbol machine dll.now) }
+    ensures { IfOk result (λ symbol. string_bytes symbol ≡ head_symbol machine library.now) }
 {
     let mut symbol = String::from_str(alloc, leading_underscore(machine))?;
     symbol.push_str("_head_")?;
-    push_mangled_name(&mut symbol, dll)?;
+    push_mangled_name(&mut symbol, library)?;
     Ok(symbol)
 }
 
@@ -128,12 +128,12 @@ pub(crate) fn head_symbol(
 pub(crate) fn iname_symbol(
     alloc: Global,
     machine: MachineType,
-    dll: &str,
+    library: &str,
 ) -> Result<String, AllocError>
-    ensures { IfOk result (λ symbol. string_bytes symbol ≡ iname_symbol machine dll.now) }
+    ensures { IfOk result (λ symbol. string_bytes symbol ≡ iname_symbol machine library.now) }
 {
     let mut symbol = String::from_str(alloc, leading_underscore(machine))?;
-    push_mangled_name(&mut symbol, dll)?;
+    push_mangled_name(&mut symbol, library)?;
     symbol.push_str("_iname")?;
     Ok(symbol)
 }

@@ -118,18 +118,18 @@ fn file_symbol() -> SymbolRow<'static>
     }
 }
 
-/// The object of the head, by its symbols.
+/// The object of the head of a library of this name, by its symbols.
 pub(crate) fn head_object(
     alloc: Global,
     machine: MachineType,
-    dll: &str,
+    library: &str,
     head: &str,
     name: &str,
 ) -> Result<Vec<u8>, Error>
-    requires dll_text { holds 0 dll.now ≡ false }
-    requires head { head.now ≡ head_symbol machine dll.now }
-    requires name { name.now ≡ iname_symbol machine dll.now }
-    ensures { EncodesObject (layout_of (head_object machine dll.now)) result }
+    requires library_text { holds 0 library.now ≡ false }
+    requires head { head.now ≡ head_symbol machine library.now }
+    requires name { name.now ≡ iname_symbol machine library.now }
+    ensures { EncodesObject (layout_of (head_object machine library.now)) result }
 {
     let relocations = [
         image_relocation(machine, descriptor::LOOKUP_TABLE, 3),
@@ -156,16 +156,18 @@ pub(crate) fn head_object(
     write_table(alloc, machine, &sections, &symbols)
 }
 
-/// The object of the tail, by its symbol.
+/// The object of the tail, by its symbol: `library` names it, `dll` is its text.
 pub(crate) fn tail_object(
     alloc: Global,
     machine: MachineType,
+    library: &str,
     dll: &str,
     name: &str,
 ) -> Result<Vec<u8>, Error>
-    requires dll_text { holds 0 dll.now ≡ false }
-    requires name { name.now ≡ iname_symbol machine dll.now }
-    ensures { EncodesObject (layout_of (tail_object machine dll.now)) result }
+    requires library_text { holds 0 library.now ≡ false }
+    requires name { name.now ≡ iname_symbol machine library.now }
+    ensures { EncodesObject (layout_of (tail_object machine
+        (record { linked = library.now; text = dll.now }))) result }
 {
     let thunk = zeros(alloc, thunk_width(machine))?;
     let text = ended_by_nul(alloc, dll)?;
@@ -291,17 +293,17 @@ pub(crate) fn export_object<'a>(
     alloc: Global,
     export: &'a ShortExport,
     machine: MachineType,
-    dll: &str,
+    library: &str,
     head: &'a str,
     address: &'a str,
 ) -> Result<Vec<u8>, Error>
-    requires dll_text { holds 0 dll.now ≡ false }
+    requires library_text { holds 0 library.now ≡ false }
     requires name_text { holds 0 (export_view export.now).name ≡ false }
     requires filled { is_empty_text (export_view export.now).name ≡ false }
-    requires head { head.now ≡ head_symbol machine dll.now }
+    requires head { head.now ≡ head_symbol machine library.now }
     requires address { address.now ≡ imp_symbol (export_view export.now).name }
     ensures { EncodesObject
-        (layout_of (export_object machine dll.now (export_view export.now))) result }
+        (layout_of (export_object machine library.now (export_view export.now))) result }
 {
     let to_head = [image_relocation(machine, 0, 0)];
     let to_name = [image_relocation(machine, 0, hint_name_symbol(export))];

@@ -7,7 +7,8 @@ ghost use Rattle.implib.specs.Text.SymbolNames.{LacksSymbolNames};
 use crate::machine::MachineType;
 
 /// No export of a text has a symbol name or gives an asked name, neither as it is parsed nor under
-/// its name to link by: only a definition that is made by hand has either.
+/// its name to link by; nor has the library a name of its own. Only a definition that is made by
+/// hand has any of them.
 pub fn parsed_lacks_symbol_names(text: &str, machine: MachineType)
     ensures { (definition : DefinitionView) → Parses text.now machine definition →
         LacksSymbolNames definition }

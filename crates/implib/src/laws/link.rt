@@ -4,6 +4,7 @@ ghost use Rattle.implib.specs.Definition.{definition_view};
 ghost use Rattle.implib.specs.Members.Gnu.{export_name, head_name, tail_name};
 ghost use Rattle.implib.specs.Import.{Ask, public_exports};
 ghost use Rattle.implib.specs.Library.{member_view};
+ghost use Rattle.implib.specs.LibraryName.{linked_name, names_in};
 ghost use Rattle.implib.specs.Link.LinkedMembers.{inputs_held};
 ghost use Rattle.implib.specs.Link.Image.{IsAdmissible, Range};
 ghost use Rattle.implib.specs.Link.Load.{Loads};
@@ -39,7 +40,7 @@ pub fn gnu_links(
     requires numbers { AllByRecursion
         (λ n. n < length (public_exports (renamed (definition_view def.now)))) chosen.now }
     requires in_order { IsAscending
-        (map (export_name (definition_view def.now).import_name) chosen.now) }
+        (map (export_name (linked_name (definition_view def.now))) chosen.now) }
     requires distinct { IsDistinct bytes_eq
         (flat_map (λ m. m.symbols) (linked_members (definition_view def.now) machine chosen.now)) }
     requires admissible { IsAdmissible machine (bases_of bases)
@@ -47,15 +48,15 @@ pub fn gnu_links(
     ensures from_members { AllByRecursion (Contains (map member_view members.now))
         (linked_members (definition_view def.now) machine chosen.now) }
     ensures names { map (λ m. m.name) (linked_members (definition_view def.now) machine chosen.now)
-        ≡ head_name (definition_view def.now).import_name
-        ∷ (map (export_name (definition_view def.now).import_name) chosen.now
-        ++ tail_name (definition_view def.now).import_name ∷ []) }
+        ≡ head_name (linked_name (definition_view def.now))
+        ∷ (map (export_name (linked_name (definition_view def.now))) chosen.now
+        ++ tail_name (linked_name (definition_view def.now)) ∷ []) }
     ensures rising { IsAscending (map (λ m. m.name)
         (linked_members (definition_view def.now) machine chosen.now)) }
     ensures objects { map (λ m. object_in m.bytes)
         (linked_members (definition_view def.now) machine chosen.now)
         ≡ map Some (objects_in (linked_members (definition_view def.now) machine chosen.now)) }
-    ensures links { Links machine (bases_of bases) (definition_view def.now).import_name
+    ensures links { Links machine (bases_of bases) (names_in Gnu (definition_view def.now))
         (chosen_exports (definition_view def.now) chosen.now)
         (objects_in (linked_members (definition_view def.now) machine chosen.now)) }
 {}
@@ -66,7 +67,7 @@ pub fn gnu_links(
 /// `members` and `chosen` have for each definition its members and the numbers of the selected
 /// exports, as `gnu_links` takes them. The definitions are in the order of the prefixes of their
 /// members' names, no such prefix is a prefix of another, and the archive symbols of all that is
-/// linked are distinct.
+/// linked are distinct. Two definitions of one DLL have names of their own (`library_name`).
 pub fn gnu_links_many(
     defs: &[ModuleDef],
     machine: MachineType,

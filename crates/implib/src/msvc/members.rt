@@ -4,6 +4,7 @@ ghost use Rattle.implib.specs.Definition.{definition_view, export_view};
 ghost use Rattle.implib.specs.Fault.{IfInvalid};
 ghost use Rattle.implib.specs.Import.{holds, is_alias, public_exports};
 ghost use Rattle.implib.specs.Library.{member_view};
+ghost use Rattle.implib.specs.LibraryName.{linked_dll};
 ghost use Rattle.implib.specs.Members.Members.{AreMembersOf, has_u16_ordinal, member_specs};
 ghost use Rattle.implib.specs.Members.Members.{refusal};
 ghost use Rattle.implib.specs.Members.NameRules.{RefusesAlways, definition_names_refusal};
@@ -16,7 +17,8 @@ ghost use Rattle.implib.specs.Members.Msvc.{short_import_symbol};
 ghost use Rattle.implib.specs.declared.flavor.Flavor.TheVariants.{Msvc};
 ghost use Rattle.implib.specs.Views.Making.{MakesMembers, PushesMembers};
 ghost use Rattle.std.specs.List.{list_all, sum_by};
-ghost use Rattle.std.specs.Prelude.{None, Some, false, map, true, ◌+◌, ◌≡◌, IfOk, OnOk, min};
+ghost use Rattle.std.specs.Prelude.{None, Some, false, map, string_bytes, true, ◌+◌, ◌≡◌, IfOk, OnOk};
+ghost use Rattle.std.specs.Prelude.{min};
 
 use crate::def::definition::{ModuleDef, ShortExport};
 use crate::error::Error;
@@ -29,6 +31,7 @@ use crate::msvc::objects::{descriptor_member, null_descriptor_member, null_thunk
 use crate::msvc::short_import::short_import_member;
 use crate::refusal::names_fault;
 use crate::weak_external::{MEMBERS_OF_ALIAS, is_alias, weak_member};
+use std::alloc::{AllocError, Global};
 
 // The import descriptor, the null descriptor and the null thunk.
 const HEADER_MEMBERS: usize = 3;
@@ -57,13 +60,41 @@ fn named_members(def: &ModuleDef, machine: MachineType) -> Result<Vec<Member>, E
     ensures ordinals { OnOk result
         (list_all has_u16_ordinal (public_exports (definition_view def.now)) ≡ true) }
 {
-    let alloc = *def.exports.allocator();
+    let library = linked_dll(*def.exports.allocator(), def)?;
+    build(def, machine, library.as_str())
+}
+
+// The name that the members have and that their symbols are named after: the library's, with `.dll`, or
+// the DLL's.
+fn linked_dll(alloc: Global, def: &ModuleDef) -> Result<String, AllocError>
+    ensures { IfOk result (λ name. string_bytes name ≡ linked_dll (definition_view def.now)) }
+{
+    let mut linked = String::new(alloc);
+    match &def.library_name {
+        Some(name) => {
+            linked.push_str(name.as_str())?;
+            linked.push_str(".dll")?;
+        }
+        None => linked.push_str(def.import_name.as_str())?,
+    }
+    Ok(linked)
+}
+
+// The members under the library's name for the linker.
+fn build(def: &ModuleDef, machine: MachineType, library: &str) -> Result<Vec<Member>, Error>
+    requires names { definition_names_refusal (definition_view def.now) machine Msvc ≡ None }
+    requires library { library.now ≡ linked_dll (definition_view def.now) }
+    requires free { holds 0 library.now ≡ false }
+    ensures made { MakesMembers (member_specs (definition_view def.now) machine Msvc) result }
+    ensures ordinals { OnOk result
+        (list_all has_u16_ordinal (public_exports (definition_view def.now)) ≡ true) }
+{
     let dll = def.import_name.as_str();
-    let mut members = Vec::with_capacity(alloc, member_count(def))?;
-    push_header_members(&mut members, machine, dll)?;
+    let mut members = Vec::with_capacity(*def.exports.allocator(), member_count(def))?;
+    push_header_members(&mut members, machine, library, dll)?;
     for export in def.exports.iter() {
         if !export.private {
-            push_export(&mut members, export, machine, dll)?;
+            push_export(&mut members, export, machine, library, dll)?;
         }
     }
     Ok(members)
@@ -100,15 +131,16 @@ fn has_aliases(export: &ShortExport) -> bool
 fn push_header_members(
     members: &mut Vec<Member>,
     machine: MachineType,
+    library: &str,
     dll: &str,
 ) -> Result<(), Error>
-    requires { holds 0 dll.now ≡ false }
-    ensures { PushesMembers (header_specs machine dll.now)
+    requires { holds 0 library.now ≡ false }
+    ensures { PushesMembers (header_specs machine (record { linked = library.now; text = dll.now }))
         members.old.items members.new.items result }
 {
-    members.push(descriptor_member(*members.allocator(), machine, dll)?)?;
-    members.push(null_descriptor_member(*members.allocator(), machine, dll)?)?;
-    members.push(null_thunk_member(*members.allocator(), machine, dll)?)?;
+    members.push(descriptor_member(*members.allocator(), machine, library, dll)?)?;
+    members.push(null_descriptor_member(*members.allocator(), machine, library)?)?;
+    members.push(null_thunk_member(*members.allocator(), machine, library)?)?;
     Ok(())
 }
 
@@ -118,17 +150,19 @@ fn push_export(
     members: &mut Vec<Member>,
     export: &ShortExport,
     machine: MachineType,
+    library: &str,
     dll: &str,
 ) -> Result<(), Error>
     requires { holds_nul (export_view export.now) ≡ false }
-    ensures pushed { PushesMembers (export_specs machine dll.now (export_view export.now))
+    ensures pushed { PushesMembers (export_specs machine
+        (record { linked = library.now; text = dll.now }) (export_view export.now))
         members.old.items members.new.items result }
     ensures ordinal { OnOk result (has_u16_ordinal (export_view export.now) ≡ true) }
 {
     if has_aliases(export) {
-        push_weak_externals(members, export, machine, dll)?;
+        push_weak_externals(members, export, machine, library)?;
     }
-    members.push(short_import_member(*members.allocator(), export, machine, dll)?)?;
+    members.push(short_import_member(*members.allocator(), export, machine, library, dll)?)?;
     Ok(())
 }
 
@@ -138,22 +172,22 @@ fn push_weak_externals(
     members: &mut Vec<Member>,
     export: &ShortExport,
     machine: MachineType,
-    dll: &str,
+    library: &str,
 ) -> Result<(), Error>
     requires nul { holds_nul (export_view export.now) ≡ false }
     requires aliases { is_alias (export_view export.now).alias_target
         (short_import_symbol (export_view export.now)) ≡ true }
-    ensures { PushesMembers (weak_specs machine dll.now (export_view export.now))
+    ensures { PushesMembers (weak_specs machine library.now (export_view export.now))
         members.old.items members.new.items result }
 {
     let alloc = *members.allocator();
     let symbol = short_import_symbol(export);
     let target = export.alias_target.as_str();
-    let name = String::from_str(alloc, dll)?;
+    let name = String::from_str(alloc, library)?;
     members.push(weak_member(alloc, machine, name, symbol, target)?)?;
     let symbol = imp_symbol(alloc, symbol)?;
     let target = imp_symbol(alloc, target)?;
-    let name = String::from_str(alloc, dll)?;
+    let name = String::from_str(alloc, library)?;
     members.push(weak_member(alloc, machine, name, symbol.as_str(), target.as_str())?)?;
     Ok(())
 }

@@ -6,7 +6,7 @@ ghost use Rattle.implib.specs.Library.{member_view};
 ghost use Rattle.implib.specs.Members.MsvcMembers.{descriptor_spec, null_descriptor_spec};
 ghost use Rattle.implib.specs.Members.MsvcMembers.{null_thunk_spec};
 ghost use Rattle.implib.specs.Members.MsvcObjects.{descriptor_symbols, null_descriptor_section};
-ghost use Rattle.implib.specs.Members.MsvcObjects.{base_name, descriptor};
+ghost use Rattle.implib.specs.Members.MsvcObjects.{base_name, descriptor, descriptor_sections};
 ghost use Rattle.implib.specs.Members.MsvcObjects.{descriptor_characteristics, descriptor_symbol};
 ghost use Rattle.implib.specs.Members.MsvcObjects.{null_descriptor, null_descriptor_symbol};
 ghost use Rattle.implib.specs.Members.MsvcObjects.{null_thunk, null_thunk_section};
@@ -36,7 +36,7 @@ fn ends_with(text: &str, suffix: &str) -> bool
     text.ends_with(suffix)
 }
 
-// The DLL's name without a trailing `.dll` or `.exe`.
+// The name without a trailing `.dll` or `.exe`.
 #[tactic(auto, unfolding(crate::specs::Members::MsvcObjects::base_name))]
 fn base_name(dll: &str) -> &str
     ensures { result.now ≡ base_name dll.now }
@@ -49,21 +49,21 @@ fn base_name(dll: &str) -> &str
 }
 
 #[tactic(auto, unfolding(crate::specs::Members::MsvcObjects::descriptor_symbol))]
-fn descriptor_symbol(alloc: Global, dll: &str) -> Result<String, AllocError>
-    ensures { IfOk result (λ symbol. string_bytes symbol ≡ descriptor_symbol dll.now) }
+fn descriptor_symbol(alloc: Global, library: &str) -> Result<String, AllocError>
+    ensures { IfOk result (λ symbol. string_bytes symbol ≡ descriptor_symbol library.now) }
 {
     let mut symbol = String::from_str(alloc, "__IMPORT_DESCRIPTOR_")?;
-    symbol.push_str(base_name(dll))?;
+    symbol.push_str(base_name(library))?;
     Ok(symbol)
 }
 
 // The symbol of the thunks that end the tables of the DLL.
 #[tactic(auto, unfolding(crate::specs::Members::MsvcObjects::null_thunk_symbol))]
-fn null_thunk_symbol(alloc: Global, dll: &str) -> Result<String, AllocError>
-    ensures { IfOk result (λ symbol. string_bytes symbol ≡ null_thunk_symbol dll.now) }
+fn null_thunk_symbol(alloc: Global, library: &str) -> Result<String, AllocError>
+    ensures { IfOk result (λ symbol. string_bytes symbol ≡ null_thunk_symbol library.now) }
 {
     let mut symbol = String::from_str(alloc, "\x7F")?;
-    symbol.push_str(base_name(dll))?;
+    symbol.push_str(base_name(library))?;
     symbol.push_str("_NULL_THUNK_DATA")?;
     Ok(symbol)
 }
@@ -79,32 +79,31 @@ fn descriptor_characteristics(machine: MachineType) -> u16
     }
 }
 
-// A member of one archive symbol, named as the DLL.
+// A member of one archive symbol, of this name.
 fn object_member(
     alloc: Global,
-    dll: &str,
+    library: &str,
     bytes: Vec<u8>,
     symbol: String,
 ) -> Result<Member, AllocError>
     ensures { IfOk result (λ m. member_view m ≡ record {
-      name = dll.now;
+      name = library.now;
       bytes = bytes.items;
       symbols = string_bytes symbol ∷ [];
     }) }
 {
-    let name = String::from_str(alloc, dll)?;
+    let name = String::from_str(alloc, library)?;
     Ok(Member::of_symbol(alloc, name, bytes, symbol)?)
 }
 
 // The sections of the import descriptor: the descriptor, and the DLL's name.
-#[tactic(auto, unfolding(crate::specs::Members::MsvcObjects::descriptor))]
 fn descriptor_sections(
     alloc: Global,
     machine: MachineType,
     dll: &str,
 ) -> Result<[Section; 2], AllocError>
     ensures { IfOk result
-        (λ sections. map section_view sections ≡ (descriptor machine dll.now).sections) }
+        (λ sections. map section_view sections ≡ descriptor_sections machine dll.now) }
 {
     let relocations = vec![in alloc;
         image_relocation(machine, descriptor::NAME, 2),
@@ -143,21 +142,23 @@ fn descriptor_symbols() -> [LayoutSymbol<'static>; 7]
     ]
 }
 
-// The object of the import descriptor, whose string table has its symbol, the null descriptor's and
-// the null thunk's.
+// The object of the import descriptor of a DLL, whose string table has its symbol, the null
+// descriptor's and the null thunk's; the first and the last are named after the library.
 fn descriptor_object<'a>(
     alloc: Global,
     machine: MachineType,
+    library: &str,
     dll: &str,
     symbol: &'a str,
     null_descriptor: &'a str,
     null_thunk: &'a str,
 ) -> Result<Vec<u8>, Error>
-    requires dll_text { holds 0 dll.now ≡ false }
-    requires symbol { symbol.now ≡ descriptor_symbol dll.now }
+    requires library_text { holds 0 library.now ≡ false }
+    requires symbol { symbol.now ≡ descriptor_symbol library.now }
     requires null_descriptor { null_descriptor.now ≡ null_descriptor_symbol }
-    requires null_thunk { null_thunk.now ≡ null_thunk_symbol dll.now }
-    ensures { EncodesObject (descriptor machine dll.now) result }
+    requires null_thunk { null_thunk.now ≡ null_thunk_symbol library.now }
+    ensures { EncodesObject
+        (descriptor machine (record { linked = library.now; text = dll.now })) result }
 {
     let sections = descriptor_sections(alloc, machine, dll)?;
     let symbols = descriptor_symbols();
@@ -173,26 +174,30 @@ fn descriptor_object<'a>(
     )
 }
 
+/// The import descriptor of a DLL, under the library's name for the linker.
 #[tactic(auto, unfolding(crate::specs::Members::MsvcMembers::descriptor_spec, crate::specs::Members::MsvcObjects::null_descriptor_symbol))]
 pub(crate) fn descriptor_member(
     alloc: Global,
     machine: MachineType,
+    library: &str,
     dll: &str,
 ) -> Result<Member, Error>
-    requires { holds 0 dll.now ≡ false }
-    ensures { MakesMember (descriptor_spec machine dll.now) result }
+    requires { holds 0 library.now ≡ false }
+    ensures { MakesMember
+        (descriptor_spec machine (record { linked = library.now; text = dll.now })) result }
 {
-    let symbol = descriptor_symbol(alloc, dll)?;
-    let thunk = null_thunk_symbol(alloc, dll)?;
+    let symbol = descriptor_symbol(alloc, library)?;
+    let thunk = null_thunk_symbol(alloc, library)?;
     let bytes = descriptor_object(
         alloc,
         machine,
+        library,
         dll,
         symbol.as_str(),
         NULL_DESCRIPTOR_SYMBOL,
         thunk.as_str(),
     )?;
-    Ok(object_member(alloc, dll, bytes, symbol)?)
+    Ok(object_member(alloc, library, bytes, symbol)?)
 }
 
 fn null_descriptor_section(alloc: Global) -> Result<Section, AllocError>
@@ -227,13 +232,13 @@ fn null_descriptor_object(alloc: Global, machine: MachineType) -> Result<Vec<u8>
 pub(crate) fn null_descriptor_member(
     alloc: Global,
     machine: MachineType,
-    dll: &str,
+    library: &str,
 ) -> Result<Member, Error>
-    ensures { MakesMember (null_descriptor_spec machine dll.now) result }
+    ensures { MakesMember (null_descriptor_spec machine library.now) result }
 {
     let bytes = null_descriptor_object(alloc, machine)?;
     let symbol = String::from_str(alloc, NULL_DESCRIPTOR_SYMBOL)?;
-    Ok(object_member(alloc, dll, bytes, symbol)?)
+    Ok(object_member(alloc, library, bytes, symbol)?)
 }
 
 // The section of a table's last thunk.
@@ -261,12 +266,12 @@ fn null_thunk_section(
 fn null_thunk_object(
     alloc: Global,
     machine: MachineType,
-    dll: &str,
+    library: &str,
     symbol: &str,
 ) -> Result<Vec<u8>, Error>
-    requires dll_text { holds 0 dll.now ≡ false }
-    requires symbol { symbol.now ≡ null_thunk_symbol dll.now }
-    ensures { EncodesObject (null_thunk machine dll.now) result }
+    requires library_text { holds 0 library.now ≡ false }
+    requires symbol { symbol.now ≡ null_thunk_symbol library.now }
+    ensures { EncodesObject (null_thunk machine library.now) result }
 {
     let address_table = null_thunk_section(alloc, machine, *b".idata$5")?;
     let lookup_table = null_thunk_section(alloc, machine, *b".idata$4")?;
@@ -287,12 +292,12 @@ fn null_thunk_object(
 pub(crate) fn null_thunk_member(
     alloc: Global,
     machine: MachineType,
-    dll: &str,
+    library: &str,
 ) -> Result<Member, Error>
-    requires { holds 0 dll.now ≡ false }
-    ensures { MakesMember (null_thunk_spec machine dll.now) result }
+    requires { holds 0 library.now ≡ false }
+    ensures { MakesMember (null_thunk_spec machine library.now) result }
 {
-    let symbol = null_thunk_symbol(alloc, dll)?;
-    let bytes = null_thunk_object(alloc, machine, dll, symbol.as_str())?;
-    Ok(object_member(alloc, dll, bytes, symbol)?)
+    let symbol = null_thunk_symbol(alloc, library)?;
+    let bytes = null_thunk_object(alloc, machine, library, symbol.as_str())?;
+    Ok(object_member(alloc, library, bytes, symbol)?)
 }

@@ -136,20 +136,23 @@ fn short_import_symbols(alloc: Global, export: &ShortExport) -> Result<Vec<Strin
     Ok(vec![in alloc; address, name]?)
 }
 
+/// The short import of an export of a DLL, as a member under the library's name for the linker.
 pub(crate) fn short_import_member(
     alloc: Global,
     export: &ShortExport,
     machine: MachineType,
+    library: &str,
     dll: &str,
 ) -> Result<Member, Error>
-    ensures made { MakesMember (short_import_spec machine dll.now (export_view export.now)) result }
+    ensures made { MakesMember (short_import_spec machine
+        (record { linked = library.now; text = dll.now }) (export_view export.now)) result }
     ensures ordinal { OnOk result (has_u16_ordinal (export_view export.now) ≡ true) }
 {
     // This brings the range of the ordinal, 16 bits, into the proof.
     let _ordinal = export.ordinal;
     let bytes = short_import_bytes(alloc, export, machine, dll)?;
     let symbols = short_import_symbols(alloc, export)?;
-    let name = String::from_str(alloc, dll)?;
+    let name = String::from_str(alloc, library)?;
     Ok(Member {
         name,
         bytes,

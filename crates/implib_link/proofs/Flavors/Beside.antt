@@ -32,13 +32,14 @@ use Rattle.implib_link.proofs.Gnu.Filling.{DescriptorBeside, DirectoryBeside}
 use Rattle.implib_link.proofs.Flavors.Block.{FitsIn, behind_descriptor, definitions-in, definitions_in, ends_in, ends_of_askings, objects_of, use_for, wide_in}
 use Rattle.implib_link.proofs.Flavors.Blocks.{BlocksIn, CanLink, FlavorBlock, addresses_one, all_objects, descriptors_one, ends_all, ends_one, imported_of, thunks_in}
 use Rattle.implib_link.proofs.Flavors.Expanded.{AreWide, AskFits, descriptor_is, descriptor_linked, ends_of_asking, ends_of_descriptor, ends_of_null_thunk, length-descriptor, length-thunk_linked, placed-asking, placed-descriptor, placed-null_thunk, placed_asking, placed_descriptor, plus_none, step, taken_descriptor, taken_null_thunk, thunk_linked, thunk_of_name, wide_aligned, wide_asking, wide_descriptor}
+use Rattle.implib.specs.LibraryName.{NamesOfDll}
 
-module _ (machine : MachineType) (dll : List ℕ) (linked : List Placed) (beside : List Range)
+module _ (machine : MachineType) (dll : NamesOfDll) (linked : List Placed) (beside : List Range)
     (starts : AllByRecursion (λ r. 0 < r.start) beside) (ends : AllByRecursion (λ r. range_end r < 2 ^ 31) beside) where
   -- the descriptor and the DLL's name, and what follows
   record DescriptorStands (b : Bases) (rest : List Object) : Type 0 where
     bytes : BytesAt beside b.descriptors (descriptor_linked machine dll linked b)
-    name : BytesAt beside (next_multiple 2 b.hint_names) (dll ++ 0 ∷ [])
+    name : BytesAt beside (next_multiple 2 b.hint_names) (dll.text ++ 0 ∷ [])
     behind : LocatedBeside machine linked beside (ends_of_descriptor dll b) rest
 
   descriptor_stands : (b : Bases) (rest : List Object) → AreWide machine b → LocatedBeside machine linked beside b (taken_descriptor machine dll ∷ rest) → DescriptorStands b rest
@@ -50,7 +51,7 @@ module _ (machine : MachineType) (dll : List ℕ) (linked : List Placed) (beside
       (subst (λ ps. BytesAt beside b.descriptors (filled b.descriptors (contributions machine linked Descriptors ps))) placed_is located.descriptors) in
       let lookups = step beside b.lookups [] (contributions machine linked Lookups (placed_from later rest)) 0 refl
       (subst (λ ps. BytesAt beside b.lookups (filled b.lookups (contributions machine linked Lookups ps))) placed_is located.lookups) in
-      let names = contribution_located beside b.hint_names (record { address = next_multiple 2 b.hint_names; bytes = dll ++ 0 ∷ [] }) (contributions machine linked HintNames (placed_from later rest))
+      let names = contribution_located beside b.hint_names (record { address = next_multiple 2 b.hint_names; bytes = dll.text ++ 0 ∷ [] }) (contributions machine linked HintNames (placed_from later rest))
       (at_least 2 b.hint_names)
       (subst (λ ps. BytesAt beside b.hint_names (filled b.hint_names (contributions machine linked HintNames ps))) placed_is located.hint_names) in
       record {
@@ -70,11 +71,11 @@ module _ (machine : MachineType) (dll : List ℕ) (linked : List Placed) (beside
     behind : LocatedBeside machine linked beside (ends_of_asking machine b ask) rest
 
   asking_stands : (b : Bases) (symbol : List ℕ) (ask : Ask) (use_kind : Use) (rest : List Object) → AskFits ask → AreWide machine b →
-      LocatedBeside machine linked beside b (import_object machine dll symbol ask use_kind ∷ rest) → AskingStands b ask rest
+      LocatedBeside machine linked beside b (import_object machine dll.text symbol ask use_kind ∷ rest) → AskingStands b ask rest
   unfolding import_object thunk_linked AskFits
   asking_stands b symbol (Ordinal n) use_kind rest fits even located =
       let later : Bases = ends_of_asking machine b (Ordinal n) in
-      let placed_is : placed_from b (import_object machine dll symbol (Ordinal n) use_kind ∷ rest) ≡ placed_asking machine dll b symbol (Ordinal n) use_kind ∷ placed_from later rest =
+      let placed_is : placed_from b (import_object machine dll.text symbol (Ordinal n) use_kind ∷ rest) ≡ placed_asking machine dll b symbol (Ordinal n) use_kind ∷ placed_from later rest =
       placed-asking machine dll b symbol (Ordinal n) use_kind rest even in
       let lookups = step beside b.lookups (thunk_linked machine dll linked b symbol (Ordinal n) use_kind) (contributions machine linked Lookups (placed_from later rest)) (thunk_width machine)
       (length-thunk_linked machine dll linked b symbol (Ordinal n) use_kind)
@@ -90,7 +91,7 @@ module _ (machine : MachineType) (dll : List ℕ) (linked : List Placed) (beside
       }
   asking_stands b symbol (Name text hint) use_kind rest fits even located =
       let later : Bases = ends_of_asking machine b (Name text hint) in
-      let placed_is : placed_from b (import_object machine dll symbol (Name text hint) use_kind ∷ rest) ≡ placed_asking machine dll b symbol (Name text hint) use_kind ∷ placed_from later rest =
+      let placed_is : placed_from b (import_object machine dll.text symbol (Name text hint) use_kind ∷ rest) ≡ placed_asking machine dll b symbol (Name text hint) use_kind ∷ placed_from later rest =
       placed-asking machine dll b symbol (Name text hint) use_kind rest even in
       let lookups = step beside b.lookups (thunk_linked machine dll linked b symbol (Name text hint) use_kind) (contributions machine linked Lookups (placed_from later rest)) (thunk_width machine)
       (length-thunk_linked machine dll linked b symbol (Name text hint) use_kind)
@@ -141,17 +142,17 @@ module _ (machine : MachineType) (dll : List ℕ) (linked : List Placed) (beside
       ((one.lookup, others.0), others.1)
 
   -- one DLL's members for Microsoft's linker
-  msvc_beside : (es : List ExportView) (b : Bases) (rest : List Object) → HasNoNul dll → AllByRecursion (FitsIn Msvc machine) es → AreWide machine b → (0 < b.addresses) → (b.addresses < 2 ^ 31) →
+  msvc_beside : (es : List ExportView) (b : Bases) (rest : List Object) → HasNoNul dll.text → AllByRecursion (FitsIn Msvc machine) es → AreWide machine b → (0 < b.addresses) → (b.addresses < 2 ^ 31) →
       LocatedBeside machine linked beside b (objects_of machine Msvc dll es rest) →
-      DescriptorBeside beside (thunk_width machine) b.descriptors b.addresses (record { dll = dll; asks = map (ask_in Msvc machine) es })
+      DescriptorBeside beside (thunk_width machine) b.descriptors b.addresses (record { dll = dll.text; asks = map (ask_in Msvc machine) es })
       × LocatedBeside machine linked beside (ends_in machine Msvc dll b es) rest
   msvc_beside es b rest dll_text fit even above below located =
       let one = descriptor_stands b (behind_descriptor machine dll es rest) even located in
       let tables = askings_stand es (ends_of_descriptor dll b) rest fit (wide_descriptor machine dll b even) one.behind in
       let place : ℕ = next_multiple 2 b.hint_names in
       let lookups_bounds = table_bounds machine beside starts ends (map (ask_in Msvc machine) es) b.lookups tables.0 in
-      let long : 0 < length (dll ++ 0 ∷ []) = rw (length-append dll (0 ∷ [])) (omega arith) in
-      let name_bounds = bounds_of beside starts ends (dll ++ 0 ∷ []) place one.name long in
+      let long : 0 < length (dll.text ++ 0 ∷ []) = rw (length-append dll.text (0 ∷ [])) (omega arith) in
+      let name_bounds = bounds_of beside starts ends (dll.text ++ 0 ∷ []) place one.name long in
       let fields = fields_beside beside b.descriptors b.lookups place b.addresses lookups_bounds.1 name_bounds.1 below
       (subst (BytesAt beside b.descriptors) (descriptor_is machine dll linked b) one.bytes) in (
         record {
@@ -169,10 +170,10 @@ module _ (machine : MachineType) (dll : List ℕ) (linked : List Placed) (beside
       )
 
   -- one DLL's members in a flavour
-  one_beside : (flavor : Flavor) (es : List ExportView) (b : Bases) (rest : List Object) → HasNoNul dll → AllByRecursion (FitsIn flavor machine) es → AreWide machine b → (0 < b.addresses) → (b.addresses < 2 ^ 31) →
+  one_beside : (flavor : Flavor) (es : List ExportView) (b : Bases) (rest : List Object) → HasNoNul dll.text → AllByRecursion (FitsIn flavor machine) es → AreWide machine b → (0 < b.addresses) → (b.addresses < 2 ^ 31) →
       ((d : SymbolDefinition) → Among d (definitions_in machine flavor dll b es) → definitions_of d.name linked ≡ d ∷ []) →
       LocatedBeside machine linked beside b (objects_of machine flavor dll es rest) →
-      DescriptorBeside beside (thunk_width machine) b.descriptors b.addresses (record { dll = dll; asks = map (ask_in flavor machine) es })
+      DescriptorBeside beside (thunk_width machine) b.descriptors b.addresses (record { dll = dll.text; asks = map (ask_in flavor machine) es })
       × LocatedBeside machine linked beside (ends_in machine flavor dll b es) rest
   unfolding FitsIn
   one_beside Msvc es b rest dll_text fit even above below only located = msvc_beside es b rest dll_text fit even above below located
@@ -230,8 +231,8 @@ module _ (machine : MachineType) (linked : List Placed) where
   first_long a n bytes others long =
       ap length (filled_first a n bytes others long) ∙ length-append bytes (filled (a + n) others) ∙ ap (λ m. m + length (filled (a + n) others)) long
 
-  asking_long : (dll : List ℕ) (b : Bases) (symbol : List ℕ) (ask : Ask) (use_kind : Use) (rest : List Object) → AreWide machine b →
-      length (table_from b (import_object machine dll symbol ask use_kind ∷ rest)) ≡ thunk_width machine + length (table_from (ends_of_asking machine b ask) rest)
+  asking_long : (dll : NamesOfDll) (b : Bases) (symbol : List ℕ) (ask : Ask) (use_kind : Use) (rest : List Object) → AreWide machine b →
+      length (table_from b (import_object machine dll.text symbol ask use_kind ∷ rest)) ≡ thunk_width machine + length (table_from (ends_of_asking machine b ask) rest)
   unfolding import_object thunk_linked
   asking_long dll b symbol (Ordinal n) use_kind rest even =
       ap (λ ps. length (filled b.addresses (contributions machine linked Addresses ps))) (placed-asking machine dll b symbol (Ordinal n) use_kind rest even)
@@ -242,7 +243,7 @@ module _ (machine : MachineType) (linked : List Placed) where
       ∙ first_long b.addresses (thunk_width machine) (thunk_linked machine dll linked b symbol (Name text hint) use_kind) (contributions machine linked Addresses (placed_from (ends_of_asking machine b (Name text hint)) rest))
       (length-thunk_linked machine dll linked b symbol (Name text hint) use_kind)
 
-  askings_long : (dll : List ℕ) (es : List ExportView) (b : Bases) (rest : List Object) → AreWide machine b →
+  askings_long : (dll : NamesOfDll) (es : List ExportView) (b : Bases) (rest : List Object) → AreWide machine b →
       length (table_from b (behind_descriptor machine dll es rest)) ≡ thunk_width machine * (length es + 1) + length (table_from (ends_of_askings machine b es) rest)
   unfolding ends_of_askings with_section_symbols object_of null_thunk entries_of name_text
   askings_long dll [] b rest even =
@@ -256,7 +257,7 @@ module _ (machine : MachineType) (linked : List Placed) where
       ∙ ap (λ n. thunk_width machine + n) (askings_long dll es later rest (wide_asking machine b ask even))
       ∙ count_on (thunk_width machine) (length es) (length (table_from (ends_of_askings machine later es) rest))
 
-  msvc_long : (dll : List ℕ) (es : List ExportView) (b : Bases) (rest : List Object) → AreWide machine b →
+  msvc_long : (dll : NamesOfDll) (es : List ExportView) (b : Bases) (rest : List Object) → AreWide machine b →
       length (table_from b (objects_of machine Msvc dll es rest)) ≡ thunk_width machine * (length es + 1) + length (table_from (ends_in machine Msvc dll b es) rest)
   unfolding with_section_symbols object_of descriptor entries_of name_text
   msvc_long dll es b rest even =
@@ -266,7 +267,7 @@ module _ (machine : MachineType) (linked : List Placed) where
       ∙ ap length (filled_first b.addresses 0 [] others refl ∙ ap (λ n. filled n others) (plus_none b.addresses))
       ∙ askings_long dll es later rest (wide_descriptor machine dll b even)
 
-  gnu_block_long : (dll : List ℕ) (es : List ExportView) (b : Bases) (rest : List Object) → AreWide machine b →
+  gnu_block_long : (dll : NamesOfDll) (es : List ExportView) (b : Bases) (rest : List Object) → AreWide machine b →
       length (table_from b (objects_of machine Gnu dll es rest)) ≡ thunk_width machine * (length es + 1) + length (table_from (ends_in machine Gnu dll b es) rest)
   unfolding head_object
   gnu_block_long dll es b rest even =
@@ -283,7 +284,7 @@ module _ (machine : MachineType) (linked : List Placed) where
       ∙ length-append thunks (table_from last rest)
       ∙ ap (λ n. n + length (table_from last rest)) long
 
-  one_long : (flavor : Flavor) (dll : List ℕ) (es : List ExportView) (b : Bases) (rest : List Object) → AreWide machine b →
+  one_long : (flavor : Flavor) (dll : NamesOfDll) (es : List ExportView) (b : Bases) (rest : List Object) → AreWide machine b →
       length (table_from b (objects_of machine flavor dll es rest)) ≡ thunk_width machine * (length es + 1) + length (table_from (ends_in machine flavor dll b es) rest)
   one_long Msvc dll es b rest even = msvc_long dll es b rest even
   one_long Gnu dll es b rest even = gnu_block_long dll es b rest even

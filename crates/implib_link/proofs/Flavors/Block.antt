@@ -28,6 +28,7 @@ use Rattle.implib_link.specs.Flavors.Expansion.{Code, Constant, Data, Use, impor
 use Rattle.implib_link.specs.Flavors.Program.{IsFoundByName, SymbolsAt, ask_in, descriptor_in, symbol_in}
 use Rattle.implib_link.specs.Flavors.SectionSymbols.{with_section_symbols}
 use Rattle.implib_link.proofs.Flavors.Expanded.{AreWide, AskFits, asking_located, descriptor_located, ends_of_asking, ends_of_descriptor, ends_of_null_thunk, null_thunk_located, placed-asking, placed-descriptor, placed-null_thunk, placed_asking, placed_descriptor, taken_descriptor, taken_null_thunk, wide_aligned, wide_asking, wide_descriptor, wide_next, wide_null_thunk}
+use Rattle.implib.specs.LibraryName.{NamesOfDll}
 
 -- what an export is used for
 abbrev pub use_for : ExportView → Use
@@ -35,7 +36,7 @@ use_for e = if e.is_data then Data else if e.constant then Constant else Code
 
 -- the object that an export's short import stands for
 abbrev pub asking : MachineType → List ℕ → ExportView → Object
-asking machine dll e = import_object machine dll (short_import_symbol e) (ask_in Msvc machine e) (use_for e)
+asking machine dll e = import_object machine dll.text (short_import_symbol e) (ask_in Msvc machine e) (use_for e)
 
 -- the short imports' objects, the null thunk's after them, and other objects
 abbrev pub behind_descriptor : MachineType → List ℕ → List ExportView → List Object → List Object
@@ -63,12 +64,12 @@ abbrev pub imp_definition : Bases → List ℕ → SymbolDefinition
 imp_definition b symbol = record { name = imp_symbol symbol; address = Some (b.addresses + 0) }
 
 unfoldable pub defined_behind : MachineType → List ℕ → Bases → List ExportView → List SymbolDefinition
-defined_behind machine dll b [] = record { name = null_thunk_symbol dll; address = Some (b.addresses + 0) } ∷ []
+defined_behind machine dll b [] = record { name = null_thunk_symbol dll.linked; address = Some (b.addresses + 0) } ∷ []
 defined_behind machine dll b (e ∷ es) =
     imp_definition b (short_import_symbol e)
     ∷ (use_definitions b.addresses (short_import_symbol e) (use_for e) ++ defined_behind machine dll (ends_of_asking machine b (ask_in Msvc machine e)) es)
 
-defined_by_asking : (machine : MachineType) (dll : List ℕ) (b : Bases) (symbol : List ℕ) (ask : Ask) (use_kind : Use) →
+defined_by_asking : (machine : MachineType) (dll : NamesOfDll) (b : Bases) (symbol : List ℕ) (ask : Ask) (use_kind : Use) →
     defined_by (placed_asking machine dll b symbol ask use_kind) ≡ imp_definition b symbol ∷ use_definitions b.addresses symbol use_kind
 unfolding import_object
 defined_by_asking machine dll b symbol (Ordinal n) Code = refl
@@ -78,7 +79,7 @@ defined_by_asking machine dll b symbol (Name text hint) Code = refl
 defined_by_asking machine dll b symbol (Name text hint) Data = refl
 defined_by_asking machine dll b symbol (Name text hint) Constant = refl
 
-definitions-behind : (machine : MachineType) (dll : List ℕ) (b : Bases) (es : List ExportView) (rest : List Object) → AreWide machine b →
+definitions-behind : (machine : MachineType) (dll : NamesOfDll) (b : Bases) (es : List ExportView) (rest : List Object) → AreWide machine b →
     definitions (placed_from b (behind_descriptor machine dll es rest)) ≡ defined_behind machine dll b es ++ definitions (placed_from (ends_of_askings machine b es) rest)
 unfolding defined_behind ends_of_askings with_section_symbols object_of null_thunk entries_of name_text
 definitions-behind machine dll b [] rest even = ap definitions (placed-null_thunk machine dll b rest even)
@@ -98,8 +99,8 @@ names_of_use address symbol true constant rest = refl
 names_of_use address symbol false true rest = refl
 names_of_use address symbol false false rest = refl
 
-names-behind : (machine : MachineType) (dll : List ℕ) (b : Bases) (es : List ExportView) →
-    map (λ (d : SymbolDefinition). d.name) (defined_behind machine dll b es) ≡ flat_map short_import_symbols es ++ null_thunk_symbol dll ∷ []
+names-behind : (machine : MachineType) (dll : NamesOfDll) (b : Bases) (es : List ExportView) →
+    map (λ (d : SymbolDefinition). d.name) (defined_behind machine dll b es) ≡ flat_map short_import_symbols es ++ null_thunk_symbol dll.linked ∷ []
 unfolding defined_behind
 names-behind machine dll b [] = refl
 names-behind machine dll b (e ∷ es) =
@@ -109,10 +110,10 @@ names-behind machine dll b (e ∷ es) =
     ap (λ names. imp_symbol symbol ∷ names) (
     names_of_use b.addresses symbol e.is_data e.constant (defined_behind machine dll later es)
     ∙ ap (λ names. own ++ names) (names-behind machine dll later es)
-    ∙ sym (append_assoc own (flat_map short_import_symbols es) (null_thunk_symbol dll ∷ [])))
+    ∙ sym (append_assoc own (flat_map short_import_symbols es) (null_thunk_symbol dll.linked ∷ [])))
 
 unfoldable pub descriptor_definition : List ℕ → Bases → SymbolDefinition
-descriptor_definition dll b = record { name = descriptor_symbol dll; address = Some (b.descriptors + 0) }
+descriptor_definition dll b = record { name = descriptor_symbol dll.linked; address = Some (b.descriptors + 0) }
 
 -- One DLL's objects, in its flavour.
 
@@ -130,10 +131,10 @@ definitions_in machine Gnu dll b es = block_definitions machine dll b es
 
 -- the symbols that its members are listed for
 abbrev pub symbols_of : MachineType → Flavor → List ℕ → List ExportView → List (List ℕ)
-symbols_of machine Msvc dll es = descriptor_symbol dll ∷ (flat_map short_import_symbols es ++ null_thunk_symbol dll ∷ [])
-symbols_of machine Gnu dll es = head_symbol machine dll ∷ (flat_map archive_symbols es ++ iname_symbol machine dll ∷ [])
+symbols_of machine Msvc dll es = descriptor_symbol dll.linked ∷ (flat_map short_import_symbols es ++ null_thunk_symbol dll.linked ∷ [])
+symbols_of machine Gnu dll es = head_symbol machine dll.linked ∷ (flat_map archive_symbols es ++ iname_symbol machine dll.linked ∷ [])
 
-pub definitions-in : (machine : MachineType) (flavor : Flavor) (dll : List ℕ) (b : Bases) (es : List ExportView) (rest : List Object) → AreWide machine b →
+pub definitions-in : (machine : MachineType) (flavor : Flavor) (dll : NamesOfDll) (b : Bases) (es : List ExportView) (rest : List Object) → AreWide machine b →
     definitions (placed_from b (objects_of machine flavor dll es rest)) ≡ definitions_in machine flavor dll b es ++ definitions (placed_from (ends_in machine flavor dll b es) rest)
 unfolding descriptor_definition with_section_symbols object_of descriptor entries_of name_text
 definitions-in machine Msvc dll b es rest even =
@@ -141,13 +142,13 @@ definitions-in machine Msvc dll b es rest even =
     ∙ ap (λ ds. descriptor_definition dll b ∷ ds) (definitions-behind machine dll (ends_of_descriptor dll b) es rest (wide_descriptor machine dll b even))
 definitions-in machine Gnu dll b es rest even = definitions-block machine dll b es rest (wide_aligned machine b even)
 
-pub names-in : (machine : MachineType) (flavor : Flavor) (dll : List ℕ) (b : Bases) (es : List ExportView) →
+pub names-in : (machine : MachineType) (flavor : Flavor) (dll : NamesOfDll) (b : Bases) (es : List ExportView) →
     map (λ (d : SymbolDefinition). d.name) (definitions_in machine flavor dll b es) ≡ symbols_of machine flavor dll es
 unfolding descriptor_definition block_definitions head_definition
-names-in machine Msvc dll b es = ap (λ names. descriptor_symbol dll ∷ names) (names-behind machine dll (ends_of_descriptor dll b) es)
-names-in machine Gnu dll b es = ap (λ names. head_symbol machine dll ∷ names) (names-after machine dll _ es)
+names-in machine Msvc dll b es = ap (λ names. descriptor_symbol dll.linked ∷ names) (names-behind machine dll (ends_of_descriptor dll b) es)
+names-in machine Gnu dll b es = ap (λ names. head_symbol machine dll.linked ∷ names) (names-after machine dll _ es)
 
-gnu_exports_wide : (machine : MachineType) (dll : List ℕ) (b : Bases) (es : List ExportView) → AreWide machine b → AreWide machine (ends_of_all machine dll b es)
+gnu_exports_wide : (machine : MachineType) (dll : NamesOfDll) (b : Bases) (es : List ExportView) → AreWide machine b → AreWide machine (ends_of_all machine dll b es)
 unfolding ends_of_exports
 gnu_exports_wide machine dll b [] even = record {
   descriptors = even.descriptors;
@@ -161,7 +162,7 @@ gnu_exports_wide machine dll b (e ∷ es) even =
       addresses = wide_next machine b.addresses even.addresses;
     })
 
-pub wide_in : (machine : MachineType) (flavor : Flavor) (dll : List ℕ) (b : Bases) (es : List ExportView) → AreWide machine b → AreWide machine (ends_in machine flavor dll b es)
+pub wide_in : (machine : MachineType) (flavor : Flavor) (dll : NamesOfDll) (b : Bases) (es : List ExportView) → AreWide machine b → AreWide machine (ends_in machine flavor dll b es)
 wide_in machine Msvc dll b es even = wide_askings machine (ends_of_descriptor dll b) es (wide_descriptor machine dll b even)
 wide_in machine Gnu dll b es even =
     let whole : b.descriptors % 4 ≡ 0 = even.descriptors in
@@ -183,7 +184,7 @@ symbols_from linked width address [] entries = tt
 symbols_from linked width address (e ∷ es) entries = (entries.0, symbols_from linked width (address + width) es entries.1)
 
 -- What is known of one DLL's objects among all that is linked, with other objects behind them.
-pub record OneLinks (machine : MachineType) (linked : List Placed) (image : List Range) (flavor : Flavor) (dll : List ℕ) (es : List ExportView) (b : Bases) (rest : List Object) : Type 0 where
+pub record OneLinks (machine : MachineType) (linked : List Placed) (image : List Range) (flavor : Flavor) (dll : NamesOfDll) (es : List ExportView) (b : Bases) (rest : List Object) : Type 0 where
   pub top : definitions_of (descriptor_in flavor machine dll) linked ≡ record { name = descriptor_in flavor machine dll; address = Some b.descriptors } ∷ []
   pub loads : LoadsStrictly image (thunk_width machine) b.descriptors dll (map (ask_in flavor machine) es)
   pub table_located : loads.plain.addresses ≡ b.addresses
@@ -194,8 +195,8 @@ pub record OneLinks (machine : MachineType) (linked : List Placed) (image : List
   pub targets : AllByRecursion (AllFind linked) (placed_from (ends_in machine flavor dll b es) rest) →
       AllByRecursion (AllFind linked) (placed_from b (objects_of machine flavor dll es rest))
 
-module _ (machine : MachineType) (dll : List ℕ) (linked : List Placed) (image : List Range)
-    (starts : AllByRecursion (λ r. 0 < r.start) image) (ends : AllByRecursion (λ r. range_end r < 2 ^ 31) image) (dll_text : HasNoNul dll) where
+module _ (machine : MachineType) (dll : NamesOfDll) (linked : List Placed) (image : List Range)
+    (starts : AllByRecursion (λ r. 0 < r.start) image) (ends : AllByRecursion (λ r. range_end r < 2 ^ 31) image) (dll_text : HasNoNul dll.text) where
   -- the tables of the short imports and the null thunk
   record AskingsStand (b : Bases) (es : List ExportView) (rest : List Object) : Type 0 where
     lookups : StrictTableAt image (thunk_width machine) b.lookups (map (ask_in Msvc machine) es)
@@ -242,7 +243,7 @@ module _ (machine : MachineType) (dll : List ℕ) (linked : List Placed) (image 
 
   -- the null thunk's definition is the last one
   thunk_defined : (es : List ExportView) (b : Bases) →
-      (address : ℕ) × Among (record { name = null_thunk_symbol dll; address = Some address }) (defined_behind machine dll b es)
+      (address : ℕ) × Among (record { name = null_thunk_symbol dll.linked; address = Some address }) (defined_behind machine dll b es)
   unfolding defined_behind
   thunk_defined [] b = (b.addresses + 0, among_first _ _)
   thunk_defined (e ∷ es) b =
@@ -251,7 +252,7 @@ module _ (machine : MachineType) (dll : List ℕ) (linked : List Placed) (image 
 
   -- each short import's object needs the descriptor's symbol alone, and the null thunk's none
   undefined_by_asking : (b : Bases) (symbol : List ℕ) (ask : Ask) (use_kind : Use) (others : List Placed) →
-      undefined_names (placed_asking machine dll b symbol ask use_kind ∷ others) ≡ descriptor_symbol_by_name dll ∷ undefined_names others
+      undefined_names (placed_asking machine dll b symbol ask use_kind ∷ others) ≡ descriptor_symbol_by_name dll.text ∷ undefined_names others
   unfolding import_object
   undefined_by_asking b symbol (Ordinal n) Code others = refl
   undefined_by_asking b symbol (Ordinal n) Data others = refl
@@ -260,7 +261,7 @@ module _ (machine : MachineType) (dll : List ℕ) (linked : List Placed) (image 
   undefined_by_asking b symbol (Name text hint) Data others = refl
   undefined_by_asking b symbol (Name text hint) Constant others = refl
 
-  undefined_behind : (es : List ExportView) (b : Bases) (rest : List Object) → AreWide machine b → IsDefinedAt linked (descriptor_symbol_by_name dll) →
+  undefined_behind : (es : List ExportView) (b : Bases) (rest : List Object) → AreWide machine b → IsDefinedAt linked (descriptor_symbol_by_name dll.text) →
       AllByRecursion (IsDefinedAt linked) (undefined_names (placed_from (ends_of_askings machine b es) rest)) →
       AllByRecursion (IsDefinedAt linked) (undefined_names (placed_from b (behind_descriptor machine dll es rest)))
   unfolding ends_of_askings with_section_symbols object_of null_thunk entries_of name_text
@@ -268,7 +269,7 @@ module _ (machine : MachineType) (dll : List ℕ) (linked : List Placed) (image 
   undefined_behind (e ∷ es) b rest even once others =
       let ask : Ask = ask_in Msvc machine e in
       let later : Bases = ends_of_asking machine b ask in
-      let same : undefined_names (placed_from b (behind_descriptor machine dll (e ∷ es) rest)) ≡ descriptor_symbol_by_name dll ∷ undefined_names (placed_from later (behind_descriptor machine dll es rest)) =
+      let same : undefined_names (placed_from b (behind_descriptor machine dll (e ∷ es) rest)) ≡ descriptor_symbol_by_name dll.text ∷ undefined_names (placed_from later (behind_descriptor machine dll es rest)) =
       ap undefined_names (placed-asking machine dll b (short_import_symbol e) ask (use_for e) (behind_descriptor machine dll es rest) even)
       ∙ undefined_by_asking b (short_import_symbol e) ask (use_for e) (placed_from later (behind_descriptor machine dll es rest)) in
       subst (AllByRecursion (IsDefinedAt linked)) (sym same) (once, undefined_behind es later rest (wide_asking machine b ask even) once others)
@@ -307,13 +308,13 @@ module _ (machine : MachineType) (dll : List ℕ) (linked : List Placed) (image 
   descriptor_finds b = (((next_multiple 2 b.hint_names + 0, refl), ((b.lookups + 0, refl), ((b.addresses + 0, refl), tt))), (tt, (tt, (tt, tt))))
 
   undefined_by_descriptor : (b : Bases) (others : List Placed) →
-      undefined_names (placed_descriptor machine dll b ∷ others) ≡ null_descriptor_symbol ∷ null_thunk_symbol dll ∷ undefined_names others
+      undefined_names (placed_descriptor machine dll b ∷ others) ≡ null_descriptor_symbol ∷ null_thunk_symbol dll.linked ∷ undefined_names others
   unfolding with_section_symbols object_of descriptor entries_of name_text
   undefined_by_descriptor b others = refl
 
   -- one DLL's members for Microsoft's linker
   msvc_links : (es : List ExportView) (b : Bases) (rest : List Object) → AllByRecursion (FitsIn Msvc machine) es → AreWide machine b →
-      descriptor_symbol_by_name dll ≡ descriptor_symbol dll → IsDefinedAt linked null_descriptor_symbol →
+      descriptor_symbol_by_name dll.text ≡ descriptor_symbol dll.linked → IsDefinedAt linked null_descriptor_symbol →
       ((d : SymbolDefinition) → Among d (definitions_in machine Msvc dll b es) → definitions_of d.name linked ≡ d ∷ []) →
       LocatedFrom machine linked image b (objects_of machine Msvc dll es rest) → OneLinks machine linked image Msvc dll es b rest
   unfolding descriptor_definition
@@ -325,8 +326,8 @@ module _ (machine : MachineType) (dll : List ℕ) (linked : List Placed) (image 
       let plain : b.descriptors + 0 ≡ b.descriptors = omega arith in
       let own : SymbolDefinition = descriptor_definition dll b in
       let behind_only = λ (d : SymbolDefinition) (m : Among d (defined_behind machine dll (ends_of_descriptor dll b) es)). only d (among_later d own (defined_behind machine dll (ends_of_descriptor dll b) es) m) in
-      let top : definitions_of (descriptor_symbol dll) linked ≡ record { name = descriptor_symbol dll; address = Some b.descriptors } ∷ [] =
-      only own (among_first own _) ∙ ap (λ n. record { name = descriptor_symbol dll; address = Some n } ∷ []) plain in
+      let top : definitions_of (descriptor_symbol dll.linked) linked ≡ record { name = descriptor_symbol dll.linked; address = Some b.descriptors } ∷ [] =
+      only own (among_first own _) ∙ ap (λ n. record { name = descriptor_symbol dll.linked; address = Some n } ∷ []) plain in
       let thunk = thunk_defined es later in
       let name_text : TextAt image (next_multiple 2 b.hint_names) dll = record { no_nul = dll_text; located = one.name } in
       let loaded = descriptor_loads machine image starts ends b.descriptors b.lookups b.addresses (next_multiple 2 b.hint_names) dll (map (ask_in Msvc machine) es)

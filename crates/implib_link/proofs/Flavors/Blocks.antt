@@ -25,11 +25,12 @@ use Rattle.implib_link.specs.Flavors.Program.{IsFoundByName, ask_in}
 use Rattle.implib_link.proofs.Gnu.Blocks.{addresses_after, descriptors_after, table_sum}
 use Rattle.implib_link.proofs.Flavors.Block.{FitsIn, OneLinks, definitions-in, definitions_in, ends_in, ends_of_askings, names-in, objects_of, one_links, symbols_of, wide_in}
 use Rattle.implib_link.proofs.Flavors.Expanded.{AreWide, ends_of_asking, ends_of_descriptor}
+use Rattle.implib.specs.LibraryName.{NamesOfDll}
 
 -- what a DLL's objects are made of
 pub record FlavorBlock : Type 0 where
   pub flavor : Flavor
-  pub dll : List ℕ
+  pub dll : NamesOfDll
   pub exports : List ExportView
 
 -- the objects of DLLs, and others behind them
@@ -39,7 +40,7 @@ all_objects machine (k ∷ blocks) rest = objects_of machine k.flavor k.dll k.ex
 
 -- a block whose texts have no NUL, whose exports can be asked, and whose descriptor linkers find
 pub record CanLink (machine : MachineType) (k : FlavorBlock) : Type 0 where
-  pub dll : HasNoNul k.dll
+  pub dll : HasNoNul k.dll.text
   pub exports : AllByRecursion (FitsIn k.flavor machine) k.exports
   pub found : IsFoundByName k.flavor k.dll
 
@@ -88,7 +89,7 @@ unfolding ends_of_askings
 askings_descriptors machine b [] = refl
 askings_descriptors machine b (e ∷ es) = askings_descriptors machine (ends_of_asking machine b (ask_in Msvc machine e)) es
 
-pub descriptors_one : (machine : MachineType) (flavor : Flavor) (dll : List ℕ) (b : Bases) (es : List ExportView) → b.descriptors + 20 ≡ (ends_in machine flavor dll b es).descriptors
+pub descriptors_one : (machine : MachineType) (flavor : Flavor) (dll : NamesOfDll) (b : Bases) (es : List ExportView) → b.descriptors + 20 ≡ (ends_in machine flavor dll b es).descriptors
 descriptors_one machine Msvc dll b es = askings_descriptors machine (ends_of_descriptor dll b) es
 descriptors_one machine Gnu dll b es = descriptors_after machine dll b es
 
@@ -108,7 +109,7 @@ askings_addresses machine b (e ∷ es) =
     ap (λ n. thunk_width machine * n) count ∙ mul-suc (thunk_width machine) (length es + 1) in
     later ∙ plus_twice b.addresses (thunk_width machine) (thunk_width machine * (length es + 1)) ∙ ap (λ n. b.addresses + n) (sym product)
 
-pub addresses_one : (machine : MachineType) (flavor : Flavor) (dll : List ℕ) (b : Bases) (es : List ExportView) →
+pub addresses_one : (machine : MachineType) (flavor : Flavor) (dll : NamesOfDll) (b : Bases) (es : List ExportView) →
     (ends_in machine flavor dll b es).addresses ≡ b.addresses + thunk_width machine * (length es + 1)
 addresses_one machine Msvc dll b es = askings_addresses machine (ends_of_descriptor dll b) es
 addresses_one machine Gnu dll b es = addresses_after machine dll (ends_of_head machine dll b) es

@@ -26,8 +26,9 @@ use Rattle.implib_link.proofs.Flavors.Block.{behind_descriptor, objects_of, symb
 use Rattle.implib_link.proofs.Flavors.Blocks.{FlavorBlock, all_objects}
 use Rattle.implib_link.proofs.Search.Lists.{among_either, contains_among}
 use Rattle.implib_link.proofs.Flavors.Expanded.{taken_descriptor, taken_null, taken_null_thunk}
+use Rattle.implib.specs.LibraryName.{NamesOfDll}
 
-pub claims_descriptor : (machine : MachineType) (dll : List ℕ) → claimed_names (taken_descriptor machine dll) ≡ descriptor_symbol dll ∷ []
+pub claims_descriptor : (machine : MachineType) (dll : NamesOfDll) → claimed_names (taken_descriptor machine dll) ≡ descriptor_symbol dll.linked ∷ []
 unfolding with_section_symbols object_of descriptor entries_of name_text
 claims_descriptor machine dll = refl
 
@@ -35,12 +36,12 @@ pub claims_null : (machine : MachineType) → claimed_names (taken_null machine)
 unfolding with_section_symbols object_of null_descriptor entries_of name_text
 claims_null machine = refl
 
-pub claims_thunk : (machine : MachineType) (dll : List ℕ) → claimed_names (taken_null_thunk machine dll) ≡ null_thunk_symbol dll ∷ []
+pub claims_thunk : (machine : MachineType) (dll : NamesOfDll) → claimed_names (taken_null_thunk machine dll) ≡ null_thunk_symbol dll.linked ∷ []
 unfolding with_section_symbols object_of null_thunk entries_of name_text
 claims_thunk machine dll = refl
 
 pub claims_asking : (machine : MachineType) (dll symbol : List ℕ) (ask : Ask) (is_data constant : Bool) →
-    claimed_names (import_object machine dll symbol ask (if is_data then Data else if constant then Constant else Code)) ≡ imp_symbol symbol ∷ (if is_data then [] else symbol ∷ [])
+    claimed_names (import_object machine dll.text symbol ask (if is_data then Data else if constant then Constant else Code)) ≡ imp_symbol symbol ∷ (if is_data then [] else symbol ∷ [])
 unfolding import_object
 claims_asking machine dll symbol (Ordinal n) true constant = refl
 claims_asking machine dll symbol (Ordinal n) false true = refl
@@ -49,21 +50,21 @@ claims_asking machine dll symbol (Name text hint) true constant = refl
 claims_asking machine dll symbol (Name text hint) false true = refl
 claims_asking machine dll symbol (Name text hint) false false = refl
 
-askings_claim : (machine : MachineType) (dll : List ℕ) (es : List ExportView) (rest : List Object) →
-    flat_map claimed_names (behind_descriptor machine dll es rest) ≡ (flat_map short_import_symbols es ++ null_thunk_symbol dll ∷ []) ++ flat_map claimed_names rest
+askings_claim : (machine : MachineType) (dll : NamesOfDll) (es : List ExportView) (rest : List Object) →
+    flat_map claimed_names (behind_descriptor machine dll es rest) ≡ (flat_map short_import_symbols es ++ null_thunk_symbol dll.linked ∷ []) ++ flat_map claimed_names rest
 askings_claim machine dll [] rest = ap (λ names. names ++ flat_map claimed_names rest) (claims_thunk machine dll)
 askings_claim machine dll (e ∷ es) rest =
     ap (λ names. names ++ flat_map claimed_names (behind_descriptor machine dll es rest)) (claims_asking machine dll (short_import_symbol e) (ask_in Msvc machine e) e.is_data e.constant)
     ∙ ap (λ names. short_import_symbols e ++ names) (askings_claim machine dll es rest)
-    ∙ sym (append_assoc (short_import_symbols e) (flat_map short_import_symbols es ++ null_thunk_symbol dll ∷ []) (flat_map claimed_names rest))
-    ∙ ap (λ names. names ++ flat_map claimed_names rest) (sym (append_assoc (short_import_symbols e) (flat_map short_import_symbols es) (null_thunk_symbol dll ∷ [])))
+    ∙ sym (append_assoc (short_import_symbols e) (flat_map short_import_symbols es ++ null_thunk_symbol dll.linked ∷ []) (flat_map claimed_names rest))
+    ∙ ap (λ names. names ++ flat_map claimed_names rest) (sym (append_assoc (short_import_symbols e) (flat_map short_import_symbols es) (null_thunk_symbol dll.linked ∷ [])))
 
-one_claims : (machine : MachineType) (flavor : Flavor) (dll : List ℕ) (es : List ExportView) (rest : List Object) →
+one_claims : (machine : MachineType) (flavor : Flavor) (dll : NamesOfDll) (es : List ExportView) (rest : List Object) →
     flat_map claimed_names (objects_of machine flavor dll es rest) ≡ symbols_of machine flavor dll es ++ flat_map claimed_names rest
 one_claims machine Msvc dll es rest =
-    ap (λ names. names ++ flat_map claimed_names (behind_descriptor machine dll es rest)) (claims_descriptor machine dll) ∙ ap (λ names. descriptor_symbol dll ∷ names) (askings_claim machine dll es rest)
+    ap (λ names. names ++ flat_map claimed_names (behind_descriptor machine dll es rest)) (claims_descriptor machine dll) ∙ ap (λ names. descriptor_symbol dll.linked ∷ names) (askings_claim machine dll es rest)
 one_claims machine Gnu dll es rest =
-    ap (λ names. names ++ flat_map claimed_names (map (export machine dll) es ++ tail machine dll ∷ rest)) (claimed_head machine dll) ∙ ap (λ names. head_symbol machine dll ∷ names) (claimed_after machine dll es rest)
+    ap (λ names. names ++ flat_map claimed_names (map (export machine dll) es ++ tail machine dll ∷ rest)) (claimed_head machine dll) ∙ ap (λ names. head_symbol machine dll.linked ∷ names) (claimed_after machine dll es rest)
 
 pub all_claim_listed : (machine : MachineType) (blocks : List FlavorBlock) →
     flat_map claimed_names (all_objects machine blocks []) ≡ flat_map (λ (k : FlavorBlock). symbols_of machine k.flavor k.dll k.exports) blocks

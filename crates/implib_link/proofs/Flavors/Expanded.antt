@@ -18,6 +18,7 @@ use Rattle.implib.proofs.Link.Placement.{AreAligned, aligned, at_least, length-t
 use Rattle.implib.proofs.Link.Thunks.{StrictThunkAt, length-address, name_located, ordinal_located, same_number, with_address-zeros}
 use Rattle.implib_link.specs.Flavors.Expansion.{Use, import_object, hint_and_name, relocations_asking, thunk_asking}
 use Rattle.implib_link.specs.Flavors.SectionSymbols.{with_section_symbols}
+use Rattle.implib.specs.LibraryName.{NamesOfDll}
 
 -- the ends of the directory and of the tables, these at multiples of a thunk's width
 pub record AreWide (machine : MachineType) (b : Bases) : Type 0 where
@@ -53,7 +54,7 @@ abbrev pub taken_descriptor : MachineType → List ℕ → Object
 taken_descriptor machine dll = with_section_symbols (object_of (descriptor machine dll))
 
 abbrev pub taken_null_thunk : MachineType → List ℕ → Object
-taken_null_thunk machine dll = with_section_symbols (object_of (null_thunk machine dll))
+taken_null_thunk machine dll = with_section_symbols (object_of (null_thunk machine dll.linked))
 
 abbrev pub taken_null : MachineType → Object
 taken_null machine = with_section_symbols (object_of (null_descriptor machine))
@@ -67,7 +68,7 @@ placed_descriptor machine dll b = record {
 }
 
 abbrev pub ends_of_descriptor : List ℕ → Bases → Bases
-ends_of_descriptor dll b = record b { descriptors = b.descriptors + 20; hint_names = next_multiple 2 b.hint_names + length (dll ++ 0 ∷ []) }
+ends_of_descriptor dll b = record b { descriptors = b.descriptors + 20; hint_names = next_multiple 2 b.hint_names + length (dll.text ++ 0 ∷ []) }
 
 abbrev hint_places : Bases → Ask → List SectionAddress
 hint_places b (Ordinal n) = []
@@ -79,7 +80,7 @@ hint_end b (Name text hint) = next_multiple 2 b.hint_names + length (hint_and_na
 
 abbrev pub placed_asking : MachineType → List ℕ → Bases → List ℕ → Ask → Use → Placed
 placed_asking machine dll b symbol ask use_kind = record {
-  object = import_object machine dll symbol ask use_kind;
+  object = import_object machine dll.text symbol ask use_kind;
   section_addresses = Unplaced ∷ At Addresses b.addresses ∷ At Lookups b.lookups ∷ hint_places b ask;
 }
 
@@ -102,7 +103,7 @@ placed_null_thunk machine dll b = record {
 abbrev pub ends_of_null_thunk : MachineType → Bases → Bases
 ends_of_null_thunk machine b = record b { lookups = b.lookups + thunk_width machine; addresses = b.addresses + thunk_width machine }
 
-pub placed-descriptor : (machine : MachineType) (dll : List ℕ) (b : Bases) (rest : List Object) → AreWide machine b →
+pub placed-descriptor : (machine : MachineType) (dll : NamesOfDll) (b : Bases) (rest : List Object) → AreWide machine b →
     placed_from b (taken_descriptor machine dll ∷ rest) ≡ placed_descriptor machine dll b ∷ placed_from (ends_of_descriptor dll b) rest
 unfolding with_section_symbols object_of descriptor entries_of name_text
 placed-descriptor machine dll b rest even =
@@ -114,8 +115,8 @@ placed-descriptor machine dll b rest even =
       plus_none b.addresses,
     ) refl
 
-pub placed-asking : (machine : MachineType) (dll : List ℕ) (b : Bases) (symbol : List ℕ) (ask : Ask) (use_kind : Use) (rest : List Object) → AreWide machine b →
-    placed_from b (import_object machine dll symbol ask use_kind ∷ rest) ≡ placed_asking machine dll b symbol ask use_kind ∷ placed_from (ends_of_asking machine b ask) rest
+pub placed-asking : (machine : MachineType) (dll : NamesOfDll) (b : Bases) (symbol : List ℕ) (ask : Ask) (use_kind : Use) (rest : List Object) → AreWide machine b →
+    placed_from b (import_object machine dll.text symbol ask use_kind ∷ rest) ≡ placed_asking machine dll b symbol ask use_kind ∷ placed_from (ends_of_asking machine b ask) rest
 unfolding import_object u16_bytes
 placed-asking I386 dll b symbol (Ordinal n) use_kind rest even = rw (aligned b.addresses even.addresses, aligned b.lookups even.lookups) refl
 placed-asking ARMNT dll b symbol (Ordinal n) use_kind rest even = rw (aligned b.addresses even.addresses, aligned b.lookups even.lookups) refl
@@ -126,7 +127,7 @@ placed-asking ARMNT dll b symbol (Name text hint) use_kind rest even = rw (align
 placed-asking AMD64 dll b symbol (Name text hint) use_kind rest even = rw (aligned_8 b.addresses even.addresses, aligned_8 b.lookups even.lookups) refl
 placed-asking ARM64 dll b symbol (Name text hint) use_kind rest even = rw (aligned_8 b.addresses even.addresses, aligned_8 b.lookups even.lookups) refl
 
-pub placed-null_thunk : (machine : MachineType) (dll : List ℕ) (b : Bases) (rest : List Object) → AreWide machine b →
+pub placed-null_thunk : (machine : MachineType) (dll : NamesOfDll) (b : Bases) (rest : List Object) → AreWide machine b →
     placed_from b (taken_null_thunk machine dll ∷ rest) ≡ placed_null_thunk machine dll b ∷ placed_from (ends_of_null_thunk machine b) rest
 unfolding with_section_symbols object_of null_thunk entries_of name_text
 placed-null_thunk I386 dll b rest even = rw (aligned b.addresses even.addresses, aligned b.lookups even.lookups) refl
@@ -134,7 +135,7 @@ placed-null_thunk ARMNT dll b rest even = rw (aligned b.addresses even.addresses
 placed-null_thunk AMD64 dll b rest even = rw (aligned_8 b.addresses even.addresses, aligned_8 b.lookups even.lookups) refl
 placed-null_thunk ARM64 dll b rest even = rw (aligned_8 b.addresses even.addresses, aligned_8 b.lookups even.lookups) refl
 
-pub wide_descriptor : (machine : MachineType) (dll : List ℕ) (b : Bases) → AreWide machine b → AreWide machine (ends_of_descriptor dll b)
+pub wide_descriptor : (machine : MachineType) (dll : NamesOfDll) (b : Bases) → AreWide machine b → AreWide machine (ends_of_descriptor dll b)
 wide_descriptor machine dll b even =
     let whole : b.descriptors % 4 ≡ 0 = even.descriptors in
     record { descriptors = omega arith; lookups = even.lookups; addresses = even.addresses }
@@ -167,7 +168,7 @@ unfoldable pub AskFits : Ask → Type 0
 AskFits (Ordinal n) = n < 2 ^ 16
 AskFits (Name text hint) = (hint < 2 ^ 16) × HasNoNul text
 
-module _ (machine : MachineType) (dll : List ℕ) (linked : List Placed) where
+module _ (machine : MachineType) (dll : NamesOfDll) (linked : List Placed) where
   unfoldable pub thunk_linked : Bases → List ℕ → Ask → Use → List ℕ
   thunk_linked b symbol ask use_kind =
       relocated machine linked (placed_asking machine dll b symbol ask use_kind) (relocations_asking machine ask) (thunk_asking machine ask)
@@ -202,7 +203,7 @@ module _ (machine : MachineType) (dll : List ℕ) (linked : List Placed) where
     pub record DescriptorStands (b : Bases) (rest : List Object) : Type 0 where
       pub bytes : BytesAt image b.descriptors (u32_bytes ((0 + (b.lookups + 0)) % 2 ^ 32)
           ++ (zeros 4 ++ (zeros 4 ++ (u32_bytes ((0 + (next_multiple 2 b.hint_names + 0)) % 2 ^ 32) ++ u32_bytes ((0 + (b.addresses + 0)) % 2 ^ 32)))))
-      pub name : BytesAt image (next_multiple 2 b.hint_names) (dll ++ 0 ∷ [])
+      pub name : BytesAt image (next_multiple 2 b.hint_names) (dll.text ++ 0 ∷ [])
       pub rest_located : LocatedFrom machine linked image (ends_of_descriptor dll b) rest
 
     pub descriptor_located : (b : Bases) (rest : List Object) → AreWide machine b → LocatedFrom machine linked image b (taken_descriptor machine dll ∷ rest) → DescriptorStands b rest
@@ -216,7 +217,7 @@ module _ (machine : MachineType) (dll : List ℕ) (linked : List Placed) where
         (subst (λ ps. BytesAt image b.lookups (filled b.lookups (contributions machine linked Lookups ps))) placed_is located.lookups) in
         let addresses = step image b.addresses [] (contributions machine linked Addresses (placed_from later rest)) 0 refl
         (subst (λ ps. BytesAt image b.addresses (filled b.addresses (contributions machine linked Addresses ps))) placed_is located.addresses) in
-        let names = contribution_located image b.hint_names (record { address = next_multiple 2 b.hint_names; bytes = dll ++ 0 ∷ [] }) (contributions machine linked HintNames (placed_from later rest))
+        let names = contribution_located image b.hint_names (record { address = next_multiple 2 b.hint_names; bytes = dll.text ++ 0 ∷ [] }) (contributions machine linked HintNames (placed_from later rest))
         (at_least 2 b.hint_names)
         (subst (λ ps. BytesAt image b.hint_names (filled b.hint_names (contributions machine linked HintNames ps))) placed_is located.hint_names) in
         record {
@@ -238,11 +239,11 @@ module _ (machine : MachineType) (dll : List ℕ) (linked : List Placed) where
       pub rest_located : LocatedFrom machine linked image (ends_of_asking machine b ask) rest
 
     pub asking_located : (b : Bases) (symbol : List ℕ) (ask : Ask) (use_kind : Use) (rest : List Object) → AskFits ask → AreWide machine b →
-        LocatedFrom machine linked image b (import_object machine dll symbol ask use_kind ∷ rest) → AskingStands b ask rest
+        LocatedFrom machine linked image b (import_object machine dll.text symbol ask use_kind ∷ rest) → AskingStands b ask rest
     unfolding import_object thunk_linked AskFits
     asking_located b symbol (Ordinal n) use_kind rest fits even located =
         let later : Bases = ends_of_asking machine b (Ordinal n) in
-        let placed_is : placed_from b (import_object machine dll symbol (Ordinal n) use_kind ∷ rest) ≡ placed_asking machine dll b symbol (Ordinal n) use_kind ∷ placed_from later rest =
+        let placed_is : placed_from b (import_object machine dll.text symbol (Ordinal n) use_kind ∷ rest) ≡ placed_asking machine dll b symbol (Ordinal n) use_kind ∷ placed_from later rest =
         placed-asking machine dll b symbol (Ordinal n) use_kind rest even in
         let long = length-thunk_linked b symbol (Ordinal n) use_kind in
         let lookups = step image b.lookups (thunk_linked b symbol (Ordinal n) use_kind) (contributions machine linked Lookups (placed_from later rest)) (thunk_width machine) long
@@ -262,7 +263,7 @@ module _ (machine : MachineType) (dll : List ℕ) (linked : List Placed) where
         }
     asking_located b symbol (Name text hint) use_kind rest fits even located =
         let later : Bases = ends_of_asking machine b (Name text hint) in
-        let placed_is : placed_from b (import_object machine dll symbol (Name text hint) use_kind ∷ rest) ≡ placed_asking machine dll b symbol (Name text hint) use_kind ∷ placed_from later rest =
+        let placed_is : placed_from b (import_object machine dll.text symbol (Name text hint) use_kind ∷ rest) ≡ placed_asking machine dll b symbol (Name text hint) use_kind ∷ placed_from later rest =
         placed-asking machine dll b symbol (Name text hint) use_kind rest even in
         let long = length-thunk_linked b symbol (Name text hint) use_kind in
         let is = thunk_of_name b symbol text hint use_kind in

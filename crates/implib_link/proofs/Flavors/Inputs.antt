@@ -45,6 +45,8 @@ use Rattle.implib_link.proofs.Flavors.Block.{FitsIn, asking, objects_of, symbols
 use Rattle.implib_link.proofs.Flavors.Blocks.{CanLink, FlavorBlock, all_objects}
 use Rattle.implib_link.proofs.Flavors.Expanded.{AskFits, taken_descriptor, taken_null, taken_null_thunk}
 use Rattle.implib_link.proofs.Gnu.Texts.{all_chosen}
+use Rattle.implib.specs.LibraryName.{NamesOfDll, linked_dll, names_in}
+use Rattle.implib_link.specs.Flavors.Program.{dll_names_in}
 
 -- Short imports.
 
@@ -60,17 +62,17 @@ use_is true constant = refl
 use_is false true = refl
 use_is false false = refl
 
-ask_is : (machine : MachineType) (dll : List ℕ) (e : ExportView) → ask_of_short_import (short_import_of machine dll e) ≡ ask_in Msvc machine e
+ask_is : (machine : MachineType) (dll : NamesOfDll) (e : ExportView) → ask_of_short_import (short_import_of machine dll.text e) ≡ ask_in Msvc machine e
 ask_is machine dll e = rw (name_type_is_ordinal machine e) refl
 
 -- the short import of an export is taken for the object that asks so
-pub short_import_taken : (machine : MachineType) (dll : List ℕ) (e : ExportView) → expansion machine (short_import_of machine dll e) ≡ Some (asking machine dll e)
+pub short_import_taken : (machine : MachineType) (dll : NamesOfDll) (e : ExportView) → expansion machine (short_import_of machine dll.text e) ≡ Some (asking machine dll e)
 short_import_taken machine dll e =
     let known : nat_le (name_type_of machine e) import_name_undecorate ≡ true = le-leb (name_type_of machine e) import_name_undecorate (name_type_of_fits machine e) in
-    let passes : is_import_for machine (short_import_of machine dll e) ≡ true = rw (same_machine machine, known) refl in
-    ap (λ test. if test then option_map (import_object machine dll (short_import_symbol e) (ask_of_short_import (short_import_of machine dll e))) (use_of (import_type_of e)) else None) passes
-    ∙ ap (λ ask. option_map (import_object machine dll (short_import_symbol e) ask) (use_of (import_type_of e))) (ask_is machine dll e)
-    ∙ ap (option_map (import_object machine dll (short_import_symbol e) (ask_in Msvc machine e))) (use_is e.is_data e.constant)
+    let passes : is_import_for machine (short_import_of machine dll.text e) ≡ true = rw (same_machine machine, known) refl in
+    ap (λ test. if test then option_map (import_object machine dll.text (short_import_symbol e) (ask_of_short_import (short_import_of machine dll.text e))) (use_of (import_type_of e)) else None) passes
+    ∙ ap (λ ask. option_map (import_object machine dll.text (short_import_symbol e) ask) (use_of (import_type_of e))) (ask_is machine dll e)
+    ∙ ap (option_map (import_object machine dll.text (short_import_symbol e) (ask_in Msvc machine e))) (use_is e.is_data e.constant)
 
 -- What a short import asks for has no NUL.
 
@@ -152,26 +154,26 @@ module _ (d : DefinitionView) (machine : MachineType) (members : List MemberView
   reads : AllByRecursion (λ p. ReadsBack p.contents) (member_specs (renamed d) machine Msvc)
   reads = member_specs_read_back d machine members made
 
-  header_at : (p : MemberSpec) → Among p (header_specs machine d.import_name) → Among p (member_specs (renamed d) machine Msvc)
-  header_at p m = among_front p (header_specs machine d.import_name) (flat_map (export_specs machine d.import_name) (public_exports (renamed d))) m
+  header_at : (p : MemberSpec) → Among p (header_specs machine (names_in Msvc d)) → Among p (member_specs (renamed d) machine Msvc)
+  header_at p m = among_front p (header_specs machine (names_in Msvc d)) (flat_map (export_specs machine (names_in Msvc d)) (public_exports (renamed d))) m
 
-  pub descriptor_at : Among (descriptor_spec machine d.import_name) (member_specs (renamed d) machine Msvc)
+  pub descriptor_at : Among (descriptor_spec machine (names_in Msvc d)) (member_specs (renamed d) machine Msvc)
   unfolding header_specs
-  descriptor_at = header_at (descriptor_spec machine d.import_name) (among_first _ _)
+  descriptor_at = header_at (descriptor_spec machine (names_in Msvc d)) (among_first _ _)
 
-  pub null_at : Among (null_descriptor_spec machine d.import_name) (member_specs (renamed d) machine Msvc)
+  pub null_at : Among (null_descriptor_spec machine (linked_dll d)) (member_specs (renamed d) machine Msvc)
   unfolding header_specs
-  null_at = header_at (null_descriptor_spec machine d.import_name) (among_later _ _ _ (among_first _ _))
+  null_at = header_at (null_descriptor_spec machine (linked_dll d)) (among_later _ _ _ (among_first _ _))
 
-  pub thunk_at : Among (null_thunk_spec machine d.import_name) (member_specs (renamed d) machine Msvc)
+  pub thunk_at : Among (null_thunk_spec machine (linked_dll d)) (member_specs (renamed d) machine Msvc)
   unfolding header_specs
-  thunk_at = header_at (null_thunk_spec machine d.import_name) (among_later _ _ _ (among_later _ _ _ (among_first _ _)))
+  thunk_at = header_at (null_thunk_spec machine (linked_dll d)) (among_later _ _ _ (among_later _ _ _ (among_first _ _)))
 
-  pub short_at : (e : ExportView) → Among e (public_exports (renamed d)) → Among (short_import_spec machine d.import_name e) (member_specs (renamed d) machine Msvc)
+  pub short_at : (e : ExportView) → Among e (public_exports (renamed d)) → Among (short_import_spec machine (names_in Msvc d) e) (member_specs (renamed d) machine Msvc)
   short_at e m =
-      among_back _ (header_specs machine d.import_name) (flat_map (export_specs machine d.import_name) (public_exports (renamed d)))
-      (among_flat (export_specs machine d.import_name) e (public_exports (renamed d)) (short_import_spec machine d.import_name e) m
-      (among_back _ (weak_specs machine d.import_name e) (short_import_spec machine d.import_name e ∷ []) (among_first _ _)))
+      among_back _ (header_specs machine (names_in Msvc d)) (flat_map (export_specs machine (names_in Msvc d)) (public_exports (renamed d)))
+      (among_flat (export_specs machine (names_in Msvc d)) e (public_exports (renamed d)) (short_import_spec machine (names_in Msvc d) e) m
+      (among_back _ (weak_specs machine (linked_dll d) e) (short_import_spec machine (names_in Msvc d) e ∷ []) (among_first _ _)))
 
   pub read_of : (p : MemberSpec) → Among p (member_specs (renamed d) machine Msvc) → file_in (file_bytes p.contents) ≡ Some (file_of p.contents)
   read_of p m = (all_among (λ (q : MemberSpec). ReadsBack q.contents) p (member_specs (renamed d) machine Msvc) m reads).read
@@ -179,48 +181,48 @@ module _ (d : DefinitionView) (machine : MachineType) (members : List MemberView
   pub taken_of : (p : MemberSpec) → Among p (member_specs (renamed d) machine Msvc) → expanded_in machine (member_of p).bytes ≡ expanded_as machine (file_of p.contents)
   taken_of p m = taken_by machine (file_bytes p.contents) (file_of p.contents) (read_of p m)
 
-  pub descriptor_taken : expanded_in machine (member_of (descriptor_spec machine d.import_name)).bytes ≡ Some (taken_descriptor machine d.import_name)
+  pub descriptor_taken : expanded_in machine (member_of (descriptor_spec machine (names_in Msvc d))).bytes ≡ Some (taken_descriptor machine (names_in Msvc d))
   unfolding descriptor_spec
-  descriptor_taken = taken_of (descriptor_spec machine d.import_name) descriptor_at
+  descriptor_taken = taken_of (descriptor_spec machine (names_in Msvc d)) descriptor_at
 
-  pub null_taken : expanded_in machine (null_member machine d.import_name).bytes ≡ Some (taken_null machine)
+  pub null_taken : expanded_in machine (null_member machine (linked_dll d)).bytes ≡ Some (taken_null machine)
   unfolding null_descriptor_spec
-  null_taken = taken_of (null_descriptor_spec machine d.import_name) null_at
+  null_taken = taken_of (null_descriptor_spec machine (linked_dll d)) null_at
 
-  pub thunk_taken : expanded_in machine (member_of (null_thunk_spec machine d.import_name)).bytes ≡ Some (taken_null_thunk machine d.import_name)
+  pub thunk_taken : expanded_in machine (member_of (null_thunk_spec machine (linked_dll d))).bytes ≡ Some (taken_null_thunk machine (names_in Msvc d))
   unfolding null_thunk_spec
-  thunk_taken = taken_of (null_thunk_spec machine d.import_name) thunk_at
+  thunk_taken = taken_of (null_thunk_spec machine (linked_dll d)) thunk_at
 
   pub short_taken : (e : ExportView) → Among e (public_exports (renamed d)) →
-      expanded_in machine (member_of (short_import_spec machine d.import_name e)).bytes ≡ Some (asking machine d.import_name e)
-  short_taken e m = taken_of (short_import_spec machine d.import_name e) (short_at e m) ∙ short_import_taken machine d.import_name e
+      expanded_in machine (member_of (short_import_spec machine (names_in Msvc d) e)).bytes ≡ Some (asking machine (names_in Msvc d) e)
+  short_taken e m = taken_of (short_import_spec machine (names_in Msvc d) e) (short_at e m) ∙ short_import_taken machine (names_in Msvc d) e
 
   -- what holds of each export that is not private holds of the chosen ones
   chosen_all : (P : ExportView → Type 0) → ((e : ExportView) → Among e (public_exports (renamed d)) → P e) → AllByRecursion P (chosen_exports d chosen)
   chosen_all P each = all_chosen P (public_exports (renamed d)) chosen (all_map (λ e. Among e (public_exports (renamed d))) P each (public_exports (renamed d)) (all_self (public_exports (renamed d))))
 
-  shorts_taken : AllByRecursion (λ e. expanded_in machine (member_of (short_import_spec machine d.import_name e)).bytes ≡ Some (asking machine d.import_name e)) (chosen_exports d chosen)
-  shorts_taken = chosen_all (λ e. expanded_in machine (member_of (short_import_spec machine d.import_name e)).bytes ≡ Some (asking machine d.import_name e)) short_taken
+  shorts_taken : AllByRecursion (λ e. expanded_in machine (member_of (short_import_spec machine (names_in Msvc d) e)).bytes ≡ Some (asking machine (names_in Msvc d) e)) (chosen_exports d chosen)
+  shorts_taken = chosen_all (λ e. expanded_in machine (member_of (short_import_spec machine (names_in Msvc d) e)).bytes ≡ Some (asking machine (names_in Msvc d) e)) short_taken
 
   pub msvc_fit : AllByRecursion (FitsIn Msvc machine) (chosen_exports d chosen)
   msvc_fit = chosen_all (FitsIn Msvc machine) (λ e m. export_fits machine e (all_among Sound e (public_exports (renamed d)) m (exports_sound d machine Msvc members made)))
 
   abbrev shorts : List MemberSpec
-  shorts = map (short_import_spec machine d.import_name) (chosen_exports d chosen)
+  shorts = map (short_import_spec machine (names_in Msvc d)) (chosen_exports d chosen)
 
-  pub msvc_read : map (λ (m : MemberView). expanded_in machine m.bytes) (map member_of (specs_in Msvc d machine chosen)) ≡ map Some (objects_of machine Msvc d.import_name (chosen_exports d chosen) [])
+  pub msvc_read : map (λ (m : MemberView). expanded_in machine m.bytes) (map member_of (specs_in Msvc d machine chosen)) ≡ map Some (objects_of machine Msvc (names_in Msvc d) (chosen_exports d chosen) [])
   msvc_read =
       let reading : MemberSpec → Option Object = λ (p : MemberSpec). expanded_in machine (member_of p).bytes in
-      let last : MemberSpec = null_thunk_spec machine d.import_name in
+      let last : MemberSpec = null_thunk_spec machine (linked_dll d) in
       map_after (λ (m : MemberView). expanded_in machine m.bytes) member_of (specs_in Msvc d machine chosen)
       ∙ ap (λ o. o ∷ map reading (shorts ++ last ∷ [])) descriptor_taken
-      ∙ ap (λ os. Some (taken_descriptor machine d.import_name) ∷ os) (
+      ∙ ap (λ os. Some (taken_descriptor machine (names_in Msvc d)) ∷ os) (
       map-append-last reading shorts last
       ∙ ap (λ o. map reading shorts ++ o ∷ []) thunk_taken
-      ∙ ap (λ os. os ++ Some (taken_null_thunk machine d.import_name) ∷ [])
-      (map_after reading (short_import_spec machine d.import_name) (chosen_exports d chosen)
-      ∙ all_read (λ e. reading (short_import_spec machine d.import_name e)) (asking machine d.import_name) (chosen_exports d chosen) shorts_taken)
-      ∙ sym (map-append-last Some (map (asking machine d.import_name) (chosen_exports d chosen)) (taken_null_thunk machine d.import_name)))
+      ∙ ap (λ os. os ++ Some (taken_null_thunk machine (names_in Msvc d)) ∷ [])
+      (map_after reading (short_import_spec machine (names_in Msvc d)) (chosen_exports d chosen)
+      ∙ all_read (λ e. reading (short_import_spec machine (names_in Msvc d) e)) (asking machine (names_in Msvc d)) (chosen_exports d chosen) shorts_taken)
+      ∙ sym (map-append-last Some (map (asking machine (names_in Msvc d)) (chosen_exports d chosen)) (taken_null_thunk machine (names_in Msvc d))))
 
   all_mapped : {X Y : Type 0} (f : X → Y) (P : Y → Type 0) (xs : List X) → AllByRecursion (λ x. P (f x)) xs → AllByRecursion P (map f xs)
   all_mapped f P [] all = tt
@@ -235,26 +237,26 @@ module _ (d : DefinitionView) (machine : MachineType) (members : List MemberView
       subst (λ ms. AllByRecursion (Contains ms) (map member_of (specs_in Msvc d machine chosen))) (sym made.made)
       (all_contained member_of (member_specs (renamed d) machine Msvc) (specs_in Msvc d machine chosen) (
         descriptor_at,
-        all_last (λ p. Among p (member_specs (renamed d) machine Msvc)) shorts (null_thunk_spec machine d.import_name)
-            (all_mapped (short_import_spec machine d.import_name) (λ p. Among p (member_specs (renamed d) machine Msvc)) (chosen_exports d chosen) (chosen_all (λ e. Among (short_import_spec machine d.import_name e) (member_specs (renamed d) machine Msvc)) short_at)) thunk_at,
+        all_last (λ p. Among p (member_specs (renamed d) machine Msvc)) shorts (null_thunk_spec machine (linked_dll d))
+            (all_mapped (short_import_spec machine (names_in Msvc d)) (λ p. Among p (member_specs (renamed d) machine Msvc)) (chosen_exports d chosen) (chosen_all (λ e. Among (short_import_spec machine (names_in Msvc d) e) (member_specs (renamed d) machine Msvc)) short_at)) thunk_at,
       ))
 
-  pub null_from : Contains members (null_member machine d.import_name)
+  pub null_from : Contains members (null_member machine (linked_dll d))
   null_from =
-      subst (λ ms. Contains ms (null_member machine d.import_name)) (sym made.made)
-      (among_contains (null_member machine d.import_name) (map member_of (member_specs (renamed d) machine Msvc)) (among_map member_of (null_descriptor_spec machine d.import_name) (member_specs (renamed d) machine Msvc) null_at))
+      subst (λ ms. Contains ms (null_member machine (linked_dll d))) (sym made.made)
+      (among_contains (null_member machine (linked_dll d)) (map member_of (member_specs (renamed d) machine Msvc)) (among_map member_of (null_descriptor_spec machine (linked_dll d)) (member_specs (renamed d) machine Msvc) null_at))
 
-flat_listed : (machine : MachineType) (dll : List ℕ) (es : List ExportView) (last : MemberSpec) →
+flat_listed : (machine : MachineType) (dll : NamesOfDll) (es : List ExportView) (last : MemberSpec) →
     flat_map (λ (m : MemberView). m.symbols) (map member_of (map (short_import_spec machine dll) es ++ last ∷ [])) ≡ flat_map short_import_symbols es ++ (last.symbols ++ [])
 flat_listed machine dll [] last = refl
 flat_listed machine dll (e ∷ es) last =
     ap (λ names. short_import_symbols e ++ names) (flat_listed machine dll es last) ∙ sym (append_assoc (short_import_symbols e) (flat_map short_import_symbols es) (last.symbols ++ []))
 
 pub msvc_symbols : (d : DefinitionView) (machine : MachineType) (chosen : List ℕ) →
-    symbols_listed (map member_of (specs_in Msvc d machine chosen)) ≡ symbols_of machine Msvc d.import_name (chosen_exports d chosen)
+    symbols_listed (map member_of (specs_in Msvc d machine chosen)) ≡ symbols_of machine Msvc (names_in Msvc d) (chosen_exports d chosen)
 unfolding descriptor_spec null_thunk_spec
 msvc_symbols d machine chosen =
-    ap (λ names. descriptor_symbol d.import_name ∷ names) (flat_listed machine d.import_name (chosen_exports d chosen) (null_thunk_spec machine d.import_name))
+    ap (λ names. descriptor_symbol (linked_dll d) ∷ names) (flat_listed machine (names_in Msvc d) (chosen_exports d chosen) (null_thunk_spec machine (linked_dll d)))
 
 -- The members for GNU's linker: a linker takes each for the object that it is.
 
@@ -271,26 +273,26 @@ object_taken machine bytes o p is read =
     let here : o ≡ p = cc in
     taken_by machine bytes (ObjectFile o) is ∙ ap (λ x. Some (with_section_symbols x)) here
 
-head_plain : (machine : MachineType) (dll : List ℕ) → with_section_symbols (head machine dll) ≡ head machine dll
+head_plain : (machine : MachineType) (dll : NamesOfDll) → with_section_symbols (head machine dll) ≡ head machine dll
 unfolding with_section_symbols head_object
 head_plain machine dll = refl
 
-tail_plain : (machine : MachineType) (dll : List ℕ) → with_section_symbols (tail machine dll) ≡ tail machine dll
+tail_plain : (machine : MachineType) (dll : NamesOfDll) → with_section_symbols (tail machine dll) ≡ tail machine dll
 unfolding with_section_symbols tail_object
 tail_plain machine dll = refl
 
-export_plain : (machine : MachineType) (dll : List ℕ) (e : ExportView) → with_section_symbols (export machine dll e) ≡ export machine dll e
+export_plain : (machine : MachineType) (dll : NamesOfDll) (e : ExportView) → with_section_symbols (export machine dll e) ≡ export machine dll e
 unfolding with_section_symbols export_object
 export_plain machine dll e = elim (cases_Bool e.is_data) [ inl is ↦ rw is refl | inr is ↦ rw is refl ]
 
-exports_plain : (machine : MachineType) (dll : List ℕ) (es : List ExportView) →
+exports_plain : (machine : MachineType) (dll : NamesOfDll) (es : List ExportView) →
     map with_section_symbols (map (export machine dll) es ++ tail machine dll ∷ []) ≡ map (export machine dll) es ++ tail machine dll ∷ []
 exports_plain machine dll [] = ap (λ o. o ∷ []) (tail_plain machine dll)
 exports_plain machine dll (x ∷ xs) =
     ap (λ o. o ∷ map with_section_symbols (map (export machine dll) xs ++ tail machine dll ∷ [])) (export_plain machine dll x)
     ∙ ap (λ os. export machine dll x ∷ os) (exports_plain machine dll xs)
 
-objects_plain : (machine : MachineType) (dll : List ℕ) (es : List ExportView) → map with_section_symbols (linked_objects machine dll es) ≡ linked_objects machine dll es
+objects_plain : (machine : MachineType) (dll : NamesOfDll) (es : List ExportView) → map with_section_symbols (linked_objects machine dll es) ≡ linked_objects machine dll es
 objects_plain machine dll es =
     ap (λ o. o ∷ map with_section_symbols (map (export machine dll) es ++ tail machine dll ∷ [])) (head_plain machine dll)
     ∙ ap (λ os. head machine dll ∷ os) (exports_plain machine dll es)
@@ -316,17 +318,17 @@ each_taken machine (p ∷ ps) (o ∷ os) are reads is =
     ap (λ x. x ∷ map (λ (p : MemberSpec). expanded_in machine (member_of p).bytes) ps) (one_taken machine p.contents o are.0 reads.0.read first)
     ∙ ap (λ xs. Some (with_section_symbols o) ∷ xs) (each_taken machine ps os are.1 reads.1 rest)
 
-module _ (machine : MachineType) (dll : List ℕ) (exports : List ExportView) where
+module _ (machine : MachineType) (dll : NamesOfDll) (exports : List ExportView) where
   one_more : (n : ℕ) (o : Option ExportView) (others : List MemberSpec) (last : MemberSpec) → AllByRecursion (λ p. IsObject p.contents) (others ++ last ∷ []) →
-      AllByRecursion (λ p. IsObject p.contents) (cons_option (option_map (export_spec machine dll n) o) others ++ last ∷ [])
+      AllByRecursion (λ p. IsObject p.contents) (cons_option (option_map (export_spec machine dll.linked n) o) others ++ last ∷ [])
   unfolding IsObject export_spec
   one_more n None others last rest = rest
   one_more n (Some e) others last rest = (tt, rest)
 
-  are_objects : (ns : List ℕ) → AllByRecursion (λ p. IsObject p.contents) (filter_map (numbered_spec machine dll exports) ns ++ tail_spec machine dll ∷ [])
+  are_objects : (ns : List ℕ) → AllByRecursion (λ p. IsObject p.contents) (filter_map (numbered_spec machine dll.linked exports) ns ++ tail_spec machine dll ∷ [])
   unfolding IsObject tail_spec
   are_objects [] = (tt, tt)
-  are_objects (n ∷ ns) = one_more n (slice_get exports n) (filter_map (numbered_spec machine dll exports) ns) (tail_spec machine dll) (are_objects ns)
+  are_objects (n ∷ ns) = one_more n (slice_get exports n) (filter_map (numbered_spec machine dll.linked exports) ns) (tail_spec machine dll) (are_objects ns)
 
 module _ (d : DefinitionView) (machine : MachineType) (members : List MemberView) (chosen : List ℕ) (made : AreMembersOf d machine Gnu members) where
   abbrev linked : List MemberSpec
@@ -334,7 +336,7 @@ module _ (d : DefinitionView) (machine : MachineType) (members : List MemberView
 
   all_objects_are : AllByRecursion (λ p. IsObject p.contents) (linked_specs d machine chosen)
   unfolding IsObject head_spec
-  all_objects_are = (tt, are_objects machine d.import_name (public_exports (renamed d)) chosen)
+  all_objects_are = (tt, are_objects machine (names_in Msvc d) (public_exports (renamed d)) chosen)
 
   all_read_back : AllByRecursion (λ p. ReadsBack p.contents) (linked_specs d machine chosen)
   all_read_back =
@@ -343,21 +345,21 @@ module _ (d : DefinitionView) (machine : MachineType) (members : List MemberView
       let good = exports_sound d machine Gnu members made in
       let short = none_long d machine Gnu members made in
       let reads = member_specs_read d machine members made in
-      all_map (λ p. Among p (gnu_specs machine d.import_name exports)) (λ p. ReadsBack p.contents)
-      (λ p m. all_among (λ (q : MemberSpec). ReadsBack q.contents) p (gnu_specs machine d.import_name exports) m reads) linked
-      (head_among machine d.import_name exports free good short, chosen_among machine d.import_name exports free good short chosen)
+      all_map (λ p. Among p (gnu_specs machine (names_in Msvc d) exports)) (λ p. ReadsBack p.contents)
+      (λ p m. all_among (λ (q : MemberSpec). ReadsBack q.contents) p (gnu_specs machine (names_in Msvc d) exports) m reads) linked
+      (head_among machine (names_in Msvc d) exports free good short, chosen_among machine (names_in Msvc d) exports free good short chosen)
 
-  pub gnu_read : map (λ (m : MemberView). expanded_in machine m.bytes) (map member_of (specs_in Gnu d machine chosen)) ≡ map Some (objects_of machine Gnu d.import_name (chosen_exports d chosen) [])
+  pub gnu_read : map (λ (m : MemberView). expanded_in machine m.bytes) (map member_of (specs_in Gnu d machine chosen)) ≡ map Some (objects_of machine Gnu (names_in Msvc d) (chosen_exports d chosen) [])
   gnu_read =
       map_after (λ (m : MemberView). expanded_in machine m.bytes) member_of linked
-      ∙ each_taken machine linked (linked_objects machine d.import_name (chosen_exports d chosen)) all_objects_are all_read_back
+      ∙ each_taken machine linked (linked_objects machine (names_in Msvc d) (chosen_exports d chosen)) all_objects_are all_read_back
       (sym (map_after (λ (m : MemberView). object_in m.bytes) member_of linked) ∙ read_as d machine members chosen made)
-      ∙ ap (map Some) (objects_plain machine d.import_name (chosen_exports d chosen))
+      ∙ ap (map Some) (objects_plain machine (names_in Msvc d) (chosen_exports d chosen))
 
 -- In either flavour.
 
 objects_read : (d : DefinitionView) (machine : MachineType) (flavor : Flavor) (members : List MemberView) (chosen : List ℕ) → AreMembersOf d machine flavor members →
-    map (λ (m : MemberView). expanded_in machine m.bytes) (map member_of (specs_in flavor d machine chosen)) ≡ map Some (objects_of machine flavor d.import_name (chosen_exports d chosen) [])
+    map (λ (m : MemberView). expanded_in machine m.bytes) (map member_of (specs_in flavor d machine chosen)) ≡ map Some (objects_of machine flavor (names_in Msvc d) (chosen_exports d chosen) [])
 objects_read d machine Msvc members chosen made = msvc_read d machine members chosen made
 objects_read d machine Gnu members chosen made = gnu_read d machine members chosen made
 
@@ -367,7 +369,7 @@ from_members d machine Msvc members chosen made = msvc_from d machine members ch
 from_members d machine Gnu members chosen made = members_among d machine members chosen made
 
 null_among : (d : DefinitionView) (machine : MachineType) (flavor : Flavor) (members : List MemberView) (chosen : List ℕ) → AreMembersOf d machine flavor members →
-    flavor ≡ Msvc → Contains members (null_member machine d.import_name)
+    flavor ≡ Msvc → Contains members (null_member machine (linked_dll d))
 null_among d machine Msvc members chosen made is = null_from d machine members chosen made
 null_among d machine Gnu members chosen made is = cc
 
@@ -378,7 +380,7 @@ fit_in d machine Msvc members chosen made = msvc_fit d machine members chosen ma
 fit_in d machine Gnu members chosen made = exports_fit d machine members chosen made
 
 symbols_are_in : (d : DefinitionView) (machine : MachineType) (flavor : Flavor) (members : List MemberView) (chosen : List ℕ) → AreMembersOf d machine flavor members →
-    symbols_listed (map member_of (specs_in flavor d machine chosen)) ≡ symbols_of machine flavor d.import_name (chosen_exports d chosen)
+    symbols_listed (map member_of (specs_in flavor d machine chosen)) ≡ symbols_of machine flavor (names_in Msvc d) (chosen_exports d chosen)
 symbols_are_in d machine Msvc members chosen made = msvc_symbols d machine chosen
 symbols_are_in d machine Gnu members chosen made = symbols_are d machine members chosen made
 
@@ -398,15 +400,15 @@ present-some (x ∷ xs) = ap (λ rest. x ∷ rest) (present-some xs)
 
 -- what an input's objects are made of
 abbrev pub block_in : FlavorInput → FlavorBlock
-block_in p = record { flavor = p.flavor; dll = dll_of p; exports = exports_chosen p }
+block_in p = record { flavor = p.flavor; dll = dll_names_in p; exports = exports_chosen p }
 
-objects_are : (machine : MachineType) (p : FlavorInput) → IsMadeFor machine p → objects_taken machine (members_linked machine p) ≡ objects_of machine p.flavor (dll_of p) (exports_chosen p) []
+objects_are : (machine : MachineType) (p : FlavorInput) → IsMadeFor machine p → objects_taken machine (members_linked machine p) ≡ objects_of machine p.flavor (dll_names_in p) (exports_chosen p) []
 objects_are machine p made =
     filter_map-present (λ (m : MemberView). expanded_in machine m.bytes) (members_linked machine p)
     ∙ ap present (objects_read p.input.definition machine p.flavor p.input.members p.input.chosen made)
-    ∙ present-some (objects_of machine p.flavor (dll_of p) (exports_chosen p) [])
+    ∙ present-some (objects_of machine p.flavor (dll_names_in p) (exports_chosen p) [])
 
-objects_behind : (machine : MachineType) (flavor : Flavor) (dll : List ℕ) (es : List ExportView) (rest : List Object) →
+objects_behind : (machine : MachineType) (flavor : Flavor) (dll : NamesOfDll) (es : List ExportView) (rest : List Object) →
     objects_of machine flavor dll es [] ++ rest ≡ objects_of machine flavor dll es rest
 objects_behind machine Msvc dll es rest = ap (λ os. taken_descriptor machine dll ∷ os) (append_assoc (map (asking machine dll) es) (taken_null_thunk machine dll ∷ []) rest)
 objects_behind machine Gnu dll es rest = ap (λ os. head machine dll ∷ os) (append_assoc (map (export machine dll) es) (tail machine dll ∷ []) rest)
@@ -416,8 +418,8 @@ inputs_objects machine [] are = refl
 inputs_objects machine (p ∷ ps) are =
     filter_map-append (λ (m : MemberView). expanded_in machine m.bytes) (members_linked machine p) (all_members machine ps)
     ∙ ap (λ objects. objects ++ objects_taken machine (all_members machine ps)) (objects_are machine p are.0)
-    ∙ ap (λ rest. objects_of machine p.flavor (dll_of p) (exports_chosen p) [] ++ rest) (inputs_objects machine ps are.1)
-    ∙ objects_behind machine p.flavor (dll_of p) (exports_chosen p) (all_objects machine (map block_in ps) [])
+    ∙ ap (λ rest. objects_of machine p.flavor (dll_names_in p) (exports_chosen p) [] ++ rest) (inputs_objects machine ps are.1)
+    ∙ objects_behind machine p.flavor (dll_names_in p) (exports_chosen p) (all_objects machine (map block_in ps) [])
 
 pub inputs_symbols : (machine : MachineType) (ps : List FlavorInput) → AllByRecursion (IsMadeFor machine) ps →
     symbols_listed (all_members machine ps) ≡ flat_map (λ (k : FlavorBlock). symbols_of machine k.flavor k.dll k.exports) (map block_in ps)
@@ -425,9 +427,9 @@ inputs_symbols machine [] are = refl
 inputs_symbols machine (p ∷ ps) are =
     flat_map-append (λ (m : MemberView). m.symbols) (members_linked machine p) (all_members machine ps)
     ∙ ap (λ symbols. symbols ++ symbols_listed (all_members machine ps)) (symbols_are_in p.input.definition machine p.flavor p.input.members p.input.chosen are.0)
-    ∙ ap (λ rest. symbols_of machine p.flavor (dll_of p) (exports_chosen p) ++ rest) (inputs_symbols machine ps are.1)
+    ∙ ap (λ rest. symbols_of machine p.flavor (dll_names_in p) (exports_chosen p) ++ rest) (inputs_symbols machine ps are.1)
 
-pub inputs_link : (machine : MachineType) (ps : List FlavorInput) → AllByRecursion (IsMadeFor machine) ps → AllByRecursion (λ p. IsFoundByName p.flavor (dll_of p)) ps →
+pub inputs_link : (machine : MachineType) (ps : List FlavorInput) → AllByRecursion (IsMadeFor machine) ps → AllByRecursion (λ p. IsFoundByName p.flavor (dll_names_in p)) ps →
     AllByRecursion (CanLink machine) (map block_in ps)
 inputs_link machine [] are found = tt
 inputs_link machine (p ∷ ps) are found = (
@@ -452,11 +454,11 @@ inputs_taken machine (p ∷ ps) are = (
 
 -- the null descriptor of an input for Microsoft's linker, taken
 null_read : (d : DefinitionView) (machine : MachineType) (flavor : Flavor) (members : List MemberView) (chosen : List ℕ) → AreMembersOf d machine flavor members → flavor ≡ Msvc →
-    expanded_in machine (null_member machine d.import_name).bytes ≡ Some (taken_null machine)
+    expanded_in machine (null_member machine (linked_dll d)).bytes ≡ Some (taken_null machine)
 null_read d machine Msvc members chosen made is = null_taken d machine members chosen made
 null_read d machine Gnu members chosen made is = cc
 
-pub null_object : (machine : MachineType) (p : FlavorInput) → IsMadeFor machine p → p.flavor ≡ Msvc → expanded_in machine (null_member machine (dll_of p)).bytes ≡ Some (taken_null machine)
+pub null_object : (machine : MachineType) (p : FlavorInput) → IsMadeFor machine p → p.flavor ≡ Msvc → expanded_in machine (null_member machine (linked_dll p.input.definition)).bytes ≡ Some (taken_null machine)
 null_object machine p made is = null_read p.input.definition machine p.flavor p.input.members p.input.chosen made is
 
 -- members with the null descriptor put in are taken for their objects with its object put in

@@ -28,6 +28,7 @@ use Rattle.implib_link.proofs.Flavors.NullDescriptor.{all_insert}
 use Rattle.implib_link.proofs.Gnu.Packed.{admissible, packed_eights}
 use Rattle.implib_link.proofs.Gnu.Sized.{AreWithin, IsSized, exports_sized, head_sized, tail_sized, thunk_size}
 use Rattle.implib_link.proofs.Flavors.Expanded.{taken_descriptor, taken_null}
+use Rattle.implib.specs.LibraryName.{NamesOfDll}
 
 -- Relocations are within their sections.
 
@@ -45,21 +46,21 @@ field_within machine =
     let size : 4 ≤ thunk_width machine = thunk_size machine in
     omega arith
 
-asking_sized : (machine : MachineType) (dll symbol : List ℕ) (ask : Ask) (use_kind : Use) → IsSized (import_object machine dll symbol ask use_kind)
+asking_sized : (machine : MachineType) (dll symbol : List ℕ) (ask : Ask) (use_kind : Use) → IsSized (import_object machine dll.text symbol ask use_kind)
 unfolding import_object
 asking_sized machine dll symbol (Ordinal n) use_kind = (stub_sized machine use_kind, (tt, (tt, tt)))
 asking_sized machine dll symbol (Name text hint) use_kind = (stub_sized machine use_kind, ((field_within machine, tt), ((field_within machine, tt), (tt, tt))))
 
-askings_sized : (machine : MachineType) (dll : List ℕ) (es : List ExportView) (rest : List Object) → AllByRecursion IsSized rest → AllByRecursion IsSized (behind_descriptor machine dll es rest)
+askings_sized : (machine : MachineType) (dll : NamesOfDll) (es : List ExportView) (rest : List Object) → AllByRecursion IsSized rest → AllByRecursion IsSized (behind_descriptor machine dll es rest)
 unfolding with_section_symbols object_of null_thunk entries_of name_text
 askings_sized machine dll [] rest all = ((tt, (tt, tt)), all)
 askings_sized machine dll (e ∷ es) rest all = (asking_sized machine dll (short_import_symbol e) (ask_in Msvc machine e) (use_for e), askings_sized machine dll es rest all)
 
-descriptor_sized : (machine : MachineType) (dll : List ℕ) → IsSized (taken_descriptor machine dll)
+descriptor_sized : (machine : MachineType) (dll : NamesOfDll) → IsSized (taken_descriptor machine dll)
 unfolding with_section_symbols object_of descriptor entries_of name_text
 descriptor_sized machine dll = ((omega arith, (omega arith, (omega arith, tt))), (tt, (tt, (tt, tt))))
 
-one_sized : (machine : MachineType) (flavor : Flavor) (dll : List ℕ) (es : List ExportView) (rest : List Object) → AllByRecursion IsSized rest → AllByRecursion IsSized (objects_of machine flavor dll es rest)
+one_sized : (machine : MachineType) (flavor : Flavor) (dll : NamesOfDll) (es : List ExportView) (rest : List Object) → AllByRecursion IsSized rest → AllByRecursion IsSized (objects_of machine flavor dll es rest)
 one_sized machine Msvc dll es rest all = (descriptor_sized machine dll, askings_sized machine dll es rest all)
 one_sized machine Gnu dll es rest all = (head_sized machine dll, exports_sized machine dll es _ (tail_sized machine dll, all))
 

@@ -22,6 +22,7 @@ use Rattle.implib_link.proofs.Gnu.Definers.{one_definer}
 use Rattle.implib_link.proofs.Gnu.PlacedStubs.{PlacedStub, found_entry, same_section, symbol_of_entry}
 use Rattle.implib_link.proofs.Gnu.Stubs.{among_filter}
 use Rattle.implib_link.proofs.Search.Lists.{contains_among}
+use Rattle.implib_link.specs.Flavors.Program.{dll_names_in}
 
 pub flavors_stub : (machine : MachineType) (image_base : ℕ) (bases : Bases) (inputs : List FlavorInput) (objects : List Object) (codes : List PlacedCode) (targets : PlacedCode → ℕ → ℕ)
     (i j : ℕ) (p : FlavorInput) (e : ExportView) (d : PlacedCode) (t : ObjectSymbol) →
@@ -33,11 +34,11 @@ flavors_stub machine image_base bases inputs objects codes targets i j p e d t m
     let symbol : List ℕ = symbol_in p.flavor e in
     let entry : ℕ = bases.addresses + thunk_width machine * thunks_of i inputs + thunk_width machine * j in
     let found = all_placed machine (map block_in inputs) bases (wide machine bases inputs objects made program) i j (block_in p) e (slice_get-map block_in inputs i ∙ ap (option_map block_in) input) chosen in
-    let own : Placed = placed_in machine p.flavor (dll_of p) found.0 e in
+    let own : Placed = placed_in machine p.flavor (dll_names_in p) found.0 e in
     let own_symbol : ObjectSymbol = record { name = symbol; value = 0; section = 1; kind = 0; class = class_external } in
     let own_held : Among own linked = among_filter (λ (q : Placed). has_tables q.object) own linked (placed_among machine bases inputs objects made program own found.1.0) in
     let entry_is : found.0.addresses ≡ entry = found.1.1 ∙ ap (λ n. bases.addresses + thunk_width machine * n + thunk_width machine * j) (thunks_are i inputs) in
-    let code = code_in machine p.flavor (dll_of p) linked found.0 e entry is entry_is in
+    let code = code_in machine p.flavor (dll_names_in p) linked found.0 e entry is entry_is in
     let once = name_once machine bases inputs objects i j p e made program input chosen is in
     let most : length (definitions_of symbol linked) ≤ 1 = rw once.1 (omega arith) in
     let d_linked : Among d.from linked = contains_among d.from linked (all_among (λ (x : PlacedCode). Contains linked x.from) d codes (contains_among d codes d_held) beside.held) in

@@ -45,26 +45,29 @@ use Rattle.implib_link.proofs.Gnu.Packed.{end_kept}
 use Rattle.implib_link.proofs.Gnu.Program.{all_claim, gets_address, once_of}
 use Rattle.implib_link.proofs.Search.Lists.{contains_among}
 use Rattle.implib_link.proofs.Flavors.Expanded.{AreWide, taken_null}
+use Rattle.implib.specs.LibraryName.{NamesOfDll}
+use Rattle.implib_link.specs.Flavors.Program.{dll_names_in}
+use Rattle.implib.specs.LibraryName.{linked_dll}
 
 -- The objects of the members have no `.idata$3`.
 
-asking_ends : (machine : MachineType) (dll symbol : List ℕ) (ask : Ask) → (e : ExportView) → EndsNothing (import_object machine dll symbol ask (use_for e))
+asking_ends : (machine : MachineType) (dll symbol : List ℕ) (ask : Ask) → (e : ExportView) → EndsNothing (import_object machine dll.text symbol ask (use_for e))
 unfolding import_object
 asking_ends machine dll symbol (Ordinal n) e = (refl, (refl, (refl, tt)))
 asking_ends machine dll symbol (Name text hint) e = (refl, (refl, (refl, (refl, tt))))
 
-askings_end : (machine : MachineType) (dll : List ℕ) (es : List ExportView) (rest : List Object) → AllByRecursion EndsNothing rest → AllByRecursion EndsNothing (behind_descriptor machine dll es rest)
+askings_end : (machine : MachineType) (dll : NamesOfDll) (es : List ExportView) (rest : List Object) → AllByRecursion EndsNothing rest → AllByRecursion EndsNothing (behind_descriptor machine dll es rest)
 unfolding with_section_symbols object_of null_thunk entries_of name_text
 askings_end machine dll [] rest all = ((refl, (refl, tt)), all)
 askings_end machine dll (e ∷ es) rest all = (asking_ends machine dll (short_import_symbol e) (ask_in Msvc machine e) e, askings_end machine dll es rest all)
 
-exports_end : (machine : MachineType) (dll : List ℕ) (es : List ExportView) (rest : List Object) → AllByRecursion EndsNothing rest →
+exports_end : (machine : MachineType) (dll : NamesOfDll) (es : List ExportView) (rest : List Object) → AllByRecursion EndsNothing rest →
     AllByRecursion EndsNothing (map (export machine dll) es ++ tail machine dll ∷ rest)
 unfolding export_object tail_object
 exports_end machine dll [] rest all = ((refl, (refl, (refl, (refl, (refl, (refl, tt)))))), all)
 exports_end machine dll (e ∷ es) rest all = ((refl, (refl, (refl, (refl, (refl, (refl, (refl, tt))))))), exports_end machine dll es rest all)
 
-objects_end : (machine : MachineType) (flavor : Flavor) (dll : List ℕ) (es : List ExportView) (rest : List Object) → AllByRecursion EndsNothing rest →
+objects_end : (machine : MachineType) (flavor : Flavor) (dll : NamesOfDll) (es : List ExportView) (rest : List Object) → AllByRecursion EndsNothing rest →
     AllByRecursion EndsNothing (objects_of machine flavor dll es rest)
 unfolding with_section_symbols object_of descriptor entries_of name_text head_object
 objects_end machine Msvc dll es rest all = ((refl, (refl, (refl, (refl, tt)))), askings_end machine dll es rest all)
@@ -76,24 +79,24 @@ blocks_end machine (k ∷ blocks) = objects_end machine k.flavor k.dll k.exports
 
 -- Where `.idata$2` ends.
 
-asking_keeps : (machine : MachineType) (dll symbol : List ℕ) (ask : Ask) (e : ExportView) (n : ℕ) → sections_end Descriptors n (import_object machine dll symbol ask (use_for e)).sections ≡ n
+asking_keeps : (machine : MachineType) (dll symbol : List ℕ) (ask : Ask) (e : ExportView) (n : ℕ) → sections_end Descriptors n (import_object machine dll.text symbol ask (use_for e)).sections ≡ n
 unfolding import_object sections_end
 asking_keeps machine dll symbol (Ordinal n) e m = refl
 asking_keeps machine dll symbol (Name text hint) e m = refl
 
-askings_keep : (machine : MachineType) (dll : List ℕ) (es : List ExportView) (rest : List Object) (n : ℕ) → group_end Descriptors n (behind_descriptor machine dll es rest) ≡ group_end Descriptors n rest
+askings_keep : (machine : MachineType) (dll : NamesOfDll) (es : List ExportView) (rest : List Object) (n : ℕ) → group_end Descriptors n (behind_descriptor machine dll es rest) ≡ group_end Descriptors n rest
 unfolding group_end sections_end with_section_symbols object_of null_thunk entries_of name_text
 askings_keep machine dll [] rest n = refl
 askings_keep machine dll (e ∷ es) rest n =
     ap (λ m. group_end Descriptors m (behind_descriptor machine dll es rest)) (asking_keeps machine dll (short_import_symbol e) (ask_in Msvc machine e) e n) ∙ askings_keep machine dll es rest n
 
-exports_keep : (machine : MachineType) (dll : List ℕ) (es : List ExportView) (rest : List Object) (n : ℕ) →
+exports_keep : (machine : MachineType) (dll : NamesOfDll) (es : List ExportView) (rest : List Object) (n : ℕ) →
     group_end Descriptors n (map (export machine dll) es ++ tail machine dll ∷ rest) ≡ group_end Descriptors n rest
 unfolding group_end sections_end export_object tail_object
 exports_keep machine dll [] rest n = refl
 exports_keep machine dll (e ∷ es) rest n = exports_keep machine dll es rest n
 
-one_end : (machine : MachineType) (flavor : Flavor) (dll : List ℕ) (es : List ExportView) (rest : List Object) (n : ℕ) → n % 4 ≡ 0 →
+one_end : (machine : MachineType) (flavor : Flavor) (dll : NamesOfDll) (es : List ExportView) (rest : List Object) (n : ℕ) → n % 4 ≡ 0 →
     group_end Descriptors n (objects_of machine flavor dll es rest) ≡ group_end Descriptors (n + 20) rest
 unfolding group_end sections_end with_section_symbols object_of descriptor entries_of name_text head_object
 one_end machine Msvc dll es rest n even =
@@ -133,7 +136,7 @@ symbols_get linked width address [] entries = tt
 symbols_get linked width address (name ∷ names) entries = (gets_address linked name address entries.0, symbols_get linked width (address + width) names entries.1)
 
 imports_of : (machine : MachineType) (image : List Range) (linked : List Placed) (p : FlavorInput) (b : Bases) (descriptor table : ℕ) (behind : List Object) →
-    b.descriptors ≡ descriptor → b.addresses ≡ table → OneLinks machine linked image p.flavor (dll_of p) (exports_chosen p) b behind →
+    b.descriptors ≡ descriptor → b.addresses ≡ table → OneLinks machine linked image p.flavor (dll_names_in p) (exports_chosen p) b behind →
     InputImports machine image linked descriptor table p
 imports_of machine image linked p b descriptor table behind place begins one =
     let entries : SymbolsAt linked (thunk_width machine) b.addresses (map (λ e. imp_symbol (symbol_in p.flavor e)) (exports_chosen p)) = one.entries in
@@ -156,12 +159,12 @@ module _ (machine : MachineType) (inputs : List FlavorInput) (objects : List Obj
   parts_are =
       sym (filter_map-append _ held.before held.behind) ∙ ap (objects_taken machine) held.members ∙ inputs_objects machine inputs made
 
-  null_is : expanded_in machine (null_member machine (dll_of held.null_from)).bytes ≡ Some (taken_null machine)
+  null_is : expanded_in machine (null_member machine (linked_dll held.null_from.input.definition)).bytes ≡ Some (taken_null machine)
   null_is =
       null_object machine held.null_from (contained_at (IsMadeFor machine) inputs held.null_from made held.null_held) held.null_flavor
 
   pub kept_are : filter has_tables objects ≡ objects_taken machine held.before ++ taken_null machine ∷ objects_taken machine held.behind
-  kept_are = held.tables ∙ objects_with_null machine held.before held.behind (null_member machine (dll_of held.null_from)) null_is
+  kept_are = held.tables ∙ objects_with_null machine held.before held.behind (null_member machine (linked_dll held.null_from.input.definition)) null_is
 
   pub directory_end : (n : ℕ) → n % 4 ≡ 0 → group_end Descriptors n objects ≡ n + 20 * length inputs
   directory_end n even =

@@ -22,24 +22,25 @@ use Rattle.implib_link.proofs.Flavors.Inputs.{block_in}
 use Rattle.implib_link.proofs.Flavors.NullDescriptor.{all_insert}
 use Rattle.implib_link.proofs.Flavors.Program.{kept_are, parts_are}
 use Rattle.implib_link.proofs.Gnu.Steady.{AllSteady, all_steady, exports_steady, head_steady, relative_steady, tables_none, tail_steady}
+use Rattle.implib.specs.LibraryName.{NamesOfDll}
 
-asking_steady : (machine : MachineType) (dll symbol : List ℕ) (ask : Ask) (use_kind : Use) → AllSteady machine (import_object machine dll symbol ask use_kind)
+asking_steady : (machine : MachineType) (dll symbol : List ℕ) (ask : Ask) (use_kind : Use) → AllSteady machine (import_object machine dll.text symbol ask use_kind)
 unfolding import_object
 asking_steady machine dll symbol (Ordinal n) use_kind = (inl refl, (inr tt, (inr tt, tt)))
 asking_steady machine dll symbol (Name text hint) use_kind = (inl refl, (inr (relative_steady machine, tt), (inr (relative_steady machine, tt), (inr tt, tt))))
 
-askings_steady : (machine : MachineType) (dll : List ℕ) (es : List ExportView) (rest : List Object) → AllByRecursion (AllSteady machine) rest → AllByRecursion (AllSteady machine) (behind_descriptor machine dll es rest)
+askings_steady : (machine : MachineType) (dll : NamesOfDll) (es : List ExportView) (rest : List Object) → AllByRecursion (AllSteady machine) rest → AllByRecursion (AllSteady machine) (behind_descriptor machine dll es rest)
 unfolding with_section_symbols object_of null_thunk entries_of name_text
 askings_steady machine dll [] rest all = ((inr tt, (inr tt, tt)), all)
 askings_steady machine dll (e ∷ es) rest all = (asking_steady machine dll (short_import_symbol e) (ask_in Msvc machine e) (use_for e), askings_steady machine dll es rest all)
 
-descriptor_steady : (machine : MachineType) (dll : List ℕ) → AllSteady machine (taken_descriptor machine dll)
+descriptor_steady : (machine : MachineType) (dll : NamesOfDll) → AllSteady machine (taken_descriptor machine dll)
 unfolding with_section_symbols object_of descriptor entries_of name_text
 descriptor_steady machine dll =
     let one = relative_steady machine in
     (inr (one, (one, (one, tt))), (inr tt, (inr tt, (inr tt, tt))))
 
-one_steady : (machine : MachineType) (flavor : Flavor) (dll : List ℕ) (es : List ExportView) (rest : List Object) → AllByRecursion (AllSteady machine) rest →
+one_steady : (machine : MachineType) (flavor : Flavor) (dll : NamesOfDll) (es : List ExportView) (rest : List Object) → AllByRecursion (AllSteady machine) rest →
     AllByRecursion (AllSteady machine) (objects_of machine flavor dll es rest)
 one_steady machine Msvc dll es rest all = (descriptor_steady machine dll, askings_steady machine dll es rest all)
 one_steady machine Gnu dll es rest all = (head_steady machine dll, exports_steady machine dll es _ (tail_steady machine dll, all))

@@ -39,6 +39,8 @@ use Rattle.implib_link.proofs.Gnu.Loaded.{times_next, times_none}
 use Rattle.implib_link.proofs.Search.Lists.{among_at, flat_map_among}
 use Rattle.implib_link.proofs.Gnu.Stubs.{among_filter, behind_exports, code_bytes, code_defined, code_here, code_relocations, export_placed, first_sum, jump_by, later_sum, same_address, target_is, thunk_below, wide_thunk}
 use Rattle.implib_link.proofs.Flavors.Expanded.{AreWide, ends_of_asking, ends_of_descriptor, placed-asking, placed-descriptor, placed-null_thunk, placed_asking, wide_aligned, wide_asking, wide_descriptor}
+use Rattle.implib.specs.LibraryName.{NamesOfDll}
+use Rattle.implib_link.specs.Flavors.Program.{dll_names_in}
 
 -- Each export's object is placed, with its entry where the addresses have come to.
 
@@ -46,7 +48,7 @@ abbrev pub placed_in : MachineType → Flavor → List ℕ → Bases → ExportV
 placed_in machine Msvc dll b e = placed_asking machine dll b (short_import_symbol e) (ask_in Msvc machine e) (use_for e)
 placed_in machine Gnu dll b e = placed_export machine dll b e
 
-asking_placed : (machine : MachineType) (dll : List ℕ) (es : List ExportView) (b : Bases) (rest : List Object) → AreWide machine b → (j : ℕ) (e : ExportView) → slice_get es j ≡ Some e →
+asking_placed : (machine : MachineType) (dll : NamesOfDll) (es : List ExportView) (b : Bases) (rest : List Object) → AreWide machine b → (j : ℕ) (e : ExportView) → slice_get es j ≡ Some e →
     (c : Bases) × (Among (placed_in machine Msvc dll c e) (placed_from b (behind_descriptor machine dll es rest)) × (c.addresses ≡ b.addresses + thunk_width machine * j))
 asking_placed machine dll [] b rest even j e is = cc
 asking_placed machine dll (x ∷ es) b rest even zero e is =
@@ -72,7 +74,7 @@ asking_placed machine dll (x ∷ es) b rest even (suc j) e is =
       ),
     )
 
-one_placed : (machine : MachineType) (flavor : Flavor) (dll : List ℕ) (es : List ExportView) (b : Bases) (rest : List Object) → AreWide machine b → (j : ℕ) (e : ExportView) →
+one_placed : (machine : MachineType) (flavor : Flavor) (dll : NamesOfDll) (es : List ExportView) (b : Bases) (rest : List Object) → AreWide machine b → (j : ℕ) (e : ExportView) →
     slice_get es j ≡ Some e →
     (c : Bases) × (Among (placed_in machine flavor dll c e) (placed_from b (objects_of machine flavor dll es rest)) × (c.addresses ≡ b.addresses + thunk_width machine * j))
 one_placed machine Msvc dll es b rest even j e is =
@@ -82,7 +84,7 @@ one_placed machine Gnu dll es b rest even j e is =
     let found = export_placed machine dll es (ends_of_head machine dll b) rest (aligned_head machine dll b (wide_aligned machine b even)) j e is in
     (found.0, (subst (Among (placed_in machine Gnu dll found.0 e)) (sym (placed-head machine dll b (after_head machine dll es rest) (wide_aligned machine b even))) (among_later _ _ _ found.1.0), found.1.1))
 
-behind_askings : (machine : MachineType) (dll : List ℕ) (es : List ExportView) (b : Bases) (rest : List Object) (q : Placed) → AreWide machine b → Among q (placed_from (ends_of_askings machine b es) rest) →
+behind_askings : (machine : MachineType) (dll : NamesOfDll) (es : List ExportView) (b : Bases) (rest : List Object) (q : Placed) → AreWide machine b → Among q (placed_from (ends_of_askings machine b es) rest) →
     Among q (placed_from b (behind_descriptor machine dll es rest))
 unfolding ends_of_askings
 behind_askings machine dll [] b rest q even m = subst (Among q) (sym (placed-null_thunk machine dll b rest even)) (among_later q _ _ m)
@@ -91,7 +93,7 @@ behind_askings machine dll (e ∷ es) b rest q even m =
     subst (Among q) (sym (placed-asking machine dll b (short_import_symbol e) ask (use_for e) (behind_descriptor machine dll es rest) even))
     (among_later q _ _ (behind_askings machine dll es (ends_of_asking machine b ask) rest q (wide_asking machine b ask even) m))
 
-behind_one : (machine : MachineType) (flavor : Flavor) (dll : List ℕ) (es : List ExportView) (b : Bases) (rest : List Object) (q : Placed) → AreWide machine b →
+behind_one : (machine : MachineType) (flavor : Flavor) (dll : NamesOfDll) (es : List ExportView) (b : Bases) (rest : List Object) (q : Placed) → AreWide machine b →
     Among q (placed_from (ends_in machine flavor dll b es) rest) → Among q (placed_from b (objects_of machine flavor dll es rest))
 behind_one machine Msvc dll es b rest q even m =
     subst (Among q) (sym (placed-descriptor machine dll b (behind_descriptor machine dll es rest) even))
@@ -133,32 +135,32 @@ use_is false false data_is constant_is = refl
 use_is true constant data_is constant_is = cc
 use_is false true data_is constant_is = cc
 
-asking_defined : (machine : MachineType) (dll : List ℕ) (b : Bases) (symbol : List ℕ) (ask : Ask) →
+asking_defined : (machine : MachineType) (dll : NamesOfDll) (b : Bases) (symbol : List ℕ) (ask : Ask) →
     Among (ASymbol (record { name = symbol; value = 0; section = 1; kind = 0; class = class_external })) (placed_asking machine dll b symbol ask Code).object.entries
 unfolding import_object Among
 asking_defined machine dll b symbol (Ordinal n) = inr (inr (inr (inl refl)))
 asking_defined machine dll b symbol (Name text hint) = inr (inr (inr (inr (inl refl))))
 
-asking_code : (machine : MachineType) (dll : List ℕ) (b : Bases) (symbol : List ℕ) (ask : Ask) →
+asking_code : (machine : MachineType) (dll : NamesOfDll) (b : Bases) (symbol : List ℕ) (ask : Ask) →
     slice_get (placed_asking machine dll b symbol ask Code).object.sections 0 ≡ Some (section text_name (cnt_code + align_4bytes + mem_execute_read) (stub_bytes machine) (stub_relocations machine 2))
 unfolding import_object
 asking_code machine dll b symbol ask = refl
 
-asking_target : (machine : MachineType) (dll : List ℕ) (linked : List Placed) (b : Bases) (symbol : List ℕ) (ask : Ask) (use_kind : Use) (entry : ℕ) → b.addresses ≡ entry →
+asking_target : (machine : MachineType) (dll : NamesOfDll) (linked : List Placed) (b : Bases) (symbol : List ℕ) (ask : Ask) (use_kind : Use) (entry : ℕ) → b.addresses ≡ entry →
     target_address linked (placed_asking machine dll b symbol ask use_kind) 2 ≡ entry
 unfolding import_object
 asking_target machine dll linked b symbol ask use_kind entry same =
     let plain : b.addresses + 0 ≡ b.addresses = omega arith in
     plain ∙ same
 
-asking_found : (machine : MachineType) (dll : List ℕ) (linked : List Placed) (b : Bases) (symbol : List ℕ) (ask : Ask) (use_kind : Use) (entry : ℕ) → b.addresses ≡ entry →
+asking_found : (machine : MachineType) (dll : NamesOfDll) (linked : List Placed) (b : Bases) (symbol : List ℕ) (ask : Ask) (use_kind : Use) (entry : ℕ) → b.addresses ≡ entry →
     option_and_then (symbol_address linked (placed_asking machine dll b symbol ask use_kind)) (slice_get (placed_asking machine dll b symbol ask use_kind).object.entries 2) ≡ Some entry
 unfolding import_object
 asking_found machine dll linked b symbol ask use_kind entry same =
     let plain : b.addresses + 0 ≡ b.addresses = omega arith in
     ap Some (plain ∙ same)
 
-exporting_found : (machine : MachineType) (dll : List ℕ) (linked : List Placed) (b : Bases) (e : ExportView) (entry : ℕ) → e.is_data ≡ false → b.addresses ≡ entry →
+exporting_found : (machine : MachineType) (dll : NamesOfDll) (linked : List Placed) (b : Bases) (e : ExportView) (entry : ℕ) → e.is_data ≡ false → b.addresses ≡ entry →
     option_and_then (symbol_address linked (placed_export machine dll b e)) (slice_get (placed_export machine dll b e).object.entries 2) ≡ Some entry
 exporting_found machine dll linked b e entry is same =
     let plain : b.addresses + 0 ≡ b.addresses = omega arith in
@@ -171,7 +173,7 @@ pub record CodeOf (machine : MachineType) (linked : List Placed) (symbol : List 
   pub target : target_address linked own 2 ≡ entry
   pub found : option_and_then (symbol_address linked own) (slice_get own.object.entries 2) ≡ Some entry
 
-msvc_code : (machine : MachineType) (dll : List ℕ) (linked : List Placed) (b : Bases) (symbol : List ℕ) (ask : Ask) (use_kind : Use) (entry : ℕ) → use_kind ≡ Code → b.addresses ≡ entry →
+msvc_code : (machine : MachineType) (dll : NamesOfDll) (linked : List Placed) (b : Bases) (symbol : List ℕ) (ask : Ask) (use_kind : Use) (entry : ℕ) → use_kind ≡ Code → b.addresses ≡ entry →
     CodeOf machine linked symbol (placed_asking machine dll b symbol ask use_kind) entry
 msvc_code machine dll linked b symbol ask use_kind entry is same =
     subst (λ (u : Use). CodeOf machine linked symbol (placed_asking machine dll b symbol ask u) entry) (sym is) (record {
@@ -181,7 +183,7 @@ msvc_code machine dll linked b symbol ask use_kind entry is same =
       found = asking_found machine dll linked b symbol ask Code entry same;
     })
 
-pub code_in : (machine : MachineType) (flavor : Flavor) (dll : List ℕ) (linked : List Placed) (b : Bases) (e : ExportView) (entry : ℕ) → IsCode flavor e → b.addresses ≡ entry →
+pub code_in : (machine : MachineType) (flavor : Flavor) (dll : NamesOfDll) (linked : List Placed) (b : Bases) (e : ExportView) (entry : ℕ) → IsCode flavor e → b.addresses ≡ entry →
     CodeOf machine linked (symbol_in flavor e) (placed_in machine flavor dll b e) entry
 code_in machine Msvc dll linked b e entry is same = msvc_code machine dll linked b (short_import_symbol e) (ask_in Msvc machine e) (use_for e) entry (use_is e.is_data e.constant is.0 is.1) same
 code_in machine Gnu dll linked b e entry is same = record {
@@ -194,7 +196,7 @@ code_in machine Gnu dll linked b e entry is same = record {
 }
 
 -- the name of code is one that its member is listed for
-listed_in : (machine : MachineType) (flavor : Flavor) (dll : List ℕ) (es : List ExportView) (j : ℕ) (e : ExportView) → slice_get es j ≡ Some e → IsCode flavor e →
+listed_in : (machine : MachineType) (flavor : Flavor) (dll : NamesOfDll) (es : List ExportView) (j : ℕ) (e : ExportView) → slice_get es j ≡ Some e → IsCode flavor e →
     Among (symbol_in flavor e) (symbols_of machine flavor dll es)
 unfolding Among
 listed_in machine Msvc dll es j e at is =
@@ -210,7 +212,7 @@ name_listed : (machine : MachineType) (inputs : List FlavorInput) (i j : ℕ) (p
 name_listed machine inputs i j p e made input chosen is =
     subst (Among (symbol_in p.flavor e)) (sym (inputs_symbols machine inputs made))
     (flat_map_among (λ (k : FlavorBlock). symbols_of machine k.flavor k.dll k.exports) (symbol_in p.flavor e) (map block_in inputs) (block_in p)
-    (among_map block_in p inputs (among_at p inputs i input)) (listed_in machine p.flavor (dll_of p) (exports_chosen p) j e chosen is))
+    (among_map block_in p inputs (among_at p inputs i input)) (listed_in machine p.flavor (dll_names_in p) (exports_chosen p) j e chosen is))
 
 pub name_once : (machine : MachineType) (bases : Bases) (inputs : List FlavorInput) (objects : List Object) (i j : ℕ) (p : FlavorInput) (e : ExportView) → AllByRecursion (IsMadeFor machine) inputs →
     IsFlavorProgram machine bases inputs objects → slice_get inputs i ≡ Some p → slice_get (exports_chosen p) j ≡ Some e → IsCode p.flavor e → IsDefinedOnce (placed_from bases objects) (symbol_in p.flavor e)
@@ -229,11 +231,11 @@ stubs_of_flavors_jump machine image_base bases inputs objects i j p e made progr
     let one = all.imports i p input in
     let table : ℕ = bases.addresses + thunk_width machine * thunks_of i inputs in
     let found = all_placed machine (map block_in inputs) bases (wide machine bases inputs objects made program) i j (block_in p) e (slice_get-map block_in inputs i ∙ ap (option_map block_in) input) chosen in
-    let own : Placed = placed_in machine p.flavor (dll_of p) found.0 e in
+    let own : Placed = placed_in machine p.flavor (dll_names_in p) found.0 e in
     let kept = placed_among machine bases inputs objects made program own found.1.0 in
     let entry_is : found.0.addresses ≡ table + thunk_width machine * j =
     found.1.1 ∙ ap (λ n. bases.addresses + thunk_width machine * n + thunk_width machine * j) (thunks_are i inputs) in
-    let code = code_in machine p.flavor (dll_of p) linked found.0 e (table + thunk_width machine * j) is entry_is in
+    let code = code_in machine p.flavor (dll_names_in p) linked found.0 e (table + thunk_width machine * j) is entry_is in
     let small : table + thunk_width machine * j < 2 ^ 31 =
     thunk_below image (starts machine bases objects program.admissible) (ends machine bases objects program.admissible) (thunk_width machine) (wide_thunk machine)
     (map (ask_in p.flavor machine) (exports_chosen p)) table j (ask_in p.flavor machine e)

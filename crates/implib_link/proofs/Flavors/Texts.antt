@@ -25,11 +25,12 @@ use Rattle.implib.specs.Link.Resolution.{definitions_of}
 use Rattle.implib.proofs.Members.Asked.{asks_for_words}
 use Rattle.implib.proofs.Link.LinkedMembers.{all_at}
 use Rattle.implib.proofs.Text.SymbolNames.{parsed_lacks}
-use Rattle.implib_link.specs.Flavors.Program.{FlavorInput, InputImports, IsFlavorProgram, IsMadeFor, SymbolsAt, SymbolsGet, ask_in, descriptor_in, dll_of, exports_chosen, symbol_in, thunks_of}
+use Rattle.implib_link.specs.Flavors.Program.{FlavorInput, InputImports, IsFlavorProgram, IsMadeFor, SymbolsAt, SymbolsGet, ask_in, descriptor_in, dll_names_in, dll_of, exports_chosen, symbol_in, thunks_of}
 use Rattle.implib_link.specs.Flavors.Texts.{FlavorSource, FlavorTextLinks, FlavorTextsLink, IsFlavorSource, input_parsed, input_of}
 use Rattle.implib_link.specs.Gnu.Texts.{Stated, ask_stated, chosen_stated, stated}
 use Rattle.implib_link.proofs.Flavors.Program.{flavors_link}
 use Rattle.implib_link.proofs.Gnu.Texts.{all_chosen, all_filter, chosen_renamed, stated_ask, statements_are}
+use Rattle.implib.specs.LibraryName.{NamesOfDll, names_in}
 
 -- each asks for the word of its statement, in each flavour
 AsksInFlavor : Flavor → MachineType → Stated → Type 0
@@ -94,30 +95,36 @@ sources_made machine [] are = tt
 sources_made machine (s ∷ sources) are = (source_made machine s are.0, sources_made machine sources are.1)
 
 -- an input's imports, by its exports and its DLL's name
-record ImportsOf (machine : MachineType) (image : List Range) (linked : List Placed) (descriptor table : ℕ) (flavor : Flavor) (dll : List ℕ) (es : List ExportView) : Type 0 where
+record ImportsOf (machine : MachineType) (image : List Range) (linked : List Placed) (descriptor table : ℕ) (flavor : Flavor) (dll : NamesOfDll) (es : List ExportView) : Type 0 where
   top : definitions_of (descriptor_in flavor machine dll) linked ≡ record { name = descriptor_in flavor machine dll; address = Some descriptor } ∷ []
-  loads : LoadsStrictly image (thunk_width machine) descriptor dll (map (ask_in flavor machine) es)
+  loads : LoadsStrictly image (thunk_width machine) descriptor dll.text (map (ask_in flavor machine) es)
   table_located : loads.plain.addresses ≡ table
   entries : SymbolsAt linked (thunk_width machine) table (map (λ e. imp_symbol (symbol_in flavor e)) es)
   gets : SymbolsGet linked (thunk_width machine) table (map (λ e. imp_symbol (symbol_in flavor e)) es)
 
 to_parts : (machine : MachineType) (image : List Range) (linked : List Placed) (descriptor table : ℕ) (p : FlavorInput) → InputImports machine image linked descriptor table p →
-    ImportsOf machine image linked descriptor table p.flavor (dll_of p) (exports_chosen p)
+    ImportsOf machine image linked descriptor table p.flavor (dll_names_in p) (exports_chosen p)
 to_parts machine image linked descriptor table p i = record { top = i.top; loads = i.loads; table_located = i.table_located; entries = i.entries; gets = i.gets }
 
 from_parts : (machine : MachineType) (image : List Range) (linked : List Placed) (descriptor table : ℕ) (p : FlavorInput) →
-    ImportsOf machine image linked descriptor table p.flavor (dll_of p) (exports_chosen p) → InputImports machine image linked descriptor table p
+    ImportsOf machine image linked descriptor table p.flavor (dll_names_in p) (exports_chosen p) → InputImports machine image linked descriptor table p
 from_parts machine image linked descriptor table p i = record { top = i.top; loads = i.loads; table_located = i.table_located; entries = i.entries; gets = i.gets }
+
+-- the names of the DLL are those of the definition that is parsed
+names_of_renamed : (flavor : Flavor) (d : DefinitionView) → names_in flavor (renamed d) ≡ names_in flavor d
+names_of_renamed Msvc d = refl
+names_of_renamed Gnu d = refl
 
 same_imports : (machine : MachineType) (image : List Range) (linked : List Placed) (descriptor table : ℕ) (s : FlavorSource) (parsed : DefinitionView) →
     s.source.library ≡ record { definition = renamed parsed; machine = machine; flavor = s.flavor } →
     InputImports machine image linked descriptor table (input_of s) → InputImports machine image linked descriptor table (input_parsed parsed s)
 same_imports machine image linked descriptor table s parsed held imports =
     let exports_same : chosen_exports s.source.library.definition s.source.chosen ≡ chosen_exports parsed s.source.chosen = chosen_renamed s.source.library parsed machine s.flavor s.source.chosen held in
-    let name_same : s.source.library.definition.import_name ≡ parsed.import_name = ap (λ (l : LibraryView). l.definition.import_name) held in
+    let names_same : names_in s.flavor s.source.library.definition ≡ names_in s.flavor parsed =
+    ap (λ (l : LibraryView). names_in s.flavor l.definition) held ∙ names_of_renamed s.flavor parsed in
     from_parts machine image linked descriptor table (input_parsed parsed s)
-    (subst (λ (es : List ExportView). ImportsOf machine image linked descriptor table s.flavor parsed.import_name es) exports_same
-    (subst (λ (name : List ℕ). ImportsOf machine image linked descriptor table s.flavor name (chosen_exports s.source.library.definition s.source.chosen)) name_same
+    (subst (λ (es : List ExportView). ImportsOf machine image linked descriptor table s.flavor (names_in s.flavor parsed) es) exports_same
+    (subst (λ (names : NamesOfDll). ImportsOf machine image linked descriptor table s.flavor names (chosen_exports s.source.library.definition s.source.chosen)) names_same
     (to_parts machine image linked descriptor table (input_of s) imports)))
 
 text_links : (machine : MachineType) (image : List Range) (linked : List Placed) (descriptor table : ℕ) (s : FlavorSource) → IsFlavorSource machine s →

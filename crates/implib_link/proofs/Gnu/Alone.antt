@@ -14,16 +14,17 @@ use Rattle.implib.proofs.Link.LinkedInputs.{block_of, gnu_inputs_objects}
 use Rattle.implib.proofs.Link.Placement.{export, head, tail}
 use Rattle.implib_link.specs.Gnu.Program.{ClaimsNone, IsProgram, has_tables, linked_symbols, null_descriptor}
 use Rattle.implib_link.proofs.Gnu.Blocks.{objects_behind}
+use Rattle.implib.specs.LibraryName.{NamesOfDll}
 
-head_has : (machine : MachineType) (dll : List ℕ) → has_tables (head machine dll) ≡ true
+head_has : (machine : MachineType) (dll : NamesOfDll) → has_tables (head machine dll) ≡ true
 unfolding has_tables head_object
 head_has machine dll = refl
 
-tail_has : (machine : MachineType) (dll : List ℕ) → has_tables (tail machine dll) ≡ true
+tail_has : (machine : MachineType) (dll : NamesOfDll) → has_tables (tail machine dll) ≡ true
 unfolding has_tables tail_object
 tail_has machine dll = refl
 
-export_has : (machine : MachineType) (dll : List ℕ) (e : ExportView) → has_tables (export machine dll e) ≡ true
+export_has : (machine : MachineType) (dll : NamesOfDll) (e : ExportView) → has_tables (export machine dll e) ≡ true
 unfolding has_tables export_object
 export_has machine dll e = refl
 
@@ -35,7 +36,7 @@ null_has = refl
 abbrev AllHave : List Object → Type 0
 AllHave objects = AllByRecursion (λ o. has_tables o ≡ true) objects
 
-exports_have : (machine : MachineType) (dll : List ℕ) (es : List ExportView) (rest : List Object) → AllHave rest → AllHave (map (export machine dll) es ++ rest)
+exports_have : (machine : MachineType) (dll : NamesOfDll) (es : List ExportView) (rest : List Object) → AllHave rest → AllHave (map (export machine dll) es ++ rest)
 exports_have machine dll [] rest all = all
 exports_have machine dll (e ∷ es) rest all = (export_has machine dll e, exports_have machine dll es rest all)
 

@@ -29,6 +29,8 @@ use Rattle.implib_link.proofs.Gnu.Blocks.{addresses_after, descriptors_after}
 use Rattle.implib_link.proofs.Gnu.Filling.{DescriptorBeside, DirectoryBeside}
 use Rattle.implib_link.proofs.Gnu.Memory.{byte_first}
 use Rattle.implib_link.proofs.Gnu.Stubs.{wide_thunk}
+use Rattle.implib.specs.LibraryName.{NamesOfDll, names_in}
+use Rattle.implib.specs.declared.flavor.Flavor.TheVariants.{Gnu}
 
 -- What is known of ranges, whatever the flavour.
 
@@ -94,12 +96,12 @@ pub record LocatedBeside (machine : MachineType) (linked : List Placed) (beside 
   pub hint_names : BytesAt beside b.hint_names (filled b.hint_names (contributions machine linked HintNames (placed_from b objects)))
   pub dll_names : BytesAt beside b.dll_names (filled b.dll_names (contributions machine linked DllNames (placed_from b objects)))
 
-module _ (machine : MachineType) (dll : List ℕ) (linked : List Placed) where
+module _ (machine : MachineType) (dll : NamesOfDll) (linked : List Placed) where
   -- the descriptor, relocated
   descriptor_linked : Bases → List ℕ
   descriptor_linked b = relocated machine linked (placed_head machine dll b) (relocation machine 0 3 ∷ relocation machine 16 2 ∷ relocation machine 12 5 ∷ []) (zeros 20)
 
-  descriptor_is : (b : Bases) (n : ℕ) → first_address (definitions_of (iname_symbol machine dll) linked) ≡ Some (n + 0) →
+  descriptor_is : (b : Bases) (n : ℕ) → first_address (definitions_of (iname_symbol machine dll.linked) linked) ≡ Some (n + 0) →
       descriptor_linked b ≡ u32_bytes ((0 + (b.lookups + 0)) % 2 ^ 32) ++ (zeros 4 ++ (zeros 4 ++ (u32_bytes ((0 + (n + 0)) % 2 ^ 32) ++ u32_bytes ((0 + (b.addresses + 0)) % 2 ^ 32))))
   unfolding descriptor_linked head_object with_address u32_bytes u32_at
   descriptor_is b n is = rw (same_number machine, is) refl
@@ -107,12 +109,12 @@ module _ (machine : MachineType) (dll : List ℕ) (linked : List Placed) where
   -- where the DLL's name is, and what is filled in after it
   name_located : (image : List Range) (es : List ExportView) (b : Bases) (rest : List Object) → AreAligned b →
       BytesAt image b.dll_names (filled b.dll_names (contributions machine linked DllNames (placed_from b (after_head machine dll es rest)))) →
-      BytesAt image (next_multiple 4 (ends_of_exports machine dll b es).dll_names) (dll ++ 0 ∷ [])
+      BytesAt image (next_multiple 4 (ends_of_exports machine dll b es).dll_names) (dll.text ++ 0 ∷ [])
       × BytesAt image (ends_of_all machine dll b es).dll_names (filled (ends_of_all machine dll b es).dll_names (contributions machine linked DllNames (placed_from (ends_of_all machine dll b es) rest)))
   unfolding ends_of_exports tail_object export_object with_address u32_bytes u32_at
   name_located image [] b rest even located =
       let others : List Contribution = contributions machine linked DllNames (placed_from (ends_of_tail machine dll b) rest) in
-      let own : Contribution = record { address = next_multiple 4 b.dll_names; bytes = dll ++ 0 ∷ [] } in
+      let own : Contribution = record { address = next_multiple 4 b.dll_names; bytes = dll.text ++ 0 ∷ [] } in
       let here : BytesAt image b.dll_names (filled b.dll_names (own ∷ others)) =
       subst (λ ps. BytesAt image b.dll_names (filled b.dll_names (contributions machine linked DllNames ps))) (placed-tail machine dll b rest even) located in
       contribution_located image b.dll_names own others (at_least 4 b.dll_names) here
@@ -129,16 +131,16 @@ module _ (machine : MachineType) (dll : List ℕ) (linked : List Placed) where
 
   -- the name's definition is the last one
   name_defined : (es : List ExportView) (b : Bases) →
-      Among (record { name = iname_symbol machine dll; address = Some (next_multiple 4 (ends_of_exports machine dll b es).dll_names + 0) }) (defined_after machine dll b es)
+      Among (record { name = iname_symbol machine dll.linked; address = Some (next_multiple 4 (ends_of_exports machine dll b es).dll_names + 0) }) (defined_after machine dll b es)
   unfolding ends_of_exports defined_after
   name_defined [] b = among_first _ _
   name_defined (e ∷ es) b =
       among_back _ (code_definition machine dll e) _ (among_later _ _ _ (name_defined es (ends_of_export machine dll b e)))
 
 -- The objects of one DLL among others.
-module _ (machine : MachineType) (dll : List ℕ) (es : List ExportView) (b : Bases) (rest : List Object) (linked : List Placed) (beside : List Range)
+module _ (machine : MachineType) (dll : NamesOfDll) (es : List ExportView) (b : Bases) (rest : List Object) (linked : List Placed) (beside : List Range)
     (starts : AllByRecursion (λ r. 0 < r.start) beside) (ends : AllByRecursion (λ r. range_end r < 2 ^ 31) beside)
-    (dll_text : HasNoNul dll) (fit : AllByRecursion (CanBeAsked machine) es) (even : AreAligned b)
+    (dll_text : HasNoNul dll.text) (fit : AllByRecursion (CanBeAsked machine) es) (even : AreAligned b)
     (only : (d : SymbolDefinition) → Among d (block_definitions machine dll b es) → definitions_of d.name linked ≡ d ∷ [])
     (located : LocatedBeside machine linked beside b (head machine dll ∷ after_head machine dll es rest)) where
   abbrev later : Bases
@@ -184,14 +186,14 @@ module _ (machine : MachineType) (dll : List ℕ) (es : List ExportView) (b : Ba
   name_place : ℕ
   name_place = next_multiple 4 (ends_of_exports machine dll later es).dll_names
 
-  name_parts : BytesAt beside name_place (dll ++ 0 ∷ [])
+  name_parts : BytesAt beside name_place (dll.text ++ 0 ∷ [])
       × BytesAt beside last.dll_names (filled last.dll_names (contributions machine linked DllNames (placed_from last rest)))
   unfolding head_object name_place
   name_parts =
       name_located machine dll linked beside es later rest later_even
       (subst (BytesAt beside b.dll_names) (ap (λ ps. filled b.dll_names (contributions machine linked DllNames ps)) placed_is) located.dll_names)
 
-  name_address : first_address (definitions_of (iname_symbol machine dll) linked) ≡ Some (name_place + 0)
+  name_address : first_address (definitions_of (iname_symbol machine dll.linked) linked) ≡ Some (name_place + 0)
   unfolding name_place block_definitions
   name_address = ap first_address (only _ (among_later _ _ _ (name_defined machine dll linked es later)))
 
@@ -225,12 +227,12 @@ module _ (machine : MachineType) (dll : List ℕ) (es : List ExportView) (b : Ba
 
   -- what the descriptor leads to
   pub block_beside : (0 < b.addresses) → (b.addresses < 2 ^ 31) →
-      DescriptorBeside beside (thunk_width machine) b.descriptors b.addresses (record { dll = dll; asks = map (expected_ask machine) es })
+      DescriptorBeside beside (thunk_width machine) b.descriptors b.addresses (record { dll = dll.text; asks = map (expected_ask machine) es })
   block_beside above below =
       let table = (table_at machine dll linked beside starts ends es later b.lookups fit lookups_parts.0 hints_parts.0).plain in
       let lookups_bounds = table_bounds machine beside starts ends (map (expected_ask machine) es) b.lookups table in
-      let long : 0 < length (dll ++ 0 ∷ []) = rw (length-append dll (0 ∷ [])) (omega arith) in
-      let name_bounds = bounds_of beside starts ends (dll ++ 0 ∷ []) name_place name_parts.0 long in
+      let long : 0 < length (dll.text ++ 0 ∷ []) = rw (length-append dll.text (0 ∷ [])) (omega arith) in
+      let name_bounds = bounds_of beside starts ends (dll.text ++ 0 ∷ []) name_place name_parts.0 long in
       let fields = fields_beside beside b.descriptors b.lookups name_place b.addresses lookups_bounds.1 name_bounds.1 below
       (subst (BytesAt beside b.descriptors) (descriptor_is machine dll linked b name_place name_address) descriptor_parts.0) in
       record {
@@ -261,7 +263,7 @@ module _ (machine : MachineType) (linked : List Placed) (image beside : List Ran
       let same : all ≡ zeros 20 = rw (position, none) refl in
       subst (BytesAt beside b.descriptors) same located.descriptors
   blocks_beside (p ∷ inputs) b fit even only links located =
-      let dll : List ℕ = p.definition.import_name in
+      let dll : NamesOfDll = names_in Gnu p.definition in
       let es : List ExportView = chosen_exports p.definition p.chosen in
       let behind : List Object = blocks_objects machine (map block_of inputs) (null_descriptor ∷ []) in
       let last : Bases = ends_of_block machine dll b es in

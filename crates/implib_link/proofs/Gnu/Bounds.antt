@@ -30,6 +30,8 @@ use Rattle.implib_link.proofs.Gnu.Loaded.{entry_once}
 use Rattle.implib_link.proofs.Gnu.Others.{contributions_kept}
 use Rattle.implib_link.proofs.Gnu.Program.{kept_placed, program_links}
 use Rattle.implib_link.proofs.Gnu.Sized.{length-relocated}
+use Rattle.implib.specs.LibraryName.{NamesOfDll, names_in}
+use Rattle.implib.specs.declared.flavor.Flavor.TheVariants.{Gnu}
 
 -- Which entry an address is in.
 
@@ -101,7 +103,7 @@ module _ (machine : MachineType) (linked : List Placed) where
   abbrev behind : List LinkInput → List Object
   behind inputs = blocks_objects machine (map block_of inputs) (null_descriptor ∷ [])
 
-  length-thunks : (dll : List ℕ) (b : Bases) (es : List ExportView) → length (thunk_bytes machine dll linked b es) ≡ thunk_width machine * (length es + 1)
+  length-thunks : (dll : NamesOfDll) (b : Bases) (es : List ExportView) → length (thunk_bytes machine dll linked b es) ≡ thunk_width machine * (length es + 1)
   length-thunks dll b es =
       plus_split b.addresses (ends_of_all machine dll b es).addresses (thunk_width machine * (length es + 1)) (length (thunk_bytes machine dll linked b es))
       (addresses_end machine dll linked b es) (addresses_after machine dll b es)
@@ -111,7 +113,7 @@ module _ (machine : MachineType) (linked : List Placed) where
   unfolding head_object
   addresses_long [] b even = sym (mul-zero (thunk_width machine))
   addresses_long (p ∷ inputs) b even =
-      let dll : List ℕ = p.definition.import_name in
+      let dll : NamesOfDll = names_in Gnu p.definition in
       let es : List ExportView = chosen_exports p.definition p.chosen in
       let later : Bases = ends_of_head machine dll b in
       let last : Bases = ends_of_block machine dll b es in
@@ -139,7 +141,7 @@ module _ (machine : MachineType) (linked : List Placed) where
       let none : b.descriptors - b.descriptors ≡ 0 = omega arith in
       rw (position, none) refl
   directory_long (p ∷ inputs) b even =
-      let dll : List ℕ = p.definition.import_name in
+      let dll : NamesOfDll = names_in Gnu p.definition in
       let es : List ExportView = chosen_exports p.definition p.chosen in
       let later : Bases = ends_of_head machine dll b in
       let last : Bases = ends_of_block machine dll b es in
@@ -161,7 +163,7 @@ module _ (machine : MachineType) (linked : List Placed) where
   unfolding next_multiple
   even_multiple n = omega arith
 
-  exports_even : (dll : List ℕ) (es : List ExportView) (b : Bases) (rest : List Object) → AreAligned b →
+  exports_even : (dll : NamesOfDll) (es : List ExportView) (b : Bases) (rest : List Object) → AreAligned b →
       AllByRecursion IsEven (contributions machine linked HintNames (placed_from (ends_of_all machine dll b es) rest)) →
       AllByRecursion IsEven (contributions machine linked HintNames (placed_from b (after_head machine dll es rest)))
   unfolding ends_of_exports tail_object export_object
@@ -174,7 +176,7 @@ module _ (machine : MachineType) (linked : List Placed) where
   unfolding head_object
   hints_even [] b aligned_before = tt
   hints_even (p ∷ inputs) b even =
-      let dll : List ℕ = p.definition.import_name in
+      let dll : NamesOfDll = names_in Gnu p.definition in
       let es : List ExportView = chosen_exports p.definition p.chosen in
       subst (λ ps. AllByRecursion IsEven (contributions machine linked HintNames ps)) (sym (placed-head machine dll b (after_head machine dll es (behind inputs)) even))
       (exports_even dll es (ends_of_head machine dll b) (behind inputs) (aligned_head machine dll b even) (hints_even inputs (ends_of_block machine dll b es) (aligned_block machine dll b es even)))
@@ -239,7 +241,7 @@ begins_with : (machine : MachineType) (b : Bases) (inputs : List LinkInput) (obj
 unfolding head_object
 begins_with machine b [] objects made program some = absurd (omega arith)
 begins_with machine b (p ∷ inputs) objects made program some =
-    let dll : List ℕ = p.definition.import_name in
+    let dll : NamesOfDll = names_in Gnu p.definition in
     let es : List ExportView = chosen_exports p.definition p.chosen in
     let behind_it : List Object = after_head machine dll es (blocks_objects machine (map block_of inputs) (null_descriptor ∷ [])) in
     let plain : b.addresses + 0 ≡ b.addresses = omega arith in

@@ -11,30 +11,31 @@ use Rattle.implib.specs.Link.Placement.{Bases, ends_after, placed_from}
 use Rattle.implib.proofs.Link.LinkedBlocks.{Block, blocks_objects}
 use Rattle.implib.proofs.Link.Placement.{after_head, export, head, tail}
 use Rattle.implib_link.specs.Gnu.Program.{claimed_names, names_claimed_in, null_descriptor}
+use Rattle.implib.specs.LibraryName.{NamesOfDll}
 
-pub claimed_tail : (machine : MachineType) (dll : List ℕ) → claimed_names (tail machine dll) ≡ iname_symbol machine dll ∷ []
+pub claimed_tail : (machine : MachineType) (dll : NamesOfDll) → claimed_names (tail machine dll) ≡ iname_symbol machine dll.linked ∷ []
 unfolding tail_object
 claimed_tail machine dll = refl
 
-pub claimed_head : (machine : MachineType) (dll : List ℕ) → claimed_names (head machine dll) ≡ head_symbol machine dll ∷ []
+pub claimed_head : (machine : MachineType) (dll : NamesOfDll) → claimed_names (head machine dll) ≡ head_symbol machine dll.linked ∷ []
 unfolding head_object
 claimed_head machine dll = refl
 
-pub claimed_export : (machine : MachineType) (dll : List ℕ) (e : ExportView) → claimed_names (export machine dll e) ≡ archive_symbols e
+pub claimed_export : (machine : MachineType) (dll : NamesOfDll) (e : ExportView) → claimed_names (export machine dll e) ≡ archive_symbols e
 unfolding export_object
 claimed_export machine dll e = elim (cases_Bool e.is_data) [ inl is ↦ rw is refl | inr is ↦ rw is refl ]
 
-pub claimed_after : (machine : MachineType) (dll : List ℕ) (es : List ExportView) (rest : List Object) →
-    flat_map claimed_names (after_head machine dll es rest) ≡ (flat_map archive_symbols es ++ iname_symbol machine dll ∷ []) ++ flat_map claimed_names rest
+pub claimed_after : (machine : MachineType) (dll : NamesOfDll) (es : List ExportView) (rest : List Object) →
+    flat_map claimed_names (after_head machine dll es rest) ≡ (flat_map archive_symbols es ++ iname_symbol machine dll.linked ∷ []) ++ flat_map claimed_names rest
 claimed_after machine dll [] rest = ap (λ names. names ++ flat_map claimed_names rest) (claimed_tail machine dll)
 claimed_after machine dll (e ∷ es) rest =
     ap (λ names. names ++ flat_map claimed_names (after_head machine dll es rest)) (claimed_export machine dll e)
     ∙ ap (λ names. archive_symbols e ++ names) (claimed_after machine dll es rest)
-    ∙ sym (append_assoc (archive_symbols e) (flat_map archive_symbols es ++ iname_symbol machine dll ∷ []) (flat_map claimed_names rest))
-    ∙ ap (λ names. names ++ flat_map claimed_names rest) (sym (append_assoc (archive_symbols e) (flat_map archive_symbols es) (iname_symbol machine dll ∷ [])))
+    ∙ sym (append_assoc (archive_symbols e) (flat_map archive_symbols es ++ iname_symbol machine dll.linked ∷ []) (flat_map claimed_names rest))
+    ∙ ap (λ names. names ++ flat_map claimed_names rest) (sym (append_assoc (archive_symbols e) (flat_map archive_symbols es) (iname_symbol machine dll.linked ∷ [])))
 
 abbrev listed_of : MachineType → Block → List (List ℕ)
-listed_of machine k = head_symbol machine k.dll ∷ (flat_map archive_symbols k.exports ++ iname_symbol machine k.dll ∷ [])
+listed_of machine k = head_symbol machine k.dll.linked ∷ (flat_map archive_symbols k.exports ++ iname_symbol machine k.dll.linked ∷ [])
 
 -- the names that blocks claim, with the null descriptor behind them, which claims none
 pub claimed_blocks : (machine : MachineType) (blocks : List Block) →
@@ -42,8 +43,8 @@ pub claimed_blocks : (machine : MachineType) (blocks : List Block) →
 claimed_blocks machine [] = refl
 claimed_blocks machine (k ∷ blocks) =
     ap (λ names. names ++ flat_map claimed_names (after_head machine k.dll k.exports (blocks_objects machine blocks (null_descriptor ∷ [])))) (claimed_head machine k.dll)
-    ∙ ap (λ names. head_symbol machine k.dll ∷ names) (claimed_after machine k.dll k.exports (blocks_objects machine blocks (null_descriptor ∷ []))
-    ∙ ap (λ names. (flat_map archive_symbols k.exports ++ iname_symbol machine k.dll ∷ []) ++ names) (claimed_blocks machine blocks))
+    ∙ ap (λ names. head_symbol machine k.dll.linked ∷ names) (claimed_after machine k.dll k.exports (blocks_objects machine blocks (null_descriptor ∷ []))
+    ∙ ap (λ names. (flat_map archive_symbols k.exports ++ iname_symbol machine k.dll.linked ∷ []) ++ names) (claimed_blocks machine blocks))
 
 -- the names that placed objects claim are those of the objects
 pub claimed_placed : (b : Bases) (objects : List Object) → names_claimed_in (placed_from b objects) ≡ flat_map claimed_names objects

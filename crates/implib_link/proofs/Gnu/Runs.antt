@@ -26,6 +26,7 @@ use Rattle.implib_link.specs.Gnu.Program.{claimed_names}
 use Rattle.implib_link.proofs.Gnu.Others.{defines_none}
 use Rattle.implib_link.proofs.Gnu.Packed.{end_of_section, end_of_sections, same_base, span, span_objects}
 use Rattle.implib_link.proofs.Gnu.Sized.{AreWithin, IsSized, length-relocated}
+use Rattle.implib.specs.LibraryName.{NamesOfDll}
 
 pub placed_parts : (b : Bases) (front rest : List Object) → placed_from b (front ++ rest) ≡ placed_from b front ++ placed_from (ends_behind b front) rest
 unfolding ends_behind
@@ -163,19 +164,19 @@ none_defined name b (o ∷ objects) none =
 plus_none : (n : ℕ) → n + 0 ≡ n
 plus_none n = omega arith
 
-head_ends : (machine : MachineType) (dll : List ℕ) (b : Bases) → AreAligned b → ends_after b (head machine dll).sections ≡ ends_of_head machine dll b
+head_ends : (machine : MachineType) (dll : NamesOfDll) (b : Bases) → AreAligned b → ends_after b (head machine dll).sections ≡ ends_of_head machine dll b
 unfolding head_object
 head_ends machine dll b even = rw (aligned b.descriptors even.descriptors, aligned b.lookups even.lookups, aligned b.addresses even.addresses, plus_none b.lookups, plus_none b.addresses) refl
 
-export_ends : (machine : MachineType) (dll : List ℕ) (b : Bases) (e : ExportView) → AreAligned b → ends_after b (export machine dll e).sections ≡ ends_of_export machine dll b e
+export_ends : (machine : MachineType) (dll : NamesOfDll) (b : Bases) (e : ExportView) → AreAligned b → ends_after b (export machine dll e).sections ≡ ends_of_export machine dll b e
 unfolding export_object
 export_ends machine dll b e even = rw (aligned b.lookups even.lookups, aligned b.addresses even.addresses, length-thunk machine e) refl
 
-tail_ends : (machine : MachineType) (dll : List ℕ) (b : Bases) → AreAligned b → ends_after b (tail machine dll).sections ≡ ends_of_tail machine dll b
+tail_ends : (machine : MachineType) (dll : NamesOfDll) (b : Bases) → AreAligned b → ends_after b (tail machine dll).sections ≡ ends_of_tail machine dll b
 unfolding tail_object
 tail_ends machine dll b even = rw (aligned b.lookups even.lookups, aligned b.addresses even.addresses, length-replicate {A = ℕ} (thunk_width machine) 0) refl
 
-exports_ends : (machine : MachineType) (dll : List ℕ) (b : Bases) (es : List ExportView) (rest : List Object) → AreAligned b →
+exports_ends : (machine : MachineType) (dll : NamesOfDll) (b : Bases) (es : List ExportView) (rest : List Object) → AreAligned b →
     ends_behind b (after_head machine dll es rest) ≡ ends_behind (ends_of_all machine dll b es) rest
 unfolding ends_behind ends_of_exports
 exports_ends machine dll b [] rest even = ap (λ ends. ends_behind ends rest) (tail_ends machine dll b even)

@@ -19,6 +19,7 @@ use Rattle.implib.specs.Link.Resolution.{target_address}
 use Rattle.implib.proofs.Link.LinkedBlocks.{Block, blocks_objects}
 use Rattle.implib.proofs.Link.Placement.{export, head, length-thunk, tail}
 use Rattle.implib_link.specs.Gnu.Program.{null_descriptor}
+use Rattle.implib.specs.LibraryName.{NamesOfDll}
 
 -- the relocations of so many bytes are within them
 abbrev pub AreWithin : ℕ → List Relocation → Type 0
@@ -72,19 +73,19 @@ stub_within ARMNT e = elim (cases_Bool e.is_data) [ inl is ↦ rw is tt | inr is
 stub_within AMD64 e = elim (cases_Bool e.is_data) [ inl is ↦ rw is tt | inr is ↦ rw is (omega arith, tt) ]
 stub_within ARM64 e = elim (cases_Bool e.is_data) [ inl is ↦ rw is tt | inr is ↦ rw is (omega arith, (omega arith, tt)) ]
 
-pub head_sized : (machine : MachineType) (dll : List ℕ) → IsSized (head machine dll)
+pub head_sized : (machine : MachineType) (dll : NamesOfDll) → IsSized (head machine dll)
 unfolding head_object
 head_sized machine dll = (tt, (tt, (tt, ((omega arith, (omega arith, (omega arith, tt))), (tt, (tt, tt))))))
 
-pub tail_sized : (machine : MachineType) (dll : List ℕ) → IsSized (tail machine dll)
+pub tail_sized : (machine : MachineType) (dll : NamesOfDll) → IsSized (tail machine dll)
 unfolding tail_object
 tail_sized machine dll = (tt, (tt, (tt, (tt, (tt, (tt, tt))))))
 
-export_sized : (machine : MachineType) (dll : List ℕ) (e : ExportView) → IsSized (export machine dll e)
+export_sized : (machine : MachineType) (dll : NamesOfDll) (e : ExportView) → IsSized (export machine dll e)
 unfolding export_object
 export_sized machine dll e = (stub_within machine e, (tt, (tt, ((omega arith, tt), (thunk_within machine e, (thunk_within machine e, (tt, tt)))))))
 
-pub exports_sized : (machine : MachineType) (dll : List ℕ) (es : List ExportView) (rest : List Object) → AllByRecursion IsSized rest → AllByRecursion IsSized (map (export machine dll) es ++ rest)
+pub exports_sized : (machine : MachineType) (dll : NamesOfDll) (es : List ExportView) (rest : List Object) → AllByRecursion IsSized rest → AllByRecursion IsSized (map (export machine dll) es ++ rest)
 exports_sized machine dll [] rest all = all
 exports_sized machine dll (e ∷ es) rest all = (export_sized machine dll e, exports_sized machine dll es rest all)
 

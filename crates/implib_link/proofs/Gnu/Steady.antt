@@ -18,6 +18,7 @@ use Rattle.implib_link.specs.Gnu.Program.{IsProgram, has_tables, is_table, null_
 use Rattle.implib_link.specs.Gnu.Rebased.{absolute_width, places_at, table_places, table_places_in}
 use Rattle.implib_link.proofs.Gnu.Blocks.{objects_behind}
 use Rattle.implib_link.proofs.Gnu.Others.{no_group}
+use Rattle.implib.specs.LibraryName.{NamesOfDll}
 
 -- none of the relocations stores an address whole
 abbrev pub NoneAbsolute : MachineType → List Relocation → Type 0
@@ -80,13 +81,13 @@ relative_steady ARMNT = refl
 relative_steady AMD64 = refl
 relative_steady ARM64 = refl
 
-pub head_steady : (machine : MachineType) (dll : List ℕ) → AllSteady machine (head machine dll)
+pub head_steady : (machine : MachineType) (dll : NamesOfDll) → AllSteady machine (head machine dll)
 unfolding head_object
 head_steady machine dll =
     let one = relative_steady machine in
     (inl refl, (inl refl, (inl refl, (inr (one, (one, (one, tt))), (inr tt, (inr tt, tt))))))
 
-pub tail_steady : (machine : MachineType) (dll : List ℕ) → AllSteady machine (tail machine dll)
+pub tail_steady : (machine : MachineType) (dll : NamesOfDll) → AllSteady machine (tail machine dll)
 unfolding tail_object
 tail_steady machine dll = (inl refl, (inl refl, (inl refl, (inr tt, (inr tt, (inr tt, tt))))))
 
@@ -94,12 +95,12 @@ thunk_steady : (machine : MachineType) (e : ExportView) → NoneAbsolute machine
 unfolding relocations_of_thunk
 thunk_steady machine e = elim (cases_Bool e.no_name) [ inl is ↦ rw is tt | inr is ↦ rw is (relative_steady machine, tt) ]
 
-export_steady : (machine : MachineType) (dll : List ℕ) (e : ExportView) → AllSteady machine (export machine dll e)
+export_steady : (machine : MachineType) (dll : NamesOfDll) (e : ExportView) → AllSteady machine (export machine dll e)
 unfolding export_object
 export_steady machine dll e =
     (inl refl, (inl refl, (inl refl, (inr (relative_steady machine, tt), (inr (thunk_steady machine e), (inr (thunk_steady machine e), (inr tt, tt)))))))
 
-pub exports_steady : (machine : MachineType) (dll : List ℕ) (es : List ExportView) (rest : List Object) → AllByRecursion (AllSteady machine) rest →
+pub exports_steady : (machine : MachineType) (dll : NamesOfDll) (es : List ExportView) (rest : List Object) → AllByRecursion (AllSteady machine) rest →
     AllByRecursion (AllSteady machine) (map (export machine dll) es ++ rest)
 exports_steady machine dll [] rest all = all
 exports_steady machine dll (e ∷ es) rest all = (export_steady machine dll e, exports_steady machine dll es rest all)

@@ -33,10 +33,12 @@ use Rattle.implib_link.proofs.Gnu.Jumps.{amd64_jumps, arm64_jumps, i386_jumps}
 use Rattle.implib_link.proofs.Gnu.Loaded.{entry_once, program_loads, times_next, times_none}
 use Rattle.implib_link.proofs.Gnu.Program.{kept_placed, program_links}
 use Rattle.implib_link.proofs.Search.Lists.{among_at, flat_map_among}
+use Rattle.implib.specs.LibraryName.{NamesOfDll, names_in}
+use Rattle.implib.specs.declared.flavor.Flavor.TheVariants.{Gnu}
 
 -- Each export's object is placed, with its entry where the addresses have come to.
 
-module _ (machine : MachineType) (dll : List ℕ) where
+module _ (machine : MachineType) (dll : NamesOfDll) where
   pub export_placed : (es : List ExportView) (b : Bases) (rest : List Object) → AreAligned b → (j : ℕ) (e : ExportView) → slice_get es j ≡ Some e →
       (c : Bases) × (Among (placed_export machine dll c e) (placed_from b (after_head machine dll es rest)) × (c.addresses ≡ b.addresses + thunk_width machine * j))
   export_placed [] b rest even j e is = cc
@@ -77,25 +79,25 @@ later_sum c a b w m is same = is ∙ ap (λ n. n + w * m) same
 
 pub block_placed : (machine : MachineType) (inputs : List LinkInput) (b : Bases) (rest : List Object) → AreAligned b → (i j : ℕ) (p : LinkInput) (e : ExportView) → slice_get inputs i ≡ Some p →
     slice_get (chosen_exports p.definition p.chosen) j ≡ Some e →
-    (c : Bases) × (Among (placed_export machine p.definition.import_name c e) (placed_from b (blocks_objects machine (map block_of inputs) rest))
+    (c : Bases) × (Among (placed_export machine (names_in Gnu p.definition) c e) (placed_from b (blocks_objects machine (map block_of inputs) rest))
     × (c.addresses ≡ b.addresses + thunk_width machine * thunks_before i inputs + thunk_width machine * j))
 block_placed machine [] b rest even i j p e is chosen = cc
 block_placed machine (q ∷ inputs) b rest even zero j p e is chosen =
     let same : q ≡ p = cc in
-    let dll : List ℕ = q.definition.import_name in
+    let dll : NamesOfDll = names_in Gnu q.definition in
     let exports : List ExportView = chosen_exports q.definition q.chosen in
     let behind : List Object = blocks_objects machine (map block_of inputs) rest in
     let found = export_placed machine dll exports (ends_of_head machine dll b) behind (aligned_head machine dll b even) j e
     (subst (λ (r : LinkInput). slice_get (chosen_exports r.definition r.chosen) j ≡ Some e) (sym same) chosen) in (
       found.0,
       (
-        subst (λ (r : LinkInput). Among (placed_export machine r.definition.import_name found.0 e) (placed_from b (blocks_objects machine (map block_of (q ∷ inputs)) rest))) same
+        subst (λ (r : LinkInput). Among (placed_export machine (names_in Gnu r.definition) found.0 e) (placed_from b (blocks_objects machine (map block_of (q ∷ inputs)) rest))) same
             (subst (Among (placed_export machine dll found.0 e)) (sym (placed-head machine dll b (after_head machine dll exports behind) even)) (among_later (placed_export machine dll found.0 e) _ _ found.1.0)),
         first_sum found.0.addresses b.addresses (thunk_width machine) j found.1.1,
       ),
     )
 block_placed machine (q ∷ inputs) b rest even (suc i) j p e is chosen =
-    let dll : List ℕ = q.definition.import_name in
+    let dll : NamesOfDll = names_in Gnu q.definition in
     let exports : List ExportView = chosen_exports q.definition q.chosen in
     let behind : List Object = blocks_objects machine (map block_of inputs) rest in
     let later : Bases = ends_of_block machine dll b exports in
@@ -105,9 +107,9 @@ block_placed machine (q ∷ inputs) b rest even (suc i) j p e is chosen =
     ∙ table_sum b.addresses (thunk_width machine) (length exports + 1) (thunks_before i inputs) in (
       found.0,
       (
-        subst (Among (placed_export machine p.definition.import_name found.0 e)) (sym (placed-head machine dll b (after_head machine dll exports behind) even))
-            (among_later (placed_export machine p.definition.import_name found.0 e) _ _
-            (behind_exports machine dll exports (ends_of_head machine dll b) behind (placed_export machine p.definition.import_name found.0 e) (aligned_head machine dll b even) found.1.0)),
+        subst (Among (placed_export machine (names_in Gnu p.definition) found.0 e)) (sym (placed-head machine dll b (after_head machine dll exports behind) even))
+            (among_later (placed_export machine (names_in Gnu p.definition) found.0 e) _ _
+            (behind_exports machine dll exports (ends_of_head machine dll b) behind (placed_export machine (names_in Gnu p.definition) found.0 e) (aligned_head machine dll b even) found.1.0)),
         later_sum found.0.addresses (later.addresses + thunk_width machine * thunks_before i inputs) (b.addresses + thunk_width machine * (length exports + 1 + thunks_before i inputs)) (thunk_width machine) j found.1.1 table,
       ),
     )
@@ -154,12 +156,12 @@ wide_thunk ARM64 = omega arith
 
 -- The code of an export.
 
-pub code_defined : (machine : MachineType) (dll : List ℕ) (b : Bases) (e : ExportView) → e.is_data ≡ false →
+pub code_defined : (machine : MachineType) (dll : NamesOfDll) (b : Bases) (e : ExportView) → e.is_data ≡ false →
     Among (ASymbol (record { name = e.name; value = 0; section = 1; kind = 0; class = class_external })) (placed_export machine dll b e).object.entries
 unfolding export_object
 code_defined machine dll b e is = rw is (among_later _ _ _ (among_first _ _))
 
-pub code_here : (machine : MachineType) (dll : List ℕ) (b : Bases) (e : ExportView) →
+pub code_here : (machine : MachineType) (dll : NamesOfDll) (b : Bases) (e : ExportView) →
     slice_get (placed_export machine dll b e).object.sections 0 ≡ Some (section text_name (cnt_code + align_4bytes + mem_execute_read) (stub machine e) (relocations_of_stub machine e))
 unfolding export_object
 code_here machine dll b e = refl
@@ -172,7 +174,7 @@ pub code_relocations : (machine : MachineType) (e : ExportView) → e.is_data �
 unfolding relocations_of_stub
 code_relocations machine e is = rw is refl
 
-pub target_is : (machine : MachineType) (dll : List ℕ) (linked : List Placed) (b : Bases) (e : ExportView) (entry : ℕ) → e.is_data ≡ false → b.addresses ≡ entry →
+pub target_is : (machine : MachineType) (dll : NamesOfDll) (linked : List Placed) (b : Bases) (e : ExportView) (entry : ℕ) → e.is_data ≡ false → b.addresses ≡ entry →
     target_address linked (placed_export machine dll b e) 2 ≡ entry
 target_is machine dll linked b e entry is same =
     let plain : b.addresses + 0 ≡ b.addresses = omega arith in
@@ -216,7 +218,7 @@ pub stubs_jump : (machine : MachineType) (image_base : ℕ) (bases : Bases) (inp
     JumpsThrough machine image_base (placed_from bases objects) e.name (bases.addresses + thunk_width machine * thunks_before i inputs + thunk_width machine * j)
 stubs_jump machine image_base bases inputs objects i j p e made program can input chosen is =
     let linked : List Placed = placed_from bases objects in
-    let dll : List ℕ = p.definition.import_name in
+    let dll : NamesOfDll = names_in Gnu p.definition in
     let links = (program_links machine bases inputs objects made program).imports i p input in
     let found = block_placed machine inputs bases (null_descriptor ∷ []) (even machine bases objects program.admissible) i j p e input chosen in
     let own : Placed = placed_export machine dll found.0 e in

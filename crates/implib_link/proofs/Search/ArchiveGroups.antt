@@ -17,6 +17,9 @@ use Rattle.implib.proofs.Link.Ranges.{Among, among_back, among_first, among_fron
 use Rattle.implib_link.specs.Search.Archives.{IsLibrary, Library, archive_of, exports_of, symbols_of_export, symbols_of_library}
 use Rattle.implib_link.specs.Search.Search.{first_listed, is_listed_for}
 use Rattle.implib_link.proofs.Search.Lists.{among_either, any_among, distinct_apart, distinct_later}
+use Rattle.implib.specs.LibraryName.{linked_name, names_in}
+use Rattle.implib.specs.declared.flavor.Flavor.TheVariants.{Gnu}
+use Rattle.implib.specs.LibraryName.{NamesOfDll}
 
 -- Groups in general: members, and the symbols that they are listed for.
 pub record Group : Type 0 where
@@ -111,31 +114,31 @@ group_of_first name (x ∷ groups) m found =
 -- The groups of libraries.
 module _ (machine : MachineType) where
   abbrev pub tail_of : Library → MemberView
-  tail_of l = member_of (tail_spec machine l.definition.import_name)
+  tail_of l = member_of (tail_spec machine (names_in Gnu l.definition))
 
   abbrev pub head_of : Library → MemberView
-  head_of l = member_of (head_spec machine l.definition.import_name)
+  head_of l = member_of (head_spec machine (linked_name l.definition))
 
   abbrev pub export_of : Library → ℕ → ExportView → MemberView
-  export_of l n e = member_of (export_spec machine l.definition.import_name n e)
+  export_of l n e = member_of (export_spec machine (linked_name l.definition) n e)
 
   -- the weak externals of an export: of its name, and of its address
   abbrev pub weak_of : Library → ℕ → ExportView → MemberView
-  weak_of l n e = member_of (weak_spec machine (weak_name l.definition.import_name n) e.name e.alias_target)
+  weak_of l n e = member_of (weak_spec machine (weak_name (linked_name l.definition) n) e.name e.alias_target)
 
   abbrev pub weak_address_of : Library → ℕ → ExportView → MemberView
   weak_address_of l n e =
-      member_of (weak_spec machine (weak_address_name l.definition.import_name n) (imp_symbol e.name) (imp_symbol e.alias_target))
+      member_of (weak_spec machine (weak_address_name (linked_name l.definition) n) (imp_symbol e.name) (imp_symbol e.alias_target))
 
   abbrev pub tail_group : Library → Group
-  tail_group l = record { members = tail_of l ∷ []; symbols = iname_symbol machine l.definition.import_name ∷ [] }
+  tail_group l = record { members = tail_of l ∷ []; symbols = iname_symbol machine (linked_name l.definition) ∷ [] }
 
   abbrev pub head_group : Library → Group
-  head_group l = record { members = head_of l ∷ []; symbols = head_symbol machine l.definition.import_name ∷ [] }
+  head_group l = record { members = head_of l ∷ []; symbols = head_symbol machine (linked_name l.definition) ∷ [] }
 
   abbrev pub export_group : Library → ℕ → ExportView → Group
   export_group l n e = record {
-    members = map member_of (reverse (numbered_specs_of machine l.definition.import_name n e));
+    members = map member_of (reverse (numbered_specs_of machine (linked_name l.definition) n e));
     symbols = symbols_of_export e;
   }
 
@@ -150,13 +153,13 @@ module _ (machine : MachineType) where
   all_groups libraries = flat_map groups_of libraries
 
   members_of_exports : (l : Library) (start : ℕ) (exports : List ExportView) →
-      map member_of (reverse (numbered_specs machine l.definition.import_name start exports)) ≡ members_of_groups (export_groups l start exports)
+      map member_of (reverse (numbered_specs machine (linked_name l.definition) start exports)) ≡ members_of_groups (export_groups l start exports)
   unfolding export_groups
   members_of_exports l start [] = refl
   members_of_exports l start (e ∷ exports) =
-      let dll : List ℕ = l.definition.import_name in
-      let own : List MemberSpec = numbered_specs_of machine dll start e in
-      let later : List MemberSpec = numbered_specs machine dll (start + 1) exports in
+      let dll : NamesOfDll = names_in Gnu l.definition in
+      let own : List MemberSpec = numbered_specs_of machine dll.linked start e in
+      let later : List MemberSpec = numbered_specs machine dll.linked (start + 1) exports in
       ap (map member_of) (reverse-append own later)
       ∙ map-append member_of (reverse later) (reverse own)
       ∙ ap (λ ms. ms ++ map member_of (reverse own)) (members_of_exports l (start + 1) exports)
@@ -185,9 +188,9 @@ module _ (machine : MachineType) where
   unfolding symbols_of_library
   symbols_groups [] = refl
   symbols_groups (l ∷ libraries) =
-      let dll : List ℕ = l.definition.import_name in
+      let dll : NamesOfDll = names_in Gnu l.definition in
       flat_map-append (λ (g : Group). g.symbols) (groups_of l) (all_groups libraries)
-      ∙ ap (λ names. iname_symbol machine dll ∷ head_symbol machine dll ∷ (names ++ symbols_of_groups (all_groups libraries))) (symbols_of_exports l 0 (exports_of l))
+      ∙ ap (λ names. iname_symbol machine dll.linked ∷ head_symbol machine dll.linked ∷ (names ++ symbols_of_groups (all_groups libraries))) (symbols_of_exports l 0 (exports_of l))
       ∙ ap (λ names. symbols_of_library machine l ++ names) (symbols_groups libraries)
 
   -- which group a group is

@@ -25,6 +25,8 @@ use Rattle.implib_link.specs.Search.Search.{first_listed, is_listed_for}
 use Rattle.implib_link.proofs.Search.ArchiveGroups.{Group, IsWithin, Kind, OfExport, OfHead, OfTail, all_groups, archive_groups, export_group, export_group_held, export_of, first_in_group, first_is, group_kind, group_of_first, head_group, head_group_held, head_of, symbols_groups, symbols_of_groups, tail_group, tail_group_held, tail_of, weak_address_of, weak_of}
 use Rattle.implib_link.proofs.Search.Search.{address_listed, listed_export, listed_head, listed_tail, numbered_in, only_one}
 use Rattle.implib_link.proofs.Search.Lists.{among_any, any_among}
+use Rattle.implib.specs.LibraryName.{NamesOfDll, linked_name, names_in}
+use Rattle.implib.specs.declared.flavor.Flavor.TheVariants.{Gnu}
 
 -- The names of one export.
 
@@ -98,7 +100,7 @@ module _ (machine : MachineType) where
   -- a name that an export's own member is listed for finds that member
   own_first : (l : Library) (n : ℕ) (e : ExportView) (name : List ℕ) → Among name (archive_symbols e) → first_listed (export_group machine l n e).members name ≡ Some (export_of machine l n e)
   own_first l n e name listed =
-      let is : is_listed_for name (export_of machine l n e) ≡ true = among_any name (export_of machine l n e).symbols (subst (Among name) (sym (listed_export machine l.definition.import_name n e)) listed) in
+      let is : is_listed_for name (export_of machine l n e) ≡ true = among_any name (export_of machine l n e).symbols (subst (Among name) (sym (listed_export machine (linked_name l.definition) n e)) listed) in
       elim (cases_Bool (is_alias e.alias_target e.name)) [
         | inl alias ↦ rw (alias_members l n e alias, is) refl
         | inr none ↦ rw (plain_members l n e none, is) refl
@@ -111,7 +113,7 @@ module _ (machine : MachineType) where
   weak_first l n e alias is_data =
       let own : is_listed_for e.name (export_of machine l n e) ≡ false =
       false_from_ne_true (is_listed_for e.name (export_of machine l n e)) (λ is.
-      data_not_listed e is_data (subst (Among e.name) (listed_export machine l.definition.import_name n e) (any_among e.name (export_of machine l n e).symbols is))) in
+      data_not_listed e is_data (subst (Among e.name) (listed_export machine (linked_name l.definition) n e) (any_among e.name (export_of machine l n e).symbols is))) in
       let address : is_listed_for e.name (weak_address_of machine l n e) ≡ false =
       false_from_ne_true (is_listed_for e.name (weak_address_of machine l n e)) (λ is.
       no_address e.name (only_one e.name (imp_symbol e.name) (any_among e.name (weak_address_of machine l n e).symbols is))) in
@@ -136,7 +138,7 @@ module _ (machine : MachineType) where
     where
       by : Member l n e m → Among name m.symbols → InExport l n e name m
       by (Own is) listed =
-          FindsOwn is (subst (Among name) (listed_export machine l.definition.import_name n e) (subst (λ (y : MemberView). Among name y.symbols) is listed))
+          FindsOwn is (subst (Among name) (listed_export machine (linked_name l.definition) n e) (subst (λ (y : MemberView). Among name y.symbols) is listed))
       by (WeakAddress is) listed =
           let same : name ≡ imp_symbol e.name = only_one name (imp_symbol e.name) (subst (λ (y : MemberView). Among name y.symbols) is listed) in
           finds_own l n e name m found (subst (λ n. Among n (archive_symbols e)) (sym same) (address_listed e))
@@ -153,7 +155,7 @@ module _ (machine : MachineType) where
   within_export l n e m name held listed = by (member_is l n e m held)
     where
       by : Member l n e m → Among name (symbols_of_export e)
-      by (Own is) = own_symbols e name (subst (Among name) (listed_export machine l.definition.import_name n e) (subst (λ (y : MemberView). Among name y.symbols) is listed))
+      by (Own is) = own_symbols e name (subst (Among name) (listed_export machine (linked_name l.definition) n e) (subst (λ (y : MemberView). Among name y.symbols) is listed))
       by (WeakAddress is) =
           subst (λ n. Among n (symbols_of_export e)) (sym (only_one name (imp_symbol e.name) (subst (λ (y : MemberView). Among name y.symbols) is listed))) (imp_symbols e)
       by (Weak alias is) =
@@ -161,11 +163,11 @@ module _ (machine : MachineType) where
 
   within_tail : (l : Library) → IsWithin (tail_group machine l)
   within_tail l m name held listed =
-      subst (Among name) (listed_tail machine l.definition.import_name) (subst (λ (y : MemberView). Among name y.symbols) (only_one m (tail_of machine l) held) listed)
+      subst (Among name) (listed_tail machine (names_in Gnu l.definition)) (subst (λ (y : MemberView). Among name y.symbols) (only_one m (tail_of machine l) held) listed)
 
   within_head : (l : Library) → IsWithin (head_group machine l)
   within_head l m name held listed =
-      subst (Among name) (listed_head machine l.definition.import_name) (subst (λ (y : MemberView). Among name y.symbols) (only_one m (head_of machine l) held) listed)
+      subst (Among name) (listed_head machine (linked_name l.definition)) (subst (λ (y : MemberView). Among name y.symbols) (only_one m (head_of machine l) held) listed)
 
   within_kind : (libraries : List Library) (g : Group) → Kind machine libraries g → IsWithin g
   within_kind libraries g (OfTail l held is) = subst IsWithin (sym is) (within_tail l)
@@ -181,19 +183,19 @@ module _ (machine : MachineType) where
 
   -- The objects of a library's members.
   module _ (l : Library) (made : IsLibrary machine l) where
-    pub tail_object_is : object_in (tail_of machine l).bytes ≡ Some (tail machine l.definition.import_name)
+    pub tail_object_is : object_in (tail_of machine l).bytes ≡ Some (tail machine (names_in Gnu l.definition))
     tail_object_is =
-        tail_reads machine l.definition.import_name (exports_of l) (dll_free l.definition machine l.members [] made) (sound l.definition machine l.members [] made)
+        tail_reads machine (names_in Gnu l.definition) (exports_of l) (dll_free l.definition machine l.members [] made) (sound l.definition machine l.members [] made)
         (not_long l.definition machine l.members [] made)
 
-    pub head_object_is : object_in (head_of machine l).bytes ≡ Some (head machine l.definition.import_name)
+    pub head_object_is : object_in (head_of machine l).bytes ≡ Some (head machine (names_in Gnu l.definition))
     head_object_is =
-        head_reads machine l.definition.import_name (exports_of l) (dll_free l.definition machine l.members [] made) (sound l.definition machine l.members [] made)
+        head_reads machine (names_in Gnu l.definition) (exports_of l) (dll_free l.definition machine l.members [] made) (sound l.definition machine l.members [] made)
         (not_long l.definition machine l.members [] made)
 
-    pub export_object_is : (n : ℕ) (e : ExportView) → slice_get (exports_of l) n ≡ Some e → object_in (export_of machine l n e).bytes ≡ Some (export machine l.definition.import_name e)
+    pub export_object_is : (n : ℕ) (e : ExportView) → slice_get (exports_of l) n ≡ Some e → object_in (export_of machine l n e).bytes ≡ Some (export machine (names_in Gnu l.definition) e)
     export_object_is n e is =
-        export_reads machine l.definition.import_name (exports_of l) (dll_free l.definition machine l.members [] made) (sound l.definition machine l.members [] made)
+        export_reads machine (names_in Gnu l.definition) (exports_of l) (dll_free l.definition machine l.members [] made) (sound l.definition machine l.members [] made)
         (not_long l.definition machine l.members [] made) n e is
 
     export_sound : (exports : List ExportView) (n : ℕ) (e : ExportView) → AllByRecursion Sound exports → slice_get exports n ≡ Some e → Sound e
@@ -208,20 +210,20 @@ module _ (machine : MachineType) where
     none_long p (q ∷ ps) (inr held) none = none_long p ps held (or_parts (is_too_long q) (list_any is_too_long ps) none).1
 
     weak_there : (n : ℕ) (e : ExportView) → is_alias e.alias_target e.name ≡ true →
-        Among (weak_spec machine (weak_name l.definition.import_name n) e.name e.alias_target) (numbered_specs_of machine l.definition.import_name n e)
+        Among (weak_spec machine (weak_name (linked_name l.definition) n) e.name e.alias_target) (numbered_specs_of machine (linked_name l.definition) n e)
     unfolding alias_specs
     weak_there n e alias = rw alias (among_first _ _)
 
     pub weak_object_is : (n : ℕ) (e : ExportView) → slice_get (exports_of l) n ≡ Some e → is_alias e.alias_target e.name ≡ true →
         object_in (weak_of machine l n e).bytes ≡ Some (object_of (weak_object machine e.name e.alias_target))
     weak_object_is n e is alias =
-        let dll : List ℕ = l.definition.import_name in
-        let p : MemberSpec = weak_spec machine (weak_name dll n) e.name e.alias_target in
+        let dll : NamesOfDll = names_in Gnu l.definition in
+        let p : MemberSpec = weak_spec machine (weak_name dll.linked n) e.name e.alias_target in
         let good : Sound e = export_sound (exports_of l) n e (sound l.definition machine l.members [] made) is in
         let position : 0 + n ≡ n = omega arith in
         let there : Among p (gnu_specs machine dll (exports_of l)) =
-        among_later _ _ _ (among_later _ _ _ (among_reverse p (numbered_specs machine dll 0 (exports_of l))
-        (numbered_in machine dll (exports_of l) 0 n e p is (subst (λ k. Among p (numbered_specs_of machine dll k e)) (sym position) (weak_there n e alias))))) in
+        among_later _ _ _ (among_later _ _ _ (among_reverse p (numbered_specs machine dll.linked 0 (exports_of l))
+        (numbered_in machine dll.linked (exports_of l) 0 n e p is (subst (λ k. Among p (numbered_specs_of machine dll.linked k e)) (sym position) (weak_there n e alias))))) in
         let short : encoded_size (weak_object machine e.name e.alias_target) ≤ 0xFFFF_FFFF =
         short_enough p (none_long p (gnu_specs machine dll (exports_of l)) there (not_long l.definition machine l.members [] made)) in
         object_in-encoded (weak_object machine e.name e.alias_target) (Fits-weak_object machine e.name e.alias_target good.name good.alias_target) (omega arith)
@@ -234,19 +236,19 @@ module _ (machine : MachineType) where
   unfolding is_weak weak_object object_of entries_of name_text
   weak_is_weak m weak target read = ap has_weak read
 
-  pub tail_not_weak : (m : MemberView) (dll : List ℕ) → object_in m.bytes ≡ Some (tail machine dll) → is_weak m ≡ false
+  pub tail_not_weak : (m : MemberView) (dll : NamesOfDll) → object_in m.bytes ≡ Some (tail machine dll) → is_weak m ≡ false
   unfolding is_weak tail_object
   tail_not_weak m dll read = ap has_weak read
 
-  pub head_not_weak : (m : MemberView) (dll : List ℕ) → object_in m.bytes ≡ Some (head machine dll) → is_weak m ≡ false
+  pub head_not_weak : (m : MemberView) (dll : NamesOfDll) → object_in m.bytes ≡ Some (head machine dll) → is_weak m ≡ false
   unfolding is_weak head_object
   head_not_weak m dll read = ap has_weak read
 
-  export_entries : (dll : List ℕ) (e : ExportView) → list_any is_weak_entry (export machine dll e).entries ≡ false
+  export_entries : (dll : NamesOfDll) (e : ExportView) → list_any is_weak_entry (export machine dll e).entries ≡ false
   unfolding export_object
   export_entries dll e = elim (cases_Bool e.is_data) [ inl is ↦ rw is refl | inr is ↦ rw is refl ]
 
-  pub export_not_weak : (m : MemberView) (dll : List ℕ) (e : ExportView) → object_in m.bytes ≡ Some (export machine dll e) → is_weak m ≡ false
+  pub export_not_weak : (m : MemberView) (dll : NamesOfDll) (e : ExportView) → object_in m.bytes ≡ Some (export machine dll e) → is_weak m ≡ false
   unfolding is_weak
   export_not_weak m dll e read = ap has_weak read ∙ export_entries dll e
 
@@ -264,17 +266,17 @@ module _ (machine : MachineType) where
     alone_first : (name : List ℕ) (m : MemberView) → Among name m.symbols → first_listed (m ∷ []) name ≡ Some m
     alone_first name m listed = rw (among_any name m.symbols listed) refl
 
-    pub tail_found : (l : Library) → Among l libraries → first_listed (archive_of libraries) (iname_symbol machine l.definition.import_name) ≡ Some (tail_of machine l)
+    pub tail_found : (l : Library) → Among l libraries → first_listed (archive_of libraries) (iname_symbol machine (linked_name l.definition)) ≡ Some (tail_of machine l)
     tail_found l held =
-        let dll : List ℕ = l.definition.import_name in
-        in_archive (tail_group machine l) (iname_symbol machine dll) (tail_of machine l) (tail_group_held machine libraries l held) (among_first _ _)
-        (alone_first (iname_symbol machine dll) (tail_of machine l) (subst (Among (iname_symbol machine dll)) (sym (listed_tail machine dll)) (among_first _ _)))
+        let dll : NamesOfDll = names_in Gnu l.definition in
+        in_archive (tail_group machine l) (iname_symbol machine dll.linked) (tail_of machine l) (tail_group_held machine libraries l held) (among_first _ _)
+        (alone_first (iname_symbol machine dll.linked) (tail_of machine l) (subst (Among (iname_symbol machine dll.linked)) (sym (listed_tail machine dll)) (among_first _ _)))
 
-    pub head_found : (l : Library) → Among l libraries → first_listed (archive_of libraries) (head_symbol machine l.definition.import_name) ≡ Some (head_of machine l)
+    pub head_found : (l : Library) → Among l libraries → first_listed (archive_of libraries) (head_symbol machine (linked_name l.definition)) ≡ Some (head_of machine l)
     head_found l held =
-        let dll : List ℕ = l.definition.import_name in
-        in_archive (head_group machine l) (head_symbol machine dll) (head_of machine l) (head_group_held machine libraries l held) (among_first _ _)
-        (alone_first (head_symbol machine dll) (head_of machine l) (subst (Among (head_symbol machine dll)) (sym (listed_head machine dll)) (among_first _ _)))
+        let dll : NamesOfDll = names_in Gnu l.definition in
+        in_archive (head_group machine l) (head_symbol machine dll.linked) (head_of machine l) (head_group_held machine libraries l held) (among_first _ _)
+        (alone_first (head_symbol machine dll.linked) (head_of machine l) (subst (Among (head_symbol machine dll.linked)) (sym (listed_head machine dll.linked)) (among_first _ _)))
 
     pub export_found : (l : Library) (n : ℕ) (e : ExportView) (name : List ℕ) → Among l libraries → slice_get (exports_of l) n ≡ Some e → Among name (archive_symbols e) →
         first_listed (archive_of libraries) name ≡ Some (export_of machine l n e)
@@ -288,8 +290,8 @@ module _ (machine : MachineType) where
 
     -- what a name finds
     pub data Found (name : List ℕ) (m : MemberView) : Type 0 where
-      FoundTail : (l : Library) → Among l libraries → m ≡ tail_of machine l → name ≡ iname_symbol machine l.definition.import_name → Found name m
-      FoundHead : (l : Library) → Among l libraries → m ≡ head_of machine l → name ≡ head_symbol machine l.definition.import_name → Found name m
+      FoundTail : (l : Library) → Among l libraries → m ≡ tail_of machine l → name ≡ iname_symbol machine (linked_name l.definition) → Found name m
+      FoundHead : (l : Library) → Among l libraries → m ≡ head_of machine l → name ≡ head_symbol machine (linked_name l.definition) → Found name m
       FoundExport : (l : Library) → Among l libraries → (n : ℕ) (e : ExportView) → slice_get (exports_of l) n ≡ Some e → m ≡ export_of machine l n e →
           Among name (archive_symbols e) → Found name m
       FoundWeak : (l : Library) → Among l libraries → (n : ℕ) (e : ExportView) → slice_get (exports_of l) n ≡ Some e → is_alias e.alias_target e.name ≡ true → e.is_data ≡ true →
@@ -304,11 +306,11 @@ module _ (machine : MachineType) where
     found_in_kind g name m (OfTail l held is) found =
         let there = first_is name (tail_of machine l ∷ []) m (subst (λ (y : Group). first_listed y.members name ≡ Some m) is found) in
         let same : m ≡ tail_of machine l = only_one m (tail_of machine l) there.0 in
-        FoundTail l held same (only_one name _ (subst (Among name) (listed_tail machine l.definition.import_name) (subst (λ (y : MemberView). Among name y.symbols) same there.1)))
+        FoundTail l held same (only_one name _ (subst (Among name) (listed_tail machine (names_in Gnu l.definition)) (subst (λ (y : MemberView). Among name y.symbols) same there.1)))
     found_in_kind g name m (OfHead l held is) found =
         let there = first_is name (head_of machine l ∷ []) m (subst (λ (y : Group). first_listed y.members name ≡ Some m) is found) in
         let same : m ≡ head_of machine l = only_one m (head_of machine l) there.0 in
-        FoundHead l held same (only_one name _ (subst (Among name) (listed_head machine l.definition.import_name) (subst (λ (y : MemberView). Among name y.symbols) same there.1)))
+        FoundHead l held same (only_one name _ (subst (Among name) (listed_head machine (linked_name l.definition)) (subst (λ (y : MemberView). Among name y.symbols) same there.1)))
     found_in_kind g name m (OfExport l held n e at is) found =
         found_in_export l held n e at name m (in_export l n e name m (subst (λ (y : Group). first_listed y.members name ≡ Some m) is found))
 

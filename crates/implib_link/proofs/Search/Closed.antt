@@ -37,6 +37,9 @@ use Rattle.implib_link.proofs.Search.Archives.{inputs_made, libraries_taken}
 use Rattle.implib_link.proofs.Search.Arranged.{all_each, among_moved, archive_moved, chosen_are, input_for, input_held, input_is, inputs_distinct, linked_moved}
 use Rattle.implib_link.proofs.Search.Lists.{NameRead, among_any, among_at, among_either, among_flat_map, any_among, any_member, contains_among, listed_is, name_read, none_listed, read_name}
 use Rattle.implib_link.proofs.Search.Search.{in_nothing, listed_export, listed_head, listed_tail, numbers_are_wanted, only_one, wanted_name, wants}
+use Rattle.implib.specs.LibraryName.{linked_name}
+use Rattle.implib.specs.LibraryName.{NamesOfDll, names_in}
+use Rattle.implib.specs.declared.flavor.Flavor.TheVariants.{Gnu}
 
 -- Lists.
 
@@ -220,16 +223,16 @@ module _ (machine : MachineType) (libraries : List Library) (archive : IsArchive
 
   found_first : (name : List ℕ) (m : MemberView) → Found machine libraries archive name m → IsFirst m
   found_first name m (FoundTail l held same is) =
-      let dll : List ℕ = l.definition.import_name in
-      is_first m (tail_of machine l) (tail machine dll) (iname_symbol machine dll ∷ []) same (tail_object_is machine l (made_of l held)) (claimed_tail machine dll) (listed_tail machine dll)
-      (λ n one. ap (first_listed (archive_of libraries)) (only_one n (iname_symbol machine dll) one) ∙ tail_found machine libraries archive l held)
+      let dll : NamesOfDll = names_in Gnu l.definition in
+      is_first m (tail_of machine l) (tail machine dll) (iname_symbol machine dll.linked ∷ []) same (tail_object_is machine l (made_of l held)) (claimed_tail machine dll) (listed_tail machine dll)
+      (λ n one. ap (first_listed (archive_of libraries)) (only_one n (iname_symbol machine dll.linked) one) ∙ tail_found machine libraries archive l held)
   found_first name m (FoundHead l held same is) =
-      let dll : List ℕ = l.definition.import_name in
-      is_first m (head_of machine l) (head machine dll) (head_symbol machine dll ∷ []) same (head_object_is machine l (made_of l held)) (claimed_head machine dll) (listed_head machine dll)
-      (λ n one. ap (first_listed (archive_of libraries)) (only_one n (head_symbol machine dll) one) ∙ head_found machine libraries archive l held)
+      let dll : NamesOfDll = names_in Gnu l.definition in
+      is_first m (head_of machine l) (head machine dll) (head_symbol machine dll.linked ∷ []) same (head_object_is machine l (made_of l held)) (claimed_head machine dll) (listed_head machine dll.linked)
+      (λ n one. ap (first_listed (archive_of libraries)) (only_one n (head_symbol machine dll.linked) one) ∙ head_found machine libraries archive l held)
   found_first name m (FoundExport l held n e is same listed) =
-      let dll : List ℕ = l.definition.import_name in
-      is_first m (export_of machine l n e) (export machine dll e) (archive_symbols e) same (export_object_is machine l (made_of l held) n e is) (claimed_export machine dll e) (listed_export machine dll n e)
+      let dll : NamesOfDll = names_in Gnu l.definition in
+      is_first m (export_of machine l n e) (export machine dll e) (archive_symbols e) same (export_object_is machine l (made_of l held) n e is) (claimed_export machine dll e) (listed_export machine dll.linked n e)
       (λ x one. export_found machine libraries archive l n e x held is one)
   found_first name m (FoundWeak l held n e is alias is_data same named) =
       is_first m (weak_of machine l n e) (object_of (weak_object machine e.name e.alias_target)) (e.name ∷ []) same (weak_object_is machine l (made_of l held) n e is alias)
@@ -278,8 +281,8 @@ module _ (machine : MachineType) (libraries : List Library) (archive : IsArchive
         (contains_among m (all_linked machine (inputs_in libraries own taken)) ((taken_is.inputs m).0 (among_contains m (others_among taken) held)))
 
     -- a name of what is linked is listed for a member that is taken and is no weak external
-    linked_name : (name : List ℕ) → Among name (linked_symbols machine inputs) → (m : MemberView) × Among m taken × (is_weak m ≡ false) × Among name m.symbols
-    linked_name name held =
+    listed_linked : (name : List ℕ) → Among name (linked_symbols machine inputs) → (m : MemberView) × Among m taken × (is_weak m ≡ false) × Among name m.symbols
+    listed_linked name held =
         let from = among_flat_map (λ (m : MemberView). m.symbols) name (all_linked machine inputs) held in
         let kept = passing (λ m. not (is_weak m)) from.0 taken (linked_other from.0 from.1) in
         (from.0, kept.0, from_not (is_weak from.0) kept.1, from.2)
@@ -304,7 +307,7 @@ module _ (machine : MachineType) (libraries : List Library) (archive : IsArchive
 
     weak_apart : (name : List ℕ) → Among name (linked_symbols machine inputs) → Among name (flat_map claimed_names (objects_in (weak_among taken))) → ⊥
     weak_apart name linked claimed =
-        let m = linked_name name linked in
+        let m = listed_linked name linked in
         let x = claimed_listed name (weak_among taken) (λ y held. (passing is_weak y taken held).0) claimed in
         let weak = passing is_weak x.0 taken x.1 in
         let same : m.0 ≡ x.0 = same_first m.0 x.0 (first_listed (archive_of libraries) name) ((each_first m.0 m.1).first name m.3) ((each_first x.0 weak.0).first name x.2) in
@@ -317,7 +320,7 @@ module _ (machine : MachineType) (libraries : List Library) (archive : IsArchive
     others_claim_none =
         all_each (ClaimsNone (linked_symbols machine inputs)) others (λ o held.
         claims_none (linked_symbols machine inputs) o (λ name linked claimed.
-        let m = linked_name name linked in
+        let m = listed_linked name linked in
         elim (among_either o own (objects_in (weak_among taken)) (contains_among o (own ++ objects_in (weak_among taken)) ((is.linked.others o).0 (among_contains o others held)))) [
           | inl given ↦ listed_apart name (among_flat (λ (y : MemberView). y.symbols) m.0 taken name m.1 m.3) (among_flat claimed_names o own name given claimed)
           | inr weak ↦ weak_apart name linked (among_flat claimed_names o (objects_in (weak_among taken)) name weak claimed)
@@ -385,12 +388,12 @@ module _ (machine : MachineType) (libraries : List Library) (archive : IsArchive
     export_linked : (p : LinkInput) (e : ExportView) (name : List ℕ) → Among p inputs → Among e (chosen_exports p.definition p.chosen) → Among name (archive_symbols e) →
         Among name (linked_symbols machine inputs)
     export_linked p e name held chosen listed =
-        let dll : List ℕ = p.definition.import_name in
+        let dll : NamesOfDll = names_in Gnu p.definition in
         let exports : List ExportView = chosen_exports p.definition p.chosen in
         subst (Among name) (sym (gnu_inputs_symbols machine inputs (inputs_made machine arranged wanted arranged_archive.made)))
         (among_flat (λ (k : Block). block_symbols machine k.dll k.exports) (block_of p) (map block_of inputs) name (among_map block_of p inputs held)
-        (among_later name (head_symbol machine dll) (flat_map archive_symbols exports ++ iname_symbol machine dll ∷ [])
-        (among_front name (flat_map archive_symbols exports) (iname_symbol machine dll ∷ []) (among_flat archive_symbols e exports name chosen listed))))
+        (among_later name (head_symbol machine dll.linked) (flat_map archive_symbols exports ++ iname_symbol machine dll.linked ∷ [])
+        (among_front name (flat_map archive_symbols exports) (iname_symbol machine dll.linked ∷ []) (among_flat archive_symbols e exports name chosen listed))))
 
     entry_at : (i j : ℕ) (p : LinkInput) (e : ExportView) → slice_get inputs i ≡ Some p → slice_get (chosen_exports p.definition p.chosen) j ≡ Some e →
         definitions_of (imp_symbol e.name) (placed_from bases objects)
@@ -461,15 +464,15 @@ module _ (machine : MachineType) (libraries : List Library) (archive : IsArchive
           ]
         ]
 
-    plain_of : (l : Library) → Among l libraries → NamesNoHeadOrTail machine l.definition.import_name wanted
-    plain_of l held = all_among (λ (x : Library). NamesNoHeadOrTail machine x.definition.import_name (wanted_in own taken)) l libraries held is.names
+    plain_of : (l : Library) → Among l libraries → NamesNoHeadOrTail machine (linked_name l.definition) wanted
+    plain_of l held = all_among (λ (x : Library). NamesNoHeadOrTail machine (linked_name x.definition) (wanted_in own taken)) l libraries held is.names
 
     resolved_by : (name : List ℕ) (m : MemberView) → Among name wanted → first_listed (archive_of libraries) name ≡ Some m → Found machine libraries archive name m →
         IsImported machine (placed_from bases objects) bases inputs name ⊎ IsAliasTaken taken name
     resolved_by name m want at (FoundTail l held same named) =
-        absurd (there_not (iname_symbol machine l.definition.import_name) wanted (plain_of l held).name (subst (λ n. Among n wanted) named want))
+        absurd (there_not (iname_symbol machine (linked_name l.definition)) wanted (plain_of l held).name (subst (λ n. Among n wanted) named want))
     resolved_by name m want at (FoundHead l held same named) =
-        absurd (there_not (head_symbol machine l.definition.import_name) wanted (plain_of l held).head (subst (λ n. Among n wanted) named want))
+        absurd (there_not (head_symbol machine (linked_name l.definition)) wanted (plain_of l held).head (subst (λ n. Among n wanted) named want))
     resolved_by name m want at (FoundExport l held n e at_n same listed) = inl (of_export l n e name held at_n listed want)
     resolved_by name m want at (FoundWeak l held n e at_n alias is_data same named) =
         let weak : is_weak m ≡ true = weak_is_weak machine m e.name e.alias_target (ap (λ (y : MemberView). object_in y.bytes) same ∙ weak_object_is machine l (made_of l held) n e at_n alias) in

@@ -28,6 +28,9 @@ use Rattle.implib_link.proofs.Search.Closed.{claims_apart, claims_none, in_turn_
 use Rattle.implib_link.proofs.Search.Ends.{search_ends}
 use Rattle.implib_link.proofs.Search.Lists.{among_at, among_either, among_flat_map, contains_among, name_read}
 use Rattle.implib_link.proofs.Search.Search.{in_nothing, left_export, left_head, left_tail, listed_export, listed_head, listed_tail, only_one, wants}
+use Rattle.implib.specs.LibraryName.{linked_name}
+use Rattle.implib.specs.LibraryName.{NamesOfDll, names_in}
+use Rattle.implib.specs.declared.flavor.Flavor.TheVariants.{Gnu}
 
 -- a weak external leaves its target to others
 left_weak : (machine : MachineType) (weak target : List ℕ) → undefined_in (object_of (weak_object machine weak target)) ≡ target ∷ []
@@ -46,16 +49,16 @@ module _ (machine : MachineType) (libraries : List Library) (archive : IsArchive
 
   -- Symbols that members alone may claim.
 
-  head_kept : (l : Library) → Among l libraries → Among (head_symbol machine l.definition.import_name) kept
+  head_kept : (l : Library) → Among l libraries → Among (head_symbol machine (linked_name l.definition)) kept
   head_kept l held =
       among_front _ (heads_of machine libraries) (tails_of machine libraries ++ (alias_targets libraries ++ symbols_wanted libraries most))
-      (among_map (λ (x : Library). head_symbol machine x.definition.import_name) l libraries held)
+      (among_map (λ (x : Library). head_symbol machine (linked_name x.definition)) l libraries held)
 
-  tail_kept : (l : Library) → Among l libraries → Among (iname_symbol machine l.definition.import_name) kept
+  tail_kept : (l : Library) → Among l libraries → Among (iname_symbol machine (linked_name l.definition)) kept
   tail_kept l held =
       among_back _ (heads_of machine libraries) (tails_of machine libraries ++ (alias_targets libraries ++ symbols_wanted libraries most))
       (among_front _ (tails_of machine libraries) (alias_targets libraries ++ symbols_wanted libraries most)
-      (among_map (λ (x : Library). iname_symbol machine x.definition.import_name) l libraries held))
+      (among_map (λ (x : Library). iname_symbol machine (linked_name x.definition)) l libraries held))
 
   target_kept : (name : List ℕ) → Among name (alias_targets libraries) → Among name kept
   target_kept name held =
@@ -79,8 +82,8 @@ module _ (machine : MachineType) (libraries : List Library) (archive : IsArchive
   -- What a member that a name finds leaves to others.
 
   data Left (name : List ℕ) (m : MemberView) : Type 0 where
-    LeftByHead : (l : Library) → Among l libraries → name ≡ iname_symbol machine l.definition.import_name → Left name m
-    LeftByExport : (l : Library) → Among l libraries → name ≡ head_symbol machine l.definition.import_name → Left name m
+    LeftByHead : (l : Library) → Among l libraries → name ≡ iname_symbol machine (linked_name l.definition) → Left name m
+    LeftByExport : (l : Library) → Among l libraries → name ≡ head_symbol machine (linked_name l.definition) → Left name m
     LeftByWeak : Among name (alias_targets libraries) → Left name m
 
   names_of : (names : List (List ℕ)) (name : List ℕ) (m x : MemberView) (o one : Object) → m ≡ x → object_in x.bytes ≡ Some one → object_in m.bytes ≡ Some o →
@@ -91,16 +94,16 @@ module _ (machine : MachineType) (libraries : List Library) (archive : IsArchive
 
   left_by : (by name : List ℕ) (m : MemberView) (o : Object) → Found machine libraries archive by m → object_in m.bytes ≡ Some o → Among name (undefined_in o) → Left name m
   left_by by name m o (FoundTail l held same is) read left =
-      let dll : List ℕ = l.definition.import_name in
+      let dll : NamesOfDll = names_in Gnu l.definition in
       absurd (in_nothing name (names_of [] name m (tail_of machine l) o (tail machine dll) same (tail_object_is machine l (made_of l held)) read (left_tail machine dll) left))
   left_by by name m o (FoundHead l held same is) read left =
-      let dll : List ℕ = l.definition.import_name in
-      LeftByHead l held (only_one name (iname_symbol machine dll)
-      (names_of (iname_symbol machine dll ∷ []) name m (head_of machine l) o (head machine dll) same (head_object_is machine l (made_of l held)) read (left_head machine dll) left))
+      let dll : NamesOfDll = names_in Gnu l.definition in
+      LeftByHead l held (only_one name (iname_symbol machine dll.linked)
+      (names_of (iname_symbol machine dll.linked ∷ []) name m (head_of machine l) o (head machine dll) same (head_object_is machine l (made_of l held)) read (left_head machine dll) left))
   left_by by name m o (FoundExport l held n e is same listed) read left =
-      let dll : List ℕ = l.definition.import_name in
-      LeftByExport l held (only_one name (head_symbol machine dll)
-      (names_of (head_symbol machine dll ∷ []) name m (export_of machine l n e) o (export machine dll e) same (export_object_is machine l (made_of l held) n e is) read (left_export machine dll e) left))
+      let dll : NamesOfDll = names_in Gnu l.definition in
+      LeftByExport l held (only_one name (head_symbol machine dll.linked)
+      (names_of (head_symbol machine dll.linked ∷ []) name m (export_of machine l n e) o (export machine dll e) same (export_object_is machine l (made_of l held) n e is) read (left_export machine dll e) left))
   left_by by name m o (FoundWeak l held n e is alias is_data same named) read left =
       let target : name ≡ e.alias_target = only_one name e.alias_target
       (names_of (e.alias_target ∷ []) name m (weak_of machine l n e) o (object_of (weak_object machine e.name e.alias_target)) same (weak_object_is machine l (made_of l held) n e is alias) read
@@ -119,20 +122,20 @@ module _ (machine : MachineType) (libraries : List Library) (archive : IsArchive
 
   tail_listed : (l : Library) (m : MemberView) (name : List ℕ) → Among l libraries → m ≡ tail_of machine l → Among name m.symbols → IsKept name
   tail_listed l m name held same listed =
-      let dll : List ℕ = l.definition.import_name in
-      inl (subst (λ n. Among n kept) (sym (only_one name (iname_symbol machine dll) (subst (Among name) (listed_tail machine dll) (subst (λ (y : MemberView). Among name y.symbols) same listed)))) (tail_kept l held))
+      let dll : NamesOfDll = names_in Gnu l.definition in
+      inl (subst (λ n. Among n kept) (sym (only_one name (iname_symbol machine dll.linked) (subst (Among name) (listed_tail machine dll) (subst (λ (y : MemberView). Among name y.symbols) same listed)))) (tail_kept l held))
 
   head_listed : (l : Library) (m : MemberView) (name : List ℕ) → Among l libraries → m ≡ head_of machine l → Among name m.symbols → IsKept name
   head_listed l m name held same listed =
-      let dll : List ℕ = l.definition.import_name in
-      inl (subst (λ n. Among n kept) (sym (only_one name (head_symbol machine dll) (subst (Among name) (listed_head machine dll) (subst (λ (y : MemberView). Among name y.symbols) same listed)))) (head_kept l held))
+      let dll : NamesOfDll = names_in Gnu l.definition in
+      inl (subst (λ n. Among n kept) (sym (only_one name (head_symbol machine dll.linked) (subst (Among name) (listed_head machine dll.linked) (subst (λ (y : MemberView). Among name y.symbols) same listed)))) (head_kept l held))
 
   -- of a member that a wanted name finds
   wanted_listed : (by name : List ℕ) (m : MemberView) → Among by most → Found machine libraries archive by m → Among name m.symbols → IsKept name
   wanted_listed by name m want (FoundTail l held same is) listed = tail_listed l m name held same listed
   wanted_listed by name m want (FoundHead l held same is) listed = head_listed l m name held same listed
   wanted_listed by name m want (FoundExport l held n e is same own_name) listed =
-      let symbols : Among name (archive_symbols e) = subst (Among name) (listed_export machine l.definition.import_name n e) (subst (λ (y : MemberView). Among name y.symbols) same listed) in
+      let symbols : Among name (archive_symbols e) = subst (Among name) (listed_export machine (linked_name l.definition) n e) (subst (λ (y : MemberView). Among name y.symbols) same listed) in
       let there : Among e (filter (is_wanted most) (exports_of l)) = passes (is_wanted most) e (exports_of l) (among_at e (exports_of l) n is) (wants most (archive_symbols e) by own_name want) in
       inl (wanted_kept name (among_flat (λ (x : Library). flat_map archive_symbols (filter (is_wanted most) (exports_of x))) l libraries name held
       (among_flat archive_symbols e (filter (is_wanted most) (exports_of l)) name there symbols)))
@@ -208,11 +211,11 @@ module _ (machine : MachineType) (libraries : List Library) (archive : IsArchive
     weak_left : (by name : List ℕ) (m : MemberView) (o : Object) → is_weak m ≡ true → Found machine libraries archive by m → object_in m.bytes ≡ Some o → Among name (undefined_in o) →
         Among name (alias_targets libraries)
     weak_left by name m o weak (FoundTail l held same is) read left =
-        absurd (true≢false (sym weak ∙ tail_not_weak machine m l.definition.import_name (ap (λ (y : MemberView). object_in y.bytes) same ∙ tail_object_is machine l (made_of l held))))
+        absurd (true≢false (sym weak ∙ tail_not_weak machine m (names_in Gnu l.definition) (ap (λ (y : MemberView). object_in y.bytes) same ∙ tail_object_is machine l (made_of l held))))
     weak_left by name m o weak (FoundHead l held same is) read left =
-        absurd (true≢false (sym weak ∙ head_not_weak machine m l.definition.import_name (ap (λ (y : MemberView). object_in y.bytes) same ∙ head_object_is machine l (made_of l held))))
+        absurd (true≢false (sym weak ∙ head_not_weak machine m (names_in Gnu l.definition) (ap (λ (y : MemberView). object_in y.bytes) same ∙ head_object_is machine l (made_of l held))))
     weak_left by name m o weak (FoundExport l held n e is same listed) read left =
-        absurd (true≢false (sym weak ∙ export_not_weak machine m l.definition.import_name e (ap (λ (y : MemberView). object_in y.bytes) same ∙ export_object_is machine l (made_of l held) n e is)))
+        absurd (true≢false (sym weak ∙ export_not_weak machine m (names_in Gnu l.definition) e (ap (λ (y : MemberView). object_in y.bytes) same ∙ export_object_is machine l (made_of l held) n e is)))
     weak_left by name m o weak (FoundWeak l held n e is alias is_data same named) read left =
         subst (λ x. Among x (alias_targets libraries)) (sym (only_one name e.alias_target
         (names_of (e.alias_target ∷ []) name m (weak_of machine l n e) o (object_of (weak_object machine e.name e.alias_target)) same (weak_object_is machine l (made_of l held) n e is alias) read
@@ -233,13 +236,13 @@ module _ (machine : MachineType) (libraries : List Library) (archive : IsArchive
 
     names : NamesNoHeadOrTailOf machine libraries (wanted_in own taken)
     names =
-        all_each (λ (l : Library). NamesNoHeadOrTail machine l.definition.import_name (wanted_in own taken)) libraries (λ l held.
-        let none : NamesNoHeadOrTail machine l.definition.import_name most = all_among (λ (x : Library). NamesNoHeadOrTail machine x.definition.import_name (wanted_at_most libraries own)) l libraries held given.names in
+        all_each (λ (l : Library). NamesNoHeadOrTail machine (linked_name l.definition) (wanted_in own taken)) libraries (λ l held.
+        let none : NamesNoHeadOrTail machine (linked_name l.definition) most = all_among (λ (x : Library). NamesNoHeadOrTail machine (linked_name x.definition) (wanted_at_most libraries own)) l libraries held given.names in
         record {
-          head = not_there (head_symbol machine l.definition.import_name) (wanted_in own taken)
-              (λ want. there_not (head_symbol machine l.definition.import_name) most none.head (wanted_most (head_symbol machine l.definition.import_name) want));
-          name = not_there (iname_symbol machine l.definition.import_name) (wanted_in own taken)
-              (λ want. there_not (iname_symbol machine l.definition.import_name) most none.name (wanted_most (iname_symbol machine l.definition.import_name) want));
+          head = not_there (head_symbol machine (linked_name l.definition)) (wanted_in own taken)
+              (λ want. there_not (head_symbol machine (linked_name l.definition)) most none.head (wanted_most (head_symbol machine (linked_name l.definition)) want));
+          name = not_there (iname_symbol machine (linked_name l.definition)) (wanted_in own taken)
+              (λ want. there_not (iname_symbol machine (linked_name l.definition)) most none.name (wanted_most (iname_symbol machine (linked_name l.definition)) want));
         })
 
 pub given_ends : (machine : MachineType) (libraries : List Library) (own : List Object) → IsArchive machine libraries → AreGiven machine libraries own →

@@ -25,6 +25,8 @@ use Rattle.implib_link.proofs.Search.Closed.{passes}
 use Rattle.implib_link.proofs.Search.Counts.{distinct_from, few_from, times, times_both, times_moved}
 use Rattle.implib_link.proofs.Search.Msvc.{some_export}
 use Rattle.implib_link.proofs.Search.MsvcArchives.{AnyImport, import_parts, imports_are, linked_of, of_linked}
+use Rattle.implib.specs.LibraryName.{NamesOfDll, linked_dll, names_in}
+use Rattle.implib_link.specs.Flavors.Program.{dll_names_in}
 
 -- Libraries in another order are an archive, and the same members are linked of them.
 
@@ -41,8 +43,8 @@ shorts_moved machine libraries arranged moved archive =
           subst (λ n. n ≤ 1) (sym (null_and_others name arranged ∙ ap (λ n. times name (null_descriptor_symbol ∷ []) + n) (times_moved symbols_of_shorts name libraries arranged moved)
           ∙ sym (null_and_others name libraries)))
           (few_from (null_descriptor_symbol ∷ flat_map symbols_of_shorts libraries) archive.distinct name));
-      found = all_each (λ (l : Library). descriptor_symbol_by_name l.definition.import_name ≡ descriptor_symbol l.definition.import_name) arranged
-          (λ l held. all_among (λ (l : Library). descriptor_symbol_by_name l.definition.import_name ≡ descriptor_symbol l.definition.import_name) l libraries (among_moved l arranged libraries back held) archive.found);
+      found = all_each (λ (l : Library). descriptor_symbol_by_name l.definition.import_name ≡ descriptor_symbol (linked_dll l.definition)) arranged
+          (λ l held. all_among (λ (l : Library). descriptor_symbol_by_name l.definition.import_name ≡ descriptor_symbol (linked_dll l.definition)) l libraries (among_moved l arranged libraries back held) archive.found);
     }
 
 pub shorts_linked_moved : (machine : MachineType) (libraries arranged : List Library) (names : List (List ℕ)) → IsPermutation libraries arranged → (m : MemberView) →
@@ -103,12 +105,12 @@ short_inputs_made machine libraries names archive =
     subst (IsMadeFor machine) (sym from.2) (all_among (IsMsvcLibrary machine) from.0 libraries from.1 archive.made))
 
 pub short_inputs_found : (machine : MachineType) (libraries : List Library) (names : List (List ℕ)) → IsMsvcArchive machine libraries →
-    AllByRecursion (λ p. IsFoundByName p.flavor (dll_of p)) (short_inputs libraries names)
+    AllByRecursion (λ p. IsFoundByName p.flavor (dll_names_in p)) (short_inputs libraries names)
 short_inputs_found machine libraries names archive =
-    all_each (λ p. IsFoundByName p.flavor (dll_of p)) (short_inputs libraries names) (λ p held.
+    all_each (λ p. IsFoundByName p.flavor (dll_names_in p)) (short_inputs libraries names) (λ p held.
     let from = short_input_is libraries names p held in
-    subst (λ (q : FlavorInput). IsFoundByName q.flavor (dll_of q)) (sym from.2)
-    (all_among (λ (l : Library). descriptor_symbol_by_name l.definition.import_name ≡ descriptor_symbol l.definition.import_name) from.0 libraries from.1 archive.found))
+    subst (λ (q : FlavorInput). IsFoundByName q.flavor (dll_names_in q)) (sym from.2)
+    (all_among (λ (l : Library). descriptor_symbol_by_name l.definition.import_name ≡ descriptor_symbol (linked_dll l.definition)) from.0 libraries from.1 archive.found))
 
 -- The symbols of what is linked differ.
 
@@ -135,28 +137,28 @@ module _ (machine : MachineType) where
   of_inputs inputs = flat_map (λ (k : FlavorBlock). symbols_of machine k.flavor k.dll k.exports) (map block_in inputs)
 
   library_fewer : (name : List ℕ) (l : Library) (names : List (List ℕ)) →
-      times name (symbols_of machine Msvc l.definition.import_name (chosen_exports l.definition (imports_wanted l names))) ≤ times name (symbols_of_shorts l)
+      times name (symbols_of machine Msvc (names_in Msvc l.definition) (chosen_exports l.definition (imports_wanted l names))) ≤ times name (symbols_of_shorts l)
   unfolding symbols_of_shorts
   library_fewer name l names =
-      let dll : List ℕ = l.definition.import_name in
+      let dll : NamesOfDll = names_in Msvc l.definition in
       let chosen : List ExportView = filter (is_import_wanted names) (exports_of l) in
       let few : times name (flat_map short_import_symbols chosen) ≤ times name (flat_map symbols_of_short (exports_of l)) = shorts_fewer name names (exports_of l) in
       let left : times name (symbols_of machine Msvc dll chosen)
-      ≡ times name (descriptor_symbol dll ∷ []) + (times name (flat_map short_import_symbols chosen) + times name (null_thunk_symbol dll ∷ [])) =
-      times_both name (descriptor_symbol dll ∷ []) (flat_map short_import_symbols chosen ++ null_thunk_symbol dll ∷ [])
-      ∙ ap (λ n. times name (descriptor_symbol dll ∷ []) + n) (times_both name (flat_map short_import_symbols chosen) (null_thunk_symbol dll ∷ [])) in
-      let right : times name (descriptor_symbol dll ∷ null_thunk_symbol dll ∷ flat_map symbols_of_short (exports_of l))
-      ≡ times name (descriptor_symbol dll ∷ []) + (times name (null_thunk_symbol dll ∷ []) + times name (flat_map symbols_of_short (exports_of l))) =
-      times_both name (descriptor_symbol dll ∷ []) (null_thunk_symbol dll ∷ flat_map symbols_of_short (exports_of l))
-      ∙ ap (λ n. times name (descriptor_symbol dll ∷ []) + n) (times_both name (null_thunk_symbol dll ∷ []) (flat_map symbols_of_short (exports_of l))) in
-      subst (λ (es : List ExportView). times name (symbols_of machine Msvc dll es) ≤ times name (descriptor_symbol dll ∷ null_thunk_symbol dll ∷ flat_map symbols_of_short (exports_of l))) (sym (imports_are l names))
+      ≡ times name (descriptor_symbol dll.linked ∷ []) + (times name (flat_map short_import_symbols chosen) + times name (null_thunk_symbol dll.linked ∷ [])) =
+      times_both name (descriptor_symbol dll.linked ∷ []) (flat_map short_import_symbols chosen ++ null_thunk_symbol dll.linked ∷ [])
+      ∙ ap (λ n. times name (descriptor_symbol dll.linked ∷ []) + n) (times_both name (flat_map short_import_symbols chosen) (null_thunk_symbol dll.linked ∷ [])) in
+      let right : times name (descriptor_symbol dll.linked ∷ null_thunk_symbol dll.linked ∷ flat_map symbols_of_short (exports_of l))
+      ≡ times name (descriptor_symbol dll.linked ∷ []) + (times name (null_thunk_symbol dll.linked ∷ []) + times name (flat_map symbols_of_short (exports_of l))) =
+      times_both name (descriptor_symbol dll.linked ∷ []) (null_thunk_symbol dll.linked ∷ flat_map symbols_of_short (exports_of l))
+      ∙ ap (λ n. times name (descriptor_symbol dll.linked ∷ []) + n) (times_both name (null_thunk_symbol dll.linked ∷ []) (flat_map symbols_of_short (exports_of l))) in
+      subst (λ (es : List ExportView). times name (symbols_of machine Msvc dll es) ≤ times name (descriptor_symbol dll.linked ∷ null_thunk_symbol dll.linked ∷ flat_map symbols_of_short (exports_of l))) (sym (imports_are l names))
       (omega arith)
 
   one_more : (name : List ℕ) (l : Library) (chosen : List ℕ) (others : List FlavorInput) →
-      times name (of_inputs (cons_option (short_input_if_any l chosen) others)) ≤ times name (symbols_of machine Msvc l.definition.import_name (chosen_exports l.definition chosen)) + times name (of_inputs others)
+      times name (of_inputs (cons_option (short_input_if_any l chosen) others)) ≤ times name (symbols_of machine Msvc (names_in Msvc l.definition) (chosen_exports l.definition chosen)) + times name (of_inputs others)
   one_more name l [] others = omega arith
   one_more name l (n ∷ chosen) others =
-      (let both = times_both name (symbols_of machine Msvc l.definition.import_name (chosen_exports l.definition (n ∷ chosen))) (of_inputs others) in omega arith)
+      (let both = times_both name (symbols_of machine Msvc (names_in Msvc l.definition) (chosen_exports l.definition (n ∷ chosen))) (of_inputs others) in omega arith)
 
   inputs_fewer : (name : List ℕ) (libraries : List Library) (names : List (List ℕ)) → times name (of_inputs (short_inputs libraries names)) ≤ times name (flat_map symbols_of_shorts libraries)
   unfolding times
@@ -164,9 +166,9 @@ module _ (machine : MachineType) where
   inputs_fewer name (l ∷ libraries) names =
       let chosen : List ℕ = imports_wanted l names in
       let first : times name (of_inputs (cons_option (short_input_if_any l chosen) (short_inputs libraries names)))
-      ≤ times name (symbols_of machine Msvc l.definition.import_name (chosen_exports l.definition chosen)) + times name (of_inputs (short_inputs libraries names)) =
+      ≤ times name (symbols_of machine Msvc (names_in Msvc l.definition) (chosen_exports l.definition chosen)) + times name (of_inputs (short_inputs libraries names)) =
       one_more name l chosen (short_inputs libraries names) in
-      let own : times name (symbols_of machine Msvc l.definition.import_name (chosen_exports l.definition chosen)) ≤ times name (symbols_of_shorts l) = library_fewer name l names in
+      let own : times name (symbols_of machine Msvc (names_in Msvc l.definition) (chosen_exports l.definition chosen)) ≤ times name (symbols_of_shorts l) = library_fewer name l names in
       let behind : times name (of_inputs (short_inputs libraries names)) ≤ times name (flat_map symbols_of_shorts libraries) = inputs_fewer name libraries names in
       let all : times name (symbols_of_shorts l ++ flat_map symbols_of_shorts libraries) ≡ times name (symbols_of_shorts l) + times name (flat_map symbols_of_shorts libraries) =
       times_both name (symbols_of_shorts l) (flat_map symbols_of_shorts libraries) in

@@ -43,6 +43,7 @@ use Rattle.implib_link.proofs.Search.MsvcArchives.{AShort, AnyImport, TheDescrip
 use Rattle.implib_link.proofs.Search.MsvcArranged.{short_input_for, short_input_held, short_input_is, short_inputs_found, short_inputs_made, shorts_distinct, shorts_linked_moved, shorts_moved}
 use Rattle.implib_link.proofs.Search.MsvcMembers.{Found, FoundDescriptor, FoundNull, FoundShort, FoundThunk, FoundWeak, claims_weak, descriptor_found, descriptor_is, descriptor_of, found, null_found, null_is, null_of, short_found, short_is, short_of, taken_weak, thunk_found, thunk_is, thunk_of, weak_found, weak_is, weak_of}
 use Rattle.implib_link.proofs.Search.Search.{in_nothing, only_one, wanted_name, wants}
+use Rattle.implib.specs.LibraryName.{NamesOfDll, linked_dll, names_in}
 
 -- The search for given objects is one for what they leave unresolved.
 
@@ -179,19 +180,19 @@ module _ (machine : MachineType) (libraries : List Library) (archive : IsMsvcArc
   found_first : (name : List ℕ) (m : MemberView) → Found machine libraries archive name m → IsFirst m
   unfolding descriptor_spec null_descriptor_spec null_thunk_spec
   found_first name m (FoundDescriptor l held same is) =
-      let dll : List ℕ = l.definition.import_name in
-      is_first m (descriptor_of machine l) (taken_descriptor machine dll) (descriptor_symbol dll ∷ []) same (descriptor_is machine l (made_of l held)) (claims_descriptor machine dll) refl
-      (λ n one. ap (first_listed (archive_of libraries)) (only_one n (descriptor_symbol dll) one) ∙ descriptor_found machine libraries archive l held)
+      let dll : NamesOfDll = names_in Msvc l.definition in
+      is_first m (descriptor_of machine l) (taken_descriptor machine dll) (descriptor_symbol dll.linked ∷ []) same (descriptor_is machine l (made_of l held)) (claims_descriptor machine dll) refl
+      (λ n one. ap (first_listed (archive_of libraries)) (only_one n (descriptor_symbol dll.linked) one) ∙ descriptor_found machine libraries archive l held)
   found_first name m (FoundNull l rest first same is) =
       is_first m (null_of machine l) (taken_null machine) (null_descriptor_symbol ∷ []) same (null_is machine l (made_of l (first_held l rest first))) (claims_null machine) refl
       (λ n one. ap (first_listed (archive_of libraries)) (only_one n null_descriptor_symbol one) ∙ null_found machine libraries archive l rest first)
   found_first name m (FoundThunk l held same is) =
-      let dll : List ℕ = l.definition.import_name in
-      is_first m (thunk_of machine l) (taken_null_thunk machine dll) (null_thunk_symbol dll ∷ []) same (thunk_is machine l (made_of l held)) (claims_thunk machine dll) refl
-      (λ n one. ap (first_listed (archive_of libraries)) (only_one n (null_thunk_symbol dll) one) ∙ thunk_found machine libraries archive l held)
+      let dll : NamesOfDll = names_in Msvc l.definition in
+      is_first m (thunk_of machine l) (taken_null_thunk machine dll) (null_thunk_symbol dll.linked ∷ []) same (thunk_is machine l (made_of l held)) (claims_thunk machine dll) refl
+      (λ n one. ap (first_listed (archive_of libraries)) (only_one n (null_thunk_symbol dll.linked) one) ∙ thunk_found machine libraries archive l held)
   found_first name m (FoundShort l held e there none same listed) =
-      is_first m (short_of machine l e) (asking machine l.definition.import_name e) (short_import_symbols e) same (short_is machine l (made_of l held) e there)
-      (claims_asking machine l.definition.import_name (short_import_symbol e) (ask_in Msvc machine e) e.is_data e.constant) refl
+      is_first m (short_of machine l e) (asking machine (names_in Msvc l.definition) e) (short_import_symbols e) same (short_is machine l (made_of l held) e there)
+      (claims_asking machine (names_in Msvc l.definition) (short_import_symbol e) (ask_in Msvc machine e) e.is_data e.constant) refl
       (λ x one. short_found machine libraries archive l e x held there none one)
   found_first name m (FoundWeak l held e there alias weak target pair same named) =
       is_first m (weak_of machine l weak target) (taken_weak machine weak target) (weak ∷ []) same (weak_is machine l (made_of l held) e weak target there alias pair)
@@ -199,15 +200,15 @@ module _ (machine : MachineType) (libraries : List Library) (archive : IsMsvcArc
       (λ x one. ap (first_listed (archive_of libraries)) (only_one x weak one) ∙ weak_found machine libraries archive l e weak target held there alias pair)
 
   -- the null descriptor of any library is taken for the same object
-  null_tables : (before behind : List MemberView) (dll : List ℕ) (l : Library) → Among l libraries → expanded_in machine (null_member machine dll).bytes ≡ Some (taken_null machine) →
-      objects_taken machine (before ++ (first_null machine libraries ++ behind)) ≡ objects_taken machine (before ++ null_member machine dll ∷ behind)
+  null_tables : (before behind : List MemberView) (dll : NamesOfDll) (l : Library) → Among l libraries → expanded_in machine (null_member machine dll.linked).bytes ≡ Some (taken_null machine) →
+      objects_taken machine (before ++ (first_null machine libraries ++ behind)) ≡ objects_taken machine (before ++ null_member machine dll.linked ∷ behind)
   null_tables before behind dll l held is = by libraries refl held
     where
-      by : (ls : List Library) → libraries ≡ ls → Among l ls → objects_taken machine (before ++ (first_null machine ls ++ behind)) ≡ objects_taken machine (before ++ null_member machine dll ∷ behind)
+      by : (ls : List Library) → libraries ≡ ls → Among l ls → objects_taken machine (before ++ (first_null machine ls ++ behind)) ≡ objects_taken machine (before ++ null_member machine dll.linked ∷ behind)
       by [] same there = absurd (no_library l there)
       by (x ∷ rest) same there =
-          objects_with_null machine before behind (null_member machine x.definition.import_name) (null_is machine x (made_of x (first_held x rest same)))
-          ∙ sym (objects_with_null machine before behind (null_member machine dll) is)
+          objects_with_null machine before behind (null_member machine (linked_dll x.definition)) (null_is machine x (made_of x (first_held x rest same)))
+          ∙ sym (objects_with_null machine before behind (null_member machine dll.linked) is)
 
   module _ (own : List Object) (taken : List MemberView) (arranged : List Library) (objects : List Object)
       (is : AreClosedForMsvc machine libraries own taken arranged objects) where
@@ -367,7 +368,7 @@ module _ (machine : MachineType) (libraries : List Library) (archive : IsMsvcArc
     inputs_are_made : AllByRecursion (IsMadeFor machine) inputs
     inputs_are_made = short_inputs_made machine arranged wanted arranged_archive
 
-    null_read : expanded_in machine (null_member machine (dll_of one_input.0)).bytes ≡ Some (taken_null machine)
+    null_read : expanded_in machine (null_member machine (linked_dll one_input.0.input.definition)).bytes ≡ Some (taken_null machine)
     null_read =
         null_object machine one_input.0 (all_among (IsMadeFor machine) one_input.0 inputs one_input.1 inputs_are_made) (ap (λ (p : FlavorInput). p.flavor) one_library.2)
 
@@ -380,7 +381,7 @@ module _ (machine : MachineType) (libraries : List Library) (archive : IsMsvcArc
       before = is.linked.before;
       behind = is.linked.behind;
       members = is.linked.members;
-      tables = is.linked.tables ∙ null_tables is.linked.before is.linked.behind (dll_of one_input.0) one_library.0 one_held null_read;
+      tables = is.linked.tables ∙ null_tables is.linked.before is.linked.behind (linked_dll one_input.0.input.definition) one_library.0 one_held null_read;
       others = others_claim_none;
       found = short_inputs_found machine arranged wanted arranged_archive;
     }
@@ -484,17 +485,17 @@ module _ (machine : MachineType) (libraries : List Library) (archive : IsMsvcArc
             ]
           ]
 
-      plain_of : (l : Library) → Among l libraries → NamesNoHeader l.definition.import_name wanted
-      plain_of l there = all_among (λ (x : Library). NamesNoHeader x.definition.import_name (wanted_for machine own taken)) l libraries there is.names
+      plain_of : (l : Library) → Among l libraries → NamesNoHeader (linked_dll l.definition) wanted
+      plain_of l there = all_among (λ (x : Library). NamesNoHeader (linked_dll x.definition) (wanted_for machine own taken)) l libraries there is.names
 
       resolved_by : (name : List ℕ) (m : MemberView) → Among name wanted → first_listed (archive_of libraries) name ≡ Some m → Found machine libraries archive name m →
           IsImportedShort machine (placed_from bases objects) bases inputs name ⊎ IsWeakTaken machine taken name
       resolved_by name m want at (FoundDescriptor l there same named) =
-          absurd (there_not (descriptor_symbol l.definition.import_name) wanted (plain_of l there).descriptor (subst (λ n. Among n wanted) named want))
+          absurd (there_not (descriptor_symbol (linked_dll l.definition)) wanted (plain_of l there).descriptor (subst (λ n. Among n wanted) named want))
       resolved_by name m want at (FoundNull l rest first same named) =
           absurd (there_not null_descriptor_symbol wanted (plain_of l (first_held l rest first)).null_descriptor (subst (λ n. Among n wanted) named want))
       resolved_by name m want at (FoundThunk l there same named) =
-          absurd (there_not (null_thunk_symbol l.definition.import_name) wanted (plain_of l there).null_thunk (subst (λ n. Among n wanted) named want))
+          absurd (there_not (null_thunk_symbol (linked_dll l.definition)) wanted (plain_of l there).null_thunk (subst (λ n. Among n wanted) named want))
       resolved_by name m want at (FoundShort l there e among none same listed) = inl (of_export l e name there among none listed want)
       resolved_by name m want at (FoundWeak l there e among alias weak target pair same named) = inr (
         m,

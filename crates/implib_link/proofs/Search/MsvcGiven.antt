@@ -35,6 +35,7 @@ use Rattle.implib_link.proofs.Search.MsvcClosed.{first_one, in_turn_for, pulled,
 use Rattle.implib_link.proofs.Search.MsvcEnds.{short_search_ends}
 use Rattle.implib_link.proofs.Search.MsvcMembers.{Found, FoundDescriptor, FoundNull, FoundShort, FoundThunk, FoundWeak, IsPair, descriptor_found, descriptor_is, descriptor_of, found, left_weak, null_found, null_is, null_of, short_is, short_of, taken_weak, thunk_found, thunk_is, thunk_of, weak_is, weak_of}
 use Rattle.implib_link.proofs.Search.Search.{in_nothing, only_one, wanted_name, wants}
+use Rattle.implib.specs.LibraryName.{linked_dll, names_in}
 
 module _ (machine : MachineType) (libraries : List Library) (archive : IsMsvcArchive machine libraries) (own : List Object) (given : AreGivenForMsvc libraries own) where
   abbrev kept : List (List ℕ)
@@ -58,12 +59,12 @@ module _ (machine : MachineType) (libraries : List Library) (archive : IsMsvcArc
   null_kept = header_kept null_descriptor_symbol (among_first _ _)
 
   abbrev own_header : Library → List (List ℕ)
-  own_header l = descriptor_symbol l.definition.import_name ∷ null_thunk_symbol l.definition.import_name ∷ []
+  own_header l = descriptor_symbol (linked_dll l.definition) ∷ null_thunk_symbol (linked_dll l.definition) ∷ []
 
-  descriptor_kept : (l : Library) → Among l libraries → Among (descriptor_symbol l.definition.import_name) kept
+  descriptor_kept : (l : Library) → Among l libraries → Among (descriptor_symbol (linked_dll l.definition)) kept
   descriptor_kept l held = header_kept _ (among_later _ _ _ (among_flat own_header l libraries _ held (among_first _ _)))
 
-  thunk_kept : (l : Library) → Among l libraries → Among (null_thunk_symbol l.definition.import_name) kept
+  thunk_kept : (l : Library) → Among l libraries → Among (null_thunk_symbol (linked_dll l.definition)) kept
   thunk_kept l held = header_kept _ (among_later _ _ _ (among_flat own_header l libraries _ held (among_later _ _ _ (among_first _ _))))
 
   target_kept : (name : List ℕ) → Among name (short_targets libraries) → Among name kept
@@ -93,8 +94,8 @@ module _ (machine : MachineType) (libraries : List Library) (archive : IsMsvcArc
 
   data Left (name : List ℕ) : Type 0 where
     LeftToNull : (l : Library) → Among l libraries → name ≡ null_descriptor_symbol → Left name
-    LeftToThunk : (l : Library) → Among l libraries → name ≡ null_thunk_symbol l.definition.import_name → Left name
-    LeftToDescriptor : (l : Library) → Among l libraries → name ≡ descriptor_symbol l.definition.import_name → Left name
+    LeftToThunk : (l : Library) → Among l libraries → name ≡ null_thunk_symbol (linked_dll l.definition) → Left name
+    LeftToDescriptor : (l : Library) → Among l libraries → name ≡ descriptor_symbol (linked_dll l.definition) → Left name
     LeftByWeak : Among name (short_targets libraries) → Left name
 
   names_of : (names : List (List ℕ)) (name : List ℕ) (m x : MemberView) (o one : Object) → m ≡ x → expanded_in machine x.bytes ≡ Some one → expanded_in machine m.bytes ≡ Some o →
@@ -103,7 +104,7 @@ module _ (machine : MachineType) (libraries : List Library) (archive : IsMsvcArc
       let objects : o ≡ one = (let e : Some o ≡ Some one = sym read ∙ ap (λ (y : MemberView). expanded_in machine y.bytes) same ∙ is in cc) in
       subst (Among name) are (subst (λ t. Among name (undefined_in t)) objects held)
 
-  of_descriptor : (l : Library) → Among l libraries → (name : List ℕ) → Among name (null_descriptor_symbol ∷ null_thunk_symbol l.definition.import_name ∷ []) → Left name
+  of_descriptor : (l : Library) → Among l libraries → (name : List ℕ) → Among name (null_descriptor_symbol ∷ null_thunk_symbol (linked_dll l.definition) ∷ []) → Left name
   unfolding Among
   of_descriptor l held name (inl is) = LeftToNull l held is
   of_descriptor l held name (inr (inl is)) = LeftToThunk l held is
@@ -112,18 +113,18 @@ module _ (machine : MachineType) (libraries : List Library) (archive : IsMsvcArc
   left_by : (by name : List ℕ) (m : MemberView) (o : Object) → Found machine libraries archive by m → expanded_in machine m.bytes ≡ Some o → Among name (undefined_in o) → Left name
   left_by by name m o (FoundDescriptor l held same is) read left =
       of_descriptor l held name
-      (names_of (null_descriptor_symbol ∷ null_thunk_symbol l.definition.import_name ∷ []) name m (descriptor_of machine l) o (taken_descriptor machine l.definition.import_name) same
-      (descriptor_is machine l (made_of l held)) read (left_descriptor machine l.definition.import_name) left)
+      (names_of (null_descriptor_symbol ∷ null_thunk_symbol (linked_dll l.definition) ∷ []) name m (descriptor_of machine l) o (taken_descriptor machine (names_in Msvc l.definition)) same
+      (descriptor_is machine l (made_of l held)) read (left_descriptor machine (names_in Msvc l.definition)) left)
   left_by by name m o (FoundNull l rest first same is) read left =
       absurd (in_nothing name (names_of [] name m (null_of machine l) o (taken_null machine) same (null_is machine l (made_of l (first_held l rest first))) read (left_null machine) left))
   left_by by name m o (FoundThunk l held same is) read left =
-      absurd (in_nothing name (names_of [] name m (thunk_of machine l) o (taken_null_thunk machine l.definition.import_name) same (thunk_is machine l (made_of l held)) read
-      (left_thunk machine l.definition.import_name) left))
+      absurd (in_nothing name (names_of [] name m (thunk_of machine l) o (taken_null_thunk machine (names_in Msvc l.definition)) same (thunk_is machine l (made_of l held)) read
+      (left_thunk machine (names_in Msvc l.definition)) left))
   left_by by name m o (FoundShort l held e there none same listed) read left =
       let named : name ≡ descriptor_symbol_by_name l.definition.import_name =
-      only_one name _ (names_of (descriptor_symbol_by_name l.definition.import_name ∷ []) name m (short_of machine l e) o (asking machine l.definition.import_name e) same
-      (short_is machine l (made_of l held) e there) read (left_asking machine l.definition.import_name (short_import_symbol e) (ask_in Msvc machine e) (use_for e)) left) in
-      LeftToDescriptor l held (named ∙ all_among (λ (x : Library). descriptor_symbol_by_name x.definition.import_name ≡ descriptor_symbol x.definition.import_name) l libraries held archive.found)
+      only_one name _ (names_of (descriptor_symbol_by_name l.definition.import_name ∷ []) name m (short_of machine l e) o (asking machine (names_in Msvc l.definition) e) same
+      (short_is machine l (made_of l held) e there) read (left_asking machine (names_in Msvc l.definition) (short_import_symbol e) (ask_in Msvc machine e) (use_for e)) left) in
+      LeftToDescriptor l held (named ∙ all_among (λ (x : Library). descriptor_symbol_by_name x.definition.import_name ≡ descriptor_symbol (linked_dll x.definition)) l libraries held archive.found)
   left_by by name m o (FoundWeak l held e there alias weak target pair same named) read left =
       LeftByWeak (subst (λ x. Among x (short_targets libraries))
       (sym (only_one name target (names_of (target ∷ []) name m (weak_of machine l weak target) o (taken_weak machine weak target) same (weak_is machine l (made_of l held) e weak target there alias pair) read
@@ -144,7 +145,7 @@ module _ (machine : MachineType) (libraries : List Library) (archive : IsMsvcArc
   descriptor_listed : (l : Library) (m : MemberView) (name : List ℕ) → Among l libraries → m ≡ descriptor_of machine l → Among name m.symbols → IsKept name
   unfolding descriptor_spec
   descriptor_listed l m name held same listed =
-      inl (subst (λ n. Among n kept) (sym (only_one name (descriptor_symbol l.definition.import_name) (subst (λ (y : MemberView). Among name y.symbols) same listed))) (descriptor_kept l held))
+      inl (subst (λ n. Among n kept) (sym (only_one name (descriptor_symbol (linked_dll l.definition)) (subst (λ (y : MemberView). Among name y.symbols) same listed))) (descriptor_kept l held))
 
   null_listed : (l : Library) (m : MemberView) (name : List ℕ) → m ≡ null_of machine l → Among name m.symbols → IsKept name
   unfolding null_descriptor_spec
@@ -154,7 +155,7 @@ module _ (machine : MachineType) (libraries : List Library) (archive : IsMsvcArc
   thunk_listed : (l : Library) (m : MemberView) (name : List ℕ) → Among l libraries → m ≡ thunk_of machine l → Among name m.symbols → IsKept name
   unfolding null_thunk_spec
   thunk_listed l m name held same listed =
-      inl (subst (λ n. Among n kept) (sym (only_one name (null_thunk_symbol l.definition.import_name) (subst (λ (y : MemberView). Among name y.symbols) same listed))) (thunk_kept l held))
+      inl (subst (λ n. Among n kept) (sym (only_one name (null_thunk_symbol (linked_dll l.definition)) (subst (λ (y : MemberView). Among name y.symbols) same listed))) (thunk_kept l held))
 
   -- of a member that a wanted name finds
   wanted_listed : (by name : List ℕ) (m : MemberView) → Among by most → Found machine libraries archive by m → Among name m.symbols → IsKept name
@@ -270,15 +271,15 @@ module _ (machine : MachineType) (libraries : List Library) (archive : IsMsvcArc
 
     names : NamesNoHeaderOf libraries (wanted_for machine own taken)
     names =
-        all_each (λ (l : Library). NamesNoHeader l.definition.import_name (wanted_for machine own taken)) libraries (λ l held.
-        let none : NamesNoHeader l.definition.import_name most = all_among (λ (x : Library). NamesNoHeader x.definition.import_name (wanted_for_at_most libraries own)) l libraries held given.names in
+        all_each (λ (l : Library). NamesNoHeader (linked_dll l.definition) (wanted_for machine own taken)) libraries (λ l held.
+        let none : NamesNoHeader (linked_dll l.definition) most = all_among (λ (x : Library). NamesNoHeader (linked_dll x.definition) (wanted_for_at_most libraries own)) l libraries held given.names in
         record {
-          descriptor = not_there (descriptor_symbol l.definition.import_name) (wanted_for machine own taken)
-              (λ want. there_not (descriptor_symbol l.definition.import_name) most none.descriptor (wanted_most (descriptor_symbol l.definition.import_name) want));
+          descriptor = not_there (descriptor_symbol (linked_dll l.definition)) (wanted_for machine own taken)
+              (λ want. there_not (descriptor_symbol (linked_dll l.definition)) most none.descriptor (wanted_most (descriptor_symbol (linked_dll l.definition)) want));
           null_descriptor = not_there null_descriptor_symbol (wanted_for machine own taken)
               (λ want. there_not null_descriptor_symbol most none.null_descriptor (wanted_most null_descriptor_symbol want));
-          null_thunk = not_there (null_thunk_symbol l.definition.import_name) (wanted_for machine own taken)
-              (λ want. there_not (null_thunk_symbol l.definition.import_name) most none.null_thunk (wanted_most (null_thunk_symbol l.definition.import_name) want));
+          null_thunk = not_there (null_thunk_symbol (linked_dll l.definition)) (wanted_for machine own taken)
+              (λ want. there_not (null_thunk_symbol (linked_dll l.definition)) most none.null_thunk (wanted_most (null_thunk_symbol (linked_dll l.definition)) want));
         })
 
 -- An import that the objects want by themselves is linked.

@@ -32,24 +32,26 @@ use Rattle.implib_link.proofs.Search.ArchiveGroups.{Group, IsWithin, first_in_gr
 use Rattle.implib_link.proofs.Search.Arranged.{all_each, flat_among}
 use Rattle.implib_link.proofs.Search.Lists.{among_any, among_mapped, any_among, apart_none}
 use Rattle.implib_link.proofs.Search.Search.{in_nothing, only_one}
+use Rattle.implib.specs.LibraryName.{NamesOfDll, linked_dll, names_in}
+use Rattle.implib.specs.declared.flavor.Flavor.TheVariants.{Msvc}
 
 -- The members.
 
 abbrev pub descriptor_of : MachineType → Library → MemberView
-descriptor_of machine l = member_of (descriptor_spec machine l.definition.import_name)
+descriptor_of machine l = member_of (descriptor_spec machine (names_in Msvc l.definition))
 
 abbrev pub null_of : MachineType → Library → MemberView
-null_of machine l = member_of (null_descriptor_spec machine l.definition.import_name)
+null_of machine l = member_of (null_descriptor_spec machine (linked_dll l.definition))
 
 abbrev pub thunk_of : MachineType → Library → MemberView
-thunk_of machine l = member_of (null_thunk_spec machine l.definition.import_name)
+thunk_of machine l = member_of (null_thunk_spec machine (linked_dll l.definition))
 
 abbrev pub short_of : MachineType → Library → ExportView → MemberView
-short_of machine l e = member_of (short_import_spec machine l.definition.import_name e)
+short_of machine l e = member_of (short_import_spec machine (names_in Msvc l.definition) e)
 
 -- a weak external of an alias
 abbrev pub weak_of : MachineType → Library → List ℕ → List ℕ → MemberView
-weak_of machine l weak target = member_of (weak_spec machine l.definition.import_name weak target)
+weak_of machine l weak target = member_of (weak_spec machine (names_in Msvc l.definition) weak target)
 
 -- what it is taken for
 abbrev pub taken_weak : MachineType → List ℕ → List ℕ → Object
@@ -97,13 +99,13 @@ short_symbol e name none held = rw none held
 -- apart.
 module _ (machine : MachineType) where
   abbrev descriptor_group : Library → Group
-  descriptor_group l = record { members = descriptor_of machine l ∷ []; symbols = descriptor_symbol l.definition.import_name ∷ [] }
+  descriptor_group l = record { members = descriptor_of machine l ∷ []; symbols = descriptor_symbol (linked_dll l.definition) ∷ [] }
 
   abbrev thunk_group : Library → Group
-  thunk_group l = record { members = thunk_of machine l ∷ []; symbols = null_thunk_symbol l.definition.import_name ∷ [] }
+  thunk_group l = record { members = thunk_of machine l ∷ []; symbols = null_thunk_symbol (linked_dll l.definition) ∷ [] }
 
   abbrev short_group : Library → ExportView → Group
-  short_group l e = record { members = map member_of (export_specs machine l.definition.import_name e); symbols = symbols_of_short e }
+  short_group l e = record { members = map member_of (export_specs machine (names_in Msvc l.definition) e); symbols = symbols_of_short e }
 
   abbrev groups_of : Library → List Group
   groups_of l = descriptor_group l ∷ thunk_group l ∷ map (short_group l) (exports_of l)
@@ -111,11 +113,11 @@ module _ (machine : MachineType) where
   abbrev all_groups : List Library → List Group
   all_groups libraries = flat_map groups_of libraries
 
-  members_of_shorts : (l : Library) (es : List ExportView) → map member_of (flat_map (export_specs machine l.definition.import_name) es) ≡ members_of_groups (map (short_group l) es)
+  members_of_shorts : (l : Library) (es : List ExportView) → map member_of (flat_map (export_specs machine (names_in Msvc l.definition)) es) ≡ members_of_groups (map (short_group l) es)
   members_of_shorts l [] = refl
   members_of_shorts l (e ∷ es) =
-      map-append member_of (export_specs machine l.definition.import_name e) (flat_map (export_specs machine l.definition.import_name) es)
-      ∙ ap (λ ms. map member_of (export_specs machine l.definition.import_name e) ++ ms) (members_of_shorts l es)
+      map-append member_of (export_specs machine (names_in Msvc l.definition) e) (flat_map (export_specs machine (names_in Msvc l.definition)) es)
+      ∙ ap (λ ms. map member_of (export_specs machine (names_in Msvc l.definition) e) ++ ms) (members_of_shorts l es)
 
   symbols_of_groups_of : (l : Library) (es : List ExportView) → symbols_of_groups (map (short_group l) es) ≡ flat_map symbols_of_short es
   symbols_of_groups_of l [] = refl
@@ -126,7 +128,7 @@ module _ (machine : MachineType) where
   symbols_groups [] = refl
   symbols_groups (l ∷ libraries) =
       flat_map-append (λ (g : Group). g.symbols) (groups_of l) (all_groups libraries)
-      ∙ ap (λ names. descriptor_symbol l.definition.import_name ∷ null_thunk_symbol l.definition.import_name ∷ (names ++ symbols_of_groups (all_groups libraries))) (symbols_of_groups_of l (exports_of l))
+      ∙ ap (λ names. descriptor_symbol (linked_dll l.definition) ∷ null_thunk_symbol (linked_dll l.definition) ∷ (names ++ symbols_of_groups (all_groups libraries))) (symbols_of_groups_of l (exports_of l))
       ∙ ap (λ names. symbols_of_shorts l ++ names) (symbols_groups libraries)
 
   -- a library's members
@@ -319,17 +321,17 @@ module _ (machine : MachineType) where
     own_group : (l : Library) (g : Group) → Among l libraries → Among g (groups_of l) → Among g (all_groups libraries)
     own_group l g held own = among_flat groups_of l libraries g held own
 
-    pub descriptor_found : (l : Library) → Among l libraries → first_listed (archive_of libraries) (descriptor_symbol l.definition.import_name) ≡ Some (descriptor_of machine l)
+    pub descriptor_found : (l : Library) → Among l libraries → first_listed (archive_of libraries) (descriptor_symbol (linked_dll l.definition)) ≡ Some (descriptor_of machine l)
     unfolding descriptor_spec
     descriptor_found l held =
-        in_archive (descriptor_group l) (descriptor_symbol l.definition.import_name) (descriptor_of machine l) (own_group l (descriptor_group l) held (among_first _ _)) (among_first _ _)
-        (alone_first (descriptor_symbol l.definition.import_name) (descriptor_of machine l) (among_first _ _))
+        in_archive (descriptor_group l) (descriptor_symbol (linked_dll l.definition)) (descriptor_of machine l) (own_group l (descriptor_group l) held (among_first _ _)) (among_first _ _)
+        (alone_first (descriptor_symbol (linked_dll l.definition)) (descriptor_of machine l) (among_first _ _))
 
-    pub thunk_found : (l : Library) → Among l libraries → first_listed (archive_of libraries) (null_thunk_symbol l.definition.import_name) ≡ Some (thunk_of machine l)
+    pub thunk_found : (l : Library) → Among l libraries → first_listed (archive_of libraries) (null_thunk_symbol (linked_dll l.definition)) ≡ Some (thunk_of machine l)
     unfolding null_thunk_spec
     thunk_found l held =
-        in_archive (thunk_group l) (null_thunk_symbol l.definition.import_name) (thunk_of machine l) (own_group l (thunk_group l) held (among_later _ _ _ (among_first _ _))) (among_first _ _)
-        (alone_first (null_thunk_symbol l.definition.import_name) (thunk_of machine l) (among_first _ _))
+        in_archive (thunk_group l) (null_thunk_symbol (linked_dll l.definition)) (thunk_of machine l) (own_group l (thunk_group l) held (among_later _ _ _ (among_first _ _))) (among_first _ _)
+        (alone_first (null_thunk_symbol (linked_dll l.definition)) (thunk_of machine l) (among_first _ _))
 
     export_held : (l : Library) (e : ExportView) → Among l libraries → Among e (exports_of l) → Among (short_group l e) (all_groups libraries)
     export_held l e held there = own_group l (short_group l e) held (among_later _ _ _ (among_later _ _ _ (among_map (short_group l) e (exports_of l) there)))
@@ -346,9 +348,9 @@ module _ (machine : MachineType) where
 
     -- what a name finds
     pub data Found (name : List ℕ) (m : MemberView) : Type 0 where
-      FoundDescriptor : (l : Library) → Among l libraries → m ≡ descriptor_of machine l → name ≡ descriptor_symbol l.definition.import_name → Found name m
+      FoundDescriptor : (l : Library) → Among l libraries → m ≡ descriptor_of machine l → name ≡ descriptor_symbol (linked_dll l.definition) → Found name m
       FoundNull : (l : Library) (rest : List Library) → libraries ≡ l ∷ rest → m ≡ null_of machine l → name ≡ null_descriptor_symbol → Found name m
-      FoundThunk : (l : Library) → Among l libraries → m ≡ thunk_of machine l → name ≡ null_thunk_symbol l.definition.import_name → Found name m
+      FoundThunk : (l : Library) → Among l libraries → m ≡ thunk_of machine l → name ≡ null_thunk_symbol (linked_dll l.definition) → Found name m
       FoundShort : (l : Library) → Among l libraries → (e : ExportView) → Among e (exports_of l) → is_short_alias e ≡ false → m ≡ short_of machine l e → Among name (short_import_symbols e) → Found name m
       FoundWeak : (l : Library) → Among l libraries → (e : ExportView) → Among e (exports_of l) → is_short_alias e ≡ true → (weak target : List ℕ) → IsPair e weak target →
           m ≡ weak_of machine l weak target → name ≡ weak → Found name m
@@ -362,11 +364,11 @@ module _ (machine : MachineType) where
     found_in_kind g name m (OfDescriptor l held is) found =
         let there = first_is name (descriptor_of machine l ∷ []) m (subst (λ (y : Group). first_listed y.members name ≡ Some m) is found) in
         let same : m ≡ descriptor_of machine l = only_one m (descriptor_of machine l) there.0 in
-        FoundDescriptor l held same (only_one name (descriptor_symbol l.definition.import_name) (subst (λ (y : MemberView). Among name y.symbols) same there.1))
+        FoundDescriptor l held same (only_one name (descriptor_symbol (linked_dll l.definition)) (subst (λ (y : MemberView). Among name y.symbols) same there.1))
     found_in_kind g name m (OfThunk l held is) found =
         let there = first_is name (thunk_of machine l ∷ []) m (subst (λ (y : Group). first_listed y.members name ≡ Some m) is found) in
         let same : m ≡ thunk_of machine l = only_one m (thunk_of machine l) there.0 in
-        FoundThunk l held same (only_one name (null_thunk_symbol l.definition.import_name) (subst (λ (y : MemberView). Among name y.symbols) same there.1))
+        FoundThunk l held same (only_one name (null_thunk_symbol (linked_dll l.definition)) (subst (λ (y : MemberView). Among name y.symbols) same there.1))
     found_in_kind g name m (OfExport l held e there is) found =
         found_in_export l held e there name m (in_export l e name m (subst (λ (y : Group). first_listed y.members name ≡ Some m) is found))
 
@@ -374,7 +376,7 @@ module _ (machine : MachineType) where
   null_first : (l : Library) (libraries : List Library) → IsMsvcArchive machine (l ∷ libraries) → first_listed (archive_of (l ∷ libraries)) null_descriptor_symbol ≡ Some (null_of machine l)
   unfolding archive_of descriptor_spec null_descriptor_spec symbols_of_shorts IsDistinct
   null_first l libraries archive =
-      let other : bytes_eq null_descriptor_symbol (descriptor_symbol l.definition.import_name) ≡ false = archive.distinct.0.0 in
+      let other : bytes_eq null_descriptor_symbol (descriptor_symbol (linked_dll l.definition)) ≡ false = archive.distinct.0.0 in
       let own : bytes_eq null_descriptor_symbol null_descriptor_symbol ≡ true = (bytes_eq-Decides null_descriptor_symbol null_descriptor_symbol).1 refl in
       ap (λ ms. first_listed (ms ++ archive_of libraries) null_descriptor_symbol) (members_are l archive.made.0) ∙ rw (other, own) refl
 
@@ -402,32 +404,32 @@ module _ (machine : MachineType) where
 
   -- What members are taken for.
   module _ (l : Library) (made : IsMsvcLibrary machine l) where
-    pub descriptor_is : expanded_in machine (descriptor_of machine l).bytes ≡ Some (taken_descriptor machine l.definition.import_name)
+    pub descriptor_is : expanded_in machine (descriptor_of machine l).bytes ≡ Some (taken_descriptor machine (names_in Msvc l.definition))
     descriptor_is = descriptor_taken l.definition machine l.members [] made
 
     pub null_is : expanded_in machine (null_of machine l).bytes ≡ Some (taken_null machine)
     null_is = null_taken l.definition machine l.members [] made
 
-    pub thunk_is : expanded_in machine (thunk_of machine l).bytes ≡ Some (taken_null_thunk machine l.definition.import_name)
+    pub thunk_is : expanded_in machine (thunk_of machine l).bytes ≡ Some (taken_null_thunk machine (names_in Msvc l.definition))
     thunk_is = thunk_taken l.definition machine l.members [] made
 
-    pub short_is : (e : ExportView) → Among e (exports_of l) → expanded_in machine (short_of machine l e).bytes ≡ Some (asking machine l.definition.import_name e)
+    pub short_is : (e : ExportView) → Among e (exports_of l) → expanded_in machine (short_of machine l e).bytes ≡ Some (asking machine (names_in Msvc l.definition) e)
     short_is e there = short_taken l.definition machine l.members [] made e there
 
-    pair_there : (e : ExportView) (weak target : List ℕ) → is_short_alias e ≡ true → IsPair e weak target → Among (weak_spec machine l.definition.import_name weak target) (weak_specs machine l.definition.import_name e)
+    pair_there : (e : ExportView) (weak target : List ℕ) → is_short_alias e ≡ true → IsPair e weak target → Among (weak_spec machine (names_in Msvc l.definition) weak target) (weak_specs machine (linked_dll l.definition) e)
     unfolding weak_specs Among
     pair_there e weak target alias (inl is) = rw alias (inl (pair_same e weak target (short_import_symbol e) e.alias_target is.0 is.1))
       where
-        pair_same : (e : ExportView) (weak target w t : List ℕ) → weak ≡ w → target ≡ t → weak_spec machine l.definition.import_name weak target ≡ weak_spec machine l.definition.import_name w t
-        pair_same e weak target w t same other = ap (λ x. weak_spec machine l.definition.import_name x target) same ∙ ap (weak_spec machine l.definition.import_name w) other
+        pair_same : (e : ExportView) (weak target w t : List ℕ) → weak ≡ w → target ≡ t → weak_spec machine (names_in Msvc l.definition) weak target ≡ weak_spec machine (names_in Msvc l.definition) w t
+        pair_same e weak target w t same other = ap (λ x. weak_spec machine (names_in Msvc l.definition) x target) same ∙ ap (weak_spec machine (names_in Msvc l.definition) w) other
     pair_there e weak target alias (inr is) =
-        rw alias (inr (inl (ap (λ x. weak_spec machine l.definition.import_name x target) is.0 ∙ ap (weak_spec machine l.definition.import_name (imp_symbol (short_import_symbol e))) is.1)))
+        rw alias (inr (inl (ap (λ x. weak_spec machine (names_in Msvc l.definition) x target) is.0 ∙ ap (weak_spec machine (names_in Msvc l.definition) (imp_symbol (short_import_symbol e))) is.1)))
 
     pub weak_is : (e : ExportView) (weak target : List ℕ) → Among e (exports_of l) → is_short_alias e ≡ true → IsPair e weak target →
         expanded_in machine (weak_of machine l weak target).bytes ≡ Some (taken_weak machine weak target)
     weak_is e weak target there alias pair =
-        let dll : List ℕ = l.definition.import_name in
+        let dll : NamesOfDll = names_in Msvc l.definition in
         let p : MemberSpec = weak_spec machine dll weak target in
         taken_of l.definition machine l.members [] made p
         (among_back p (header_specs machine dll) (flat_map (export_specs machine dll) (exports_of l))
-        (among_flat (export_specs machine dll) e (exports_of l) p there (among_front p (weak_specs machine dll e) (short_import_spec machine dll e ∷ []) (pair_there e weak target alias pair))))
+        (among_flat (export_specs machine dll) e (exports_of l) p there (among_front p (weak_specs machine dll.linked e) (short_import_spec machine dll e ∷ []) (pair_there e weak target alias pair))))

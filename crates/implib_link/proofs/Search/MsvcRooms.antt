@@ -32,6 +32,7 @@ use Rattle.implib_link.proofs.Flavors.Inputs.{block_in}
 use Rattle.implib_link.proofs.Flavors.Program.{kept_are, parts_are}
 use Rattle.implib_link.proofs.Search.MsvcArchives.{imports_are}
 use Rattle.implib_link.proofs.Search.Rooms.{all_rooms, own_rooms, packed_end_kept, packed_near, sections_room, sum_next, without_near}
+use Rattle.implib.specs.LibraryName.{NamesOfDll, names_in}
 
 -- The name that is asked for is no longer than the symbol.
 
@@ -77,7 +78,7 @@ ask_near : (machine : MachineType) (e : ExportView) → ask_length (ask_in Msvc 
 ask_near machine e =
     either_near e.no_name e.ordinal (asked_by_name_type (name_type_of machine e) (short_import_symbol e)) (length (short_import_symbol e)) (name_near (name_type_of machine e) (short_import_symbol e))
 
-asking_near : (machine : MachineType) (dll symbol : List ℕ) (ask : Ask) (use_kind : Use) → own_rooms (import_object machine dll symbol ask use_kind) ≤ 40 + ask_length ask
+asking_near : (machine : MachineType) (dll symbol : List ℕ) (ask : Ask) (use_kind : Use) → own_rooms (import_object machine dll.text symbol ask use_kind) ≤ 40 + ask_length ask
 unfolding own_rooms sections_room import_object u16_bytes
 asking_near I386 dll symbol (Ordinal n) use_kind = omega arith
 asking_near ARMNT dll symbol (Ordinal n) use_kind = omega arith
@@ -88,11 +89,11 @@ asking_near ARMNT dll symbol (Name text hint) use_kind = (let all : length (text
 asking_near AMD64 dll symbol (Name text hint) use_kind = (let all : length (text ++ 0 ∷ []) ≡ length text + 1 = length-append text (0 ∷ []) in omega arith)
 asking_near ARM64 dll symbol (Name text hint) use_kind = (let all : length (text ++ 0 ∷ []) ≡ length text + 1 = length-append text (0 ∷ []) in omega arith)
 
-descriptor_near : (machine : MachineType) (dll : List ℕ) → own_rooms (taken_descriptor machine dll) ≤ 35 + length dll
+descriptor_near : (machine : MachineType) (dll : NamesOfDll) → own_rooms (taken_descriptor machine dll) ≤ 35 + length dll
 unfolding own_rooms sections_room with_section_symbols object_of descriptor entries_of name_text
-descriptor_near machine dll = (let name : length (dll ++ 0 ∷ []) ≡ length dll + 1 = length-append dll (0 ∷ []) in omega arith)
+descriptor_near machine dll = (let name : length (dll.text ++ 0 ∷ []) ≡ length dll + 1 = length-append dll.text (0 ∷ []) in omega arith)
 
-thunk_near : (machine : MachineType) (dll : List ℕ) → own_rooms (taken_null_thunk machine dll) ≤ 32
+thunk_near : (machine : MachineType) (dll : NamesOfDll) → own_rooms (taken_null_thunk machine dll) ≤ 32
 unfolding own_rooms sections_room with_section_symbols object_of null_thunk entries_of name_text
 thunk_near I386 dll = omega arith
 thunk_near ARMNT dll = omega arith
@@ -103,7 +104,7 @@ null_near : (machine : MachineType) → own_rooms (taken_null machine) ≤ 24
 unfolding own_rooms sections_room with_section_symbols object_of null_descriptor entries_of name_text
 null_near machine = omega arith
 
-askings_near : (machine : MachineType) (dll : List ℕ) (es : List ExportView) (rest : List Object) → all_rooms (behind_descriptor machine dll es rest) ≤ 32 + sum_by short_room es + all_rooms rest
+askings_near : (machine : MachineType) (dll : NamesOfDll) (es : List ExportView) (rest : List Object) → all_rooms (behind_descriptor machine dll es rest) ≤ 32 + sum_by short_room es + all_rooms rest
 unfolding all_rooms
 askings_near machine dll [] rest = (let thunk = thunk_near machine dll in omega arith)
 askings_near machine dll (e ∷ es) rest =
@@ -124,7 +125,7 @@ library_near : (machine : MachineType) (l : Library) (chosen : List ℕ) (others
 unfolding all_rooms
 library_near machine l [] others n m behind own = omega arith
 library_near machine l (c ∷ chosen) others n m behind own =
-    let dll : List ℕ = l.definition.import_name in
+    let dll : NamesOfDll = names_in Msvc l.definition in
     let first = descriptor_near machine dll in
     let rest = askings_near machine dll (chosen_exports l.definition (c ∷ chosen)) (all_objects machine (map block_in others) []) in
     omega arith

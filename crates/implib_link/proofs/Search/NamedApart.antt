@@ -19,6 +19,9 @@ use Rattle.implib_link.specs.Search.NamedApart.{AreNamedApart, begins_plain, nam
 use Rattle.implib_link.proofs.Search.Closed.{there_not}
 use Rattle.implib_link.proofs.Search.Counts.{distinct_from, few_from, times, times_both, times_moved}
 use Rattle.implib_link.proofs.Search.Lists.{among_either, among_mapped, distinct_join}
+use Rattle.implib.specs.LibraryName.{linked_name, names_in}
+use Rattle.implib.specs.LibraryName.{NamesOfDll}
+use Rattle.implib.specs.declared.flavor.Flavor.TheVariants.{Gnu}
 
 -- Symbols that differ by their first bytes.
 
@@ -88,12 +91,12 @@ distinct_mapped {X = X} g h back (x ∷ xs) distinct = (others xs distinct.0, di
       others ys all.1,
     )
 
-stem_of_tail : (machine : MachineType) (l k : Library) → iname_symbol machine l.definition.import_name ≡ iname_symbol machine k.definition.import_name → stem l ≡ stem k
+stem_of_tail : (machine : MachineType) (l k : Library) → iname_symbol machine (linked_name l.definition) ≡ iname_symbol machine (linked_name k.definition) → stem l ≡ stem k
 unfolding iname_symbol
 stem_of_tail machine l k same =
     append_cancel_right (stem l) (stem k) (codes "_iname") (append_cancel_left (leading_underscore machine) (stem l ++ codes "_iname") (stem k ++ codes "_iname") same)
 
-stem_of_head : (machine : MachineType) (l k : Library) → head_symbol machine l.definition.import_name ≡ head_symbol machine k.definition.import_name → stem l ≡ stem k
+stem_of_head : (machine : MachineType) (l k : Library) → head_symbol machine (linked_name l.definition) ≡ head_symbol machine (linked_name k.definition) → stem l ≡ stem k
 unfolding head_symbol
 stem_of_head machine l k same =
     append_cancel_left (codes "_head_") (stem l) (stem k) (append_cancel_left (leading_underscore machine) (codes "_head_" ++ stem l) (codes "_head_" ++ stem k) same)
@@ -128,7 +131,7 @@ module _ (machine : MachineType) where
   unfolding times symbols_of_library
   library_count name [] = omega arith
   library_count name (l ∷ libraries) =
-      let dll : List ℕ = l.definition.import_name in
+      let dll : NamesOfDll = names_in Gnu l.definition in
       let own : List (List ℕ) = map (λ (e : ExportView). e.name) (exports_of l) in
       let behind = library_count name libraries in
       let turned : times name (flat_map symbols_of_export (reverse (exports_of l))) ≡ times name (flat_map symbols_of_export (exports_of l)) =
@@ -171,33 +174,33 @@ module _ (machine : MachineType) where
         (distinct_mapped (λ (name : List ℕ). name) imp_symbol (λ x y same. append_cancel_left (codes "__imp_") x y same) names (subst (IsDistinct bytes_eq) (sym (map_same names)) apart.exports))
         (λ name held there. plain_name name held (among_back name tails (heads ++ imps) (among_back name heads imps there)))
 
-    head_of_among : (name : List ℕ) → Among name heads → (l : Library) × Among l libraries × (name ≡ head_symbol machine l.definition.import_name)
-    head_of_among name held = among_mapped (λ (l : Library). head_symbol machine l.definition.import_name) name libraries held
+    head_of_among : (name : List ℕ) → Among name heads → (l : Library) × Among l libraries × (name ≡ head_symbol machine (linked_name l.definition))
+    head_of_among name held = among_mapped (λ (l : Library). head_symbol machine (linked_name l.definition)) name libraries held
 
-    tail_of_among : (name : List ℕ) → Among name tails → (l : Library) × Among l libraries × (name ≡ iname_symbol machine l.definition.import_name)
-    tail_of_among name held = among_mapped (λ (l : Library). iname_symbol machine l.definition.import_name) name libraries held
+    tail_of_among : (name : List ℕ) → Among name tails → (l : Library) × Among l libraries × (name ≡ iname_symbol machine (linked_name l.definition))
+    tail_of_among name held = among_mapped (λ (l : Library). iname_symbol machine (linked_name l.definition)) name libraries held
 
     heads_and_others : IsDistinct bytes_eq (heads_of machine libraries ++ (names_in libraries ++ map imp_symbol (names_in libraries)))
     heads_and_others =
-        distinct_join heads (names ++ imps) (distinct_mapped stem (λ (l : Library). head_symbol machine l.definition.import_name) (stem_of_head machine) libraries apart.stems) names_and_imps
+        distinct_join heads (names ++ imps) (distinct_mapped stem (λ (l : Library). head_symbol machine (linked_name l.definition)) (stem_of_head machine) libraries apart.stems) names_and_imps
         (λ name held there. elim (among_either name names imps there) [
           | inl own ↦ plain_name name own (among_back name tails (heads ++ imps) (among_front name heads imps held))
           | inr imp ↦
               let l = head_of_among name held in
               let n = among_mapped imp_symbol name names imp in
-              head_no_imp machine l.0.definition.import_name n.0 (sym l.2 ∙ n.2)
+              head_no_imp machine (linked_name l.0.definition) n.0 (sym l.2 ∙ n.2)
         ])
 
     all_differ : IsDistinct bytes_eq (tails_of machine libraries ++ (heads_of machine libraries ++ (names_in libraries ++ map imp_symbol (names_in libraries))))
     all_differ =
-        distinct_join tails (heads ++ (names ++ imps)) (distinct_mapped stem (λ (l : Library). iname_symbol machine l.definition.import_name) (stem_of_tail machine) libraries apart.stems) heads_and_others
+        distinct_join tails (heads ++ (names ++ imps)) (distinct_mapped stem (λ (l : Library). iname_symbol machine (linked_name l.definition)) (stem_of_tail machine) libraries apart.stems) heads_and_others
         (λ name held there.
         let l = tail_of_among name held in
         elim (among_either name heads (names ++ imps) there) [
-          | inl head ↦ let k = head_of_among name head in tail_no_head machine l.0.definition.import_name k.0.definition.import_name (begins l.0 l.1) (sym l.2 ∙ k.2)
+          | inl head ↦ let k = head_of_among name head in tail_no_head machine (linked_name l.0.definition) (linked_name k.0.definition) (begins l.0 l.1) (sym l.2 ∙ k.2)
           | inr others ↦ elim (among_either name names imps others) [
             | inl own ↦ plain_name name own (among_front name tails (heads ++ imps) held)
-            | inr imp ↦ let n = among_mapped imp_symbol name names imp in tail_no_imp machine l.0.definition.import_name n.0 (begins l.0 l.1) (sym l.2 ∙ n.2)
+            | inr imp ↦ let n = among_mapped imp_symbol name names imp in tail_no_imp machine (linked_name l.0.definition) n.0 (begins l.0 l.1) (sym l.2 ∙ n.2)
           ]
         ])
 

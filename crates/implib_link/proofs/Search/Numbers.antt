@@ -16,6 +16,7 @@ use Rattle.implib.specs.Renaming.{renamed}
 use Rattle.implib.proofs.Link.Ranges.{Among, among_back, among_first}
 use Rattle.implib_link.proofs.Search.Lists.{all_listed, listed_mapped, distinct_apart, distinct_later, distinct_reversed, flat_map_among}
 use Rattle.implib_link.proofs.Search.Search.{address_listed, listed_export, name_differs, numbered_in, same_export}
+use Rattle.implib.specs.LibraryName.{NamesOfDll, linked_name, names_in}
 
 head_apart : (dll : List ℕ) (n : ℕ) → head_name dll ≡ export_name dll n → ⊥
 unfolding head_name numbered_name
@@ -29,9 +30,9 @@ pub head_no_export : (machine : MachineType) (dll : List ℕ) (n : ℕ) (e : Exp
 unfolding head_spec export_spec
 head_no_export machine dll n e same = head_apart dll n (ap (λ (m : MemberView). m.name) same)
 
-pub tail_no_export : (machine : MachineType) (dll : List ℕ) (n : ℕ) (e : ExportView) → member_of (tail_spec machine dll) ≡ member_of (export_spec machine dll n e) → ⊥
+pub tail_no_export : (machine : MachineType) (dll : NamesOfDll) (n : ℕ) (e : ExportView) → member_of (tail_spec machine dll) ≡ member_of (export_spec machine dll.linked n e) → ⊥
 unfolding tail_spec export_spec
-tail_no_export machine dll n e same = tail_apart dll n (ap (λ (m : MemberView). m.name) same)
+tail_no_export machine dll n e same = tail_apart dll.linked n (ap (λ (m : MemberView). m.name) same)
 
 -- One name is not listed for two exports.
 
@@ -83,18 +84,18 @@ module _ (d : DefinitionView) (machine : MachineType) (members : List MemberView
       Among name (archive_symbols e) → Among name (archive_symbols other) → n ≡ k
   one_number n k e other name is is_too listed listed_too =
       let exports : List ExportView = public_exports (renamed d) in
-      let behind : List MemberSpec = reverse (numbered_specs machine d.import_name 0 exports) in
-      let all : IsDistinct bytes_eq ((tail_spec machine d.import_name).symbols ++ ((head_spec machine d.import_name).symbols ++ flat_map (λ (p : MemberSpec). p.symbols) behind)) =
-      subst (IsDistinct bytes_eq) (ap all_listed made.made ∙ listed_mapped (tail_spec machine d.import_name ∷ head_spec machine d.import_name ∷ behind)) distinct in
-      one_place machine d.import_name exports 0 n k e other name
-      (distinct_reversed (λ (p : MemberSpec). p.symbols) (numbered_specs machine d.import_name 0 exports)
-      (distinct_later (head_spec machine d.import_name).symbols (flat_map (λ (p : MemberSpec). p.symbols) behind)
-      (distinct_later (tail_spec machine d.import_name).symbols ((head_spec machine d.import_name).symbols ++ flat_map (λ (p : MemberSpec). p.symbols) behind) all)))
+      let behind : List MemberSpec = reverse (numbered_specs machine (linked_name d) 0 exports) in
+      let all : IsDistinct bytes_eq ((tail_spec machine (names_in Gnu d)).symbols ++ ((head_spec machine (linked_name d)).symbols ++ flat_map (λ (p : MemberSpec). p.symbols) behind)) =
+      subst (IsDistinct bytes_eq) (ap all_listed made.made ∙ listed_mapped (tail_spec machine (names_in Gnu d) ∷ head_spec machine (linked_name d) ∷ behind)) distinct in
+      one_place machine (linked_name d) exports 0 n k e other name
+      (distinct_reversed (λ (p : MemberSpec). p.symbols) (numbered_specs machine (linked_name d) 0 exports)
+      (distinct_later (head_spec machine (linked_name d)).symbols (flat_map (λ (p : MemberSpec). p.symbols) behind)
+      (distinct_later (tail_spec machine (names_in Gnu d)).symbols ((head_spec machine (linked_name d)).symbols ++ flat_map (λ (p : MemberSpec). p.symbols) behind) all)))
       is is_too listed listed_too
 
   -- one member is not that of two exports
   pub same_number : (n k : ℕ) (e other : ExportView) → slice_get (public_exports (renamed d)) n ≡ Some e → slice_get (public_exports (renamed d)) k ≡ Some other →
-      member_of (export_spec machine d.import_name n e) ≡ member_of (export_spec machine d.import_name k other) → n ≡ k
+      member_of (export_spec machine (linked_name d) n e) ≡ member_of (export_spec machine (linked_name d) k other) → n ≡ k
   same_number n k e other is is_too same =
       one_number n k e other (imp_symbol e.name) is is_too (address_listed e)
-      (subst (Among (imp_symbol e.name)) (sym (listed_export machine d.import_name n e) ∙ ap (λ (m : MemberView). m.symbols) same ∙ listed_export machine d.import_name k other) (address_listed e))
+      (subst (Among (imp_symbol e.name)) (sym (listed_export machine (linked_name d) n e) ∙ ap (λ (m : MemberView). m.symbols) same ∙ listed_export machine (linked_name d) k other) (address_listed e))

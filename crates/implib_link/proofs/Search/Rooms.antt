@@ -32,6 +32,9 @@ use Rattle.implib_link.proofs.Gnu.Blocks.{objects_behind}
 use Rattle.implib_link.proofs.Gnu.Packed.{end_kept}
 use Rattle.implib_link.proofs.Search.Archives.{inputs_made}
 use Rattle.implib_link.proofs.Search.Arranged.{chosen_are}
+use Rattle.implib.specs.LibraryName.{NamesOfDll}
+use Rattle.implib.specs.LibraryName.{names_in}
+use Rattle.implib.specs.declared.flavor.Flavor.TheVariants.{Gnu}
 
 -- The room of a group in objects: for each section its bytes and its alignment.
 
@@ -134,7 +137,7 @@ width_near ARMNT = omega arith
 width_near AMD64 = omega arith
 width_near ARM64 = omega arith
 
-head_near : (machine : MachineType) (dll : List ℕ) → own_rooms (head machine dll) ≡ 32
+head_near : (machine : MachineType) (dll : NamesOfDll) → own_rooms (head machine dll) ≡ 32
 unfolding own_rooms sections_room head_object
 head_near machine dll = refl
 
@@ -158,14 +161,14 @@ hint_near machine e =
     let all : length (name_asked machine e ++ 0 ∷ []) ≡ length (name_asked machine e) + 1 = length-append (name_asked machine e) (0 ∷ []) in
     elim (cases_Bool e.no_name) [ inl is ↦ rw is (omega arith) | inr is ↦ rw is (omega arith) ]
 
-export_near : (machine : MachineType) (dll : List ℕ) (e : ExportView) → own_rooms (export machine dll e) ≤ export_room e
+export_near : (machine : MachineType) (dll : NamesOfDll) (e : ExportView) → own_rooms (export machine dll e) ≤ export_room e
 unfolding own_rooms sections_room export_object
 export_near machine dll e =
     let width = width_near machine in
     let hint = hint_near machine e in
     rw (length-thunk machine e) (omega arith)
 
-tail_near : (machine : MachineType) (dll : List ℕ) → own_rooms (tail machine dll) ≤ 29 + length dll
+tail_near : (machine : MachineType) (dll : NamesOfDll) → own_rooms (tail machine dll) ≤ 29 + length dll
 unfolding own_rooms sections_room tail_object
 tail_near machine dll =
     let width = width_near machine in
@@ -180,7 +183,7 @@ null_near = refl
 pub sum_next : {X : Type 0} (f : X → ℕ) (x : X) (xs : List X) → sum_by f (x ∷ xs) ≡ f x + sum_by f xs
 sum_next f x xs = (let both : sum_by f (x ∷ xs) ≡ 0 + f x + sum_by f xs = sum_by-append f (x ∷ []) xs in omega arith)
 
-exports_near : (machine : MachineType) (dll : List ℕ) (es : List ExportView) (rest : List Object) → all_rooms (map (export machine dll) es ++ rest) ≤ sum_by export_room es + all_rooms rest
+exports_near : (machine : MachineType) (dll : NamesOfDll) (es : List ExportView) (rest : List Object) → all_rooms (map (export machine dll) es ++ rest) ≤ sum_by export_room es + all_rooms rest
 unfolding all_rooms
 exports_near machine dll [] rest = omega arith
 exports_near machine dll (e ∷ es) rest =
@@ -214,11 +217,11 @@ some_near test (e ∷ es) =
     elim (cases_Bool (test e)) [ inl is ↦ rw is (omega arith) | inr is ↦ rw is (omega arith) ]
 
 input_near : (l : Library) (chosen : List ℕ) (others : List LinkInput) (n m : ℕ) → sum_by block_room (map block_of others) ≤ n →
-    block_room (record { dll = l.definition.import_name; exports = chosen_exports l.definition chosen }) ≤ m →
+    block_room (record { dll = names_in Gnu l.definition; exports = chosen_exports l.definition chosen }) ≤ m →
     sum_by block_room (map block_of (cons_option (input_if_any l chosen) others)) ≤ m + n
 input_near l [] others n m behind own = omega arith
 input_near l (c ∷ chosen) others n m behind own =
-    let own_block : Block = record { dll = l.definition.import_name; exports = chosen_exports l.definition (c ∷ chosen) } in
+    let own_block : Block = record { dll = names_in Gnu l.definition; exports = chosen_exports l.definition (c ∷ chosen) } in
     let next : sum_by block_room (own_block ∷ map block_of others) ≡ block_room own_block + sum_by block_room (map block_of others) = sum_next block_room own_block (map block_of others) in
     omega arith
 
@@ -227,7 +230,7 @@ libraries_near [] wanted = omega arith
 libraries_near (l ∷ libraries) wanted =
     let all : sum_by library_room (l ∷ libraries) ≡ library_room l + sum_by library_room libraries = sum_next library_room l libraries in
     let some : sum_by export_room (filter (is_wanted wanted) (exports_of l)) ≤ sum_by export_room (exports_of l) = some_near (is_wanted wanted) (exports_of l) in
-    let own : block_room (record { dll = l.definition.import_name; exports = chosen_exports l.definition (exports_wanted l.definition wanted) }) ≤ library_room l =
+    let own : block_room (record { dll = names_in Gnu l.definition; exports = chosen_exports l.definition (exports_wanted l.definition wanted) }) ≤ library_room l =
     subst (λ (es : List ExportView). 61 + length l.definition.import_name + sum_by export_room es ≤ library_room l) (sym (chosen_are l wanted)) (omega arith) in
     subst (λ n. sum_by block_room (map block_of (inputs_wanted (l ∷ libraries) wanted)) ≤ n) (sym all)
     (input_near l (exports_wanted l.definition wanted) (inputs_wanted libraries wanted) (sum_by library_room libraries) (library_room l) (libraries_near libraries wanted) own)

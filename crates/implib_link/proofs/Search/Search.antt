@@ -22,6 +22,7 @@ use Rattle.implib.proofs.Link.Placement.{export, head, tail}
 use Rattle.implib.proofs.Link.Ranges.{Among, among_back, among_first, among_front, among_later}
 use Rattle.implib_link.specs.Search.Search.{is_wanted, undefined_in, linked_if_any, numbers_wanted}
 use Rattle.implib_link.proofs.Search.Lists.{all_listed, among_any, among_either, among_mapped, among_reversed, any_among, one_member}
+use Rattle.implib.specs.LibraryName.{NamesOfDll, linked_name, names_in}
 
 -- What specifications there are.
 
@@ -168,19 +169,19 @@ chosen_member_spec machine dll exports (k ∷ chosen) p held =
 
 -- What the members leave to others, claim, and are listed for.
 
-pub left_tail : (machine : MachineType) (dll : List ℕ) → undefined_in (tail machine dll) ≡ []
+pub left_tail : (machine : MachineType) (dll : NamesOfDll) → undefined_in (tail machine dll) ≡ []
 unfolding undefined_in tail_object
 left_tail machine dll = refl
 
-pub left_head : (machine : MachineType) (dll : List ℕ) → undefined_in (head machine dll) ≡ iname_symbol machine dll ∷ []
+pub left_head : (machine : MachineType) (dll : NamesOfDll) → undefined_in (head machine dll) ≡ iname_symbol machine dll.linked ∷ []
 unfolding undefined_in head_object
 left_head machine dll = refl
 
-pub left_export : (machine : MachineType) (dll : List ℕ) (e : ExportView) → undefined_in (export machine dll e) ≡ head_symbol machine dll ∷ []
+pub left_export : (machine : MachineType) (dll : NamesOfDll) (e : ExportView) → undefined_in (export machine dll e) ≡ head_symbol machine dll.linked ∷ []
 unfolding undefined_in export_object
 left_export machine dll e = elim (cases_Bool e.is_data) [ inl is ↦ rw is refl | inr is ↦ rw is refl ]
 
-pub listed_tail : (machine : MachineType) (dll : List ℕ) → (member_of (tail_spec machine dll)).symbols ≡ iname_symbol machine dll ∷ []
+pub listed_tail : (machine : MachineType) (dll : NamesOfDll) → (member_of (tail_spec machine dll)).symbols ≡ iname_symbol machine dll.linked ∷ []
 unfolding tail_spec
 listed_tail machine dll = refl
 
@@ -251,32 +252,32 @@ module _ (d : DefinitionView) (machine : MachineType) (members : List MemberView
   public = public_exports (renamed d)
 
   abbrev pub the_head : MemberView
-  the_head = member_of (head_spec machine d.import_name)
+  the_head = member_of (head_spec machine (linked_name d))
 
   abbrev pub the_tail : MemberView
-  the_tail = member_of (tail_spec machine d.import_name)
+  the_tail = member_of (tail_spec machine (names_in Gnu d))
 
   abbrev pub the_export : ℕ → ExportView → MemberView
-  the_export n e = member_of (export_spec machine d.import_name n e)
+  the_export n e = member_of (export_spec machine (linked_name d) n e)
 
-  specified : (p : MemberSpec) → Among p (gnu_specs machine d.import_name public) → Among (member_of p) members
-  specified p held = subst (Among (member_of p)) (sym made.made) (among_map member_of p (gnu_specs machine d.import_name public) held)
+  specified : (p : MemberSpec) → Among p (gnu_specs machine (names_in Gnu d) public) → Among (member_of p) members
+  specified p held = subst (Among (member_of p)) (sym made.made) (among_map member_of p (gnu_specs machine (names_in Gnu d) public) held)
 
-  member_spec_held : (n : ℕ) (e : ExportView) (p : MemberSpec) → slice_get public n ≡ Some e → Among p (numbered_specs_of machine d.import_name n e) → Among (member_of p) members
+  member_spec_held : (n : ℕ) (e : ExportView) (p : MemberSpec) → slice_get public n ≡ Some e → Among p (numbered_specs_of machine (linked_name d) n e) → Among (member_of p) members
   member_spec_held n e p is held =
       let position : n ≡ 0 + n = omega arith in
-      specified p (among_later _ _ _ (among_later _ _ _ (among_reverse p (numbered_specs machine d.import_name 0 public)
-      (numbered_in machine d.import_name public 0 n e p is (subst (λ k. Among p (numbered_specs_of machine d.import_name k e)) position held)))))
+      specified p (among_later _ _ _ (among_later _ _ _ (among_reverse p (numbered_specs machine (linked_name d) 0 public)
+      (numbered_in machine (linked_name d) public 0 n e p is (subst (λ k. Among p (numbered_specs_of machine (linked_name d) k e)) position held)))))
 
   pub export_held : (n : ℕ) (e : ExportView) → slice_get public n ≡ Some e → Among (the_export n e) members
   export_held n e is =
-      member_spec_held n e (export_spec machine d.import_name n e) is
-      (among_back (export_spec machine d.import_name n e) (alias_specs machine d.import_name n e) (export_spec machine d.import_name n e ∷ []) (among_first _ _))
+      member_spec_held n e (export_spec machine (linked_name d) n e) is
+      (among_back (export_spec machine (linked_name d) n e) (alias_specs machine (linked_name d) n e) (export_spec machine (linked_name d) n e ∷ []) (among_first _ _))
 
   abbrev alias_of : ℕ → ExportView → MemberSpec
-  alias_of n e = weak_spec machine (weak_address_name d.import_name n) (imp_symbol e.name) (imp_symbol e.alias_target)
+  alias_of n e = weak_spec machine (weak_address_name (linked_name d) n) (imp_symbol e.name) (imp_symbol e.alias_target)
 
-  alias_there : (n : ℕ) (e : ExportView) → is_alias e.alias_target e.name ≡ true → Among (alias_of n e) (alias_specs machine d.import_name n e)
+  alias_there : (n : ℕ) (e : ExportView) → is_alias e.alias_target e.name ≡ true → Among (alias_of n e) (alias_specs machine (linked_name d) n e)
   unfolding alias_specs
   alias_there n e alias = rw alias (among_later _ _ _ (among_first _ _))
 
@@ -284,26 +285,26 @@ module _ (d : DefinitionView) (machine : MachineType) (members : List MemberView
   pub no_alias : (n : ℕ) (e : ExportView) → slice_get public n ≡ Some e → is_alias e.alias_target e.name ≡ true → ⊥
   unfolding export_spec
   no_alias n e is alias =
-      names_apart d.import_name n (ap (λ (m : MemberView). m.name)
+      names_apart (linked_name d) n (ap (λ (m : MemberView). m.name)
       (one_member members (imp_symbol e.name) (member_of (alias_of n e)) (the_export n e) distinct
-      (member_spec_held n e (alias_of n e) is (among_front (alias_of n e) (alias_specs machine d.import_name n e) (export_spec machine d.import_name n e ∷ []) (alias_there n e alias)))
+      (member_spec_held n e (alias_of n e) is (among_front (alias_of n e) (alias_specs machine (linked_name d) n e) (export_spec machine (linked_name d) n e ∷ []) (alias_there n e alias)))
       (export_held n e is) (among_first _ _) (address_listed e)))
 
-  kind_specified : (m : MemberView) (p : MemberSpec) → m ≡ member_of p → Among p (gnu_specs machine d.import_name public) → Kind machine d.import_name public m
+  kind_specified : (m : MemberView) (p : MemberSpec) → m ≡ member_of p → Among p (gnu_specs machine (names_in Gnu d) public) → Kind machine (linked_name d) public m
   unfolding Among
   kind_specified m p same (inl e) = IsTail (same ∙ ap member_of e)
   kind_specified m p same (inr (inl e)) = IsHead (same ∙ ap member_of e)
   kind_specified m p same (inr (inr held)) =
-      let own = numbered_is machine d.import_name public 0 p (among_reversed p (numbered_specs machine d.import_name 0 public) held) in
+      let own = numbered_is machine (linked_name d) public 0 p (among_reversed p (numbered_specs machine (linked_name d) 0 public) held) in
       let position : 0 + own.0 ≡ own.0 = omega arith in
       elim own.3 [
-        | inl e ↦ OfAnExport (record { number = own.0; export = own.1; is = own.2; same = same ∙ ap member_of (e ∙ ap (λ n. export_spec machine d.import_name n own.1) position) })
+        | inl e ↦ OfAnExport (record { number = own.0; export = own.1; is = own.2; same = same ∙ ap member_of (e ∙ ap (λ n. export_spec machine (linked_name d) n own.1) position) })
         | inr alias ↦ absurd (no_alias own.0 own.1 own.2 alias)
       ]
 
-  pub kind : (m : MemberView) → Among m members → Kind machine d.import_name public m
+  pub kind : (m : MemberView) → Among m members → Kind machine (linked_name d) public m
   kind m held =
-      let p = among_mapped member_of m (gnu_specs machine d.import_name public) (subst (Among m) made.made held) in
+      let p = among_mapped member_of m (gnu_specs machine (names_in Gnu d) public) (subst (Among m) made.made held) in
       kind_specified m p.0 p.2 p.1
 
 -- What is linked of chosen exports.
@@ -327,13 +328,13 @@ numbers_are_wanted exports wanted = record {
 abbrev member_specs_linked : MachineType → List ℕ → List ExportView → List ℕ → List MemberSpec
 member_specs_linked machine dll exports chosen = head_spec machine dll ∷ (filter_map (numbered_spec machine dll exports) chosen ++ tail_spec machine dll ∷ [])
 
-member_spec_linked : (machine : MachineType) (dll : List ℕ) (exports : List ExportView) (chosen : List ℕ) (p : MemberSpec) → Among p (member_specs_linked machine dll exports chosen) →
-    (p ≡ head_spec machine dll) ⊎ ((p ≡ tail_spec machine dll) ⊎ Chosen machine dll exports chosen p)
+member_spec_linked : (machine : MachineType) (dll : NamesOfDll) (exports : List ExportView) (chosen : List ℕ) (p : MemberSpec) → Among p (member_specs_linked machine dll.linked exports chosen) →
+    (p ≡ head_spec machine dll.linked) ⊎ ((p ≡ tail_spec machine dll) ⊎ Chosen machine dll.linked exports chosen p)
 unfolding Among
 member_spec_linked machine dll exports chosen p (inl e) = inl e
 member_spec_linked machine dll exports chosen p (inr held) =
-    elim (among_either p (filter_map (numbered_spec machine dll exports) chosen) (tail_spec machine dll ∷ []) held) [
-      | inl own ↦ inr (inr (chosen_member_spec machine dll exports chosen p own))
+    elim (among_either p (filter_map (numbered_spec machine dll.linked exports) chosen) (tail_spec machine dll ∷ []) held) [
+      | inl own ↦ inr (inr (chosen_member_spec machine dll.linked exports chosen p own))
       | inr last ↦ inr (inl (only_one p (tail_spec machine dll) last))
     ]
 
@@ -349,29 +350,29 @@ linked_some d machine [] m held = absurd (in_nothing m held)
 linked_some d machine (n ∷ chosen) m held = (n, among_first n chosen, held)
 
 module _ (d : DefinitionView) (machine : MachineType) (wanted : List (List ℕ)) (chosen : List ℕ) (are : AreWanted (public_exports (renamed d)) wanted chosen) where
-  pub member_spec_in : (p : MemberSpec) → Among p (member_specs_linked machine d.import_name (public_exports (renamed d)) chosen) → Among (member_of p) (linked_members d machine chosen)
-  member_spec_in p held = among_map member_of p (member_specs_linked machine d.import_name (public_exports (renamed d)) chosen) held
+  pub member_spec_in : (p : MemberSpec) → Among p (member_specs_linked machine (linked_name d) (public_exports (renamed d)) chosen) → Among (member_of p) (linked_members d machine chosen)
+  member_spec_in p held = among_map member_of p (member_specs_linked machine (linked_name d) (public_exports (renamed d)) chosen) held
 
-  pub linked_if_needed : (m : MemberView) → Needed machine d.import_name (public_exports (renamed d)) wanted m → Among m (linked_if_any d machine chosen)
+  pub linked_if_needed : (m : MemberView) → Needed machine (linked_name d) (public_exports (renamed d)) wanted m → Among m (linked_if_any d machine chosen)
   linked_if_needed m (TheTail same any) =
       some_chosen d machine chosen any.number m (are.all any.number any.export any.is any.want) (subst (λ x. Among x (linked_members d machine chosen)) (sym same)
-      (member_spec_in (tail_spec machine d.import_name) (among_later _ _ _
-      (among_back _ (filter_map (numbered_spec machine d.import_name (public_exports (renamed d))) chosen) (tail_spec machine d.import_name ∷ []) (among_first _ _)))))
+      (member_spec_in (tail_spec machine (names_in Gnu d)) (among_later _ _ _
+      (among_back _ (filter_map (numbered_spec machine (linked_name d) (public_exports (renamed d))) chosen) (tail_spec machine (names_in Gnu d) ∷ []) (among_first _ _)))))
   linked_if_needed m (TheHead same any) =
       some_chosen d machine chosen any.number m (are.all any.number any.export any.is any.want) (subst (λ x. Among x (linked_members d machine chosen)) (sym same)
-      (member_spec_in (head_spec machine d.import_name) (among_first _ _)))
+      (member_spec_in (head_spec machine (linked_name d)) (among_first _ _)))
   linked_if_needed m (AnExport x want) =
       some_chosen d machine chosen x.number m (are.all x.number x.export x.is want) (subst (λ y. Among y (linked_members d machine chosen)) (sym x.same)
-      (member_spec_in (export_spec machine d.import_name x.number x.export) (among_later _ _ _
-      (among_front _ (filter_map (numbered_spec machine d.import_name (public_exports (renamed d))) chosen) (tail_spec machine d.import_name ∷ [])
-      (member_spec_chosen machine d.import_name (public_exports (renamed d)) chosen x.number x.export (are.all x.number x.export x.is want) x.is)))))
+      (member_spec_in (export_spec machine (linked_name d) x.number x.export) (among_later _ _ _
+      (among_front _ (filter_map (numbered_spec machine (linked_name d) (public_exports (renamed d))) chosen) (tail_spec machine (names_in Gnu d) ∷ [])
+      (member_spec_chosen machine (linked_name d) (public_exports (renamed d)) chosen x.number x.export (are.all x.number x.export x.is want) x.is)))))
 
   any_of : (k : ℕ) → Among k chosen → AnyWanted (public_exports (renamed d)) wanted
   any_of k held = let found = are.only k held in record { number = k; export = found.0; is = found.1; want = found.2 }
 
   needed_member_spec : (m : MemberView) (p : MemberSpec) → m ≡ member_of p → AnyWanted (public_exports (renamed d)) wanted →
-      (p ≡ head_spec machine d.import_name) ⊎ ((p ≡ tail_spec machine d.import_name) ⊎ Chosen machine d.import_name (public_exports (renamed d)) chosen p) →
-      Needed machine d.import_name (public_exports (renamed d)) wanted m
+      (p ≡ head_spec machine (linked_name d)) ⊎ ((p ≡ tail_spec machine (names_in Gnu d)) ⊎ Chosen machine (linked_name d) (public_exports (renamed d)) chosen p) →
+      Needed machine (linked_name d) (public_exports (renamed d)) wanted m
   needed_member_spec m p same any (inl e) = TheHead (same ∙ ap member_of e) any
   needed_member_spec m p same any (inr (inl e)) = TheTail (same ∙ ap member_of e) any
   needed_member_spec m p same any (inr (inr c)) =
@@ -379,8 +380,8 @@ module _ (d : DefinitionView) (machine : MachineType) (wanted : List (List ℕ))
       let own : c.1 ≡ found.0 = same_export c.1 found.0 (sym c.3 ∙ found.1) in
       AnExport (record { number = c.0; export = c.1; is = c.3; same = same ∙ ap member_of c.4 }) (subst (λ e. is_wanted wanted e ≡ true) (sym own) found.2)
 
-  pub needed_if_linked : (m : MemberView) → Among m (linked_if_any d machine chosen) → Needed machine d.import_name (public_exports (renamed d)) wanted m
+  pub needed_if_linked : (m : MemberView) → Among m (linked_if_any d machine chosen) → Needed machine (linked_name d) (public_exports (renamed d)) wanted m
   needed_if_linked m held =
       let some = linked_some d machine chosen m held in
-      let p = among_mapped member_of m (member_specs_linked machine d.import_name (public_exports (renamed d)) chosen) some.2 in
-      needed_member_spec m p.0 p.2 (any_of some.0 some.1) (member_spec_linked machine d.import_name (public_exports (renamed d)) chosen p.0 p.1)
+      let p = among_mapped member_of m (member_specs_linked machine (linked_name d) (public_exports (renamed d)) chosen) some.2 in
+      needed_member_spec m p.0 p.2 (any_of some.0 some.1) (member_spec_linked machine (names_in Gnu d) (public_exports (renamed d)) chosen p.0 p.1)

@@ -24,6 +24,7 @@ use Rattle.implib_link.proofs.Search.One.{needed, taken_held, taken_if_needed}
 use Rattle.implib_link.proofs.Search.Lists.{all_listed, among_either, among_mapped, apart_none, contains_among, distinct_apart, some_distinct}
 use Rattle.implib_link.proofs.Search.Search.{AnExport, IsExport, Needed, TheHead, TheTail, chosen_member_spec, in_nothing, numbers_are_wanted, only_one}
 use Rattle.implib_link.proofs.Search.Numbers.{head_no_export, same_number, tail_no_export}
+use Rattle.implib.specs.LibraryName.{linked_name, names_in}
 
 -- a member of a wanted export
 abbrev OfWanted : MachineType → List ℕ → List ExportView → List (List ℕ) → MemberView → Type 0
@@ -52,16 +53,16 @@ numbers_of machine dll exports wanted (x ∷ members) all =
     first_or_later k n ns held here there = elim (among_either k (n ∷ []) ns held) [ inl e ↦ here (only_one k n e) | inr m ↦ there m ]
 
 module _ (machine : MachineType) (d : DefinitionView) (members taken arranged : List MemberView) (wanted : List (List ℕ))
-    (made : AreMembersOf d machine Gnu members) (distinct : IsDistinct bytes_eq (all_listed members)) (plain : NamesNoHeadOrTail machine d.import_name wanted)
-    (takes : Takes members wanted taken) (is_arranged : IsArranged machine d.import_name taken arranged) where
+    (made : AreMembersOf d machine Gnu members) (distinct : IsDistinct bytes_eq (all_listed members)) (plain : NamesNoHeadOrTail machine (linked_name d) wanted)
+    (takes : Takes members wanted taken) (is_arranged : IsArranged machine (names_in Gnu d) taken arranged) where
   abbrev exports : List ExportView
   exports = public_exports (renamed d)
 
   abbrev head_member : MemberView
-  head_member = member_of (head_spec machine d.import_name)
+  head_member = member_of (head_spec machine (linked_name d))
 
   abbrev tail_member : MemberView
-  tail_member = member_of (tail_spec machine d.import_name)
+  tail_member = member_of (tail_spec machine (names_in Gnu d))
 
   abbrev between : List MemberView
   between = is_arranged.between
@@ -78,7 +79,7 @@ module _ (machine : MachineType) (d : DefinitionView) (members taken arranged : 
   is_in_order : (m : MemberView) → Among m taken → Among m in_order
   is_in_order m held = subst (Among m) is_arranged.order (contains_among m arranged ((is_arranged.same m).0 (among_contains m taken held)))
 
-  needed_between : (m : MemberView) → Among m between → Needed machine d.import_name exports wanted m → OfWanted machine d.import_name exports wanted m
+  needed_between : (m : MemberView) → Among m between → Needed machine (linked_name d) exports wanted m → OfWanted machine (linked_name d) exports wanted m
   unfolding IsDistinct
   needed_between m held (TheTail same any) =
       absurd (distinct_apart (map (λ (m : MemberView). m.name) between) (tail_member.name ∷ []) tail_member.name
@@ -90,9 +91,9 @@ module _ (machine : MachineType) (d : DefinitionView) (members taken arranged : 
       (among_map (λ (m : MemberView). m.name) m (between ++ tail_member ∷ []) (among_front m between (tail_member ∷ []) held))) once.0)
   needed_between m held (AnExport x want) = (x, want)
 
-  numbers : HaveNumbers machine d.import_name exports wanted between
+  numbers : HaveNumbers machine (linked_name d) exports wanted between
   numbers =
-      numbers_of machine d.import_name exports wanted between (λ m held. needed_between m held
+      numbers_of machine (linked_name d) exports wanted between (λ m held. needed_between m held
       (needed d machine members made distinct wanted plain taken takes m
       (is_taken m (among_later m head_member (between ++ tail_member ∷ []) (among_front m between (tail_member ∷ []) held)))))
 
@@ -103,22 +104,22 @@ module _ (machine : MachineType) (d : DefinitionView) (members taken arranged : 
   are_linked =
       is_arranged.order
       ∙ ap (λ b. head_member ∷ (b ++ tail_member ∷ [])) numbers.1
-      ∙ ap (λ ms. head_member ∷ ms) (sym (map-append member_of (filter_map (numbered_spec machine d.import_name exports) numbers.0) (tail_spec machine d.import_name ∷ [])))
+      ∙ ap (λ ms. head_member ∷ ms) (sym (map-append member_of (filter_map (numbered_spec machine (linked_name d) exports) numbers.0) (tail_spec machine (names_in Gnu d) ∷ [])))
 
   all_are : arranged ≡ all_linked machine (input ∷ [])
   all_are = are_linked ∙ sym (append-nil (linked_members d machine numbers.0))
 
-  number_in : (k : ℕ) (e : ExportView) → slice_get exports k ≡ Some e → Among (member_of (export_spec machine d.import_name k e)) in_order → Among k numbers.0
+  number_in : (k : ℕ) (e : ExportView) → slice_get exports k ≡ Some e → Among (member_of (export_spec machine (linked_name d) k e)) in_order → Among k numbers.0
   number_in k e is held =
-      let m : MemberView = member_of (export_spec machine d.import_name k e) in
+      let m : MemberView = member_of (export_spec machine (linked_name d) k e) in
       elim (among_either m (head_member ∷ []) (between ++ tail_member ∷ []) held) [
-        | inl first ↦ absurd (head_no_export machine d.import_name k e (sym (only_one m head_member first)))
+        | inl first ↦ absurd (head_no_export machine (linked_name d) k e (sym (only_one m head_member first)))
         | inr behind ↦ elim (among_either m between (tail_member ∷ []) behind) [
           | inl own ↦
-              let p = among_mapped member_of m (filter_map (numbered_spec machine d.import_name exports) numbers.0) (subst (Among m) numbers.1 own) in
-              let c = chosen_member_spec machine d.import_name exports numbers.0 p.0 p.1 in
+              let p = among_mapped member_of m (filter_map (numbered_spec machine (linked_name d) exports) numbers.0) (subst (Among m) numbers.1 own) in
+              let c = chosen_member_spec machine (linked_name d) exports numbers.0 p.0 p.1 in
               subst (λ n. Among n numbers.0) (sym (same_number d machine members made distinct k c.0 e c.1 is c.3 (p.2 ∙ ap member_of c.4))) c.2
-          | inr last ↦ absurd (tail_no_export machine d.import_name k e (sym (only_one m tail_member last)))
+          | inr last ↦ absurd (tail_no_export machine (names_in Gnu d) k e (sym (only_one m tail_member last)))
         ]
       ]
 
@@ -129,8 +130,8 @@ module _ (machine : MachineType) (d : DefinitionView) (members taken arranged : 
         among_contains k (exports_wanted d wanted) ((numbers_are_wanted exports wanted).all k found.0 found.1 found.2),
     λ has.
         let found = (numbers_are_wanted exports wanted).only k (contains_among k (exports_wanted d wanted) has) in
-        among_contains k numbers.0 (number_in k found.0 found.1 (is_in_order (member_of (export_spec machine d.import_name k found.0))
-        (taken_if_needed d machine members made distinct wanted plain taken takes (member_of (export_spec machine d.import_name k found.0))
+        among_contains k numbers.0 (number_in k found.0 found.1 (is_in_order (member_of (export_spec machine (linked_name d) k found.0))
+        (taken_if_needed d machine members made distinct wanted plain taken takes (member_of (export_spec machine (linked_name d) k found.0))
         (AnExport (record { number = k; export = found.0; is = found.1; same = refl }) found.2)))),
   )
 
@@ -159,14 +160,14 @@ module _ (machine : MachineType) (d : DefinitionView) (members taken arranged : 
   }
 
 pub linked_in_order : (machine : MachineType) (d : DefinitionView) (members taken arranged : List MemberView) (wanted : List (List ℕ)) → AreMembersOf d machine Gnu members →
-    IsDistinct bytes_eq (all_listed members) → NamesNoHeadOrTail machine d.import_name wanted → Takes members wanted taken →
-    IsArranged machine d.import_name taken arranged → IsLinkedOfWanted machine d wanted arranged
+    IsDistinct bytes_eq (all_listed members) → NamesNoHeadOrTail machine (linked_name d) wanted → Takes members wanted taken →
+    IsArranged machine (names_in Gnu d) taken arranged → IsLinkedOfWanted machine d wanted arranged
 linked_in_order machine d members taken arranged wanted made distinct plain takes is_arranged =
     linked_of_wanted machine d members taken arranged wanted made distinct plain takes is_arranged
 
 pub searched_links : (machine : MachineType) (d : DefinitionView) (members taken : List MemberView) (wanted : List (List ℕ)) (bases : Bases) (objects : List Object) →
-    AreMembersOf d machine Gnu members → IsDistinct bytes_eq (all_listed members) → NamesNoHeadOrTail machine d.import_name wanted → Takes members wanted taken →
-    IsLinkedWith machine d.import_name bases taken objects → ImportsWanted machine d members wanted bases objects
+    AreMembersOf d machine Gnu members → IsDistinct bytes_eq (all_listed members) → NamesNoHeadOrTail machine (linked_name d) wanted → Takes members wanted taken →
+    IsLinkedWith machine (names_in Gnu d) bases taken objects → ImportsWanted machine d members wanted bases objects
 searched_links machine d members taken wanted bases objects made distinct plain takes program =
     imports_wanted machine d members taken program.arranged wanted made distinct plain takes program.is_arranged bases objects
     program.tables program.others program.admissible

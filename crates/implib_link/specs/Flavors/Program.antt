@@ -10,6 +10,7 @@ use Rattle.implib.specs.Definition.{DefinitionView, ExportView}
 use Rattle.implib.specs.Members.Gnu.{head_symbol}
 use Rattle.implib.specs.Link.Image.{IsAdmissible, Range, image_of}
 use Rattle.implib.specs.Import.{Ask, Name, Ordinal, imp_symbol}
+use Rattle.implib.specs.LibraryName.{NamesOfDll, linked_dll, names_in}
 use Rattle.implib.specs.Members.ImportTables.{thunk_width}
 use Rattle.implib.specs.Link.Linked.{AllFind, IsDefinedAt, IsDefinedOnce, undefined_names}
 use Rattle.implib.specs.Link.LinkedMembers.{LinkInput, chosen_exports, linked_specs}
@@ -43,6 +44,10 @@ IsMadeFor machine p = AreMembersOf p.input.definition machine p.flavor p.input.m
 abbrev pub dll_of : FlavorInput → List ℕ
 dll_of p = p.input.definition.import_name
 
+-- the DLL's names: for the linker, and as the loader reads it
+abbrev pub dll_names_in : FlavorInput → NamesOfDll
+dll_names_in p = names_in p.flavor p.input.definition
+
 -- the exports that are chosen
 abbrev pub exports_chosen : FlavorInput → List ExportView
 exports_chosen p = chosen_exports p.input.definition p.input.chosen
@@ -62,18 +67,18 @@ abbrev pub ask_in : Flavor → MachineType → ExportView → Ask
 ask_in flavor machine e =
     if e.no_name then Ordinal e.ordinal else Name (asked_in flavor machine e) e.ordinal
 
--- the symbol of a DLL's import descriptor
-abbrev pub descriptor_in : Flavor → MachineType → List ℕ → List ℕ
-descriptor_in Msvc machine dll = descriptor_symbol dll
-descriptor_in Gnu machine dll = head_symbol machine dll
+-- the symbol of a library's import descriptor
+abbrev pub descriptor_in : Flavor → MachineType → NamesOfDll → List ℕ
+descriptor_in Msvc machine dll = descriptor_symbol dll.linked
+descriptor_in Gnu machine dll = head_symbol machine dll.linked
 
 -- the specifications of what is linked: for Microsoft's linker the import descriptor, the short imports of
 -- the chosen exports and the null thunk, for GNU's the head, the chosen exports' members and the tail
 abbrev pub specs_in : Flavor → DefinitionView → MachineType → List ℕ → List MemberSpec
 specs_in Msvc d machine chosen =
-    descriptor_spec machine d.import_name
-    ∷ (map (short_import_spec machine d.import_name) (chosen_exports d chosen)
-    ++ null_thunk_spec machine d.import_name ∷ [])
+    descriptor_spec machine (names_in Msvc d)
+    ∷ (map (short_import_spec machine (names_in Msvc d)) (chosen_exports d chosen)
+    ++ null_thunk_spec machine (linked_dll d) ∷ [])
 specs_in Gnu d machine chosen = linked_specs d machine chosen
 
 -- what is linked of an input
@@ -92,14 +97,16 @@ symbols_listed members = flat_map (λ m. m.symbols) members
 abbrev pub objects_taken : MachineType → List MemberView → List Object
 objects_taken machine members = filter_map (λ m. expanded_in machine m.bytes) members
 
--- the null descriptor of a DLL's members for Microsoft's linker; all DLLs have the same, but for its name
+-- the null descriptor of a library for Microsoft's linker, by its name for the linker; all libraries have the
+-- same, but for its name
 abbrev pub null_member : MachineType → List ℕ → MemberView
 null_member machine dll = member_of (null_descriptor_spec machine dll)
 
 -- Linkers find a DLL's descriptor: GNU's members name it, and for Microsoft's the symbol that is looked for
--- by the DLL's name is the descriptor's. For example, that of foo.dll is found, and that of foo.drv is not.
-abbrev pub IsFoundByName : Flavor → List ℕ → Type 0
-IsFoundByName Msvc dll = descriptor_symbol_by_name dll ≡ descriptor_symbol dll
+-- by the DLL's name is the descriptor's. For example, that of foo.dll is found; that of foo.drv is found where
+-- its library has the name foo, and not where it has none.
+abbrev pub IsFoundByName : Flavor → NamesOfDll → Type 0
+IsFoundByName Msvc dll = descriptor_symbol_by_name dll.text ≡ descriptor_symbol dll.linked
 IsFoundByName Gnu dll = Unit {0}
 
 -- What may be linked with the members of these inputs:
@@ -120,11 +127,11 @@ pub record AreFlavorObjects (machine : MachineType) (inputs : List FlavorInput) 
   pub behind : List MemberView
   pub members : before ++ behind ≡ all_members machine inputs
   pub tables : filter has_tables objects
-      ≡ objects_taken machine (before ++ null_member machine (dll_of null_from) ∷ behind)
+      ≡ objects_taken machine (before ++ null_member machine (linked_dll null_from.input.definition) ∷ behind)
   pub others : AllByRecursion
       (ClaimsNone (null_descriptor_symbol ∷ symbols_listed (all_members machine inputs)))
       (filter (λ o. not (has_tables o)) objects)
-  pub found : AllByRecursion (λ p. IsFoundByName p.flavor (dll_of p)) inputs
+  pub found : AllByRecursion (λ p. IsFoundByName p.flavor (dll_names_in p)) inputs
 
 -- A program of such objects: the bases are admissible; the tables begin at multiples of a thunk's width;
 -- `.idata$3` begins where `.idata$2` ends.
@@ -162,8 +169,8 @@ imp_symbols p = map (λ e. imp_symbol (symbol_in p.flavor e)) (exports_chosen p)
 -- symbols are its entries.
 pub record InputImports (machine : MachineType) (image : List Range) (linked : List Placed)
     (descriptor table : ℕ) (p : FlavorInput) : Type 0 where
-  pub top : definitions_of (descriptor_in p.flavor machine (dll_of p)) linked
-      ≡ record { name = descriptor_in p.flavor machine (dll_of p); address = Some descriptor } ∷ []
+  pub top : definitions_of (descriptor_in p.flavor machine (dll_names_in p)) linked
+      ≡ record { name = descriptor_in p.flavor machine (dll_names_in p); address = Some descriptor } ∷ []
   pub loads : LoadsStrictly image (thunk_width machine) descriptor (dll_of p)
       (map (ask_in p.flavor machine) (exports_chosen p))
   pub table_located : loads.plain.addresses ≡ table
@@ -176,7 +183,7 @@ pub record IsTaken (machine : MachineType) (p : FlavorInput) : Type 0 where
   pub from_members : AllByRecursion (Contains p.input.members) (members_linked machine p)
   pub read : map (λ m. expanded_in machine m.bytes) (members_linked machine p)
       ≡ map Some (objects_taken machine (members_linked machine p))
-  pub null : p.flavor ≡ Msvc → Contains p.input.members (null_member machine (dll_of p))
+  pub null : p.flavor ≡ Msvc → Contains p.input.members (null_member machine (linked_dll p.input.definition))
 
 -- the thunks in the tables of the first few DLLs, with the null thunks that end them
 abbrev pub thunks_of : ℕ → List FlavorInput → ℕ

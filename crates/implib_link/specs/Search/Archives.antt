@@ -15,6 +15,7 @@ use Rattle.implib.specs.Members.MemberSpec.{MemberView}
 use Rattle.implib.specs.Formats.Object.{ASymbol, Auxiliary, Entry, Object, object_in}
 use Rattle.implib.specs.Renaming.{renamed}
 use Rattle.implib_link.specs.Search.Search.{HaveSame, NamesNoHeadOrTail, exports_wanted, names_undefined}
+use Rattle.implib.specs.LibraryName.{linked_name}
 
 -- a definition and its members
 pub record Library : Type 0 where
@@ -43,8 +44,8 @@ symbols_of_export e =
 -- the symbols that an archive lists for a library's members, each once, in the archive's order
 unfoldable pub symbols_of_library : MachineType → Library → List (List ℕ)
 symbols_of_library machine l =
-    iname_symbol machine l.definition.import_name
-    ∷ head_symbol machine l.definition.import_name
+    iname_symbol machine (linked_name l.definition)
+    ∷ head_symbol machine (linked_name l.definition)
     ∷ flat_map symbols_of_export (reverse (exports_of l))
 
 -- whether an entry is a weak external
@@ -91,7 +92,7 @@ pub record IsArchive (machine : MachineType) (libraries : List Library) : Type 0
 -- no name is one by which only members name each other, in any library
 abbrev pub NamesNoHeadOrTailOf : MachineType → List Library → List (List ℕ) → Type 0
 NamesNoHeadOrTailOf machine libraries names =
-    AllByRecursion (λ l. NamesNoHeadOrTail machine l.definition.import_name names) libraries
+    AllByRecursion (λ l. NamesNoHeadOrTail machine (linked_name l.definition) names) libraries
 
 -- A weak external of an export that is data and whose bare name is among these. For every other name of an
 -- export, its own member is the first.

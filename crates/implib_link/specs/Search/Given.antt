@@ -11,13 +11,14 @@ use Rattle.implib_link.specs.Gnu.Program.{ClaimsNone}
 use Rattle.implib_link.specs.Search.Archives.{Library, NamesNoHeadOrTailOf, exports_of}
 use Rattle.implib_link.specs.Search.Closed.{unresolved}
 use Rattle.implib_link.specs.Search.Search.{is_wanted}
+use Rattle.implib.specs.LibraryName.{linked_name}
 
 -- the symbols by which only members name each other
 abbrev pub heads_of : MachineType → List Library → List (List ℕ)
-heads_of machine libraries = map (λ l. head_symbol machine l.definition.import_name) libraries
+heads_of machine libraries = map (λ l. head_symbol machine (linked_name l.definition)) libraries
 
 abbrev pub tails_of : MachineType → List Library → List (List ℕ)
-tails_of machine libraries = map (λ l. iname_symbol machine l.definition.import_name) libraries
+tails_of machine libraries = map (λ l. iname_symbol machine (linked_name l.definition)) libraries
 
 -- whether an export is data that has an alias: a linker takes its weak external for its bare name
 abbrev pub is_data_alias : ExportView → Bool

@@ -13,6 +13,7 @@ use Rattle.implib.specs.Renaming.{renamed}
 use Rattle.implib_link.specs.Flavors.Program.{null_member, objects_taken, specs_in}
 use Rattle.implib_link.specs.Gnu.Program.{claimed_names}
 use Rattle.implib_link.specs.Search.Search.{first_listed, undefined_in}
+use Rattle.implib.specs.LibraryName.{linked_dll}
 
 -- the names that members leave to others, and those that they claim, as a linker for a machine takes them
 unfoldable pub left_in : MachineType → List MemberView → List (List ℕ)
@@ -65,9 +66,10 @@ shorts_wanted d wanted = numbers_passing (is_short_wanted wanted) 0 (public_expo
 abbrev pub msvc_if_any : DefinitionView → MachineType → List ℕ → List MemberView
 msvc_if_any d machine [] = []
 msvc_if_any d machine (n ∷ chosen) =
-    null_member machine d.import_name ∷ map member_of (specs_in Msvc d machine (n ∷ chosen))
+    null_member machine (linked_dll d) ∷ map member_of (specs_in Msvc d machine (n ∷ chosen))
 
--- no wanted name is one of the three by which only members name each other
+-- no wanted name is one of the three by which only members name each other, by the library's name for the
+-- linker
 pub record NamesNoHeader (dll : List ℕ) (wanted : List (List ℕ)) : Type 0 where
   pub descriptor : list_any (bytes_eq (descriptor_symbol dll)) wanted ≡ false
   pub null_descriptor : list_any (bytes_eq null_descriptor_symbol) wanted ≡ false

@@ -17,6 +17,7 @@ use Rattle.implib_link.specs.Flavors.Program.{FlavorInput, all_members, null_mem
 use Rattle.implib_link.specs.Search.Archives.{Library, exports_of, has_weak}
 use Rattle.implib_link.specs.Search.Msvc.{NamesNoHeader, is_short_wanted, left_in, numbers_passing}
 use Rattle.implib_link.specs.Search.Search.{HaveSame}
+use Rattle.implib.specs.LibraryName.{linked_dll}
 
 -- a library's members are its members for Microsoft's linker
 abbrev pub IsMsvcLibrary : MachineType → Library → Type 0
@@ -36,8 +37,8 @@ symbols_of_short e =
 -- those for a library's members, but for the null descriptor's, which all libraries share
 unfoldable pub symbols_of_shorts : Library → List (List ℕ)
 symbols_of_shorts l =
-    descriptor_symbol l.definition.import_name
-    ∷ null_thunk_symbol l.definition.import_name
+    descriptor_symbol (linked_dll l.definition)
+    ∷ null_thunk_symbol (linked_dll l.definition)
     ∷ flat_map symbols_of_short (exports_of l)
 
 -- An archive of libraries for Microsoft's linker: the listed symbols are distinct, but for those that one
@@ -46,7 +47,7 @@ pub record IsMsvcArchive (machine : MachineType) (libraries : List Library) : Ty
   pub made : AllByRecursion (IsMsvcLibrary machine) libraries
   pub distinct : IsDistinct bytes_eq (null_descriptor_symbol ∷ flat_map symbols_of_shorts libraries)
   pub found : AllByRecursion
-      (λ l. descriptor_symbol_by_name l.definition.import_name ≡ descriptor_symbol l.definition.import_name)
+      (λ l. descriptor_symbol_by_name l.definition.import_name ≡ descriptor_symbol (linked_dll l.definition))
       libraries
 
 -- whether a member is a weak external, as a linker for a machine takes it
@@ -67,7 +68,7 @@ wanted_with_weak machine wanted taken = wanted ++ left_in machine (weak_in machi
 -- no name is one by which only members name each other, in any library
 abbrev pub NamesNoHeaderOf : List Library → List (List ℕ) → Type 0
 NamesNoHeaderOf libraries names =
-    AllByRecursion (λ l. NamesNoHeader l.definition.import_name names) libraries
+    AllByRecursion (λ l. NamesNoHeader (linked_dll l.definition) names) libraries
 
 -- whether an export's short import is taken for names: one of its symbols is wanted, and it is no alias
 abbrev pub is_import_wanted : List (List ℕ) → ExportView → Bool
@@ -92,7 +93,7 @@ short_inputs libraries names = filter_map (λ l. short_input_if_any l (imports_w
 -- the first library's null descriptor
 abbrev pub first_null : MachineType → List Library → List MemberView
 first_null machine [] = []
-first_null machine (l ∷ libraries) = null_member machine l.definition.import_name ∷ []
+first_null machine (l ∷ libraries) = null_member machine (linked_dll l.definition) ∷ []
 
 -- members with it in front; nothing, where there are none
 abbrev pub with_first_null : MachineType → List Library → List MemberView → List MemberView

@@ -10,13 +10,14 @@ use Rattle.implib_link.specs.Gnu.Program.{ClaimsNone}
 use Rattle.implib_link.specs.Search.Archives.{Library, exports_of}
 use Rattle.implib_link.specs.Search.Closed.{unresolved}
 use Rattle.implib_link.specs.Search.MsvcArchives.{NamesNoHeaderOf, is_import_wanted, is_short_alias}
+use Rattle.implib.specs.LibraryName.{linked_dll}
 
 -- the symbols by which only members name each other
 abbrev pub headers_of : List Library → List (List ℕ)
 headers_of libraries =
     null_descriptor_symbol
     ∷ flat_map
-    (λ l. descriptor_symbol l.definition.import_name ∷ null_thunk_symbol l.definition.import_name ∷ [])
+    (λ l. descriptor_symbol (linked_dll l.definition) ∷ null_thunk_symbol (linked_dll l.definition) ∷ [])
     libraries
 
 -- the targets of aliases, in all libraries: those of their symbols, and of their addresses

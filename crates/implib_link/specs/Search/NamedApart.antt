@@ -6,10 +6,11 @@ use Rattle.implib.specs.Import.{imp_symbol, underscore}
 use Rattle.implib.specs.Members.Gnu.{mangled_name}
 use Rattle.implib_link.specs.Search.Archives.{Library, exports_of}
 use Rattle.implib_link.specs.Search.Given.{heads_of, tails_of}
+use Rattle.implib.specs.LibraryName.{linked_name}
 
 -- A DLL's name as symbols have it. For example, `foo_dll` of foo.dll.
 abbrev pub stem : Library → List ℕ
-stem l = mangled_name l.definition.import_name
+stem l = mangled_name (linked_name l.definition)
 
 -- whether a text begins with something else than an underscore
 abbrev pub begins_plain : List ℕ → Bool

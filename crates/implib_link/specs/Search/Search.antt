@@ -16,6 +16,7 @@ use Rattle.implib.specs.Formats.Object.{Object}
 use Rattle.implib.specs.Link.Placement.{Bases}
 use Rattle.implib.specs.Renaming.{renamed}
 use Rattle.implib_link.specs.Gnu.Program.{ClaimsNone, LinksAmong, claimed_names, has_tables, null_descriptor}
+use Rattle.implib.specs.LibraryName.{NamesOfDll}
 
 -- whether the archive lists a name for a member
 abbrev pub is_listed_for : List ℕ → MemberView → Bool
@@ -92,10 +93,10 @@ HaveSame {X} first second =
 
 -- what is taken, each member once, in an order in which the head is first and the tail last, as linkers
 -- have it that sort by member name
-pub record IsArranged (machine : MachineType) (dll : List ℕ) (taken arranged : List MemberView) : Type 0 where
+pub record IsArranged (machine : MachineType) (dll : NamesOfDll) (taken arranged : List MemberView) : Type 0 where
   pub between : List MemberView
   pub order : arranged
-      ≡ member_of (head_spec machine dll) ∷ (between ++ member_of (tail_spec machine dll) ∷ [])
+      ≡ member_of (head_spec machine dll.linked) ∷ (between ++ member_of (tail_spec machine dll) ∷ [])
   pub same : HaveSame taken arranged
   pub once : IsDistinct bytes_eq (map (λ m. m.name) arranged)
 
@@ -109,7 +110,7 @@ pub record IsLinkedOfWanted (machine : MachineType) (d : DefinitionView) (wanted
 -- A program of what a linker took of an archive, in such an order, and of other objects: the objects with
 -- import tables are those members and, behind them, the null descriptor; the others claim no symbol of
 -- theirs.
-pub record IsLinkedWith (machine : MachineType) (dll : List ℕ) (bases : Bases) (taken : List MemberView)
+pub record IsLinkedWith (machine : MachineType) (dll : NamesOfDll) (bases : Bases) (taken : List MemberView)
     (objects : List Object) : Type 0 where
   pub arranged : List MemberView
   pub is_arranged : IsArranged machine dll taken arranged

@@ -1,6 +1,7 @@
 //! The law of archive search of members for Microsoft's linker.
 
 ghost use Rattle.implib.specs.Definition.{DefinitionView};
+ghost use Rattle.implib.specs.LibraryName.{linked_dll};
 ghost use Rattle.implib.specs.Members.MemberSpec.{MemberView};
 ghost use Rattle.implib.specs.Members.Members.{AreMembersOf};
 ghost use Rattle.implib.specs.Members.MsvcObjects.{descriptor_symbol};
@@ -24,8 +25,8 @@ pub fn search_takes_short_imports()
         (wanted : List (List ℕ)) →
         AreMembersOf d machine Msvc members →
         IsDistinct bytes_eq (flat_map (λ m. m.symbols) members) →
-        descriptor_symbol_by_name d.import_name ≡ descriptor_symbol d.import_name →
-        NamesNoHeader d.import_name wanted →
+        descriptor_symbol_by_name d.import_name ≡ descriptor_symbol (linked_dll d) →
+        NamesNoHeader (linked_dll d) wanted →
         TakesFor machine members wanted taken →
         HaveSame taken (msvc_if_any d machine (shorts_wanted d wanted)) }
 {}

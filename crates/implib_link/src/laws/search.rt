@@ -1,6 +1,7 @@
 //! Laws of archive search.
 
 ghost use Rattle.implib.specs.Definition.{DefinitionView};
+ghost use Rattle.implib.specs.LibraryName.{linked_name, names_in};
 ghost use Rattle.implib.specs.Link.LinkedMembers.{IsAscending};
 ghost use Rattle.implib.specs.Members.Members.{AreMembersOf};
 ghost use Rattle.implib.specs.Members.MemberSpec.{MemberView};
@@ -32,7 +33,7 @@ pub fn search_takes_wanted()
         (wanted : List (List ℕ)) →
         AreMembersOf d machine Gnu members → IsDistinct bytes_eq
         (flat_map (λ m. m.symbols) members) →
-        NamesNoHeadOrTail machine d.import_name wanted → Takes members wanted taken →
+        NamesNoHeadOrTail machine (linked_name d) wanted → Takes members wanted taken →
         HaveSame taken (linked_if_any d machine (exports_wanted d wanted)) }
 {}
 
@@ -45,28 +46,28 @@ pub fn searched_program_links()
         (wanted : List (List ℕ)) →
         AreMembersOf d machine Gnu members →
         IsDistinct bytes_eq (flat_map (λ m. m.symbols) members) →
-        NamesNoHeadOrTail machine d.import_name wanted →
+        NamesNoHeadOrTail machine (linked_name d) wanted →
         Takes members wanted taken →
-        IsArranged machine d.import_name taken arranged →
+        IsArranged machine (names_in Gnu d) taken arranged →
         IsLinkedOfWanted machine d wanted arranged }
     ensures sorted { (machine : MachineType) (d : DefinitionView)
         (members taken arranged : List MemberView)
         (wanted : List (List ℕ)) (number : ℕ) →
         AreMembersOf d machine Gnu members →
         IsDistinct bytes_eq (flat_map (λ m. m.symbols) members) →
-        NamesNoHeadOrTail machine d.import_name wanted →
+        NamesNoHeadOrTail machine (linked_name d) wanted →
         Takes members wanted taken →
         Contains (exports_wanted d wanted) number →
         HaveSame taken arranged →
         IsAscending (map (λ m. m.name) arranged) →
-        IsArranged machine d.import_name taken arranged }
+        IsArranged machine (names_in Gnu d) taken arranged }
     ensures imports { (machine : MachineType) (d : DefinitionView) (members taken : List MemberView)
         (wanted : List (List ℕ)) (bases : Bases) (objects : List Object) →
         AreMembersOf d machine Gnu members →
         IsDistinct bytes_eq (flat_map (λ m. m.symbols) members) →
-        NamesNoHeadOrTail machine d.import_name wanted →
+        NamesNoHeadOrTail machine (linked_name d) wanted →
         Takes members wanted taken →
-        IsLinkedWith machine d.import_name bases taken objects →
+        IsLinkedWith machine (names_in Gnu d) bases taken objects →
         ImportsWanted machine d members wanted bases objects }
 {}
 

@@ -1,8 +1,8 @@
 use Rattle.std.proofs.Common.{◌≡◌, ◌+◌, ◌++◌, List, ℕ, map, drop, sym, subst, arith, false}
 use Rattle.std.specs.List.{list_all, list_any}
-use Rattle.std.specs.String.{string_bytes}
 use Rattle.implib.specs.Definition.{ExportView, definition_view, export_view}
 use Rattle.implib.specs.Import.{public_exports}
+use Rattle.implib.specs.LibraryName.{linked_name}
 use Rattle.implib.specs.Library.{member_view}
 use Rattle.implib.specs.Members.Members.{has_u16_ordinal, is_too_long}
 use Rattle.implib.specs.Members.MemberSpec.{member_of}
@@ -15,7 +15,7 @@ use Rattle.implib.proofs.gnu.members.build.Goals.{then-not-export+in_ok-push_exp
 pub loop-export-preserved : goal.loop-export-preserved
 loop-export-preserved c =
     let machine = c.args.machine in
-    let dll = string_bytes c.args.def.now.import_name in
+    let dll = linked_name (definition_view c.args.def.now) in
     let specs = numbered_specs machine dll 0 (public_exports (definition_view c.args.def.now)) in
     let all = map member_of specs in
     let long = list_any is_too_long specs in
@@ -33,9 +33,9 @@ loop-export-preserved c =
     elim c.if-not-export.branch [
       | then-not-export+in_ok-push_export w ↦
           let extended : map member_view w.push_export.new.members.items ≡ members ++ map member_of (numbered_specs_of machine dll number e) =
-          rw c.as_str-dll.ensures.value at (w.in_ok-push_export.ensures {u = tt}).pushed.ok in
+          rw c.linked_name-library.ensures at (w.in_ok-push_export.ensures {u = tt}).pushed.ok in
           let short : list_any is_too_long (numbered_specs_of machine dll number e) ≡ false =
-          rw c.as_str-dll.ensures.value at (w.in_ok-push_export.ensures {u = tt}).pushed.fit in
+          rw c.linked_name-library.ensures at (w.in_ok-push_export.ensures {u = tt}).pushed.fit in
           let after : Left machine dll all long sound (index + 1) c.if-not-export.number (map member_view c.if-not-export.members.items) others =
           subst (λ (n : ℕ). Left machine dll all long sound (index + 1) n (map member_view c.if-not-export.members.items) others) (sym w.number-is)
           (subst (λ x. Left machine dll all long sound (index + 1) (number + 1) (map member_view x.items) others) (sym w.members-is)

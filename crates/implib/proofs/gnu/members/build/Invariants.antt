@@ -3,6 +3,7 @@ use Rattle.std.specs.Prelude.{not}
 use Rattle.std.specs.List.{filter, list_all, list_any}
 use Rattle.implib.specs.Definition.{definition_view, export_view}
 use Rattle.implib.specs.Import.{public_exports}
+use Rattle.implib.specs.LibraryName.{linked_name}
 use Rattle.implib.specs.Library.{member_view}
 use Rattle.implib.specs.Members.Members.{has_u16_ordinal, is_too_long}
 use Rattle.implib.specs.Members.MemberSpec.{member_of}
@@ -16,7 +17,7 @@ abbrev pub invariant-loop-export : goal.invariant-loop-export
 invariant-loop-export l =
     let exports = map export_view (drop l.export-index l.def.exports.items) in
     let public = filter (λ e. not e.private) exports in
-    let dll = (definition_view l.def).import_name in
+    let dll = linked_name (definition_view l.def) in
     let specs = numbered_specs l.machine dll l.number public in
     let all = numbered_specs l.machine dll 0 (public_exports (definition_view l.def)) in
     record {

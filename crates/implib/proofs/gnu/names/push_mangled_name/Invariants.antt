@@ -8,7 +8,7 @@ use Rattle.implib.proofs.gnu.names.push_mangled_name.Given as goal
 abbrev pub invariant-loop-position : goal.invariant-loop-position
 invariant-loop-position l = record {
   text : shadow (Utf8 l.rest);
-  made : string_bytes l.out ++ mangled_name l.rest ≡ string_bytes l.initial.out ++ mangled_name l.dll;
+  made : string_bytes l.out ++ mangled_name l.rest ≡ string_bytes l.initial.out ++ mangled_name l.library;
 }
 
 abbrev pub decreases-loop-position : goal.decreases-loop-position

@@ -24,10 +24,10 @@ write_table-requires c =
       c.requires.head,
       c.requires.name,
     )
-    (CanBeHeld-head_object c.args.machine c.args.dll.now c.requires.dll_text)
+    (CanBeHeld-head_object c.args.machine c.args.library.now c.requires.library_text)
 
 -- the table that is written is the one that is expected
-same : (c : After-write_table) → table_view c.args.machine c.head_or_tail_sections-sections.result (c.file_symbol.result ∷ c.symbol.result ∷ c.symbol-2.result ∷ c.symbol-3.result ∷ c.symbol-4.result ∷ []) ≡ head_object c.args.machine c.args.dll.now
+same : (c : After-write_table) → table_view c.args.machine c.head_or_tail_sections-sections.result (c.file_symbol.result ∷ c.symbol.result ∷ c.symbol-2.result ∷ c.symbol-3.result ∷ c.symbol-4.result ∷ []) ≡ head_object c.args.machine c.args.library.now
 unfolding head_object
 same c =
     rw (

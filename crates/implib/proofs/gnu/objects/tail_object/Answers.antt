@@ -23,10 +23,10 @@ write_table-requires c =
       c.symbol.ensures,
       c.requires.name,
     )
-    (CanBeHeld-tail_object c.args.machine c.args.dll.now c.requires.dll_text)
+    (CanBeHeld-tail_object c.args.machine (record { linked = c.args.library.now; text = c.args.dll.now }) c.requires.library_text)
 
 -- the table that is written is the one that is expected
-same : (c : After-drop-thunk-2) → table_view c.args.machine c.head_or_tail_sections-sections.result (c.file_symbol.result ∷ c.symbol.result ∷ []) ≡ tail_object c.args.machine c.args.dll.now
+same : (c : After-drop-thunk-2) → table_view c.args.machine c.head_or_tail_sections-sections.result (c.file_symbol.result ∷ c.symbol.result ∷ []) ≡ tail_object c.args.machine (record { linked = c.args.library.now; text = c.args.dll.now })
 unfolding tail_object
 same c =
     rw (

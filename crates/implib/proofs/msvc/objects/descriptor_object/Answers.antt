@@ -10,10 +10,10 @@ listed_strings first second third = cc
 
 pub encode-requires : goal.encode-requires
 unfolding descriptor
-encode-requires c = subst Fits (same_layout (descriptor c.args.machine c.args.dll.now) _ _ _ _ _ c.number.ensures c.descriptor_characteristics.ensures c.in_ok-sections.ensures c.descriptor_symbols-symbols.ensures (listed_strings c.requires.symbol c.requires.null_descriptor c.requires.null_thunk)) (Fits-descriptor c.args.machine c.args.dll.now c.requires.dll_text)
+encode-requires c = subst Fits (same_layout (descriptor c.args.machine (record { linked = c.args.library.now; text = c.args.dll.now })) _ _ _ _ _ c.number.ensures c.descriptor_characteristics.ensures c.in_ok-sections.ensures c.descriptor_symbols-symbols.ensures (listed_strings c.requires.symbol c.requires.null_descriptor c.requires.null_thunk)) (Fits-descriptor c.args.machine (record { linked = c.args.library.now; text = c.args.dll.now }) c.requires.library_text)
 
 pub returns : goal.returns
 unfolding descriptor
 returns c =
     subst (λ p. EncodesObject p c.encode.result)
-    (sym (same_layout (descriptor c.args.machine c.args.dll.now) _ _ _ _ _ c.number.ensures c.descriptor_characteristics.ensures c.in_ok-sections.ensures c.descriptor_symbols-symbols.ensures (listed_strings c.requires.symbol c.requires.null_descriptor c.requires.null_thunk))) c.encode.ensures
+    (sym (same_layout (descriptor c.args.machine (record { linked = c.args.library.now; text = c.args.dll.now })) _ _ _ _ _ c.number.ensures c.descriptor_characteristics.ensures c.in_ok-sections.ensures c.descriptor_symbols-symbols.ensures (listed_strings c.requires.symbol c.requires.null_descriptor c.requires.null_thunk))) c.encode.ensures

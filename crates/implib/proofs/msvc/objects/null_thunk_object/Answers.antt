@@ -11,10 +11,10 @@ two_sections first second = cc
 
 pub encode-requires : goal.encode-requires
 unfolding null_thunk
-encode-requires c = subst Fits (same_layout (null_thunk c.args.machine c.args.dll.now) _ _ _ _ _ c.number.ensures c.descriptor_characteristics.ensures (two_sections c.in_ok-address_table.ensures c.in_ok-lookup_table.ensures) (ap (λ s. s ∷ []) c.in_string_table.ensures) (ap (λ s. s ∷ []) c.requires.symbol)) (Fits-null_thunk c.args.machine c.args.dll.now c.requires.dll_text)
+encode-requires c = subst Fits (same_layout (null_thunk c.args.machine c.args.library.now) _ _ _ _ _ c.number.ensures c.descriptor_characteristics.ensures (two_sections c.in_ok-address_table.ensures c.in_ok-lookup_table.ensures) (ap (λ s. s ∷ []) c.in_string_table.ensures) (ap (λ s. s ∷ []) c.requires.symbol)) (Fits-null_thunk c.args.machine c.args.library.now c.requires.library_text)
 
 pub returns : goal.returns
 unfolding null_thunk
 returns c =
     subst (λ p. EncodesObject p c.encode.result)
-    (sym (same_layout (null_thunk c.args.machine c.args.dll.now) _ _ _ _ _ c.number.ensures c.descriptor_characteristics.ensures (two_sections c.in_ok-address_table.ensures c.in_ok-lookup_table.ensures) (ap (λ s. s ∷ []) c.in_string_table.ensures) (ap (λ s. s ∷ []) c.requires.symbol))) c.encode.ensures
+    (sym (same_layout (null_thunk c.args.machine c.args.library.now) _ _ _ _ _ c.number.ensures c.descriptor_characteristics.ensures (two_sections c.in_ok-address_table.ensures c.in_ok-lookup_table.ensures) (ap (λ s. s ∷ []) c.in_string_table.ensures) (ap (λ s. s ∷ []) c.requires.symbol))) c.encode.ensures

@@ -1,21 +1,21 @@
 use Rattle.std.proofs.Common.{◌≡◌, ◌+◌, ◌++◌, List, map, drop, sym, subst, false}
 use Rattle.std.specs.List.{list_all, list_any}
-use Rattle.std.specs.String.{string_bytes}
 use Rattle.implib.specs.declared.flavor.Flavor.TheVariants.{Msvc}
 use Rattle.implib.specs.Definition.{ExportView, definition_view, export_view}
 use Rattle.implib.specs.Import.{public_exports}
+use Rattle.implib.specs.LibraryName.{names_in}
 use Rattle.implib.specs.Library.{member_view}
 use Rattle.implib.specs.Members.MsvcMembers.{export_specs}
 use Rattle.implib.specs.Members.Members.{has_u16_ordinal, is_too_long, member_specs}
 use Rattle.implib.specs.Members.MemberSpec.{member_of}
 use Rattle.implib.proofs.Members.MembersLoop.{Left, exports_from, left_private, left_public}
-use Rattle.implib.proofs.msvc.members.named_members.Goals as goal
-use Rattle.implib.proofs.msvc.members.named_members.Goals.{then-not-export+in_ok-push_export, else-not-export}
+use Rattle.implib.proofs.msvc.members.build.Goals as goal
+use Rattle.implib.proofs.msvc.members.build.Goals.{then-not-export+in_ok-push_export, else-not-export}
 
 pub loop-export-preserved : goal.loop-export-preserved
 loop-export-preserved c =
     let machine = c.args.machine in
-    let dll = string_bytes c.args.def.now.import_name in
+    let dll = names_in Msvc (definition_view c.args.def.now) in
     let specs = member_specs (definition_view c.args.def.now) machine Msvc in
     let all = map member_of specs in
     let long = list_any is_too_long specs in
@@ -32,9 +32,9 @@ loop-export-preserved c =
     elim c.if-not-export.branch [
       | then-not-export+in_ok-push_export w ↦
           let extended : map member_view w.push_export.new.members.items ≡ members ++ map member_of (export_specs machine dll e) =
-          rw c.as_str-dll.ensures.value at (w.in_ok-push_export.ensures {u = tt}).pushed.ok in
+          rw (c.as_str-dll.ensures.value, c.requires.library) at (w.in_ok-push_export.ensures {u = tt}).pushed.ok in
           let short : list_any is_too_long (export_specs machine dll e) ≡ false =
-          rw c.as_str-dll.ensures.value at (w.in_ok-push_export.ensures {u = tt}).pushed.fit in
+          rw (c.as_str-dll.ensures.value, c.requires.library) at (w.in_ok-push_export.ensures {u = tt}).pushed.fit in
           let after : Left machine dll all long sound (index + 1) (map member_view c.if-not-export.members.items) others =
           subst (λ x. Left machine dll all long sound (index + 1) (map member_view x.items) others) (sym w.members-is)
           (left_public machine dll all long sound index members e others (map member_view w.push_export.new.members.items)
