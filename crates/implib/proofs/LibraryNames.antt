@@ -8,14 +8,14 @@ use Rattle.implib.specs.declared.flavor.Flavor.{Flavor}
 use Rattle.implib.specs.declared.flavor.Flavor.TheVariants.{Msvc, Gnu}
 use Rattle.implib.specs.declared.machine.MachineType.{MachineType}
 use Rattle.implib.specs.Definition.{DefinitionView}
-use Rattle.implib.specs.LibraryName.{linked_dll, names_in, own_names}
+use Rattle.implib.specs.LibraryName.{linked_dll, names_for, own_names}
 use Rattle.implib.specs.Members.MsvcObjects.{base_name}
 use Rattle.implib.specs.Members.NameRules.{definition_names_refusal, first_of_both, import_name_refusal, library_name_refusal, names_refusal}
 use Rattle.std.proofs.lemmas.Slice.Eq.{ends_is}
 use Rattle.std.proofs.lemmas.Bool.Decides.{Decides-eqb}
 
 -- without a name of its own a library is named by the DLL alone
-pub nameless : (flavor : Flavor) (d : DefinitionView) → d.library_name ≡ None → names_in flavor d ≡ own_names d.import_name
+pub nameless : (flavor : Flavor) (d : DefinitionView) → d.library_name ≡ None → names_for flavor d ≡ own_names d.import_name
 nameless Msvc d none = ap (λ (given : Option (List ℕ)). record { linked = unwrap_or (option_map (λ name. name ++ codes ".dll") given) d.import_name; text = d.import_name }) none
 nameless Gnu d none = ap (λ (given : Option (List ℕ)). record { linked = unwrap_or given d.import_name; text = d.import_name }) none
 

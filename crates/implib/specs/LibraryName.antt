@@ -27,8 +27,8 @@ pub record NamesOfDll : Type 0 where
   pub text : List ℕ
 
 -- the names in a flavour
-abbrev pub names_in : Flavor → DefinitionView → NamesOfDll
-names_in flavor d = record { linked = linked_in flavor d; text = d.import_name }
+abbrev pub names_for : Flavor → DefinitionView → NamesOfDll
+names_for flavor d = record { linked = linked_in flavor d; text = d.import_name }
 
 -- the names where the library has none of its own: the DLL's for both
 abbrev pub own_names : List ℕ → NamesOfDll

@@ -24,12 +24,12 @@ use Rattle.implib.specs.Link.LinkedMembers.{IsMade, IsAscending, IsPrefixOf, Com
 use Rattle.implib.proofs.Link.LinkedBlocks.{Block, CanBeLinked, blocks_link, blocks_objects, linked_objects, linked_symbols}
 use Rattle.implib.proofs.Link.LinkedMembers.{members_among, members_read, members_named, members_rise, same_cmp, dll_free, exports_fit, objects_are, symbols_are}
 use Rattle.implib.proofs.Link.Placement.{export, head, tail}
-use Rattle.implib.specs.LibraryName.{NamesOfDll, linked_name, names_in}
+use Rattle.implib.specs.LibraryName.{NamesOfDll, linked_name, names_for}
 use Rattle.implib.specs.declared.flavor.Flavor.TheVariants.{Gnu}
 
 -- what a part's objects are made of
 abbrev pub block_of : LinkInput → Block
-block_of p = record { dll = names_in Gnu p.definition; exports = chosen_exports p.definition p.chosen }
+block_of p = record { dll = names_for Gnu p.definition; exports = chosen_exports p.definition p.chosen }
 
 pub gnu_inputs_fit : (machine : MachineType) (ps : List LinkInput) → AllByRecursion (IsMade machine) ps → AllByRecursion (CanBeLinked machine) (map block_of ps)
 gnu_inputs_fit machine [] are = tt
@@ -45,7 +45,7 @@ pub gnu_inputs_objects : (machine : MachineType) (ps : List LinkInput) → AllBy
 gnu_inputs_objects machine [] are = refl
 gnu_inputs_objects machine (p ∷ ps) are =
     let own : List MemberView = linked_members p.definition machine p.chosen in
-    let dll : NamesOfDll = names_in Gnu p.definition in
+    let dll : NamesOfDll = names_for Gnu p.definition in
     filter_map-append (λ (m : MemberView). object_in m.bytes) own (all_linked machine ps)
     ∙ ap (λ objects. objects ++ objects_in (all_linked machine ps)) (objects_are p.definition machine p.members p.chosen are.0)
     ∙ ap (λ rest. linked_objects machine dll (chosen_exports p.definition p.chosen) ++ rest) (gnu_inputs_objects machine ps are.1)
@@ -58,7 +58,7 @@ gnu_inputs_symbols machine [] are = refl
 gnu_inputs_symbols machine (p ∷ ps) are =
     flat_map-append (λ (m : MemberView). m.symbols) (linked_members p.definition machine p.chosen) (all_linked machine ps)
     ∙ ap (λ symbols. symbols ++ flat_map (λ (m : MemberView). m.symbols) (all_linked machine ps)) (symbols_are p.definition machine p.members p.chosen are.0)
-    ∙ ap (λ rest. linked_symbols machine (names_in Gnu p.definition) (chosen_exports p.definition p.chosen) ++ rest) (gnu_inputs_symbols machine ps are.1)
+    ∙ ap (λ rest. linked_symbols machine (names_for Gnu p.definition) (chosen_exports p.definition p.chosen) ++ rest) (gnu_inputs_symbols machine ps are.1)
 
 pub all_of_map : {X Y : Type 0} (f : X → Y) (P : Y → Type 0) (xs : List X) → AllByRecursion P (map f xs) → AllByRecursion (λ x. P (f x)) xs
 all_of_map f P [] all = tt

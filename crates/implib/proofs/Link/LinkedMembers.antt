@@ -33,7 +33,7 @@ use Rattle.implib.proofs.Link.Placement.{export, head, tail}
 use Rattle.implib.proofs.Link.Ranges.{Among, among_back, among_first, among_front, among_later}
 use Rattle.implib.proofs.Link.Tables.{CanBeAsked}
 use Rattle.implib.proofs.Formats.WriterLayout.{object_of-layout_of}
-use Rattle.implib.specs.LibraryName.{NamesOfDll, linked_name, names_in}
+use Rattle.implib.specs.LibraryName.{NamesOfDll, linked_name, names_for}
 
 -- what a writer wrote reads as what it holds
 held_reads : (h : WriterState) → Fits (layout_of h) → encoded_size (layout_of h) ≤ 0xFFFF_FFFF → object_in (encoded (layout_of h)) ≡ Some (written_object h)
@@ -254,15 +254,15 @@ module _ (d : DefinitionView) (machine : MachineType) (members : List MemberView
   pub sound : AllByRecursion Sound public
   sound = exports_sound d machine Gnu members made
 
-  pub not_long : list_any is_too_long (gnu_specs machine (names_in Gnu d) public) ≡ false
+  pub not_long : list_any is_too_long (gnu_specs machine (names_for Gnu d) public) ≡ false
   not_long = none_long d machine Gnu members made
 
   pub members_among : AllByRecursion (Contains members) (linked_members d machine chosen)
   members_among =
       subst (λ ms. AllByRecursion (Contains ms) (linked_members d machine chosen)) (sym made.made)
-      (all_contained member_of (gnu_specs machine (names_in Gnu d) public) (linked_specs d machine chosen) (
-        head_among machine (names_in Gnu d) public linked_free sound not_long,
-        chosen_among machine (names_in Gnu d) public linked_free sound not_long chosen,
+      (all_contained member_of (gnu_specs machine (names_for Gnu d) public) (linked_specs d machine chosen) (
+        head_among machine (names_for Gnu d) public linked_free sound not_long,
+        chosen_among machine (names_for Gnu d) public linked_free sound not_long chosen,
       ))
 
   pub members_named : AllByRecursion (λ n. n < length (public_exports (renamed d))) chosen →
@@ -270,43 +270,43 @@ module _ (d : DefinitionView) (machine : MachineType) (members : List MemberView
   unfolding head_spec
   members_named within =
       map_after (λ (m : MemberView). m.name) member_of (linked_specs d machine chosen)
-      ∙ ap (λ names. head_name (linked_name d) ∷ names) (chosen_names machine (names_in Gnu d) public linked_free sound not_long chosen within)
+      ∙ ap (λ names. head_name (linked_name d) ∷ names) (chosen_names machine (names_for Gnu d) public linked_free sound not_long chosen within)
 
   pub members_rise : AllByRecursion (λ n. n < length (public_exports (renamed d))) chosen → IsAscending (map (export_name (linked_name d)) chosen) →
       IsAscending (map (λ (m : MemberView). m.name) (linked_members d machine chosen))
   members_rise within rise = subst IsAscending (sym (members_named within)) (names_rise (linked_name d) chosen rise)
 
-  pub read_as : map (λ (m : MemberView). object_in m.bytes) (linked_members d machine chosen) ≡ map Some (linked_objects machine (names_in Gnu d) (chosen_exports d chosen))
+  pub read_as : map (λ (m : MemberView). object_in m.bytes) (linked_members d machine chosen) ≡ map Some (linked_objects machine (names_for Gnu d) (chosen_exports d chosen))
   read_as =
       map_after (λ (m : MemberView). object_in m.bytes) member_of (linked_specs d machine chosen)
-      ∙ ap (λ o. o ∷ map (λ (p : MemberSpec). object_in (member_of p).bytes) (member_specs_after machine (names_in Gnu d) public linked_free sound not_long chosen))
-      (head_reads machine (names_in Gnu d) public linked_free sound not_long)
-      ∙ ap (λ rest. Some (head machine (names_in Gnu d)) ∷ rest) (chosen_read machine (names_in Gnu d) public linked_free sound not_long chosen)
+      ∙ ap (λ o. o ∷ map (λ (p : MemberSpec). object_in (member_of p).bytes) (member_specs_after machine (names_for Gnu d) public linked_free sound not_long chosen))
+      (head_reads machine (names_for Gnu d) public linked_free sound not_long)
+      ∙ ap (λ rest. Some (head machine (names_for Gnu d)) ∷ rest) (chosen_read machine (names_for Gnu d) public linked_free sound not_long chosen)
 
-  pub objects_are : objects_in (linked_members d machine chosen) ≡ linked_objects machine (names_in Gnu d) (chosen_exports d chosen)
+  pub objects_are : objects_in (linked_members d machine chosen) ≡ linked_objects machine (names_for Gnu d) (chosen_exports d chosen)
   objects_are =
       filter_map-present (λ (m : MemberView). object_in m.bytes) (linked_members d machine chosen)
       ∙ ap present read_as
-      ∙ present-some (linked_objects machine (names_in Gnu d) (chosen_exports d chosen))
+      ∙ present-some (linked_objects machine (names_for Gnu d) (chosen_exports d chosen))
 
   pub members_read : map (λ (m : MemberView). object_in m.bytes) (linked_members d machine chosen) ≡ map Some (objects_in (linked_members d machine chosen))
   members_read = read_as ∙ ap (map Some) (sym objects_are)
 
-  pub symbols_are : flat_map (λ (m : MemberView). m.symbols) (linked_members d machine chosen) ≡ linked_symbols machine (names_in Gnu d) (chosen_exports d chosen)
+  pub symbols_are : flat_map (λ (m : MemberView). m.symbols) (linked_members d machine chosen) ≡ linked_symbols machine (names_for Gnu d) (chosen_exports d chosen)
   unfolding head_spec
   symbols_are =
       flat_map_map (λ (m : MemberView). m.symbols) member_of (linked_specs d machine chosen)
-      ∙ ap (λ rest. head_symbol machine (linked_name d) ∷ rest) (chosen_listed machine (names_in Gnu d) public linked_free sound not_long chosen)
+      ∙ ap (λ rest. head_symbol machine (linked_name d) ∷ rest) (chosen_listed machine (names_for Gnu d) public linked_free sound not_long chosen)
 
   pub exports_fit : AllByRecursion (CanBeAsked machine) (chosen_exports d chosen)
-  exports_fit = chosen_fit machine (names_in Gnu d) public linked_free sound not_long chosen
+  exports_fit = chosen_fit machine (names_for Gnu d) public linked_free sound not_long chosen
 
   pub members_link : (bases : Bases) → IsDistinct bytes_eq (flat_map (λ (m : MemberView). m.symbols) (linked_members d machine chosen)) →
       IsAdmissible machine bases (objects_in (linked_members d machine chosen)) →
-      Links machine bases (names_in Gnu d) (chosen_exports d chosen) (objects_in (linked_members d machine chosen))
+      Links machine bases (names_for Gnu d) (chosen_exports d chosen) (objects_in (linked_members d machine chosen))
   members_link bases distinct admissible =
-      subst (Links machine bases (names_in Gnu d) (chosen_exports d chosen)) (sym objects_are)
-      (objects_link machine (names_in Gnu d) (chosen_exports d chosen) bases dll_free
-      (chosen_fit machine (names_in Gnu d) public linked_free sound not_long chosen)
+      subst (Links machine bases (names_for Gnu d) (chosen_exports d chosen)) (sym objects_are)
+      (objects_link machine (names_for Gnu d) (chosen_exports d chosen) bases dll_free
+      (chosen_fit machine (names_for Gnu d) public linked_free sound not_long chosen)
       (subst (IsDistinct bytes_eq) symbols_are distinct)
       (subst (IsAdmissible machine bases) objects_are admissible))

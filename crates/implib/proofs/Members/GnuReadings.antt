@@ -35,7 +35,7 @@ use Rattle.implib.proofs.Members.MemberReadings.{ReadsBack, all_append, each_len
 use Rattle.implib.proofs.Members.NotRefused.{Sound, exports_sound, import_name_is_free, linked_is_free, name_asked_free, none_long, short_enough}
 use Rattle.implib.proofs.Formats.Symbols.{before_nul-ended}
 use Rattle.implib.proofs.Formats.WriterLayout.{object_of-layout_of}
-use Rattle.implib.specs.LibraryName.{NamesOfDll, linked_name, names_in}
+use Rattle.implib.specs.LibraryName.{NamesOfDll, linked_name, names_for}
 
 -- The specifications read back.
 
@@ -332,8 +332,8 @@ module _ (d : DefinitionView) (machine : MachineType) (members : List MemberView
   text_free : holds 0 d.import_name ≡ false
   text_free = import_name_is_free d machine Gnu members made
 
-  tail_short : (is_too_long (tail_spec machine (names_in Gnu d)) ≡ false) × (is_too_long (head_spec machine (linked_name d)) || list_any is_too_long (reverse built) ≡ false)
-  tail_short = or_parts (is_too_long (tail_spec machine (names_in Gnu d))) _ (none_long d machine Gnu members made)
+  tail_short : (is_too_long (tail_spec machine (names_for Gnu d)) ≡ false) × (is_too_long (head_spec machine (linked_name d)) || list_any is_too_long (reverse built) ≡ false)
+  tail_short = or_parts (is_too_long (tail_spec machine (names_for Gnu d))) _ (none_long d machine Gnu members made)
 
   head_short : (is_too_long (head_spec machine (linked_name d)) ≡ false) × (list_any is_too_long (reverse built) ≡ false)
   head_short = or_parts (is_too_long (head_spec machine (linked_name d))) (list_any is_too_long (reverse built)) tail_short.1
@@ -341,9 +341,9 @@ module _ (d : DefinitionView) (machine : MachineType) (members : List MemberView
   built_read : AllByRecursion (λ p. ReadsBack p.contents) built
   built_read = numbered_read machine (linked_name d) free 0 exports (exports_sound d machine Gnu members made) (sym (list_any-reverse is_too_long built) ∙ head_short.1)
 
-  tail_back : ReadsBack (AnObject (layout_of (tail_object machine (names_in Gnu d))))
+  tail_back : ReadsBack (AnObject (layout_of (tail_object machine (names_for Gnu d))))
   unfolding tail_spec
-  tail_back = held_reads (tail_object machine (names_in Gnu d)) (Fits-tail_object machine (names_in Gnu d) free) (short_enough (tail_spec machine (names_in Gnu d)) tail_short.0)
+  tail_back = held_reads (tail_object machine (names_for Gnu d)) (Fits-tail_object machine (names_for Gnu d) free) (short_enough (tail_spec machine (names_for Gnu d)) tail_short.0)
 
   head_back : ReadsBack (AnObject (layout_of (head_object machine (linked_name d))))
   unfolding head_spec
@@ -362,11 +362,11 @@ module _ (d : DefinitionView) (machine : MachineType) (members : List MemberView
       ap (λ (x : List MemberView). reverse (drop 2 x)) made.made
       ∙ (sym (map-reverse member_of (reverse built)) ∙ ap (map member_of) (reverse-reverse built))
 
-  first_file : file_at (map member_of (member_specs (renamed d) machine Gnu)) 0 ≡ Some (tail_file machine (names_in Gnu d) free text_free)
+  first_file : file_at (map member_of (member_specs (renamed d) machine Gnu)) 0 ≡ Some (tail_file machine (names_for Gnu d) free text_free)
   unfolding tail_spec
   first_file = tail_back.read
 
-  second_file : file_at (map member_of (member_specs (renamed d) machine Gnu)) 1 ≡ Some (head_file machine (names_in Gnu d) free text_free)
+  second_file : file_at (map member_of (member_specs (renamed d) machine Gnu)) 1 ≡ Some (head_file machine (names_for Gnu d) free text_free)
   unfolding head_spec
   second_file = head_back.read
 
@@ -382,21 +382,21 @@ module _ (d : DefinitionView) (machine : MachineType) (members : List MemberView
         of_members (λ m. option_map declared_by (file_in m.bytes))
         ∙ (map_same (λ (p : MemberSpec). option_map declared_by (file_in (file_bytes p.contents))) (λ (p : MemberSpec). Some p.symbols) (member_specs (renamed d) machine Gnu)
         (read_declares (member_specs (renamed d) machine Gnu) member_specs_read
-        (tail_declares machine (names_in Gnu d), (head_declares machine (linked_name d), reversed_all DeclaresListed built (numbered_declare machine (linked_name d) 0 exports))))
+        (tail_declares machine (names_for Gnu d), (head_declares machine (linked_name d), reversed_all DeclaresListed built (numbered_declare machine (linked_name d) 0 exports))))
         ∙ sym (of_members (λ m. Some m.symbols)));
-    tail = tail_file machine (names_in Gnu d) free text_free;
-    head = head_file machine (names_in Gnu d) free text_free;
+    tail = tail_file machine (names_for Gnu d) free text_free;
+    head = head_file machine (names_for Gnu d) free text_free;
     tail_read = ap (λ (x : List MemberView). file_at x 0) made.made ∙ first_file;
     head_read = ap (λ (x : List MemberView). file_at x 1) made.made ∙ second_file;
     meanings = flat_map (expected_meanings machine d.import_name) exports;
     meanings_read =
-        ap (map (λ (m : MemberView). option_and_then (meaning_with (head_file machine (names_in Gnu d) free text_free) (tail_file machine (names_in Gnu d) free text_free)) (file_in m.bytes))) behind
-        ∙ (read_meaning (head_file machine (names_in Gnu d) free text_free) (tail_file machine (names_in Gnu d) free text_free) built built_read
-        ∙ numbered_specified machine (names_in Gnu d) free text_free 0 exports (exports_sound d machine Gnu members made));
+        ap (map (λ (m : MemberView). option_and_then (meaning_with (head_file machine (names_for Gnu d) free text_free) (tail_file machine (names_for Gnu d) free text_free)) (file_in m.bytes))) behind
+        ∙ (read_meaning (head_file machine (names_for Gnu d) free text_free) (tail_file machine (names_for Gnu d) free text_free) built built_read
+        ∙ numbered_specified machine (names_for Gnu d) free text_free 0 exports (exports_sound d machine Gnu members made));
     by_export = refl;
-    imports = all_imports machine (names_in Gnu d) free text_free exports;
-    aliases = aliases_among machine (names_in Gnu d) free text_free exports;
+    imports = all_imports machine (names_for Gnu d) free text_free exports;
+    aliases = aliases_among machine (names_for Gnu d) free text_free exports;
     code =
         ap (filter_map (λ (m : MemberView). option_and_then code_of_export (file_in m.bytes))) behind
-        ∙ (read_code built built_read ∙ numbered_code machine (names_in Gnu d) free text_free 0 exports);
+        ∙ (read_code built built_read ∙ numbered_code machine (names_for Gnu d) free text_free 0 exports);
   }

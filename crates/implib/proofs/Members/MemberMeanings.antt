@@ -29,7 +29,7 @@ use Rattle.implib.proofs.Members.MemberReadings.{ReadsBack, machine_number_nonze
 use Rattle.implib.proofs.Members.MsvcObjects.{Fits-weak_object}
 use Rattle.implib.proofs.Members.NotRefused.{AsksNoOther, exports_ask, import_name_is_free}
 use Rattle.implib.proofs.Formats.Symbols.{before_nul-ended}
-use Rattle.implib.specs.LibraryName.{NamesOfDll, names_in}
+use Rattle.implib.specs.LibraryName.{NamesOfDll, names_for}
 
 -- What is declared.
 
@@ -215,11 +215,11 @@ member_specs_mean (p ∷ specs) reads =
 module _ (d : DefinitionView) (machine : MachineType) (members : List MemberView) (made : AreMembersOf d machine Msvc members) where
   meanings_read : map (λ (m : MemberView). meaning_in m.bytes) (drop 3 members) ≡ map (λ m. Some m) (flat_map (meanings_written machine d.import_name) (public_exports (renamed d)))
   meanings_read =
-      let exports = flat_map (export_specs machine (names_in Msvc d)) (public_exports (renamed d)) in
+      let exports = flat_map (export_specs machine (names_for Msvc d)) (public_exports (renamed d)) in
       ap (λ x. map (λ (m : MemberView). meaning_in m.bytes) (drop 3 x)) made.made
-      ∙ (ap (map (λ (m : MemberView). meaning_in m.bytes)) (drop_header machine (names_in Msvc d) exports)
-      ∙ (member_specs_mean exports (after_header machine (names_in Msvc d) exports (member_specs_read_back d machine members made))
-      ∙ exports_mean machine (names_in Msvc d) (public_exports (renamed d))))
+      ∙ (ap (map (λ (m : MemberView). meaning_in m.bytes)) (drop_header machine (names_for Msvc d) exports)
+      ∙ (member_specs_mean exports (after_header machine (names_for Msvc d) exports (member_specs_read_back d machine members made))
+      ∙ exports_mean machine (names_for Msvc d) (public_exports (renamed d))))
 
   pub reads_for_msvc : MsvcReadBack d machine members
   reads_for_msvc = record {
@@ -229,13 +229,13 @@ module _ (d : DefinitionView) (machine : MachineType) (members : List MemberView
         of_members d machine members made (λ m. option_map declared_by (file_in m.bytes))
         ∙ (map_same (λ (p : MemberSpec). option_map declared_by (file_in (file_bytes p.contents))) (λ (p : MemberSpec). Some p.symbols) (member_specs (renamed d) machine Msvc)
         (read_declares (member_specs (renamed d) machine Msvc) (member_specs_read_back d machine members made)
-        (all_append DeclaresListed (header_specs machine (names_in Msvc d)) (flat_map (export_specs machine (names_in Msvc d)) (public_exports (renamed d)))
-        (header_declares machine (names_in Msvc d)) (exports_declare machine (names_in Msvc d) (public_exports (renamed d)))))
+        (all_append DeclaresListed (header_specs machine (names_for Msvc d)) (flat_map (export_specs machine (names_for Msvc d)) (public_exports (renamed d)))
+        (header_declares machine (names_for Msvc d)) (exports_declare machine (names_for Msvc d) (public_exports (renamed d)))))
         ∙ sym (of_members d machine members made (λ m. Some m.symbols)));
     dll =
         ap (λ (x : List MemberView). option_and_then (λ (m : MemberView). dll_in m.bytes) (slice_get x 0)) made.made
-        ∙ (first_reads machine (names_in Msvc d) (flat_map (export_specs machine (names_in Msvc d)) (public_exports (renamed d))) (member_specs_read_back d machine members made)
-        ∙ dll_of_descriptor machine (names_in Msvc d) (import_name_is_free d machine Msvc members made));
+        ∙ (first_reads machine (names_for Msvc d) (flat_map (export_specs machine (names_for Msvc d)) (public_exports (renamed d))) (member_specs_read_back d machine members made)
+        ∙ dll_of_descriptor machine (names_for Msvc d) (import_name_is_free d machine Msvc members made));
     meanings = meanings_read;
   }
 

@@ -31,7 +31,7 @@ use Rattle.implib.proofs.Members.MsvcObjects.{Fits-descriptor, Fits-null_descrip
 use Rattle.implib.proofs.Members.NotRefused.{Sound, exports_sound, import_name_is_free, linked_is_free, none_long, short_enough}
 use Rattle.implib.proofs.Formats.ObjectReading.{length-encoded, object_in-encoded}
 use Rattle.implib.proofs.Members.ShortImport.{length-short_import_bytes, short_import_in-short_import_bytes}
-use Rattle.implib.specs.LibraryName.{NamesOfDll, names_in}
+use Rattle.implib.specs.LibraryName.{NamesOfDll, names_for}
 
 -- the file of a specification reads as what was specified
 pub record ReadsBack (contents : Contents) : Type 0 where
@@ -164,7 +164,7 @@ each_length (p ∷ specs) reads = (reads.0.length, each_length specs reads.1)
 module _ (d : DefinitionView) (machine : MachineType) (members : List MemberView) (made : AreMembersOf d machine Msvc members) where
   pub member_specs_read_back : AllByRecursion (λ p. ReadsBack p.contents) (member_specs (renamed d) machine Msvc)
   member_specs_read_back =
-      member_specs_read machine (names_in Msvc d) (linked_is_free d machine Msvc members made) (import_name_is_free d machine Msvc members made) (public_exports (renamed d))
+      member_specs_read machine (names_for Msvc d) (linked_is_free d machine Msvc members made) (import_name_is_free d machine Msvc members made) (public_exports (renamed d))
       (exports_sound d machine Msvc members made) (none_long d machine Msvc members made)
 
   -- a fact of each member's file is a fact of what was specified

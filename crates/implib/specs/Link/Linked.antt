@@ -9,7 +9,7 @@ use Rattle.implib.specs.Definition.{ExportView}
 use Rattle.implib.specs.Members.Gnu.{head_symbol}
 use Rattle.implib.specs.Link.Image.{Range, image_of}
 use Rattle.implib.specs.Import.{imp_symbol, expected_ask}
-use Rattle.implib.specs.LibraryName.{NamesOfDll, names_in}
+use Rattle.implib.specs.LibraryName.{NamesOfDll, names_for}
 use Rattle.implib.specs.declared.flavor.Flavor.TheVariants.{Gnu}
 use Rattle.implib.specs.Link.LinkedMembers.{LinkInput, chosen_exports, linked_members, objects_in}
 use Rattle.implib.specs.Link.Load.{Loads, LoadsStrictly}
@@ -100,7 +100,7 @@ pub record AllLink (machine : MachineType) (bases : Bases) (inputs : List LinkIn
   pub linked : AllByRecursion (IsLinked machine) inputs
   pub imports : AllByRecursion
       (λ p. LinksAt machine (image_of machine bases (placed_from bases objects)) (placed_from bases objects)
-      (names_in Gnu p.definition) (chosen_exports p.definition p.chosen))
+      (names_for Gnu p.definition) (chosen_exports p.definition p.chosen))
       inputs
   pub defined : AllByRecursion (IsDefinedOnce (placed_from bases objects))
       (undefined_names (placed_from bases objects))

@@ -16,7 +16,7 @@ use Rattle.implib.specs.declared.member.Member.{Member}
 use Rattle.std.specs.declared.vec.Vec.{Vec}
 use Rattle.implib.specs.Members.Gnu.{export_name, mangled_name}
 use Rattle.implib.specs.Import.{public_exports}
-use Rattle.implib.specs.LibraryName.{linked_name, names_in}
+use Rattle.implib.specs.LibraryName.{linked_name, names_for}
 use Rattle.implib.specs.Members.Members.{AreMembersOf}
 use Rattle.implib.specs.Members.MemberSpec.{MemberView, MemberSpec, member_of}
 use Rattle.implib.specs.Members.GnuMembers.{export_spec, head_spec, tail_spec}
@@ -38,7 +38,7 @@ abbrev pub linked_specs : DefinitionView → MachineType → List ℕ → List M
 linked_specs d machine chosen =
     head_spec machine (linked_name d)
     ∷ (filter_map (numbered_spec machine (linked_name d) (public_exports (renamed d))) chosen
-    ++ tail_spec machine (names_in Gnu d) ∷ [])
+    ++ tail_spec machine (names_for Gnu d) ∷ [])
 
 -- what is linked
 abbrev pub linked_members : DefinitionView → MachineType → List ℕ → List MemberView

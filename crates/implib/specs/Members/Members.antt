@@ -7,7 +7,7 @@ use Rattle.implib.specs.declared.machine.MachineType.{MachineType}
 use Rattle.implib.specs.Definition.{DefinitionView, ExportView}
 use Rattle.implib.specs.Fault.{Cause, MemberTooLong}
 use Rattle.implib.specs.Import.{public_exports}
-use Rattle.implib.specs.LibraryName.{names_in}
+use Rattle.implib.specs.LibraryName.{names_for}
 use Rattle.implib.specs.Renaming.{renamed}
 use Rattle.implib.specs.Members.GnuMembers.{gnu_specs}
 use Rattle.implib.specs.Members.MemberSpec.{MemberSpec, MemberView, file_size, member_of}
@@ -17,8 +17,8 @@ use Rattle.implib.specs.Members.NameRules.{definition_names_refusal, first_of_bo
 -- the members of a definition whose exports are under their names to link by
 abbrev pub member_specs : DefinitionView → MachineType → Flavor → List MemberSpec
 member_specs d machine Msvc =
-    header_specs machine (names_in Msvc d) ++ flat_map (export_specs machine (names_in Msvc d)) (public_exports d)
-member_specs d machine Gnu = gnu_specs machine (names_in Gnu d) (public_exports d)
+    header_specs machine (names_for Msvc d) ++ flat_map (export_specs machine (names_for Msvc d)) (public_exports d)
+member_specs d machine Gnu = gnu_specs machine (names_for Gnu d) (public_exports d)
 
 -- whether a member would be longer than a u32 can say
 abbrev pub is_too_long : MemberSpec → Bool

@@ -1,7 +1,7 @@
 //! The laws of the name of a library for the linker.
 
 ghost use Rattle.implib.specs.Definition.{DefinitionView};
-ghost use Rattle.implib.specs.LibraryName.{linked_dll, names_in, own_names};
+ghost use Rattle.implib.specs.LibraryName.{linked_dll, names_for, own_names};
 ghost use Rattle.implib.specs.Members.MsvcObjects.{base_name};
 ghost use Rattle.implib.specs.Members.NameRules.{definition_names_refusal, first_of_both};
 ghost use Rattle.implib.specs.Members.NameRules.{import_name_refusal, names_refusal};
@@ -14,7 +14,7 @@ ghost use Rattle.std.specs.Prelude.{◌≡◌, List, None, Some, ℕ};
 /// on names are those on the DLL's name and on the exports.
 pub fn nameless_by_dll()
     ensures names { (flavor : Flavor) (d : DefinitionView) → d.library_name ≡ None →
-        names_in flavor d ≡ own_names d.import_name }
+        names_for flavor d ≡ own_names d.import_name }
     ensures refusals { (flavor : Flavor) (machine : MachineType) (d : DefinitionView) →
         d.library_name ≡ None → definition_names_refusal d machine flavor
         ≡ first_of_both (import_name_refusal d.import_name)

@@ -4,7 +4,7 @@ ghost use Rattle.implib.specs.Definition.{definition_view};
 ghost use Rattle.implib.specs.Members.Gnu.{export_name, head_name, tail_name};
 ghost use Rattle.implib.specs.Import.{Ask, public_exports};
 ghost use Rattle.implib.specs.Library.{member_view};
-ghost use Rattle.implib.specs.LibraryName.{linked_name, names_in};
+ghost use Rattle.implib.specs.LibraryName.{linked_name, names_for};
 ghost use Rattle.implib.specs.Link.LinkedMembers.{inputs_held};
 ghost use Rattle.implib.specs.Link.Image.{IsAdmissible, Range};
 ghost use Rattle.implib.specs.Link.Load.{Loads};
@@ -56,7 +56,7 @@ pub fn gnu_links(
     ensures objects { map (λ m. object_in m.bytes)
         (linked_members (definition_view def.now) machine chosen.now)
         ≡ map Some (objects_in (linked_members (definition_view def.now) machine chosen.now)) }
-    ensures links { Links machine (bases_of bases) (names_in Gnu (definition_view def.now))
+    ensures links { Links machine (bases_of bases) (names_for Gnu (definition_view def.now))
         (chosen_exports (definition_view def.now) chosen.now)
         (objects_in (linked_members (definition_view def.now) machine chosen.now)) }
 {}

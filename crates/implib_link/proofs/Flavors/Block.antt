@@ -35,11 +35,11 @@ abbrev pub use_for : ExportView → Use
 use_for e = if e.is_data then Data else if e.constant then Constant else Code
 
 -- the object that an export's short import stands for
-abbrev pub asking : MachineType → List ℕ → ExportView → Object
+abbrev pub asking : MachineType → NamesOfDll → ExportView → Object
 asking machine dll e = import_object machine dll.text (short_import_symbol e) (ask_in Msvc machine e) (use_for e)
 
 -- the short imports' objects, the null thunk's after them, and other objects
-abbrev pub behind_descriptor : MachineType → List ℕ → List ExportView → List Object → List Object
+abbrev pub behind_descriptor : MachineType → NamesOfDll → List ExportView → List Object → List Object
 behind_descriptor machine dll es rest = map (asking machine dll) es ++ taken_null_thunk machine dll ∷ rest
 
 -- the ends after them
@@ -63,7 +63,7 @@ use_definitions address symbol Constant = record { name = symbol; address = Some
 abbrev pub imp_definition : Bases → List ℕ → SymbolDefinition
 imp_definition b symbol = record { name = imp_symbol symbol; address = Some (b.addresses + 0) }
 
-unfoldable pub defined_behind : MachineType → List ℕ → Bases → List ExportView → List SymbolDefinition
+unfoldable pub defined_behind : MachineType → NamesOfDll → Bases → List ExportView → List SymbolDefinition
 defined_behind machine dll b [] = record { name = null_thunk_symbol dll.linked; address = Some (b.addresses + 0) } ∷ []
 defined_behind machine dll b (e ∷ es) =
     imp_definition b (short_import_symbol e)
@@ -112,25 +112,25 @@ names-behind machine dll b (e ∷ es) =
     ∙ ap (λ names. own ++ names) (names-behind machine dll later es)
     ∙ sym (append_assoc own (flat_map short_import_symbols es) (null_thunk_symbol dll.linked ∷ [])))
 
-unfoldable pub descriptor_definition : List ℕ → Bases → SymbolDefinition
+unfoldable pub descriptor_definition : NamesOfDll → Bases → SymbolDefinition
 descriptor_definition dll b = record { name = descriptor_symbol dll.linked; address = Some (b.descriptors + 0) }
 
 -- One DLL's objects, in its flavour.
 
-abbrev pub objects_of : MachineType → Flavor → List ℕ → List ExportView → List Object → List Object
+abbrev pub objects_of : MachineType → Flavor → NamesOfDll → List ExportView → List Object → List Object
 objects_of machine Msvc dll es rest = taken_descriptor machine dll ∷ behind_descriptor machine dll es rest
 objects_of machine Gnu dll es rest = head machine dll ∷ after_head machine dll es rest
 
-abbrev pub ends_in : MachineType → Flavor → List ℕ → Bases → List ExportView → Bases
+abbrev pub ends_in : MachineType → Flavor → NamesOfDll → Bases → List ExportView → Bases
 ends_in machine Msvc dll b es = ends_of_askings machine (ends_of_descriptor dll b) es
 ends_in machine Gnu dll b es = ends_of_block machine dll b es
 
-abbrev pub definitions_in : MachineType → Flavor → List ℕ → Bases → List ExportView → List SymbolDefinition
+abbrev pub definitions_in : MachineType → Flavor → NamesOfDll → Bases → List ExportView → List SymbolDefinition
 definitions_in machine Msvc dll b es = descriptor_definition dll b ∷ defined_behind machine dll (ends_of_descriptor dll b) es
 definitions_in machine Gnu dll b es = block_definitions machine dll b es
 
 -- the symbols that its members are listed for
-abbrev pub symbols_of : MachineType → Flavor → List ℕ → List ExportView → List (List ℕ)
+abbrev pub symbols_of : MachineType → Flavor → NamesOfDll → List ExportView → List (List ℕ)
 symbols_of machine Msvc dll es = descriptor_symbol dll.linked ∷ (flat_map short_import_symbols es ++ null_thunk_symbol dll.linked ∷ [])
 symbols_of machine Gnu dll es = head_symbol machine dll.linked ∷ (flat_map archive_symbols es ++ iname_symbol machine dll.linked ∷ [])
 
@@ -186,7 +186,7 @@ symbols_from linked width address (e ∷ es) entries = (entries.0, symbols_from 
 -- What is known of one DLL's objects among all that is linked, with other objects behind them.
 pub record OneLinks (machine : MachineType) (linked : List Placed) (image : List Range) (flavor : Flavor) (dll : NamesOfDll) (es : List ExportView) (b : Bases) (rest : List Object) : Type 0 where
   pub top : definitions_of (descriptor_in flavor machine dll) linked ≡ record { name = descriptor_in flavor machine dll; address = Some b.descriptors } ∷ []
-  pub loads : LoadsStrictly image (thunk_width machine) b.descriptors dll (map (ask_in flavor machine) es)
+  pub loads : LoadsStrictly image (thunk_width machine) b.descriptors dll.text (map (ask_in flavor machine) es)
   pub table_located : loads.plain.addresses ≡ b.addresses
   pub entries : SymbolsAt linked (thunk_width machine) b.addresses (map (λ e. imp_symbol (symbol_in flavor e)) es)
   pub rest_located : LocatedFrom machine linked image (ends_in machine flavor dll b es) rest
@@ -329,8 +329,8 @@ module _ (machine : MachineType) (dll : NamesOfDll) (linked : List Placed) (imag
       let top : definitions_of (descriptor_symbol dll.linked) linked ≡ record { name = descriptor_symbol dll.linked; address = Some b.descriptors } ∷ [] =
       only own (among_first own _) ∙ ap (λ n. record { name = descriptor_symbol dll.linked; address = Some n } ∷ []) plain in
       let thunk = thunk_defined es later in
-      let name_text : TextAt image (next_multiple 2 b.hint_names) dll = record { no_nul = dll_text; located = one.name } in
-      let loaded = descriptor_loads machine image starts ends b.descriptors b.lookups b.addresses (next_multiple 2 b.hint_names) dll (map (ask_in Msvc machine) es)
+      let name_text : TextAt image (next_multiple 2 b.hint_names) dll.text = record { no_nul = dll_text; located = one.name } in
+      let loaded = descriptor_loads machine image starts ends b.descriptors b.lookups b.addresses (next_multiple 2 b.hint_names) dll.text (map (ask_in Msvc machine) es)
       one.bytes tables.lookups tables.addresses name_text in
       record {
         top = top;

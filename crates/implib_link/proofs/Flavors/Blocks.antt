@@ -192,7 +192,7 @@ nth_in machine linked image rest (q ∷ blocks) b links (suc i) k is =
 
 -- what a block imports
 abbrev pub imported_of : MachineType → FlavorBlock → Imported
-imported_of machine k = record { dll = k.dll; asks = map (ask_in k.flavor machine) k.exports }
+imported_of machine k = record { dll = k.dll.text; asks = map (ask_in k.flavor machine) k.exports }
 
 -- blocks, and zeros behind their descriptors, are a directory
 pub directory_in : (machine : MachineType) (linked : List Placed) (image : List Range) (rest : List Object) (blocks : List FlavorBlock) (b : Bases) →

@@ -40,7 +40,7 @@ pub claims_thunk : (machine : MachineType) (dll : NamesOfDll) → claimed_names 
 unfolding with_section_symbols object_of null_thunk entries_of name_text
 claims_thunk machine dll = refl
 
-pub claims_asking : (machine : MachineType) (dll symbol : List ℕ) (ask : Ask) (is_data constant : Bool) →
+pub claims_asking : (machine : MachineType) (dll : NamesOfDll) (symbol : List ℕ) (ask : Ask) (is_data constant : Bool) →
     claimed_names (import_object machine dll.text symbol ask (if is_data then Data else if constant then Constant else Code)) ≡ imp_symbol symbol ∷ (if is_data then [] else symbol ∷ [])
 unfolding import_object
 claims_asking machine dll symbol (Ordinal n) true constant = refl

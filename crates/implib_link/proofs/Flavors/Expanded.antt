@@ -50,10 +50,10 @@ plus_none n = omega arith
 
 -- The objects.
 
-abbrev pub taken_descriptor : MachineType → List ℕ → Object
+abbrev pub taken_descriptor : MachineType → NamesOfDll → Object
 taken_descriptor machine dll = with_section_symbols (object_of (descriptor machine dll))
 
-abbrev pub taken_null_thunk : MachineType → List ℕ → Object
+abbrev pub taken_null_thunk : MachineType → NamesOfDll → Object
 taken_null_thunk machine dll = with_section_symbols (object_of (null_thunk machine dll.linked))
 
 abbrev pub taken_null : MachineType → Object
@@ -61,13 +61,13 @@ taken_null machine = with_section_symbols (object_of (null_descriptor machine))
 
 -- Their positions.
 
-abbrev pub placed_descriptor : MachineType → List ℕ → Bases → Placed
+abbrev pub placed_descriptor : MachineType → NamesOfDll → Bases → Placed
 placed_descriptor machine dll b = record {
   object = taken_descriptor machine dll;
   section_addresses = At Descriptors b.descriptors ∷ At HintNames (next_multiple 2 b.hint_names) ∷ At Lookups b.lookups ∷ At Addresses b.addresses ∷ [];
 }
 
-abbrev pub ends_of_descriptor : List ℕ → Bases → Bases
+abbrev pub ends_of_descriptor : NamesOfDll → Bases → Bases
 ends_of_descriptor dll b = record b { descriptors = b.descriptors + 20; hint_names = next_multiple 2 b.hint_names + length (dll.text ++ 0 ∷ []) }
 
 abbrev hint_places : Bases → Ask → List SectionAddress
@@ -78,7 +78,7 @@ abbrev pub hint_end : Bases → Ask → ℕ
 hint_end b (Ordinal n) = b.hint_names
 hint_end b (Name text hint) = next_multiple 2 b.hint_names + length (hint_and_name text hint)
 
-abbrev pub placed_asking : MachineType → List ℕ → Bases → List ℕ → Ask → Use → Placed
+abbrev pub placed_asking : MachineType → NamesOfDll → Bases → List ℕ → Ask → Use → Placed
 placed_asking machine dll b symbol ask use_kind = record {
   object = import_object machine dll.text symbol ask use_kind;
   section_addresses = Unplaced ∷ At Addresses b.addresses ∷ At Lookups b.lookups ∷ hint_places b ask;
@@ -94,7 +94,7 @@ ends_of_asking machine b ask = record {
   dll_names = b.dll_names;
 }
 
-abbrev pub placed_null_thunk : MachineType → List ℕ → Bases → Placed
+abbrev pub placed_null_thunk : MachineType → NamesOfDll → Bases → Placed
 placed_null_thunk machine dll b = record {
   object = taken_null_thunk machine dll;
   section_addresses = At Addresses b.addresses ∷ At Lookups b.lookups ∷ [];

@@ -35,7 +35,7 @@ use Rattle.implib.proofs.Members.Import.{name_type_is_ordinal, name_type_of_fits
 use Rattle.implib.proofs.Link.LinkedBlocks.{linked_objects}
 use Rattle.implib.proofs.Link.LinkedMembers.{among_contains, among_map, chosen_among, exports_fit, head_among, members_among, read_as, symbols_are}
 use Rattle.implib.proofs.Members.MemberReadings.{ReadsBack, map_after, member_specs_read_back}
-use Rattle.implib.proofs.Members.NotRefused.{Sound, exports_sound, import_name_is_free, none_long}
+use Rattle.implib.proofs.Members.NotRefused.{Sound, exports_sound, import_name_is_free, linked_is_free, none_long}
 use Rattle.implib.proofs.Link.Placement.{export, head, tail}
 use Rattle.implib.proofs.Link.Ranges.{Among, all_among, among_back, among_first, among_flat, among_front, among_later}
 use Rattle.implib_link.specs.Flavors.Expansion.{Code, Constant, Data, import_object, expansion, is_import_for, expanded_as, expanded_in, use_of}
@@ -45,7 +45,7 @@ use Rattle.implib_link.proofs.Flavors.Block.{FitsIn, asking, objects_of, symbols
 use Rattle.implib_link.proofs.Flavors.Blocks.{CanLink, FlavorBlock, all_objects}
 use Rattle.implib_link.proofs.Flavors.Expanded.{AskFits, taken_descriptor, taken_null, taken_null_thunk}
 use Rattle.implib_link.proofs.Gnu.Texts.{all_chosen}
-use Rattle.implib.specs.LibraryName.{NamesOfDll, linked_dll, names_in}
+use Rattle.implib.specs.LibraryName.{NamesOfDll, linked_dll, names_for}
 use Rattle.implib_link.specs.Flavors.Program.{dll_names_in}
 
 -- Short imports.
@@ -154,12 +154,12 @@ module _ (d : DefinitionView) (machine : MachineType) (members : List MemberView
   reads : AllByRecursion (λ p. ReadsBack p.contents) (member_specs (renamed d) machine Msvc)
   reads = member_specs_read_back d machine members made
 
-  header_at : (p : MemberSpec) → Among p (header_specs machine (names_in Msvc d)) → Among p (member_specs (renamed d) machine Msvc)
-  header_at p m = among_front p (header_specs machine (names_in Msvc d)) (flat_map (export_specs machine (names_in Msvc d)) (public_exports (renamed d))) m
+  header_at : (p : MemberSpec) → Among p (header_specs machine (names_for Msvc d)) → Among p (member_specs (renamed d) machine Msvc)
+  header_at p m = among_front p (header_specs machine (names_for Msvc d)) (flat_map (export_specs machine (names_for Msvc d)) (public_exports (renamed d))) m
 
-  pub descriptor_at : Among (descriptor_spec machine (names_in Msvc d)) (member_specs (renamed d) machine Msvc)
+  pub descriptor_at : Among (descriptor_spec machine (names_for Msvc d)) (member_specs (renamed d) machine Msvc)
   unfolding header_specs
-  descriptor_at = header_at (descriptor_spec machine (names_in Msvc d)) (among_first _ _)
+  descriptor_at = header_at (descriptor_spec machine (names_for Msvc d)) (among_first _ _)
 
   pub null_at : Among (null_descriptor_spec machine (linked_dll d)) (member_specs (renamed d) machine Msvc)
   unfolding header_specs
@@ -169,11 +169,11 @@ module _ (d : DefinitionView) (machine : MachineType) (members : List MemberView
   unfolding header_specs
   thunk_at = header_at (null_thunk_spec machine (linked_dll d)) (among_later _ _ _ (among_later _ _ _ (among_first _ _)))
 
-  pub short_at : (e : ExportView) → Among e (public_exports (renamed d)) → Among (short_import_spec machine (names_in Msvc d) e) (member_specs (renamed d) machine Msvc)
+  pub short_at : (e : ExportView) → Among e (public_exports (renamed d)) → Among (short_import_spec machine (names_for Msvc d) e) (member_specs (renamed d) machine Msvc)
   short_at e m =
-      among_back _ (header_specs machine (names_in Msvc d)) (flat_map (export_specs machine (names_in Msvc d)) (public_exports (renamed d)))
-      (among_flat (export_specs machine (names_in Msvc d)) e (public_exports (renamed d)) (short_import_spec machine (names_in Msvc d) e) m
-      (among_back _ (weak_specs machine (linked_dll d) e) (short_import_spec machine (names_in Msvc d) e ∷ []) (among_first _ _)))
+      among_back _ (header_specs machine (names_for Msvc d)) (flat_map (export_specs machine (names_for Msvc d)) (public_exports (renamed d)))
+      (among_flat (export_specs machine (names_for Msvc d)) e (public_exports (renamed d)) (short_import_spec machine (names_for Msvc d) e) m
+      (among_back _ (weak_specs machine (linked_dll d) e) (short_import_spec machine (names_for Msvc d) e ∷ []) (among_first _ _)))
 
   pub read_of : (p : MemberSpec) → Among p (member_specs (renamed d) machine Msvc) → file_in (file_bytes p.contents) ≡ Some (file_of p.contents)
   read_of p m = (all_among (λ (q : MemberSpec). ReadsBack q.contents) p (member_specs (renamed d) machine Msvc) m reads).read
@@ -181,48 +181,48 @@ module _ (d : DefinitionView) (machine : MachineType) (members : List MemberView
   pub taken_of : (p : MemberSpec) → Among p (member_specs (renamed d) machine Msvc) → expanded_in machine (member_of p).bytes ≡ expanded_as machine (file_of p.contents)
   taken_of p m = taken_by machine (file_bytes p.contents) (file_of p.contents) (read_of p m)
 
-  pub descriptor_taken : expanded_in machine (member_of (descriptor_spec machine (names_in Msvc d))).bytes ≡ Some (taken_descriptor machine (names_in Msvc d))
+  pub descriptor_taken : expanded_in machine (member_of (descriptor_spec machine (names_for Msvc d))).bytes ≡ Some (taken_descriptor machine (names_for Msvc d))
   unfolding descriptor_spec
-  descriptor_taken = taken_of (descriptor_spec machine (names_in Msvc d)) descriptor_at
+  descriptor_taken = taken_of (descriptor_spec machine (names_for Msvc d)) descriptor_at
 
   pub null_taken : expanded_in machine (null_member machine (linked_dll d)).bytes ≡ Some (taken_null machine)
   unfolding null_descriptor_spec
   null_taken = taken_of (null_descriptor_spec machine (linked_dll d)) null_at
 
-  pub thunk_taken : expanded_in machine (member_of (null_thunk_spec machine (linked_dll d))).bytes ≡ Some (taken_null_thunk machine (names_in Msvc d))
+  pub thunk_taken : expanded_in machine (member_of (null_thunk_spec machine (linked_dll d))).bytes ≡ Some (taken_null_thunk machine (names_for Msvc d))
   unfolding null_thunk_spec
   thunk_taken = taken_of (null_thunk_spec machine (linked_dll d)) thunk_at
 
   pub short_taken : (e : ExportView) → Among e (public_exports (renamed d)) →
-      expanded_in machine (member_of (short_import_spec machine (names_in Msvc d) e)).bytes ≡ Some (asking machine (names_in Msvc d) e)
-  short_taken e m = taken_of (short_import_spec machine (names_in Msvc d) e) (short_at e m) ∙ short_import_taken machine (names_in Msvc d) e
+      expanded_in machine (member_of (short_import_spec machine (names_for Msvc d) e)).bytes ≡ Some (asking machine (names_for Msvc d) e)
+  short_taken e m = taken_of (short_import_spec machine (names_for Msvc d) e) (short_at e m) ∙ short_import_taken machine (names_for Msvc d) e
 
   -- what holds of each export that is not private holds of the chosen ones
   chosen_all : (P : ExportView → Type 0) → ((e : ExportView) → Among e (public_exports (renamed d)) → P e) → AllByRecursion P (chosen_exports d chosen)
   chosen_all P each = all_chosen P (public_exports (renamed d)) chosen (all_map (λ e. Among e (public_exports (renamed d))) P each (public_exports (renamed d)) (all_self (public_exports (renamed d))))
 
-  shorts_taken : AllByRecursion (λ e. expanded_in machine (member_of (short_import_spec machine (names_in Msvc d) e)).bytes ≡ Some (asking machine (names_in Msvc d) e)) (chosen_exports d chosen)
-  shorts_taken = chosen_all (λ e. expanded_in machine (member_of (short_import_spec machine (names_in Msvc d) e)).bytes ≡ Some (asking machine (names_in Msvc d) e)) short_taken
+  shorts_taken : AllByRecursion (λ e. expanded_in machine (member_of (short_import_spec machine (names_for Msvc d) e)).bytes ≡ Some (asking machine (names_for Msvc d) e)) (chosen_exports d chosen)
+  shorts_taken = chosen_all (λ e. expanded_in machine (member_of (short_import_spec machine (names_for Msvc d) e)).bytes ≡ Some (asking machine (names_for Msvc d) e)) short_taken
 
   pub msvc_fit : AllByRecursion (FitsIn Msvc machine) (chosen_exports d chosen)
   msvc_fit = chosen_all (FitsIn Msvc machine) (λ e m. export_fits machine e (all_among Sound e (public_exports (renamed d)) m (exports_sound d machine Msvc members made)))
 
   abbrev shorts : List MemberSpec
-  shorts = map (short_import_spec machine (names_in Msvc d)) (chosen_exports d chosen)
+  shorts = map (short_import_spec machine (names_for Msvc d)) (chosen_exports d chosen)
 
-  pub msvc_read : map (λ (m : MemberView). expanded_in machine m.bytes) (map member_of (specs_in Msvc d machine chosen)) ≡ map Some (objects_of machine Msvc (names_in Msvc d) (chosen_exports d chosen) [])
+  pub msvc_read : map (λ (m : MemberView). expanded_in machine m.bytes) (map member_of (specs_in Msvc d machine chosen)) ≡ map Some (objects_of machine Msvc (names_for Msvc d) (chosen_exports d chosen) [])
   msvc_read =
       let reading : MemberSpec → Option Object = λ (p : MemberSpec). expanded_in machine (member_of p).bytes in
       let last : MemberSpec = null_thunk_spec machine (linked_dll d) in
       map_after (λ (m : MemberView). expanded_in machine m.bytes) member_of (specs_in Msvc d machine chosen)
       ∙ ap (λ o. o ∷ map reading (shorts ++ last ∷ [])) descriptor_taken
-      ∙ ap (λ os. Some (taken_descriptor machine (names_in Msvc d)) ∷ os) (
+      ∙ ap (λ os. Some (taken_descriptor machine (names_for Msvc d)) ∷ os) (
       map-append-last reading shorts last
       ∙ ap (λ o. map reading shorts ++ o ∷ []) thunk_taken
-      ∙ ap (λ os. os ++ Some (taken_null_thunk machine (names_in Msvc d)) ∷ [])
-      (map_after reading (short_import_spec machine (names_in Msvc d)) (chosen_exports d chosen)
-      ∙ all_read (λ e. reading (short_import_spec machine (names_in Msvc d) e)) (asking machine (names_in Msvc d)) (chosen_exports d chosen) shorts_taken)
-      ∙ sym (map-append-last Some (map (asking machine (names_in Msvc d)) (chosen_exports d chosen)) (taken_null_thunk machine (names_in Msvc d))))
+      ∙ ap (λ os. os ++ Some (taken_null_thunk machine (names_for Msvc d)) ∷ [])
+      (map_after reading (short_import_spec machine (names_for Msvc d)) (chosen_exports d chosen)
+      ∙ all_read (λ e. reading (short_import_spec machine (names_for Msvc d) e)) (asking machine (names_for Msvc d)) (chosen_exports d chosen) shorts_taken)
+      ∙ sym (map-append-last Some (map (asking machine (names_for Msvc d)) (chosen_exports d chosen)) (taken_null_thunk machine (names_for Msvc d))))
 
   all_mapped : {X Y : Type 0} (f : X → Y) (P : Y → Type 0) (xs : List X) → AllByRecursion (λ x. P (f x)) xs → AllByRecursion P (map f xs)
   all_mapped f P [] all = tt
@@ -238,7 +238,7 @@ module _ (d : DefinitionView) (machine : MachineType) (members : List MemberView
       (all_contained member_of (member_specs (renamed d) machine Msvc) (specs_in Msvc d machine chosen) (
         descriptor_at,
         all_last (λ p. Among p (member_specs (renamed d) machine Msvc)) shorts (null_thunk_spec machine (linked_dll d))
-            (all_mapped (short_import_spec machine (names_in Msvc d)) (λ p. Among p (member_specs (renamed d) machine Msvc)) (chosen_exports d chosen) (chosen_all (λ e. Among (short_import_spec machine (names_in Msvc d) e) (member_specs (renamed d) machine Msvc)) short_at)) thunk_at,
+            (all_mapped (short_import_spec machine (names_for Msvc d)) (λ p. Among p (member_specs (renamed d) machine Msvc)) (chosen_exports d chosen) (chosen_all (λ e. Among (short_import_spec machine (names_for Msvc d) e) (member_specs (renamed d) machine Msvc)) short_at)) thunk_at,
       ))
 
   pub null_from : Contains members (null_member machine (linked_dll d))
@@ -253,10 +253,10 @@ flat_listed machine dll (e ∷ es) last =
     ap (λ names. short_import_symbols e ++ names) (flat_listed machine dll es last) ∙ sym (append_assoc (short_import_symbols e) (flat_map short_import_symbols es) (last.symbols ++ []))
 
 pub msvc_symbols : (d : DefinitionView) (machine : MachineType) (chosen : List ℕ) →
-    symbols_listed (map member_of (specs_in Msvc d machine chosen)) ≡ symbols_of machine Msvc (names_in Msvc d) (chosen_exports d chosen)
+    symbols_listed (map member_of (specs_in Msvc d machine chosen)) ≡ symbols_of machine Msvc (names_for Msvc d) (chosen_exports d chosen)
 unfolding descriptor_spec null_thunk_spec
 msvc_symbols d machine chosen =
-    ap (λ names. descriptor_symbol (linked_dll d) ∷ names) (flat_listed machine (names_in Msvc d) (chosen_exports d chosen) (null_thunk_spec machine (linked_dll d)))
+    ap (λ names. descriptor_symbol (linked_dll d) ∷ names) (flat_listed machine (names_for Msvc d) (chosen_exports d chosen) (null_thunk_spec machine (linked_dll d)))
 
 -- The members for GNU's linker: a linker takes each for the object that it is.
 
@@ -336,30 +336,30 @@ module _ (d : DefinitionView) (machine : MachineType) (members : List MemberView
 
   all_objects_are : AllByRecursion (λ p. IsObject p.contents) (linked_specs d machine chosen)
   unfolding IsObject head_spec
-  all_objects_are = (tt, are_objects machine (names_in Msvc d) (public_exports (renamed d)) chosen)
+  all_objects_are = (tt, are_objects machine (names_for Gnu d) (public_exports (renamed d)) chosen)
 
   all_read_back : AllByRecursion (λ p. ReadsBack p.contents) (linked_specs d machine chosen)
   all_read_back =
       let exports : List ExportView = public_exports (renamed d) in
-      let free = import_name_is_free d machine Gnu members made in
+      let free = linked_is_free d machine Gnu members made in
       let good = exports_sound d machine Gnu members made in
       let short = none_long d machine Gnu members made in
       let reads = member_specs_read d machine members made in
-      all_map (λ p. Among p (gnu_specs machine (names_in Msvc d) exports)) (λ p. ReadsBack p.contents)
-      (λ p m. all_among (λ (q : MemberSpec). ReadsBack q.contents) p (gnu_specs machine (names_in Msvc d) exports) m reads) linked
-      (head_among machine (names_in Msvc d) exports free good short, chosen_among machine (names_in Msvc d) exports free good short chosen)
+      all_map (λ p. Among p (gnu_specs machine (names_for Gnu d) exports)) (λ p. ReadsBack p.contents)
+      (λ p m. all_among (λ (q : MemberSpec). ReadsBack q.contents) p (gnu_specs machine (names_for Gnu d) exports) m reads) linked
+      (head_among machine (names_for Gnu d) exports free good short, chosen_among machine (names_for Gnu d) exports free good short chosen)
 
-  pub gnu_read : map (λ (m : MemberView). expanded_in machine m.bytes) (map member_of (specs_in Gnu d machine chosen)) ≡ map Some (objects_of machine Gnu (names_in Msvc d) (chosen_exports d chosen) [])
+  pub gnu_read : map (λ (m : MemberView). expanded_in machine m.bytes) (map member_of (specs_in Gnu d machine chosen)) ≡ map Some (objects_of machine Gnu (names_for Gnu d) (chosen_exports d chosen) [])
   gnu_read =
       map_after (λ (m : MemberView). expanded_in machine m.bytes) member_of linked
-      ∙ each_taken machine linked (linked_objects machine (names_in Msvc d) (chosen_exports d chosen)) all_objects_are all_read_back
+      ∙ each_taken machine linked (linked_objects machine (names_for Gnu d) (chosen_exports d chosen)) all_objects_are all_read_back
       (sym (map_after (λ (m : MemberView). object_in m.bytes) member_of linked) ∙ read_as d machine members chosen made)
-      ∙ ap (map Some) (objects_plain machine (names_in Msvc d) (chosen_exports d chosen))
+      ∙ ap (map Some) (objects_plain machine (names_for Gnu d) (chosen_exports d chosen))
 
 -- In either flavour.
 
 objects_read : (d : DefinitionView) (machine : MachineType) (flavor : Flavor) (members : List MemberView) (chosen : List ℕ) → AreMembersOf d machine flavor members →
-    map (λ (m : MemberView). expanded_in machine m.bytes) (map member_of (specs_in flavor d machine chosen)) ≡ map Some (objects_of machine flavor (names_in Msvc d) (chosen_exports d chosen) [])
+    map (λ (m : MemberView). expanded_in machine m.bytes) (map member_of (specs_in flavor d machine chosen)) ≡ map Some (objects_of machine flavor (names_for flavor d) (chosen_exports d chosen) [])
 objects_read d machine Msvc members chosen made = msvc_read d machine members chosen made
 objects_read d machine Gnu members chosen made = gnu_read d machine members chosen made
 
@@ -380,7 +380,7 @@ fit_in d machine Msvc members chosen made = msvc_fit d machine members chosen ma
 fit_in d machine Gnu members chosen made = exports_fit d machine members chosen made
 
 symbols_are_in : (d : DefinitionView) (machine : MachineType) (flavor : Flavor) (members : List MemberView) (chosen : List ℕ) → AreMembersOf d machine flavor members →
-    symbols_listed (map member_of (specs_in flavor d machine chosen)) ≡ symbols_of machine flavor (names_in Msvc d) (chosen_exports d chosen)
+    symbols_listed (map member_of (specs_in flavor d machine chosen)) ≡ symbols_of machine flavor (names_for flavor d) (chosen_exports d chosen)
 symbols_are_in d machine Msvc members chosen made = msvc_symbols d machine chosen
 symbols_are_in d machine Gnu members chosen made = symbols_are d machine members chosen made
 

@@ -46,7 +46,7 @@ field_within machine =
     let size : 4 ≤ thunk_width machine = thunk_size machine in
     omega arith
 
-asking_sized : (machine : MachineType) (dll symbol : List ℕ) (ask : Ask) (use_kind : Use) → IsSized (import_object machine dll.text symbol ask use_kind)
+asking_sized : (machine : MachineType) (dll : NamesOfDll) (symbol : List ℕ) (ask : Ask) (use_kind : Use) → IsSized (import_object machine dll.text symbol ask use_kind)
 unfolding import_object
 asking_sized machine dll symbol (Ordinal n) use_kind = (stub_sized machine use_kind, (tt, (tt, tt)))
 asking_sized machine dll symbol (Name text hint) use_kind = (stub_sized machine use_kind, ((field_within machine, tt), ((field_within machine, tt), (tt, tt))))

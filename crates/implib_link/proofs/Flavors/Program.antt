@@ -51,7 +51,7 @@ use Rattle.implib.specs.LibraryName.{linked_dll}
 
 -- The objects of the members have no `.idata$3`.
 
-asking_ends : (machine : MachineType) (dll symbol : List ℕ) (ask : Ask) → (e : ExportView) → EndsNothing (import_object machine dll.text symbol ask (use_for e))
+asking_ends : (machine : MachineType) (dll : NamesOfDll) (symbol : List ℕ) (ask : Ask) → (e : ExportView) → EndsNothing (import_object machine dll.text symbol ask (use_for e))
 unfolding import_object
 asking_ends machine dll symbol (Ordinal n) e = (refl, (refl, (refl, tt)))
 asking_ends machine dll symbol (Name text hint) e = (refl, (refl, (refl, (refl, tt))))
@@ -79,7 +79,7 @@ blocks_end machine (k ∷ blocks) = objects_end machine k.flavor k.dll k.exports
 
 -- Where `.idata$2` ends.
 
-asking_keeps : (machine : MachineType) (dll symbol : List ℕ) (ask : Ask) (e : ExportView) (n : ℕ) → sections_end Descriptors n (import_object machine dll.text symbol ask (use_for e)).sections ≡ n
+asking_keeps : (machine : MachineType) (dll : NamesOfDll) (symbol : List ℕ) (ask : Ask) (e : ExportView) (n : ℕ) → sections_end Descriptors n (import_object machine dll.text symbol ask (use_for e)).sections ≡ n
 unfolding import_object sections_end
 asking_keeps machine dll symbol (Ordinal n) e m = refl
 asking_keeps machine dll symbol (Name text hint) e m = refl

@@ -24,7 +24,7 @@ use Rattle.implib_link.proofs.Flavors.Program.{kept_are, parts_are}
 use Rattle.implib_link.proofs.Gnu.Steady.{AllSteady, all_steady, exports_steady, head_steady, relative_steady, tables_none, tail_steady}
 use Rattle.implib.specs.LibraryName.{NamesOfDll}
 
-asking_steady : (machine : MachineType) (dll symbol : List ℕ) (ask : Ask) (use_kind : Use) → AllSteady machine (import_object machine dll.text symbol ask use_kind)
+asking_steady : (machine : MachineType) (dll : NamesOfDll) (symbol : List ℕ) (ask : Ask) (use_kind : Use) → AllSteady machine (import_object machine dll.text symbol ask use_kind)
 unfolding import_object
 asking_steady machine dll symbol (Ordinal n) use_kind = (inl refl, (inr tt, (inr tt, tt)))
 asking_steady machine dll symbol (Name text hint) use_kind = (inl refl, (inr (relative_steady machine, tt), (inr (relative_steady machine, tt), (inr tt, tt))))

@@ -44,7 +44,7 @@ use Rattle.implib_link.specs.Flavors.Program.{dll_names_in}
 
 -- Each export's object is placed, with its entry where the addresses have come to.
 
-abbrev pub placed_in : MachineType → Flavor → List ℕ → Bases → ExportView → Placed
+abbrev pub placed_in : MachineType → Flavor → NamesOfDll → Bases → ExportView → Placed
 placed_in machine Msvc dll b e = placed_asking machine dll b (short_import_symbol e) (ask_in Msvc machine e) (use_for e)
 placed_in machine Gnu dll b e = placed_export machine dll b e
 

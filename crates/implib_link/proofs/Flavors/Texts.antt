@@ -30,7 +30,7 @@ use Rattle.implib_link.specs.Flavors.Texts.{FlavorSource, FlavorTextLinks, Flavo
 use Rattle.implib_link.specs.Gnu.Texts.{Stated, ask_stated, chosen_stated, stated}
 use Rattle.implib_link.proofs.Flavors.Program.{flavors_link}
 use Rattle.implib_link.proofs.Gnu.Texts.{all_chosen, all_filter, chosen_renamed, stated_ask, statements_are}
-use Rattle.implib.specs.LibraryName.{NamesOfDll, names_in}
+use Rattle.implib.specs.LibraryName.{NamesOfDll, names_for}
 
 -- each asks for the word of its statement, in each flavour
 AsksInFlavor : Flavor → MachineType → Stated → Type 0
@@ -111,7 +111,7 @@ from_parts : (machine : MachineType) (image : List Range) (linked : List Placed)
 from_parts machine image linked descriptor table p i = record { top = i.top; loads = i.loads; table_located = i.table_located; entries = i.entries; gets = i.gets }
 
 -- the names of the DLL are those of the definition that is parsed
-names_of_renamed : (flavor : Flavor) (d : DefinitionView) → names_in flavor (renamed d) ≡ names_in flavor d
+names_of_renamed : (flavor : Flavor) (d : DefinitionView) → names_for flavor (renamed d) ≡ names_for flavor d
 names_of_renamed Msvc d = refl
 names_of_renamed Gnu d = refl
 
@@ -120,10 +120,10 @@ same_imports : (machine : MachineType) (image : List Range) (linked : List Place
     InputImports machine image linked descriptor table (input_of s) → InputImports machine image linked descriptor table (input_parsed parsed s)
 same_imports machine image linked descriptor table s parsed held imports =
     let exports_same : chosen_exports s.source.library.definition s.source.chosen ≡ chosen_exports parsed s.source.chosen = chosen_renamed s.source.library parsed machine s.flavor s.source.chosen held in
-    let names_same : names_in s.flavor s.source.library.definition ≡ names_in s.flavor parsed =
-    ap (λ (l : LibraryView). names_in s.flavor l.definition) held ∙ names_of_renamed s.flavor parsed in
+    let names_same : names_for s.flavor s.source.library.definition ≡ names_for s.flavor parsed =
+    ap (λ (l : LibraryView). names_for s.flavor l.definition) held ∙ names_of_renamed s.flavor parsed in
     from_parts machine image linked descriptor table (input_parsed parsed s)
-    (subst (λ (es : List ExportView). ImportsOf machine image linked descriptor table s.flavor (names_in s.flavor parsed) es) exports_same
+    (subst (λ (es : List ExportView). ImportsOf machine image linked descriptor table s.flavor (names_for s.flavor parsed) es) exports_same
     (subst (λ (names : NamesOfDll). ImportsOf machine image linked descriptor table s.flavor names (chosen_exports s.source.library.definition s.source.chosen)) names_same
     (to_parts machine image linked descriptor table (input_of s) imports)))
 

@@ -29,7 +29,7 @@ use Rattle.implib_link.proofs.Gnu.Blocks.{addresses_after, descriptors_after}
 use Rattle.implib_link.proofs.Gnu.Filling.{DescriptorBeside, DirectoryBeside}
 use Rattle.implib_link.proofs.Gnu.Memory.{byte_first}
 use Rattle.implib_link.proofs.Gnu.Stubs.{wide_thunk}
-use Rattle.implib.specs.LibraryName.{NamesOfDll, names_in}
+use Rattle.implib.specs.LibraryName.{NamesOfDll, names_for}
 use Rattle.implib.specs.declared.flavor.Flavor.TheVariants.{Gnu}
 
 -- What is known of ranges, whatever the flavour.
@@ -263,7 +263,7 @@ module _ (machine : MachineType) (linked : List Placed) (image beside : List Ran
       let same : all ≡ zeros 20 = rw (position, none) refl in
       subst (BytesAt beside b.descriptors) same located.descriptors
   blocks_beside (p ∷ inputs) b fit even only links located =
-      let dll : NamesOfDll = names_in Gnu p.definition in
+      let dll : NamesOfDll = names_for Gnu p.definition in
       let es : List ExportView = chosen_exports p.definition p.chosen in
       let behind : List Object = blocks_objects machine (map block_of inputs) (null_descriptor ∷ []) in
       let last : Bases = ends_of_block machine dll b es in

@@ -17,7 +17,7 @@ use Rattle.implib.proofs.Link.Linked.{BlockLinks, LocatedFrom, aligned_block, en
 use Rattle.implib.proofs.Link.Placement.{AreAligned, aligned, descriptors_end, ends_of_all, ends_of_export, ends_of_exports, ends_of_head, export, head, tail}
 use Rattle.implib_link.specs.Directory.{DirectoryAt, imported}
 use Rattle.implib_link.specs.Gnu.Program.{null_descriptor, thunks_before}
-use Rattle.implib.specs.LibraryName.{NamesOfDll, names_in}
+use Rattle.implib.specs.LibraryName.{NamesOfDll, names_for}
 use Rattle.implib.specs.declared.flavor.Flavor.TheVariants.{Gnu}
 
 -- objects behind blocks
@@ -78,7 +78,7 @@ plus_zero a w = let none : w * 0 ≡ 0 = mul-zero w in omega arith
 pub nth_block : (machine : MachineType) (linked : List Placed) (image : List Range) (inputs : List LinkInput) (b : Bases) →
     BlocksLink machine linked image b (map block_of inputs) → (i : ℕ) (p : LinkInput) → slice_get inputs i ≡ Some p →
     (c : Bases) × ((c.descriptors ≡ b.descriptors + 20 * i) × ((c.addresses ≡ b.addresses + thunk_width machine * thunks_before i inputs)
-    × BlockLinks machine linked image c (names_in Gnu p.definition) (chosen_exports p.definition p.chosen)))
+    × BlockLinks machine linked image c (names_for Gnu p.definition) (chosen_exports p.definition p.chosen)))
 unfolding BlocksLink
 nth_block machine linked image [] b links i p is = cc
 nth_block machine linked image (q ∷ inputs) b links zero p is =
@@ -88,12 +88,12 @@ nth_block machine linked image (q ∷ inputs) b links zero p is =
         omega arith,
         (
           plus_zero b.addresses (thunk_width machine),
-          subst (λ (r : LinkInput). BlockLinks machine linked image b (names_in Gnu r.definition) (chosen_exports r.definition r.chosen)) same links.0,
+          subst (λ (r : LinkInput). BlockLinks machine linked image b (names_for Gnu r.definition) (chosen_exports r.definition r.chosen)) same links.0,
         ),
       ),
     )
 nth_block machine linked image (q ∷ inputs) b links (suc i) p is =
-    let dll : NamesOfDll = names_in Gnu q.definition in
+    let dll : NamesOfDll = names_for Gnu q.definition in
     let exports : List ExportView = chosen_exports q.definition q.chosen in
     let later : Bases = ends_of_block machine dll b exports in
     let found = nth_block machine linked image inputs later links.1 i p is in
@@ -111,7 +111,7 @@ pub directory_of : (machine : MachineType) (linked : List Placed) (image : List 
 unfolding BlocksLink DirectoryAt ends_of_blocks
 directory_of machine linked image [] b links null = null
 directory_of machine linked image (p ∷ inputs) b links null =
-    let dll : NamesOfDll = names_in Gnu p.definition in
+    let dll : NamesOfDll = names_for Gnu p.definition in
     let exports : List ExportView = chosen_exports p.definition p.chosen in (
       links.0.strictly.loads,
       subst (λ n. DirectoryAt image (thunk_width machine) n (map (imported machine) inputs)) (sym (descriptors_after machine dll b exports))

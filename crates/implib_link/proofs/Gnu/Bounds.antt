@@ -30,7 +30,7 @@ use Rattle.implib_link.proofs.Gnu.Loaded.{entry_once}
 use Rattle.implib_link.proofs.Gnu.Others.{contributions_kept}
 use Rattle.implib_link.proofs.Gnu.Program.{kept_placed, program_links}
 use Rattle.implib_link.proofs.Gnu.Sized.{length-relocated}
-use Rattle.implib.specs.LibraryName.{NamesOfDll, names_in}
+use Rattle.implib.specs.LibraryName.{NamesOfDll, names_for}
 use Rattle.implib.specs.declared.flavor.Flavor.TheVariants.{Gnu}
 
 -- Which entry an address is in.
@@ -113,7 +113,7 @@ module _ (machine : MachineType) (linked : List Placed) where
   unfolding head_object
   addresses_long [] b even = sym (mul-zero (thunk_width machine))
   addresses_long (p ∷ inputs) b even =
-      let dll : NamesOfDll = names_in Gnu p.definition in
+      let dll : NamesOfDll = names_for Gnu p.definition in
       let es : List ExportView = chosen_exports p.definition p.chosen in
       let later : Bases = ends_of_head machine dll b in
       let last : Bases = ends_of_block machine dll b es in
@@ -141,7 +141,7 @@ module _ (machine : MachineType) (linked : List Placed) where
       let none : b.descriptors - b.descriptors ≡ 0 = omega arith in
       rw (position, none) refl
   directory_long (p ∷ inputs) b even =
-      let dll : NamesOfDll = names_in Gnu p.definition in
+      let dll : NamesOfDll = names_for Gnu p.definition in
       let es : List ExportView = chosen_exports p.definition p.chosen in
       let later : Bases = ends_of_head machine dll b in
       let last : Bases = ends_of_block machine dll b es in
@@ -176,7 +176,7 @@ module _ (machine : MachineType) (linked : List Placed) where
   unfolding head_object
   hints_even [] b aligned_before = tt
   hints_even (p ∷ inputs) b even =
-      let dll : NamesOfDll = names_in Gnu p.definition in
+      let dll : NamesOfDll = names_for Gnu p.definition in
       let es : List ExportView = chosen_exports p.definition p.chosen in
       subst (λ ps. AllByRecursion IsEven (contributions machine linked HintNames ps)) (sym (placed-head machine dll b (after_head machine dll es (behind inputs)) even))
       (exports_even dll es (ends_of_head machine dll b) (behind inputs) (aligned_head machine dll b even) (hints_even inputs (ends_of_block machine dll b es) (aligned_block machine dll b es even)))
@@ -241,7 +241,7 @@ begins_with : (machine : MachineType) (b : Bases) (inputs : List LinkInput) (obj
 unfolding head_object
 begins_with machine b [] objects made program some = absurd (omega arith)
 begins_with machine b (p ∷ inputs) objects made program some =
-    let dll : NamesOfDll = names_in Gnu p.definition in
+    let dll : NamesOfDll = names_for Gnu p.definition in
     let es : List ExportView = chosen_exports p.definition p.chosen in
     let behind_it : List Object = after_head machine dll es (blocks_objects machine (map block_of inputs) (null_descriptor ∷ [])) in
     let plain : b.addresses + 0 ≡ b.addresses = omega arith in

@@ -16,28 +16,30 @@ use Rattle.implib.proofs.Link.LinkedMembers.{members_read, objects_are}
 use Rattle.implib.proofs.Link.Placement.{export, head, tail}
 use Rattle.implib_link.specs.FullNames.{WorkedFullNames, decimal_in, digits_behind, full_name, object_by_full_names, sections_by_full_names, strings_of}
 use Rattle.implib_link.specs.Gnu.Program.{has_tables}
+use Rattle.implib.specs.LibraryName.{NamesOfDll, names_for}
+use Rattle.implib.specs.declared.flavor.Flavor.TheVariants.{Gnu}
 
 -- an object's names are whole, whatever the string table
 abbrev HasWholeNames : Object → Type 0
 HasWholeNames o = (strings : Option (List ℕ)) → sections_by_full_names strings o.sections ≡ Some o.sections
 
-head_whole : (machine : MachineType) (dll : List ℕ) → HasWholeNames (head machine dll)
+head_whole : (machine : MachineType) (dll : NamesOfDll) → HasWholeNames (head machine dll)
 unfolding head_object sections_by_full_names full_name
 head_whole machine dll strings = refl
 
-tail_whole : (machine : MachineType) (dll : List ℕ) → HasWholeNames (tail machine dll)
+tail_whole : (machine : MachineType) (dll : NamesOfDll) → HasWholeNames (tail machine dll)
 unfolding tail_object sections_by_full_names full_name
 tail_whole machine dll strings = refl
 
-export_whole : (machine : MachineType) (dll : List ℕ) (e : ExportView) → HasWholeNames (export machine dll e)
+export_whole : (machine : MachineType) (dll : NamesOfDll) (e : ExportView) → HasWholeNames (export machine dll e)
 unfolding export_object sections_by_full_names full_name
 export_whole machine dll e strings = refl
 
-exports_whole : (machine : MachineType) (dll : List ℕ) (es : List ExportView) → AllByRecursion HasWholeNames (map (export machine dll) es)
+exports_whole : (machine : MachineType) (dll : NamesOfDll) (es : List ExportView) → AllByRecursion HasWholeNames (map (export machine dll) es)
 exports_whole machine dll [] = tt
 exports_whole machine dll (e ∷ es) = (export_whole machine dll e, exports_whole machine dll es)
 
-linked_whole : (machine : MachineType) (dll : List ℕ) (es : List ExportView) → AllByRecursion HasWholeNames (linked_objects machine dll es)
+linked_whole : (machine : MachineType) (dll : NamesOfDll) (es : List ExportView) → AllByRecursion HasWholeNames (linked_objects machine dll es)
 linked_whole machine dll es =
     (head_whole machine dll, all_append HasWholeNames (map (export machine dll) es) (tail machine dll ∷ []) (exports_whole machine dll es) (tail_whole machine dll, tt))
 
@@ -60,7 +62,7 @@ own_by_full_names : (machine : MachineType) (p : LinkInput) → IsMade machine p
 own_by_full_names machine p made =
     all_by_full_names (linked_members p.definition machine p.chosen) (objects_in (linked_members p.definition machine p.chosen))
     (subst (AllByRecursion HasWholeNames) (sym (objects_are p.definition machine p.members p.chosen made))
-    (linked_whole machine p.definition.import_name (chosen_exports p.definition p.chosen)))
+    (linked_whole machine (names_for Gnu p.definition) (chosen_exports p.definition p.chosen)))
     (members_read p.definition machine p.members p.chosen made)
 
 pub members_by_full_names : (machine : MachineType) (inputs : List LinkInput) → AllByRecursion (IsMade machine) inputs →

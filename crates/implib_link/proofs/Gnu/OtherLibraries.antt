@@ -32,7 +32,7 @@ use Rattle.implib_link.proofs.Gnu.Program.{all_claim, imports_by, once_of}
 use Rattle.implib_link.proofs.Gnu.Runs.{blocks_ends, located_behind, located_front, none_defined, placed_parts}
 use Rattle.implib_link.proofs.Gnu.Sized.{IsSized, exports_sized, head_sized, tail_sized}
 use Rattle.implib_link.proofs.Gnu.Whole.{whole_ends}
-use Rattle.implib.specs.LibraryName.{NamesOfDll, names_in}
+use Rattle.implib.specs.LibraryName.{NamesOfDll, names_for}
 use Rattle.implib.specs.declared.flavor.Flavor.TheVariants.{Gnu}
 
 -- Lists in two parts.
@@ -85,7 +85,7 @@ own_descriptors : (machine : MachineType) (b : Bases) (inputs : List LinkInput) 
 unfolding ends_of_blocks
 own_descriptors machine b [] = omega arith
 own_descriptors machine b (p ∷ inputs) =
-    let dll : NamesOfDll = names_in Gnu p.definition in
+    let dll : NamesOfDll = names_for Gnu p.definition in
     let exports : List ExportView = chosen_exports p.definition p.chosen in
     own_descriptors machine (ends_of_block machine dll b exports) inputs
     ∙ ap (λ n. n + 20 * length inputs) (sym (descriptors_after machine dll b exports))
@@ -106,7 +106,7 @@ blocks_descriptors : (machine : MachineType) (linked : List Placed) (image : Lis
 unfolding BlocksLink DescriptorsAt
 blocks_descriptors machine linked image [] b links = tt
 blocks_descriptors machine linked image (p ∷ inputs) b links =
-    let dll : NamesOfDll = names_in Gnu p.definition in
+    let dll : NamesOfDll = names_for Gnu p.definition in
     let exports : List ExportView = chosen_exports p.definition p.chosen in (
       links.0.strictly.loads,
       subst (λ n. DescriptorsAt image (thunk_width machine) n (map (imported machine) inputs)) (sym (descriptors_after machine dll b exports))
@@ -143,7 +143,7 @@ module _ (machine : MachineType) (linked : List Placed) (image : List Range) (la
     imports = λ i p is.
         let found = nth_block machine linked image r.inputs b each.imports i p is in
         imports_by machine image linked found.0.descriptors (b.descriptors + 20 * i) found.0.addresses (b.addresses + thunk_width machine * thunks_before i r.inputs)
-        (names_in Gnu p.definition) (chosen_exports p.definition p.chosen) found.1.0 found.1.1.0 found.1.1.1.strictly found.1.1.1.addresses;
+        (names_for Gnu p.definition) (chosen_exports p.definition p.chosen) found.1.0 found.1.1.0 found.1.1.1.strictly found.1.1.1.addresses;
     targets = subst (λ os. AllByRecursion (AllFind linked) (placed_from b os)) (sym (gnu_inputs_objects machine r.inputs made)) (each.targets tt);
     defined = subst (λ os. AllByRecursion (IsDefinedAt linked) (undefined_names (placed_from b os))) (sym (gnu_inputs_objects machine r.inputs made)) (each.defined tt);
   }

@@ -27,7 +27,7 @@ use Rattle.implib_link.proofs.Gnu.Jumps.{amd64_jumps, arm64_jumps, i386_jumps}
 use Rattle.implib_link.proofs.Gnu.Program.{kept_placed}
 use Rattle.implib_link.proofs.Gnu.Stubs.{among_filter, block_placed, code_bytes, code_defined, code_here, code_relocations, name_once, target_is}
 use Rattle.implib_link.proofs.Search.Lists.{contains_among}
-use Rattle.implib.specs.LibraryName.{NamesOfDll, names_in}
+use Rattle.implib.specs.LibraryName.{NamesOfDll, names_for}
 use Rattle.implib.specs.declared.flavor.Flavor.TheVariants.{Gnu}
 
 -- Code is a stub, under the symbol at its beginning, which names the entry at an address.
@@ -88,7 +88,7 @@ pub gnu_stub : (machine : MachineType) (image_base : ℕ) (bases : Bases) (input
     PlacedStub machine (placed_from bases objects) targets d t (bases.addresses + thunk_width machine * thunks_before i inputs + thunk_width machine * j)
 gnu_stub machine image_base bases inputs objects codes targets i j p e d t made program beside input chosen is d_held defines named =
     let linked : List Placed = placed_from bases objects in
-    let dll : NamesOfDll = names_in Gnu p.definition in
+    let dll : NamesOfDll = names_for Gnu p.definition in
     let entry : ℕ = bases.addresses + thunk_width machine * thunks_before i inputs + thunk_width machine * j in
     let found = block_placed machine inputs bases (null_descriptor ∷ []) (even machine bases objects program.admissible) i j p e input chosen in
     let own : Placed = placed_export machine dll found.0 e in

@@ -24,7 +24,7 @@ use Rattle.implib_link.specs.Gnu.Program.{ClaimsNone, EachGets, GetsAddress, Imp
 use Rattle.implib_link.proofs.Gnu.Claims.{claimed_blocks, claimed_placed}
 use Rattle.implib_link.proofs.Gnu.Others.{contributions_kept, definitions_kept, placed_kept}
 use Rattle.implib_link.proofs.Gnu.Blocks.{aligned_blocks, directory_of, nth_block, null_located, objects_behind}
-use Rattle.implib.specs.LibraryName.{NamesOfDll, names_in}
+use Rattle.implib.specs.LibraryName.{NamesOfDll, names_for}
 use Rattle.implib.specs.declared.flavor.Flavor.TheVariants.{Gnu}
 
 claims_of : (name : List ℕ) (names : List (List ℕ)) → Among name names → (o : Object) → ClaimsNone names o → list_any (bytes_eq name) (claimed_names o) ≡ false
@@ -126,11 +126,11 @@ module _ (machine : MachineType) (b : Bases) (inputs : List LinkInput) (objects 
 
   nth_imports : (i : ℕ) (p : LinkInput) → slice_get inputs i ≡ Some p →
       ImportsBy machine (image_of machine b (placed_from b objects)) (placed_from b objects) (b.descriptors + 20 * i) (b.addresses + thunk_width machine * thunks_before i inputs)
-      (names_in Gnu p.definition) (chosen_exports p.definition p.chosen)
+      (names_for Gnu p.definition) (chosen_exports p.definition p.chosen)
   nth_imports i p is =
       let found = nth_block machine linked image inputs b each.imports i p is in
       imports_by machine image linked found.0.descriptors (b.descriptors + 20 * i) found.0.addresses (b.addresses + thunk_width machine * thunks_before i inputs)
-      (names_in Gnu p.definition) (chosen_exports p.definition p.chosen) found.1.0 found.1.1.0 found.1.1.1.strictly found.1.1.1.addresses
+      (names_for Gnu p.definition) (chosen_exports p.definition p.chosen) found.1.0 found.1.1.0 found.1.1.1.strictly found.1.1.1.addresses
 
   pub kept_placed : with_tables (placed_from b objects) ≡ placed_from b (blocks_objects machine (map block_of inputs) (null_descriptor ∷ []))
   kept_placed = placed_kept b objects ∙ ap (placed_from b) kept_are

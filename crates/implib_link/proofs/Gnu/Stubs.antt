@@ -33,7 +33,7 @@ use Rattle.implib_link.proofs.Gnu.Jumps.{amd64_jumps, arm64_jumps, i386_jumps}
 use Rattle.implib_link.proofs.Gnu.Loaded.{entry_once, program_loads, times_next, times_none}
 use Rattle.implib_link.proofs.Gnu.Program.{kept_placed, program_links}
 use Rattle.implib_link.proofs.Search.Lists.{among_at, flat_map_among}
-use Rattle.implib.specs.LibraryName.{NamesOfDll, names_in}
+use Rattle.implib.specs.LibraryName.{NamesOfDll, names_for}
 use Rattle.implib.specs.declared.flavor.Flavor.TheVariants.{Gnu}
 
 -- Each export's object is placed, with its entry where the addresses have come to.
@@ -79,25 +79,25 @@ later_sum c a b w m is same = is ∙ ap (λ n. n + w * m) same
 
 pub block_placed : (machine : MachineType) (inputs : List LinkInput) (b : Bases) (rest : List Object) → AreAligned b → (i j : ℕ) (p : LinkInput) (e : ExportView) → slice_get inputs i ≡ Some p →
     slice_get (chosen_exports p.definition p.chosen) j ≡ Some e →
-    (c : Bases) × (Among (placed_export machine (names_in Gnu p.definition) c e) (placed_from b (blocks_objects machine (map block_of inputs) rest))
+    (c : Bases) × (Among (placed_export machine (names_for Gnu p.definition) c e) (placed_from b (blocks_objects machine (map block_of inputs) rest))
     × (c.addresses ≡ b.addresses + thunk_width machine * thunks_before i inputs + thunk_width machine * j))
 block_placed machine [] b rest even i j p e is chosen = cc
 block_placed machine (q ∷ inputs) b rest even zero j p e is chosen =
     let same : q ≡ p = cc in
-    let dll : NamesOfDll = names_in Gnu q.definition in
+    let dll : NamesOfDll = names_for Gnu q.definition in
     let exports : List ExportView = chosen_exports q.definition q.chosen in
     let behind : List Object = blocks_objects machine (map block_of inputs) rest in
     let found = export_placed machine dll exports (ends_of_head machine dll b) behind (aligned_head machine dll b even) j e
     (subst (λ (r : LinkInput). slice_get (chosen_exports r.definition r.chosen) j ≡ Some e) (sym same) chosen) in (
       found.0,
       (
-        subst (λ (r : LinkInput). Among (placed_export machine (names_in Gnu r.definition) found.0 e) (placed_from b (blocks_objects machine (map block_of (q ∷ inputs)) rest))) same
+        subst (λ (r : LinkInput). Among (placed_export machine (names_for Gnu r.definition) found.0 e) (placed_from b (blocks_objects machine (map block_of (q ∷ inputs)) rest))) same
             (subst (Among (placed_export machine dll found.0 e)) (sym (placed-head machine dll b (after_head machine dll exports behind) even)) (among_later (placed_export machine dll found.0 e) _ _ found.1.0)),
         first_sum found.0.addresses b.addresses (thunk_width machine) j found.1.1,
       ),
     )
 block_placed machine (q ∷ inputs) b rest even (suc i) j p e is chosen =
-    let dll : NamesOfDll = names_in Gnu q.definition in
+    let dll : NamesOfDll = names_for Gnu q.definition in
     let exports : List ExportView = chosen_exports q.definition q.chosen in
     let behind : List Object = blocks_objects machine (map block_of inputs) rest in
     let later : Bases = ends_of_block machine dll b exports in
@@ -107,9 +107,9 @@ block_placed machine (q ∷ inputs) b rest even (suc i) j p e is chosen =
     ∙ table_sum b.addresses (thunk_width machine) (length exports + 1) (thunks_before i inputs) in (
       found.0,
       (
-        subst (Among (placed_export machine (names_in Gnu p.definition) found.0 e)) (sym (placed-head machine dll b (after_head machine dll exports behind) even))
-            (among_later (placed_export machine (names_in Gnu p.definition) found.0 e) _ _
-            (behind_exports machine dll exports (ends_of_head machine dll b) behind (placed_export machine (names_in Gnu p.definition) found.0 e) (aligned_head machine dll b even) found.1.0)),
+        subst (Among (placed_export machine (names_for Gnu p.definition) found.0 e)) (sym (placed-head machine dll b (after_head machine dll exports behind) even))
+            (among_later (placed_export machine (names_for Gnu p.definition) found.0 e) _ _
+            (behind_exports machine dll exports (ends_of_head machine dll b) behind (placed_export machine (names_for Gnu p.definition) found.0 e) (aligned_head machine dll b even) found.1.0)),
         later_sum found.0.addresses (later.addresses + thunk_width machine * thunks_before i inputs) (b.addresses + thunk_width machine * (length exports + 1 + thunks_before i inputs)) (thunk_width machine) j found.1.1 table,
       ),
     )
@@ -218,7 +218,7 @@ pub stubs_jump : (machine : MachineType) (image_base : ℕ) (bases : Bases) (inp
     JumpsThrough machine image_base (placed_from bases objects) e.name (bases.addresses + thunk_width machine * thunks_before i inputs + thunk_width machine * j)
 stubs_jump machine image_base bases inputs objects i j p e made program can input chosen is =
     let linked : List Placed = placed_from bases objects in
-    let dll : NamesOfDll = names_in Gnu p.definition in
+    let dll : NamesOfDll = names_for Gnu p.definition in
     let links = (program_links machine bases inputs objects made program).imports i p input in
     let found = block_placed machine inputs bases (null_descriptor ∷ []) (even machine bases objects program.admissible) i j p e input chosen in
     let own : Placed = placed_export machine dll found.0 e in

@@ -25,7 +25,8 @@ use Rattle.implib.proofs.Members.Renaming.{renamed_twice}
 use Rattle.implib_link.specs.Gnu.Program.{ImportsBy, IsProgram, thunks_before}
 use Rattle.implib_link.specs.Gnu.Texts.{IsSource, Source, Stated, TextLinks, TextsLink, ask_stated, chosen_stated, link_input_of, stated}
 use Rattle.implib_link.proofs.Gnu.Program.{program_links}
-use Rattle.implib.specs.LibraryName.{names_in}
+use Rattle.implib.specs.LibraryName.{names_for}
+use Rattle.implib.specs.LibraryName.{NamesOfDll}
 
 -- the exports of a list that is stated are those of the list
 exports_stated : (machine : MachineType) (exports : List ExportView) (statements : List Export) → EachAsksForItsWord machine exports statements →
@@ -125,7 +126,7 @@ chosen_renamed library parsed machine flavor chosen held =
     ∙ ap (λ (d : DefinitionView). filter_map (slice_get (public_exports d)) chosen) (renamed_twice parsed)
 
 text_links : (machine : MachineType) (image : List Range) (linked : List Placed) (descriptor table : ℕ) (s : Source) → IsSource machine s →
-    ImportsBy machine image linked descriptor table (names_in Gnu s.library.definition) (chosen_exports s.library.definition s.chosen) →
+    ImportsBy machine image linked descriptor table (names_for Gnu s.library.definition) (chosen_exports s.library.definition s.chosen) →
     TextLinks machine image linked descriptor table s
 text_links machine image linked descriptor table s is imports =
     let parsed : DefinitionView = is.of_text.parsed in
@@ -133,9 +134,9 @@ text_links machine image linked descriptor table s is imports =
     record {
       parsed = parsed;
       parses = is.of_text.parses;
-      imports = subst (λ (es : List ExportView). ImportsBy machine image linked descriptor table (names_in Gnu parsed) es) (chosen_renamed s.library parsed machine Gnu s.chosen is.of_text.held)
-          (subst (λ (name : List ℕ). ImportsBy machine image linked descriptor table name (chosen_exports s.library.definition s.chosen))
-          (ap (λ (l : LibraryView). (names_in Gnu l.definition)) is.of_text.held) imports);
+      imports = subst (λ (es : List ExportView). ImportsBy machine image linked descriptor table (names_for Gnu parsed) es) (chosen_renamed s.library parsed machine Gnu s.chosen is.of_text.held)
+          (subst (λ (names : NamesOfDll). ImportsBy machine image linked descriptor table names (chosen_exports s.library.definition s.chosen))
+          (ap (λ (l : LibraryView). (names_for Gnu l.definition)) is.of_text.held) imports);
       statements = statements_are machine parsed (exports_of_text is.of_text.parses.statements) words s.chosen;
       asks = asks_are machine parsed (exports_of_text is.of_text.parses.statements) words s.chosen;
     }

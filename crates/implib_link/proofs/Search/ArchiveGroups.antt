@@ -17,7 +17,7 @@ use Rattle.implib.proofs.Link.Ranges.{Among, among_back, among_first, among_fron
 use Rattle.implib_link.specs.Search.Archives.{IsLibrary, Library, archive_of, exports_of, symbols_of_export, symbols_of_library}
 use Rattle.implib_link.specs.Search.Search.{first_listed, is_listed_for}
 use Rattle.implib_link.proofs.Search.Lists.{among_either, any_among, distinct_apart, distinct_later}
-use Rattle.implib.specs.LibraryName.{linked_name, names_in}
+use Rattle.implib.specs.LibraryName.{linked_name, names_for}
 use Rattle.implib.specs.declared.flavor.Flavor.TheVariants.{Gnu}
 use Rattle.implib.specs.LibraryName.{NamesOfDll}
 
@@ -114,7 +114,7 @@ group_of_first name (x ∷ groups) m found =
 -- The groups of libraries.
 module _ (machine : MachineType) where
   abbrev pub tail_of : Library → MemberView
-  tail_of l = member_of (tail_spec machine (names_in Gnu l.definition))
+  tail_of l = member_of (tail_spec machine (names_for Gnu l.definition))
 
   abbrev pub head_of : Library → MemberView
   head_of l = member_of (head_spec machine (linked_name l.definition))
@@ -157,7 +157,7 @@ module _ (machine : MachineType) where
   unfolding export_groups
   members_of_exports l start [] = refl
   members_of_exports l start (e ∷ exports) =
-      let dll : NamesOfDll = names_in Gnu l.definition in
+      let dll : NamesOfDll = names_for Gnu l.definition in
       let own : List MemberSpec = numbered_specs_of machine dll.linked start e in
       let later : List MemberSpec = numbered_specs machine dll.linked (start + 1) exports in
       ap (map member_of) (reverse-append own later)
@@ -188,7 +188,7 @@ module _ (machine : MachineType) where
   unfolding symbols_of_library
   symbols_groups [] = refl
   symbols_groups (l ∷ libraries) =
-      let dll : NamesOfDll = names_in Gnu l.definition in
+      let dll : NamesOfDll = names_for Gnu l.definition in
       flat_map-append (λ (g : Group). g.symbols) (groups_of l) (all_groups libraries)
       ∙ ap (λ names. iname_symbol machine dll.linked ∷ head_symbol machine dll.linked ∷ (names ++ symbols_of_groups (all_groups libraries))) (symbols_of_exports l 0 (exports_of l))
       ∙ ap (λ names. symbols_of_library machine l ++ names) (symbols_groups libraries)

@@ -13,7 +13,7 @@ use Rattle.implib.specs.Formats.Layout.{encoded_size, entries_of, name_text, obj
 use Rattle.implib.specs.Members.MemberSpec.{MemberSpec, MemberView}
 use Rattle.implib.specs.Members.Members.{is_too_long}
 use Rattle.implib.specs.Formats.Object.{object_in}
-use Rattle.implib.proofs.Link.LinkedMembers.{among_reverse, dll_free, export_reads, head_reads, not_long, sound, tail_reads}
+use Rattle.implib.proofs.Link.LinkedMembers.{among_reverse, dll_free, linked_free, export_reads, head_reads, not_long, sound, tail_reads}
 use Rattle.implib.proofs.Members.MsvcObjects.{Fits-weak_object}
 use Rattle.implib.proofs.Members.NotRefused.{Sound, short_enough}
 use Rattle.implib.proofs.Formats.ObjectReading.{object_in-encoded}
@@ -25,7 +25,7 @@ use Rattle.implib_link.specs.Search.Search.{first_listed, is_listed_for}
 use Rattle.implib_link.proofs.Search.ArchiveGroups.{Group, IsWithin, Kind, OfExport, OfHead, OfTail, all_groups, archive_groups, export_group, export_group_held, export_of, first_in_group, first_is, group_kind, group_of_first, head_group, head_group_held, head_of, symbols_groups, symbols_of_groups, tail_group, tail_group_held, tail_of, weak_address_of, weak_of}
 use Rattle.implib_link.proofs.Search.Search.{address_listed, listed_export, listed_head, listed_tail, numbered_in, only_one}
 use Rattle.implib_link.proofs.Search.Lists.{among_any, any_among}
-use Rattle.implib.specs.LibraryName.{NamesOfDll, linked_name, names_in}
+use Rattle.implib.specs.LibraryName.{NamesOfDll, linked_name, names_for}
 use Rattle.implib.specs.declared.flavor.Flavor.TheVariants.{Gnu}
 
 -- The names of one export.
@@ -163,7 +163,7 @@ module _ (machine : MachineType) where
 
   within_tail : (l : Library) → IsWithin (tail_group machine l)
   within_tail l m name held listed =
-      subst (Among name) (listed_tail machine (names_in Gnu l.definition)) (subst (λ (y : MemberView). Among name y.symbols) (only_one m (tail_of machine l) held) listed)
+      subst (Among name) (listed_tail machine (names_for Gnu l.definition)) (subst (λ (y : MemberView). Among name y.symbols) (only_one m (tail_of machine l) held) listed)
 
   within_head : (l : Library) → IsWithin (head_group machine l)
   within_head l m name held listed =
@@ -183,19 +183,19 @@ module _ (machine : MachineType) where
 
   -- The objects of a library's members.
   module _ (l : Library) (made : IsLibrary machine l) where
-    pub tail_object_is : object_in (tail_of machine l).bytes ≡ Some (tail machine (names_in Gnu l.definition))
+    pub tail_object_is : object_in (tail_of machine l).bytes ≡ Some (tail machine (names_for Gnu l.definition))
     tail_object_is =
-        tail_reads machine (names_in Gnu l.definition) (exports_of l) (dll_free l.definition machine l.members [] made) (sound l.definition machine l.members [] made)
+        tail_reads machine (names_for Gnu l.definition) (exports_of l) (linked_free l.definition machine l.members [] made) (sound l.definition machine l.members [] made)
         (not_long l.definition machine l.members [] made)
 
-    pub head_object_is : object_in (head_of machine l).bytes ≡ Some (head machine (names_in Gnu l.definition))
+    pub head_object_is : object_in (head_of machine l).bytes ≡ Some (head machine (names_for Gnu l.definition))
     head_object_is =
-        head_reads machine (names_in Gnu l.definition) (exports_of l) (dll_free l.definition machine l.members [] made) (sound l.definition machine l.members [] made)
+        head_reads machine (names_for Gnu l.definition) (exports_of l) (linked_free l.definition machine l.members [] made) (sound l.definition machine l.members [] made)
         (not_long l.definition machine l.members [] made)
 
-    pub export_object_is : (n : ℕ) (e : ExportView) → slice_get (exports_of l) n ≡ Some e → object_in (export_of machine l n e).bytes ≡ Some (export machine (names_in Gnu l.definition) e)
+    pub export_object_is : (n : ℕ) (e : ExportView) → slice_get (exports_of l) n ≡ Some e → object_in (export_of machine l n e).bytes ≡ Some (export machine (names_for Gnu l.definition) e)
     export_object_is n e is =
-        export_reads machine (names_in Gnu l.definition) (exports_of l) (dll_free l.definition machine l.members [] made) (sound l.definition machine l.members [] made)
+        export_reads machine (names_for Gnu l.definition) (exports_of l) (linked_free l.definition machine l.members [] made) (sound l.definition machine l.members [] made)
         (not_long l.definition machine l.members [] made) n e is
 
     export_sound : (exports : List ExportView) (n : ℕ) (e : ExportView) → AllByRecursion Sound exports → slice_get exports n ≡ Some e → Sound e
@@ -217,7 +217,7 @@ module _ (machine : MachineType) where
     pub weak_object_is : (n : ℕ) (e : ExportView) → slice_get (exports_of l) n ≡ Some e → is_alias e.alias_target e.name ≡ true →
         object_in (weak_of machine l n e).bytes ≡ Some (object_of (weak_object machine e.name e.alias_target))
     weak_object_is n e is alias =
-        let dll : NamesOfDll = names_in Gnu l.definition in
+        let dll : NamesOfDll = names_for Gnu l.definition in
         let p : MemberSpec = weak_spec machine (weak_name dll.linked n) e.name e.alias_target in
         let good : Sound e = export_sound (exports_of l) n e (sound l.definition machine l.members [] made) is in
         let position : 0 + n ≡ n = omega arith in
@@ -268,13 +268,13 @@ module _ (machine : MachineType) where
 
     pub tail_found : (l : Library) → Among l libraries → first_listed (archive_of libraries) (iname_symbol machine (linked_name l.definition)) ≡ Some (tail_of machine l)
     tail_found l held =
-        let dll : NamesOfDll = names_in Gnu l.definition in
+        let dll : NamesOfDll = names_for Gnu l.definition in
         in_archive (tail_group machine l) (iname_symbol machine dll.linked) (tail_of machine l) (tail_group_held machine libraries l held) (among_first _ _)
         (alone_first (iname_symbol machine dll.linked) (tail_of machine l) (subst (Among (iname_symbol machine dll.linked)) (sym (listed_tail machine dll)) (among_first _ _)))
 
     pub head_found : (l : Library) → Among l libraries → first_listed (archive_of libraries) (head_symbol machine (linked_name l.definition)) ≡ Some (head_of machine l)
     head_found l held =
-        let dll : NamesOfDll = names_in Gnu l.definition in
+        let dll : NamesOfDll = names_for Gnu l.definition in
         in_archive (head_group machine l) (head_symbol machine dll.linked) (head_of machine l) (head_group_held machine libraries l held) (among_first _ _)
         (alone_first (head_symbol machine dll.linked) (head_of machine l) (subst (Among (head_symbol machine dll.linked)) (sym (listed_head machine dll.linked)) (among_first _ _)))
 
@@ -306,7 +306,7 @@ module _ (machine : MachineType) where
     found_in_kind g name m (OfTail l held is) found =
         let there = first_is name (tail_of machine l ∷ []) m (subst (λ (y : Group). first_listed y.members name ≡ Some m) is found) in
         let same : m ≡ tail_of machine l = only_one m (tail_of machine l) there.0 in
-        FoundTail l held same (only_one name _ (subst (Among name) (listed_tail machine (names_in Gnu l.definition)) (subst (λ (y : MemberView). Among name y.symbols) same there.1)))
+        FoundTail l held same (only_one name _ (subst (Among name) (listed_tail machine (names_for Gnu l.definition)) (subst (λ (y : MemberView). Among name y.symbols) same there.1)))
     found_in_kind g name m (OfHead l held is) found =
         let there = first_is name (head_of machine l ∷ []) m (subst (λ (y : Group). first_listed y.members name ≡ Some m) is found) in
         let same : m ≡ head_of machine l = only_one m (head_of machine l) there.0 in

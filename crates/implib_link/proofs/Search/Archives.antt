@@ -25,7 +25,7 @@ use Rattle.implib_link.proofs.Gnu.Claims.{claimed_export, claimed_head, claimed_
 use Rattle.implib_link.proofs.Gnu.Program.{program_links}
 use Rattle.implib_link.proofs.Search.Search.{AnExport, AnyWanted, Needed, TheHead, TheTail, any_wanted, in_nothing, left_export, left_head, left_tail, linked_if_needed, listed_export, listed_head, listed_tail, needed_if_linked, numbers_are_wanted, only_one, wanted_name, wants}
 use Rattle.implib_link.proofs.Search.Lists.{among_any, among_at, among_either, any_among, any_member, contains_among, name_read, none_listed, read_name}
-use Rattle.implib.specs.LibraryName.{linked_name, names_in}
+use Rattle.implib.specs.LibraryName.{linked_name, names_for}
 use Rattle.implib.specs.declared.flavor.Flavor.TheVariants.{Gnu}
 
 -- Lists that a test divides.
@@ -116,7 +116,7 @@ module _ (machine : MachineType) (libraries : List Library) (archive : IsArchive
 
   -- a member that is needed for names: of a library that they want an export of, or a weak external
   data IsNeeded (names : List (List ℕ)) (m : MemberView) : Type 0 where
-    ForExport : (l : Library) → Among l libraries → Needed machine (linked_name l.definition) (exports_of l) names m → IsNeeded names m
+    ForExport : (l : Library) → Among l libraries → Needed machine (names_for Gnu l.definition) (exports_of l) names m → IsNeeded names m
     ForAlias : (l : Library) → Among l libraries → (n : ℕ) (e : ExportView) → slice_get (exports_of l) n ≡ Some e → is_alias e.alias_target e.name ≡ true → e.is_data ≡ true →
         m ≡ weak_of machine l n e → Among e.name names → IsNeeded names m
 
@@ -135,17 +135,17 @@ module _ (machine : MachineType) (libraries : List Library) (archive : IsArchive
   claims_listed : (names : List (List ℕ)) (m : MemberView) (o : Object) (name : List ℕ) → IsNeeded names m → object_in m.bytes ≡ Some o → Among name (claimed_names o) → Among name m.symbols
   claims_listed names m o name (ForExport l held (TheTail same any)) read claimed =
       subst (λ (y : MemberView). Among name y.symbols) (sym same)
-      (names_of claimed_names (tail_of machine l).symbols name m (tail_of machine l) o (tail machine (names_in Gnu l.definition)) same (tail_object_is machine l (made_of l held)) read
-      (claimed_tail machine (names_in Gnu l.definition) ∙ sym (listed_tail machine (names_in Gnu l.definition))) claimed)
+      (names_of claimed_names (tail_of machine l).symbols name m (tail_of machine l) o (tail machine (names_for Gnu l.definition)) same (tail_object_is machine l (made_of l held)) read
+      (claimed_tail machine (names_for Gnu l.definition) ∙ sym (listed_tail machine (names_for Gnu l.definition))) claimed)
   claims_listed names m o name (ForExport l held (TheHead same any)) read claimed =
       subst (λ (y : MemberView). Among name y.symbols) (sym same)
-      (names_of claimed_names (head_of machine l).symbols name m (head_of machine l) o (head machine (names_in Gnu l.definition)) same (head_object_is machine l (made_of l held)) read
-      (claimed_head machine (names_in Gnu l.definition) ∙ sym (listed_head machine (linked_name l.definition))) claimed)
+      (names_of claimed_names (head_of machine l).symbols name m (head_of machine l) o (head machine (names_for Gnu l.definition)) same (head_object_is machine l (made_of l held)) read
+      (claimed_head machine (names_for Gnu l.definition) ∙ sym (listed_head machine (linked_name l.definition))) claimed)
   claims_listed names m o name (ForExport l held (AnExport x want)) read claimed =
       subst (λ (y : MemberView). Among name y.symbols) (sym x.same)
-      (names_of claimed_names (export_of machine l x.number x.export).symbols name m (export_of machine l x.number x.export) o (export machine (names_in Gnu l.definition) x.export) x.same
+      (names_of claimed_names (export_of machine l x.number x.export).symbols name m (export_of machine l x.number x.export) o (export machine (names_for Gnu l.definition) x.export) x.same
       (export_object_is machine l (made_of l held) x.number x.export x.is) read
-      (claimed_export machine (names_in Gnu l.definition) x.export ∙ sym (listed_export machine (linked_name l.definition) x.number x.export)) claimed)
+      (claimed_export machine (names_for Gnu l.definition) x.export ∙ sym (listed_export machine (linked_name l.definition) x.number x.export)) claimed)
   claims_listed names m o name (ForAlias l held n e is alias is_data same named) read claimed =
       subst (λ (y : MemberView). Among name y.symbols) (sym same)
       (names_of claimed_names (e.name ∷ []) name m (weak_of machine l n e) o (object_of (weak_object machine e.name e.alias_target)) same
@@ -155,7 +155,7 @@ module _ (machine : MachineType) (libraries : List Library) (archive : IsArchive
   finds_itself : (names : List (List ℕ)) (m : MemberView) (name : List ℕ) → IsNeeded names m → Among name m.symbols → first_listed (archive_of libraries) name ≡ Some m
   finds_itself names m name (ForExport l held (TheTail same any)) listed =
       let is : name ≡ iname_symbol machine (linked_name l.definition) =
-      only_one name _ (subst (Among name) (listed_tail machine (names_in Gnu l.definition)) (subst (λ (y : MemberView). Among name y.symbols) same listed)) in
+      only_one name _ (subst (Among name) (listed_tail machine (names_for Gnu l.definition)) (subst (λ (y : MemberView). Among name y.symbols) same listed)) in
       ap (first_listed (archive_of libraries)) is ∙ tail_found machine libraries archive l held ∙ ap Some (sym same)
   finds_itself names m name (ForExport l held (TheHead same any)) listed =
       let is : name ≡ head_symbol machine (linked_name l.definition) =
@@ -170,13 +170,13 @@ module _ (machine : MachineType) (libraries : List Library) (archive : IsArchive
       ap (first_listed (archive_of libraries)) own ∙ weak_found machine libraries archive l n e held is alias is_data ∙ ap Some (sym same)
 
   -- Whether a needed member is a weak external.
-  needed_not_weak : (names : List (List ℕ)) (m : MemberView) (l : Library) → Among l libraries → Needed machine (linked_name l.definition) (exports_of l) names m → is_weak m ≡ false
+  needed_not_weak : (names : List (List ℕ)) (m : MemberView) (l : Library) → Among l libraries → Needed machine (names_for Gnu l.definition) (exports_of l) names m → is_weak m ≡ false
   needed_not_weak names m l held (TheTail same any) =
-      tail_not_weak machine m (names_in Gnu l.definition) (ap (λ (y : MemberView). object_in y.bytes) same ∙ tail_object_is machine l (made_of l held))
+      tail_not_weak machine m (names_for Gnu l.definition) (ap (λ (y : MemberView). object_in y.bytes) same ∙ tail_object_is machine l (made_of l held))
   needed_not_weak names m l held (TheHead same any) =
-      head_not_weak machine m (names_in Gnu l.definition) (ap (λ (y : MemberView). object_in y.bytes) same ∙ head_object_is machine l (made_of l held))
+      head_not_weak machine m (names_for Gnu l.definition) (ap (λ (y : MemberView). object_in y.bytes) same ∙ head_object_is machine l (made_of l held))
   needed_not_weak names m l held (AnExport x want) =
-      export_not_weak machine m (names_in Gnu l.definition) x.export (ap (λ (y : MemberView). object_in y.bytes) x.same ∙ export_object_is machine l (made_of l held) x.number x.export x.is)
+      export_not_weak machine m (names_for Gnu l.definition) x.export (ap (λ (y : MemberView). object_in y.bytes) x.same ∙ export_object_is machine l (made_of l held) x.number x.export x.is)
 
   alias_is_weak : (m : MemberView) (l : Library) → Among l libraries → (n : ℕ) (e : ExportView) → slice_get (exports_of l) n ≡ Some e → is_alias e.alias_target e.name ≡ true →
       m ≡ weak_of machine l n e → is_weak m ≡ true
@@ -209,20 +209,20 @@ module _ (machine : MachineType) (libraries : List Library) (archive : IsArchive
         (m : MemberView) → first_listed (archive_of libraries) name ≡ Some m → IsNeeded all_wanted m
     unfolding names_undefined
     needed_by_left x (ForExport l held (TheTail same any)) there o read name left m is =
-        absurd (in_nothing name (names_of undefined_in [] name x (tail_of machine l) o (tail machine (names_in Gnu l.definition)) same (tail_object_is machine l (made_of l held)) read
-        (left_tail machine (names_in Gnu l.definition)) left))
+        absurd (in_nothing name (names_of undefined_in [] name x (tail_of machine l) o (tail machine (names_for Gnu l.definition)) same (tail_object_is machine l (made_of l held)) read
+        (left_tail machine (names_for Gnu l.definition)) left))
     needed_by_left x (ForExport l held (TheHead same any)) there o read name left m is =
         let named : name ≡ iname_symbol machine (linked_name l.definition) =
-        only_one name _ (names_of undefined_in (iname_symbol machine (linked_name l.definition) ∷ []) name x (head_of machine l) o (head machine (names_in Gnu l.definition)) same
-        (head_object_is machine l (made_of l held)) read (left_head machine (names_in Gnu l.definition)) left) in
+        only_one name _ (names_of undefined_in (iname_symbol machine (linked_name l.definition) ∷ []) name x (head_of machine l) o (head machine (names_for Gnu l.definition)) same
+        (head_object_is machine l (made_of l held)) read (left_head machine (names_for Gnu l.definition)) left) in
         ForExport l held (TheTail (same_first name m (tail_of machine l) is (ap (first_listed (archive_of libraries)) named ∙ tail_found machine libraries archive l held)) any)
     needed_by_left x (ForExport l held (AnExport own want)) there o read name left m is =
         let named : name ≡ head_symbol machine (linked_name l.definition) =
         only_one name _ (names_of undefined_in (head_symbol machine (linked_name l.definition) ∷ []) name x (export_of machine l own.number own.export) o
-        (export machine (names_in Gnu l.definition) own.export) own.same (export_object_is machine l (made_of l held) own.number own.export own.is) read
-        (left_export machine (names_in Gnu l.definition) own.export) left) in
+        (export machine (names_for Gnu l.definition) own.export) own.same (export_object_is machine l (made_of l held) own.number own.export own.is) read
+        (left_export machine (names_for Gnu l.definition) own.export) left) in
         ForExport l held (TheHead (same_first name m (head_of machine l) is (ap (first_listed (archive_of libraries)) named ∙ head_found machine libraries archive l held))
-        (any_wanted machine (linked_name l.definition) (exports_of l) all_wanted x (AnExport own want)))
+        (any_wanted machine (names_for Gnu l.definition) (exports_of l) all_wanted x (AnExport own want)))
     needed_by_left x (ForAlias l held n e at alias is_data same named) there o read name left m is =
         let kept : Among x (weak_among taken) = among_kept is_weak x taken there (alias_is_weak x l held n e at alias same) in
         needed_by_wanted name m (found machine libraries archive name m is)
@@ -287,19 +287,19 @@ module _ (machine : MachineType) (libraries : List Library) (archive : IsArchive
       unfolding names_undefined
       head_taken l held any =
           reached (head_symbol machine (linked_name l.definition)) (head_of machine l) (head_found machine libraries archive l held)
-          (among_back _ wanted (flat_map undefined_in (objects_in taken)) (read_name undefined_in _ taken (export_of machine l any.number any.export) (export machine (names_in Gnu l.definition) any.export)
+          (among_back _ wanted (flat_map undefined_in (objects_in taken)) (read_name undefined_in _ taken (export_of machine l any.number any.export) (export machine (names_for Gnu l.definition) any.export)
           (export_taken l held any.number any.export any.is any.want) (export_object_is machine l (made_of l held) any.number any.export any.is)
-          (subst (Among (head_symbol machine (linked_name l.definition))) (sym (left_export machine (names_in Gnu l.definition) any.export)) (among_first _ _))))
+          (subst (Among (head_symbol machine (linked_name l.definition))) (sym (left_export machine (names_for Gnu l.definition) any.export)) (among_first _ _))))
 
       tail_taken : (l : Library) → Among l libraries → AnyWanted (exports_of l) all_wanted → Among (tail_of machine l) taken
       unfolding names_undefined
       tail_taken l held any =
           reached (iname_symbol machine (linked_name l.definition)) (tail_of machine l) (tail_found machine libraries archive l held)
-          (among_back _ wanted (flat_map undefined_in (objects_in taken)) (read_name undefined_in _ taken (head_of machine l) (head machine (names_in Gnu l.definition))
+          (among_back _ wanted (flat_map undefined_in (objects_in taken)) (read_name undefined_in _ taken (head_of machine l) (head machine (names_for Gnu l.definition))
           (head_taken l held any) (head_object_is machine l (made_of l held))
-          (subst (Among (iname_symbol machine (linked_name l.definition))) (sym (left_head machine (names_in Gnu l.definition))) (among_first _ _))))
+          (subst (Among (iname_symbol machine (linked_name l.definition))) (sym (left_head machine (names_for Gnu l.definition))) (among_first _ _))))
 
-      taken_if_needed : (l : Library) → Among l libraries → (m : MemberView) → Needed machine (linked_name l.definition) (exports_of l) all_wanted m → Among m taken
+      taken_if_needed : (l : Library) → Among l libraries → (m : MemberView) → Needed machine (names_for Gnu l.definition) (exports_of l) all_wanted m → Among m taken
       taken_if_needed l held m (TheTail same any) = subst (λ x. Among x taken) (sym same) (tail_taken l held any)
       taken_if_needed l held m (TheHead same any) = subst (λ x. Among x taken) (sym same) (head_taken l held any)
       taken_if_needed l held m (AnExport x want) = subst (λ y. Among y taken) (sym x.same) (export_taken l held x.number x.export x.is want)

@@ -22,7 +22,7 @@ use Rattle.implib_link.proofs.Search.Counts.{distinct_from, few_from, times, tim
 use Rattle.implib_link.proofs.Search.Lists.{among_either, contains_among}
 use Rattle.implib_link.proofs.Search.Search.{in_nothing}
 use Rattle.implib.specs.LibraryName.{linked_name}
-use Rattle.implib.specs.LibraryName.{NamesOfDll, names_in}
+use Rattle.implib.specs.LibraryName.{NamesOfDll, names_for}
 use Rattle.implib.specs.declared.flavor.Flavor.TheVariants.{Gnu}
 
 -- Elements of lists in another order.
@@ -174,15 +174,15 @@ module _ (machine : MachineType) where
   sums h t e es few = omega arith
 
   library_fewer : (name : List ℕ) (l : Library) (wanted : List (List ℕ)) →
-      times name (linked_symbols machine (linked_name l.definition) (chosen_exports l.definition (exports_wanted l.definition wanted))) ≤ times name (symbols_of_library machine l)
+      times name (linked_symbols machine (names_for Gnu l.definition) (chosen_exports l.definition (exports_wanted l.definition wanted))) ≤ times name (symbols_of_library machine l)
   unfolding symbols_of_library
   library_fewer name l wanted =
-      let dll : NamesOfDll = names_in Gnu l.definition in
+      let dll : NamesOfDll = names_for Gnu l.definition in
       let chosen : List ExportView = filter (is_wanted wanted) (exports_of l) in
       let turned : times name (flat_map symbols_of_export (reverse (exports_of l))) ≡ times name (flat_map symbols_of_export (exports_of l)) =
       times_moved symbols_of_export name (exports_of l) (reverse (exports_of l)) (IsPermutation-reverse (exports_of l)) in
       let few : times name (flat_map archive_symbols chosen) ≤ times name (flat_map symbols_of_export (exports_of l)) = exports_fewer name (is_wanted wanted) (exports_of l) in
-      let left : times name (linked_symbols machine dll.linked chosen)
+      let left : times name (linked_symbols machine dll chosen)
       ≡ times name (head_symbol machine dll.linked ∷ []) + (times name (flat_map archive_symbols chosen) + times name (iname_symbol machine dll.linked ∷ [])) =
       times_both name (head_symbol machine dll.linked ∷ []) (flat_map archive_symbols chosen ++ iname_symbol machine dll.linked ∷ [])
       ∙ ap (λ n. times name (head_symbol machine dll.linked ∷ []) + n) (times_both name (flat_map archive_symbols chosen) (iname_symbol machine dll.linked ∷ [])) in
@@ -190,16 +190,16 @@ module _ (machine : MachineType) where
       ≡ times name (iname_symbol machine dll.linked ∷ []) + (times name (head_symbol machine dll.linked ∷ []) + times name (flat_map symbols_of_export (reverse (exports_of l)))) =
       times_both name (iname_symbol machine dll.linked ∷ []) (head_symbol machine dll.linked ∷ flat_map symbols_of_export (reverse (exports_of l)))
       ∙ ap (λ n. times name (iname_symbol machine dll.linked ∷ []) + n) (times_both name (head_symbol machine dll.linked ∷ []) (flat_map symbols_of_export (reverse (exports_of l)))) in
-      subst (λ (es : List ExportView). times name (linked_symbols machine dll.linked es)
+      subst (λ (es : List ExportView). times name (linked_symbols machine dll es)
       ≤ times name (iname_symbol machine dll.linked ∷ head_symbol machine dll.linked ∷ flat_map symbols_of_export (reverse (exports_of l)))) (sym (chosen_are l wanted))
       (omega arith)
 
   one_more : (name : List ℕ) (l : Library) (chosen : List ℕ) (others : List LinkInput) →
       times name (of_inputs (cons_option (input_if_any l chosen) others))
-      ≤ times name (linked_symbols machine (linked_name l.definition) (chosen_exports l.definition chosen)) + times name (of_inputs others)
+      ≤ times name (linked_symbols machine (names_for Gnu l.definition) (chosen_exports l.definition chosen)) + times name (of_inputs others)
   one_more name l [] others = omega arith
   one_more name l (n ∷ chosen) others =
-      (let both = times_both name (linked_symbols machine (linked_name l.definition) (chosen_exports l.definition (n ∷ chosen))) (of_inputs others) in omega arith)
+      (let both = times_both name (linked_symbols machine (names_for Gnu l.definition) (chosen_exports l.definition (n ∷ chosen))) (of_inputs others) in omega arith)
 
   inputs_fewer : (name : List ℕ) (libraries : List Library) (wanted : List (List ℕ)) →
       times name (of_inputs (inputs_wanted libraries wanted)) ≤ times name (flat_map (symbols_of_library machine) libraries)
@@ -208,9 +208,9 @@ module _ (machine : MachineType) where
   inputs_fewer name (l ∷ libraries) wanted =
       let chosen : List ℕ = exports_wanted l.definition wanted in
       let first : times name (of_inputs (cons_option (input_if_any l chosen) (inputs_wanted libraries wanted)))
-      ≤ times name (linked_symbols machine (linked_name l.definition) (chosen_exports l.definition chosen)) + times name (of_inputs (inputs_wanted libraries wanted)) =
+      ≤ times name (linked_symbols machine (names_for Gnu l.definition) (chosen_exports l.definition chosen)) + times name (of_inputs (inputs_wanted libraries wanted)) =
       one_more name l chosen (inputs_wanted libraries wanted) in
-      let own : times name (linked_symbols machine (linked_name l.definition) (chosen_exports l.definition chosen)) ≤ times name (symbols_of_library machine l) = library_fewer name l wanted in
+      let own : times name (linked_symbols machine (names_for Gnu l.definition) (chosen_exports l.definition chosen)) ≤ times name (symbols_of_library machine l) = library_fewer name l wanted in
       let behind : times name (of_inputs (inputs_wanted libraries wanted)) ≤ times name (flat_map (symbols_of_library machine) libraries) = inputs_fewer name libraries wanted in
       let all : times name (symbols_of_library machine l ++ flat_map (symbols_of_library machine) libraries)
       ≡ times name (symbols_of_library machine l) + times name (flat_map (symbols_of_library machine) libraries) =

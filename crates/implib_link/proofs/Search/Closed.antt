@@ -38,7 +38,7 @@ use Rattle.implib_link.proofs.Search.Arranged.{all_each, among_moved, archive_mo
 use Rattle.implib_link.proofs.Search.Lists.{NameRead, among_any, among_at, among_either, among_flat_map, any_among, any_member, contains_among, listed_is, name_read, none_listed, read_name}
 use Rattle.implib_link.proofs.Search.Search.{in_nothing, listed_export, listed_head, listed_tail, numbers_are_wanted, only_one, wanted_name, wants}
 use Rattle.implib.specs.LibraryName.{linked_name}
-use Rattle.implib.specs.LibraryName.{NamesOfDll, names_in}
+use Rattle.implib.specs.LibraryName.{NamesOfDll, names_for}
 use Rattle.implib.specs.declared.flavor.Flavor.TheVariants.{Gnu}
 
 -- Lists.
@@ -223,15 +223,15 @@ module _ (machine : MachineType) (libraries : List Library) (archive : IsArchive
 
   found_first : (name : List ℕ) (m : MemberView) → Found machine libraries archive name m → IsFirst m
   found_first name m (FoundTail l held same is) =
-      let dll : NamesOfDll = names_in Gnu l.definition in
+      let dll : NamesOfDll = names_for Gnu l.definition in
       is_first m (tail_of machine l) (tail machine dll) (iname_symbol machine dll.linked ∷ []) same (tail_object_is machine l (made_of l held)) (claimed_tail machine dll) (listed_tail machine dll)
       (λ n one. ap (first_listed (archive_of libraries)) (only_one n (iname_symbol machine dll.linked) one) ∙ tail_found machine libraries archive l held)
   found_first name m (FoundHead l held same is) =
-      let dll : NamesOfDll = names_in Gnu l.definition in
+      let dll : NamesOfDll = names_for Gnu l.definition in
       is_first m (head_of machine l) (head machine dll) (head_symbol machine dll.linked ∷ []) same (head_object_is machine l (made_of l held)) (claimed_head machine dll) (listed_head machine dll.linked)
       (λ n one. ap (first_listed (archive_of libraries)) (only_one n (head_symbol machine dll.linked) one) ∙ head_found machine libraries archive l held)
   found_first name m (FoundExport l held n e is same listed) =
-      let dll : NamesOfDll = names_in Gnu l.definition in
+      let dll : NamesOfDll = names_for Gnu l.definition in
       is_first m (export_of machine l n e) (export machine dll e) (archive_symbols e) same (export_object_is machine l (made_of l held) n e is) (claimed_export machine dll e) (listed_export machine dll.linked n e)
       (λ x one. export_found machine libraries archive l n e x held is one)
   found_first name m (FoundWeak l held n e is alias is_data same named) =
@@ -388,7 +388,7 @@ module _ (machine : MachineType) (libraries : List Library) (archive : IsArchive
     export_linked : (p : LinkInput) (e : ExportView) (name : List ℕ) → Among p inputs → Among e (chosen_exports p.definition p.chosen) → Among name (archive_symbols e) →
         Among name (linked_symbols machine inputs)
     export_linked p e name held chosen listed =
-        let dll : NamesOfDll = names_in Gnu p.definition in
+        let dll : NamesOfDll = names_for Gnu p.definition in
         let exports : List ExportView = chosen_exports p.definition p.chosen in
         subst (Among name) (sym (gnu_inputs_symbols machine inputs (inputs_made machine arranged wanted arranged_archive.made)))
         (among_flat (λ (k : Block). block_symbols machine k.dll k.exports) (block_of p) (map block_of inputs) name (among_map block_of p inputs held)

@@ -31,7 +31,7 @@ use Rattle.implib_link.proofs.Search.Arranged.{archive_moved}
 use Rattle.implib_link.proofs.Search.Closed.{closed_links, in_turn_for, passing}
 use Rattle.implib_link.proofs.Search.Given.{given_closes, given_ends, pulled_by}
 use Rattle.implib_link.proofs.Search.Rooms.{tables_near}
-use Rattle.implib.specs.LibraryName.{names_in}
+use Rattle.implib.specs.LibraryName.{names_for}
 use Rattle.implib.specs.declared.flavor.Flavor.TheVariants.{Gnu}
 
 -- Packed tables lie within the room of the libraries.
@@ -119,11 +119,11 @@ module _ (machine : MachineType) (libraries : List Library) (archive : IsArchive
 
   weak_has_none : (by : List ℕ) (m : MemberView) (o : Object) → is_weak m ≡ true → Found machine libraries archive by m → object_in m.bytes ≡ Some o → has_tables o ≡ false
   weak_has_none by m o weak (FoundTail l held same is) read =
-      absurd (true≢false (sym weak ∙ tail_not_weak machine m (names_in Gnu l.definition) (ap (λ (y : MemberView). object_in y.bytes) same ∙ tail_object_is machine l (made_of l held))))
+      absurd (true≢false (sym weak ∙ tail_not_weak machine m (names_for Gnu l.definition) (ap (λ (y : MemberView). object_in y.bytes) same ∙ tail_object_is machine l (made_of l held))))
   weak_has_none by m o weak (FoundHead l held same is) read =
-      absurd (true≢false (sym weak ∙ head_not_weak machine m (names_in Gnu l.definition) (ap (λ (y : MemberView). object_in y.bytes) same ∙ head_object_is machine l (made_of l held))))
+      absurd (true≢false (sym weak ∙ head_not_weak machine m (names_for Gnu l.definition) (ap (λ (y : MemberView). object_in y.bytes) same ∙ head_object_is machine l (made_of l held))))
   weak_has_none by m o weak (FoundExport l held n e is same listed) read =
-      absurd (true≢false (sym weak ∙ export_not_weak machine m (names_in Gnu l.definition) e (ap (λ (y : MemberView). object_in y.bytes) same ∙ export_object_is machine l (made_of l held) n e is)))
+      absurd (true≢false (sym weak ∙ export_not_weak machine m (names_for Gnu l.definition) e (ap (λ (y : MemberView). object_in y.bytes) same ∙ export_object_is machine l (made_of l held) n e is)))
   weak_has_none by m o weak (FoundWeak l held n e is alias is_data same named) read =
       same_plain m _ o (object_of (weak_object machine e.name e.alias_target)) same (weak_object_is machine l (made_of l held) n e is alias) read
       (weak_plain machine e.name e.alias_target)

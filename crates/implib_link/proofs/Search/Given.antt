@@ -29,7 +29,7 @@ use Rattle.implib_link.proofs.Search.Ends.{search_ends}
 use Rattle.implib_link.proofs.Search.Lists.{among_at, among_either, among_flat_map, contains_among, name_read}
 use Rattle.implib_link.proofs.Search.Search.{in_nothing, left_export, left_head, left_tail, listed_export, listed_head, listed_tail, only_one, wants}
 use Rattle.implib.specs.LibraryName.{linked_name}
-use Rattle.implib.specs.LibraryName.{NamesOfDll, names_in}
+use Rattle.implib.specs.LibraryName.{NamesOfDll, names_for}
 use Rattle.implib.specs.declared.flavor.Flavor.TheVariants.{Gnu}
 
 -- a weak external leaves its target to others
@@ -94,14 +94,14 @@ module _ (machine : MachineType) (libraries : List Library) (archive : IsArchive
 
   left_by : (by name : List ℕ) (m : MemberView) (o : Object) → Found machine libraries archive by m → object_in m.bytes ≡ Some o → Among name (undefined_in o) → Left name m
   left_by by name m o (FoundTail l held same is) read left =
-      let dll : NamesOfDll = names_in Gnu l.definition in
+      let dll : NamesOfDll = names_for Gnu l.definition in
       absurd (in_nothing name (names_of [] name m (tail_of machine l) o (tail machine dll) same (tail_object_is machine l (made_of l held)) read (left_tail machine dll) left))
   left_by by name m o (FoundHead l held same is) read left =
-      let dll : NamesOfDll = names_in Gnu l.definition in
+      let dll : NamesOfDll = names_for Gnu l.definition in
       LeftByHead l held (only_one name (iname_symbol machine dll.linked)
       (names_of (iname_symbol machine dll.linked ∷ []) name m (head_of machine l) o (head machine dll) same (head_object_is machine l (made_of l held)) read (left_head machine dll) left))
   left_by by name m o (FoundExport l held n e is same listed) read left =
-      let dll : NamesOfDll = names_in Gnu l.definition in
+      let dll : NamesOfDll = names_for Gnu l.definition in
       LeftByExport l held (only_one name (head_symbol machine dll.linked)
       (names_of (head_symbol machine dll.linked ∷ []) name m (export_of machine l n e) o (export machine dll e) same (export_object_is machine l (made_of l held) n e is) read (left_export machine dll e) left))
   left_by by name m o (FoundWeak l held n e is alias is_data same named) read left =
@@ -122,12 +122,12 @@ module _ (machine : MachineType) (libraries : List Library) (archive : IsArchive
 
   tail_listed : (l : Library) (m : MemberView) (name : List ℕ) → Among l libraries → m ≡ tail_of machine l → Among name m.symbols → IsKept name
   tail_listed l m name held same listed =
-      let dll : NamesOfDll = names_in Gnu l.definition in
+      let dll : NamesOfDll = names_for Gnu l.definition in
       inl (subst (λ n. Among n kept) (sym (only_one name (iname_symbol machine dll.linked) (subst (Among name) (listed_tail machine dll) (subst (λ (y : MemberView). Among name y.symbols) same listed)))) (tail_kept l held))
 
   head_listed : (l : Library) (m : MemberView) (name : List ℕ) → Among l libraries → m ≡ head_of machine l → Among name m.symbols → IsKept name
   head_listed l m name held same listed =
-      let dll : NamesOfDll = names_in Gnu l.definition in
+      let dll : NamesOfDll = names_for Gnu l.definition in
       inl (subst (λ n. Among n kept) (sym (only_one name (head_symbol machine dll.linked) (subst (Among name) (listed_head machine dll.linked) (subst (λ (y : MemberView). Among name y.symbols) same listed)))) (head_kept l held))
 
   -- of a member that a wanted name finds
@@ -211,11 +211,11 @@ module _ (machine : MachineType) (libraries : List Library) (archive : IsArchive
     weak_left : (by name : List ℕ) (m : MemberView) (o : Object) → is_weak m ≡ true → Found machine libraries archive by m → object_in m.bytes ≡ Some o → Among name (undefined_in o) →
         Among name (alias_targets libraries)
     weak_left by name m o weak (FoundTail l held same is) read left =
-        absurd (true≢false (sym weak ∙ tail_not_weak machine m (names_in Gnu l.definition) (ap (λ (y : MemberView). object_in y.bytes) same ∙ tail_object_is machine l (made_of l held))))
+        absurd (true≢false (sym weak ∙ tail_not_weak machine m (names_for Gnu l.definition) (ap (λ (y : MemberView). object_in y.bytes) same ∙ tail_object_is machine l (made_of l held))))
     weak_left by name m o weak (FoundHead l held same is) read left =
-        absurd (true≢false (sym weak ∙ head_not_weak machine m (names_in Gnu l.definition) (ap (λ (y : MemberView). object_in y.bytes) same ∙ head_object_is machine l (made_of l held))))
+        absurd (true≢false (sym weak ∙ head_not_weak machine m (names_for Gnu l.definition) (ap (λ (y : MemberView). object_in y.bytes) same ∙ head_object_is machine l (made_of l held))))
     weak_left by name m o weak (FoundExport l held n e is same listed) read left =
-        absurd (true≢false (sym weak ∙ export_not_weak machine m (names_in Gnu l.definition) e (ap (λ (y : MemberView). object_in y.bytes) same ∙ export_object_is machine l (made_of l held) n e is)))
+        absurd (true≢false (sym weak ∙ export_not_weak machine m (names_for Gnu l.definition) e (ap (λ (y : MemberView). object_in y.bytes) same ∙ export_object_is machine l (made_of l held) n e is)))
     weak_left by name m o weak (FoundWeak l held n e is alias is_data same named) read left =
         subst (λ x. Among x (alias_targets libraries)) (sym (only_one name e.alias_target
         (names_of (e.alias_target ∷ []) name m (weak_of machine l n e) o (object_of (weak_object machine e.name e.alias_target)) same (weak_object_is machine l (made_of l held) n e is alias) read

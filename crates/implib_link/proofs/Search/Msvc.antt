@@ -33,7 +33,7 @@ use Rattle.implib_link.proofs.Flavors.Inputs.{descriptor_at, descriptor_taken, n
 use Rattle.implib_link.proofs.Search.Search.{in_nothing, only_one, wanted_name, wants}
 use Rattle.implib_link.proofs.Search.Lists.{all_listed, among_any, among_either, among_mapped, any_among, contains_among, listed_is, listed_once, one_member}
 use Rattle.implib_link.proofs.Flavors.Expanded.{taken_descriptor, taken_null, taken_null_thunk}
-use Rattle.implib.specs.LibraryName.{NamesOfDll, linked_dll, names_in}
+use Rattle.implib.specs.LibraryName.{NamesOfDll, linked_dll, names_for}
 
 -- What the members leave.
 
@@ -49,7 +49,7 @@ pub left_thunk : (machine : MachineType) (dll : NamesOfDll) → undefined_in (ta
 unfolding undefined_in with_section_symbols object_of null_thunk entries_of name_text
 left_thunk machine dll = refl
 
-pub left_asking : (machine : MachineType) (dll symbol : List ℕ) (ask : Ask) (use_kind : Use) → undefined_in (import_object machine dll.text symbol ask use_kind) ≡ descriptor_symbol_by_name dll.text ∷ []
+pub left_asking : (machine : MachineType) (dll : NamesOfDll) (symbol : List ℕ) (ask : Ask) (use_kind : Use) → undefined_in (import_object machine dll.text symbol ask use_kind) ≡ descriptor_symbol_by_name dll.text ∷ []
 unfolding undefined_in import_object
 left_asking machine dll symbol (Ordinal n) Code = refl
 left_asking machine dll symbol (Ordinal n) Data = refl
@@ -117,16 +117,16 @@ name_taken machine f name (x ∷ members) m o (inr held) is own = behind_option 
 
 -- The members.
 
-abbrev D : MachineType → List ℕ → MemberView
+abbrev D : MachineType → NamesOfDll → MemberView
 D machine dll = member_of (descriptor_spec machine dll)
 
-abbrev N : MachineType → List ℕ → MemberView
+abbrev N : MachineType → NamesOfDll → MemberView
 N machine dll = member_of (null_descriptor_spec machine dll.linked)
 
-abbrev T : MachineType → List ℕ → MemberView
+abbrev T : MachineType → NamesOfDll → MemberView
 T machine dll = member_of (null_thunk_spec machine dll.linked)
 
-abbrev S : MachineType → List ℕ → ExportView → MemberView
+abbrev S : MachineType → NamesOfDll → ExportView → MemberView
 S machine dll e = member_of (short_import_spec machine dll e)
 
 data Kind (machine : MachineType) (dll : NamesOfDll) (exports : List ExportView) (m : MemberView) : Type 0 where
@@ -159,7 +159,7 @@ flat_among f y (x ∷ xs) held =
 module _ (d : DefinitionView) (machine : MachineType) (members : List MemberView) (wanted : List (List ℕ)) (made : AreMembersOf d machine Msvc members)
     (distinct : IsDistinct bytes_eq (all_listed members)) (found : descriptor_symbol_by_name d.import_name ≡ descriptor_symbol (linked_dll d)) (header : NamesNoHeader (linked_dll d) wanted) where
   abbrev name_of_dll : NamesOfDll
-  name_of_dll = names_in Msvc d
+  name_of_dll = names_for Msvc d
 
   abbrev shorts : List ExportView
   shorts = public_exports (renamed d)
@@ -167,16 +167,16 @@ module _ (d : DefinitionView) (machine : MachineType) (members : List MemberView
   specified : (p : MemberSpec) → Among p (member_specs (renamed d) machine Msvc) → Among (member_of p) members
   specified p held = subst (Among (member_of p)) (sym made.made) (among_map member_of p (member_specs (renamed d) machine Msvc) held)
 
-  D_held : Among (D machine (names_in Msvc d)) members
+  D_held : Among (D machine (names_for Msvc d)) members
   D_held = specified (descriptor_spec machine name_of_dll) (descriptor_at d machine members [] made)
 
-  N_held : Among (N machine (names_in Msvc d)) members
+  N_held : Among (N machine (names_for Msvc d)) members
   N_held = specified (null_descriptor_spec machine name_of_dll.linked) (null_at d machine members [] made)
 
-  T_held : Among (T machine (names_in Msvc d)) members
+  T_held : Among (T machine (names_for Msvc d)) members
   T_held = specified (null_thunk_spec machine name_of_dll.linked) (thunk_at d machine members [] made)
 
-  S_held : (e : ExportView) → Among e (public_exports (renamed d)) → Among (S machine (names_in Msvc d) e) members
+  S_held : (e : ExportView) → Among e (public_exports (renamed d)) → Among (S machine (names_for Msvc d) e) members
   S_held e held = specified (short_import_spec machine name_of_dll e) (short_at d machine members [] made e held)
 
   -- an alias's address would be listed twice, by two members whose files differ
@@ -199,7 +199,7 @@ module _ (d : DefinitionView) (machine : MachineType) (members : List MemberView
       ∙ read_of d machine members [] made (short_import_spec machine name_of_dll e) (short_at d machine members [] made e held) in
       cc
 
-  export_kind : (m : MemberView) (p : MemberSpec) (e : ExportView) → m ≡ member_of p → Among e (public_exports (renamed d)) → Among p (export_specs machine (names_in Msvc d) e) → Kind machine (names_in Msvc d) (public_exports (renamed d)) m
+  export_kind : (m : MemberView) (p : MemberSpec) (e : ExportView) → m ≡ member_of p → Among e (public_exports (renamed d)) → Among p (export_specs machine (names_for Msvc d) e) → Kind machine (names_for Msvc d) (public_exports (renamed d)) m
   unfolding weak_specs
   export_kind m p e same held own =
       elim (cases_Bool (is_alias e.alias_target (short_import_symbol e))) [
@@ -209,14 +209,14 @@ module _ (d : DefinitionView) (machine : MachineType) (members : List MemberView
             IsShort e held (same ∙ ap member_of (only_one p (short_import_spec machine name_of_dll e) only))
       ]
 
-  header_kind : (m : MemberView) (p : MemberSpec) → m ≡ member_of p → Among p (header_specs machine (names_in Msvc d)) → Kind machine (names_in Msvc d) (public_exports (renamed d)) m
+  header_kind : (m : MemberView) (p : MemberSpec) → m ≡ member_of p → Among p (header_specs machine (names_for Msvc d)) → Kind machine (names_for Msvc d) (public_exports (renamed d)) m
   unfolding header_specs Among
   header_kind m p same (inl e) = IsDescriptor (same ∙ ap member_of e)
   header_kind m p same (inr (inl e)) = IsNull (same ∙ ap member_of e)
   header_kind m p same (inr (inr (inl e))) = IsThunk (same ∙ ap member_of e)
   header_kind m p same (inr (inr (inr nothing))) = absurd nothing
 
-  kind : (m : MemberView) → Among m members → Kind machine (names_in Msvc d) (public_exports (renamed d)) m
+  kind : (m : MemberView) → Among m members → Kind machine (names_for Msvc d) (public_exports (renamed d)) m
   kind m held =
       let p = among_mapped member_of m (member_specs (renamed d) machine Msvc) (subst (Among m) made.made held) in
       elim (among_either p.0 (header_specs machine name_of_dll) (flat_map (export_specs machine name_of_dll) shorts) p.1) [
@@ -230,7 +230,7 @@ module _ (d : DefinitionView) (machine : MachineType) (members : List MemberView
     taken : expanded_in machine m.bytes ≡ Some object
     claims : claimed_names object ≡ m.symbols
 
-  reads_of : (m : MemberView) → Kind machine (names_in Msvc d) (public_exports (renamed d)) m → Reads m
+  reads_of : (m : MemberView) → Kind machine (names_for Msvc d) (public_exports (renamed d)) m → Reads m
   unfolding descriptor_spec null_descriptor_spec null_thunk_spec
   reads_of m (IsDescriptor same) = subst Reads (sym same) (record { object = taken_descriptor machine name_of_dll; taken = descriptor_taken d machine members [] made; claims = claims_descriptor machine name_of_dll })
   reads_of m (IsNull same) = subst Reads (sym same) (record { object = taken_null machine; taken = null_taken d machine members [] made; claims = claims_null machine })
@@ -248,8 +248,8 @@ module _ (d : DefinitionView) (machine : MachineType) (members : List MemberView
   refuted name held none = true≢false (sym (among_any name wanted held) ∙ none)
 
   -- a member that is listed for a wanted name is an export's
-  from_wanted : (m : MemberView) (name : List ℕ) → Kind machine (names_in Msvc d) (public_exports (renamed d)) m → Among name m.symbols → Among name wanted →
-      Needed machine (names_in Msvc d) (public_exports (renamed d)) wanted m
+  from_wanted : (m : MemberView) (name : List ℕ) → Kind machine (names_for Msvc d) (public_exports (renamed d)) m → Among name m.symbols → Among name wanted →
+      Needed machine (names_for Msvc d) (public_exports (renamed d)) wanted m
   unfolding descriptor_spec null_descriptor_spec null_thunk_spec
   from_wanted m name (IsDescriptor same) listed held =
       let is : name ≡ descriptor_symbol name_of_dll.linked = only_one name (descriptor_symbol name_of_dll.linked) (subst (λ (x : MemberView). Among name x.symbols) same listed) in
@@ -264,28 +264,28 @@ module _ (d : DefinitionView) (machine : MachineType) (members : List MemberView
       AShort e among same (wants wanted (short_import_symbols e) name (subst (λ (x : MemberView). Among name x.symbols) same listed) held)
 
   -- a member that lists a name of the header is that one
-  is_D : (m : MemberView) (name : List ℕ) → Among m members → Among name m.symbols → name ≡ descriptor_symbol (linked_dll d) → m ≡ D machine (names_in Msvc d)
+  is_D : (m : MemberView) (name : List ℕ) → Among m members → Among name m.symbols → name ≡ descriptor_symbol (linked_dll d) → m ≡ D machine (names_for Msvc d)
   unfolding descriptor_spec
   is_D m name held listed is = one_member members name m (D machine name_of_dll) distinct held D_held listed (subst (λ n. Among n (descriptor_symbol name_of_dll.linked ∷ [])) (sym is) (among_first _ _))
 
-  is_N : (m : MemberView) (name : List ℕ) → Among m members → Among name m.symbols → name ≡ null_descriptor_symbol → m ≡ N machine (names_in Msvc d)
+  is_N : (m : MemberView) (name : List ℕ) → Among m members → Among name m.symbols → name ≡ null_descriptor_symbol → m ≡ N machine (names_for Msvc d)
   unfolding null_descriptor_spec
   is_N m name held listed is = one_member members name m (N machine name_of_dll) distinct held N_held listed (subst (λ n. Among n (null_descriptor_symbol ∷ [])) (sym is) (among_first _ _))
 
-  is_T : (m : MemberView) (name : List ℕ) → Among m members → Among name m.symbols → name ≡ null_thunk_symbol (linked_dll d) → m ≡ T machine (names_in Msvc d)
+  is_T : (m : MemberView) (name : List ℕ) → Among m members → Among name m.symbols → name ≡ null_thunk_symbol (linked_dll d) → m ≡ T machine (names_for Msvc d)
   unfolding null_thunk_spec
   is_T m name held listed is = one_member members name m (T machine name_of_dll) distinct held T_held listed (subst (λ n. Among n (null_thunk_symbol name_of_dll.linked ∷ [])) (sym is) (among_first _ _))
 
   of_descriptor : (m : MemberView) (name : List ℕ) → Among m members → Among name m.symbols → AnyShort (public_exports (renamed d)) wanted → Among name (null_descriptor_symbol ∷ null_thunk_symbol (linked_dll d) ∷ []) →
-      Needed machine (names_in Msvc d) (public_exports (renamed d)) wanted m
+      Needed machine (names_for Msvc d) (public_exports (renamed d)) wanted m
   unfolding Among
   of_descriptor m name held listed any (inl is) = TheNull (is_N m name held listed is) any
   of_descriptor m name held listed any (inr (inl is)) = TheThunk (is_T m name held listed is) any
   of_descriptor m name held listed any (inr (inr nothing)) = absurd nothing
 
   -- a name that a needed member leaves pulls in a needed one
-  from_left : (m x : MemberView) (name : List ℕ) (o : Object) → Among m members → Among name m.symbols → Needed machine (names_in Msvc d) (public_exports (renamed d)) wanted x →
-      expanded_in machine x.bytes ≡ Some o → Among name (undefined_in o) → Needed machine (names_in Msvc d) (public_exports (renamed d)) wanted m
+  from_left : (m x : MemberView) (name : List ℕ) (o : Object) → Among m members → Among name m.symbols → Needed machine (names_for Msvc d) (public_exports (renamed d)) wanted x →
+      expanded_in machine x.bytes ≡ Some o → Among name (undefined_in o) → Needed machine (names_for Msvc d) (public_exports (renamed d)) wanted m
   from_left m x name o held listed (TheDescriptor same any) is left =
       let object : o ≡ taken_descriptor machine name_of_dll =
       same_object x o (taken_descriptor machine name_of_dll) is (ap (λ (y : MemberView). expanded_in machine y.bytes) same ∙ descriptor_taken d machine members [] made) in
@@ -304,8 +304,8 @@ module _ (d : DefinitionView) (machine : MachineType) (members : List MemberView
       only_one name (descriptor_symbol_by_name name_of_dll.text) (subst (Among name) (ap undefined_in object ∙ left_asking machine name_of_dll (short_import_symbol e) (ask_in Msvc machine e) (use_for e)) left) in
       TheDescriptor (is_D m name held listed (named ∙ found)) (record { export = e; held = among; want = want })
 
-  needed_next : (earlier : List MemberView) → ((x : MemberView) → Among x earlier → Needed machine (names_in Msvc d) (public_exports (renamed d)) wanted x) → (m : MemberView) (name : List ℕ) →
-      PullsInFor machine members wanted earlier name m → Needed machine (names_in Msvc d) (public_exports (renamed d)) wanted m
+  needed_next : (earlier : List MemberView) → ((x : MemberView) → Among x earlier → Needed machine (names_for Msvc d) (public_exports (renamed d)) wanted x) → (m : MemberView) (name : List ℕ) →
+      PullsInFor machine members wanted earlier name m → Needed machine (names_for Msvc d) (public_exports (renamed d)) wanted m
   unfolding left_in
   needed_next earlier needed m name pulls =
       let listed = listed_is members name m pulls.listed in
@@ -316,21 +316,21 @@ module _ (d : DefinitionView) (machine : MachineType) (members : List MemberView
             from_left m x.member name x.object listed.0 listed.1 (needed x.member x.held) x.taken x.among
       ]
 
-  all_needed : (taken : List MemberView) → AreTakenInTurn machine members wanted taken → (m : MemberView) → Among m taken → Needed machine (names_in Msvc d) (public_exports (renamed d)) wanted m
+  all_needed : (taken : List MemberView) → AreTakenInTurn machine members wanted taken → (m : MemberView) → Among m taken → Needed machine (names_for Msvc d) (public_exports (renamed d)) wanted m
   unfolding AreTakenInTurn Among
   all_needed [] turn m held = absurd held
   all_needed (x ∷ earlier) turn m (inl e) = needed_next earlier (all_needed earlier turn.1) m turn.0.0 (subst (λ y. PullsInFor machine members wanted earlier turn.0.0 y) (sym e) turn.0.1)
   all_needed (x ∷ earlier) turn m (inr held) = all_needed earlier turn.1 m held
 
   -- all members that are taken are among those of the archive
-  needed_held : (m : MemberView) → Needed machine (names_in Msvc d) (public_exports (renamed d)) wanted m → Among m members
+  needed_held : (m : MemberView) → Needed machine (names_for Msvc d) (public_exports (renamed d)) wanted m → Among m members
   needed_held m (TheDescriptor same any) = subst (λ x. Among x members) (sym same) D_held
   needed_held m (TheNull same any) = subst (λ x. Among x members) (sym same) N_held
   needed_held m (TheThunk same any) = subst (λ x. Among x members) (sym same) T_held
   needed_held m (AShort e among same want) = subst (λ x. Among x members) (sym same) (S_held e among)
 
   module _ (taken : List MemberView) (takes : TakesFor machine members wanted taken) where
-    needed : (m : MemberView) → Among m taken → Needed machine (names_in Msvc d) (public_exports (renamed d)) wanted m
+    needed : (m : MemberView) → Among m taken → Needed machine (names_for Msvc d) (public_exports (renamed d)) wanted m
     needed m held = all_needed taken takes.in_turn m held
 
     -- a member that is listed for a name that is asked for is taken
@@ -362,12 +362,12 @@ module _ (d : DefinitionView) (machine : MachineType) (members : List MemberView
     unfolding left_in
     left_among x o name held is left = among_back name wanted (left_in machine taken) (name_taken machine undefined_in name taken x o held is left)
 
-    S_taken : (e : ExportView) → Among e (public_exports (renamed d)) → is_short_wanted wanted e ≡ true → Among (S machine (names_in Msvc d) e) taken
+    S_taken : (e : ExportView) → Among e (public_exports (renamed d)) → is_short_wanted wanted e ≡ true → Among (S machine (names_for Msvc d) e) taken
     S_taken e among want =
         let name = wanted_name wanted (short_import_symbols e) want in
         settled (S machine name_of_dll e) name.0 (S_held e among) name.1 (among_front name.0 wanted (left_in machine taken) name.2)
 
-    D_taken : AnyShort (public_exports (renamed d)) wanted → Among (D machine (names_in Msvc d)) taken
+    D_taken : AnyShort (public_exports (renamed d)) wanted → Among (D machine (names_for Msvc d)) taken
     unfolding descriptor_spec
     D_taken any =
         settled (D machine name_of_dll) (descriptor_symbol name_of_dll.linked) D_held (among_first _ _)
@@ -375,21 +375,21 @@ module _ (d : DefinitionView) (machine : MachineType) (members : List MemberView
         (subst (Among (descriptor_symbol name_of_dll.linked)) (sym (left_asking machine name_of_dll (short_import_symbol any.export) (ask_in Msvc machine any.export) (use_for any.export)))
         (subst (λ n. Among (descriptor_symbol name_of_dll.linked) (n ∷ [])) (sym found) (among_first _ _))))
 
-    N_taken : AnyShort (public_exports (renamed d)) wanted → Among (N machine (names_in Msvc d)) taken
+    N_taken : AnyShort (public_exports (renamed d)) wanted → Among (N machine (names_for Msvc d)) taken
     unfolding null_descriptor_spec
     N_taken any =
         settled (N machine name_of_dll) null_descriptor_symbol N_held (among_first _ _)
         (left_among (D machine name_of_dll) (taken_descriptor machine name_of_dll) null_descriptor_symbol (D_taken any) (descriptor_taken d machine members [] made)
         (subst (Among null_descriptor_symbol) (sym (left_descriptor machine name_of_dll)) (among_first _ _)))
 
-    T_taken : AnyShort (public_exports (renamed d)) wanted → Among (T machine (names_in Msvc d)) taken
+    T_taken : AnyShort (public_exports (renamed d)) wanted → Among (T machine (names_for Msvc d)) taken
     unfolding null_thunk_spec
     T_taken any =
         settled (T machine name_of_dll) (null_thunk_symbol name_of_dll.linked) T_held (among_first _ _)
         (left_among (D machine name_of_dll) (taken_descriptor machine name_of_dll) (null_thunk_symbol name_of_dll.linked) (D_taken any) (descriptor_taken d machine members [] made)
         (subst (Among (null_thunk_symbol name_of_dll.linked)) (sym (left_descriptor machine name_of_dll)) (among_later _ _ _ (among_first _ _))))
 
-    needed_taken : (m : MemberView) → Needed machine (names_in Msvc d) (public_exports (renamed d)) wanted m → Among m taken
+    needed_taken : (m : MemberView) → Needed machine (names_for Msvc d) (public_exports (renamed d)) wanted m → Among m taken
     needed_taken m (TheDescriptor same any) = subst (λ x. Among x taken) (sym same) (D_taken any)
     needed_taken m (TheNull same any) = subst (λ x. Among x taken) (sym same) (N_taken any)
     needed_taken m (TheThunk same any) = subst (λ x. Among x taken) (sym same) (T_taken any)
@@ -426,7 +426,7 @@ chosen_are : (d : DefinitionView) (wanted : List (List ℕ)) → chosen_exports 
 chosen_are d wanted = passing_chosen (is_short_wanted wanted) [] (public_exports (renamed d))
 
 if_any_is : (d : DefinitionView) (machine : MachineType) (chosen : List ℕ) (e : ExportView) → Among e (chosen_exports d chosen) →
-    msvc_if_any d machine chosen ≡ N machine (names_in Msvc d) ∷ map member_of (specs_in Msvc d machine chosen)
+    msvc_if_any d machine chosen ≡ N machine (names_for Msvc d) ∷ map member_of (specs_in Msvc d machine chosen)
 if_any_is d machine [] e held = absurd (in_nothing_of e held)
 if_any_is d machine (n ∷ chosen) e held = refl
 
@@ -448,33 +448,33 @@ module _ (d : DefinitionView) (machine : MachineType) (wanted : List (List ℕ))
       subst (Among (member_of p)) (sym (if_any_is d machine (shorts_wanted d wanted) any.export chosen))
       (among_map member_of p (null_descriptor_spec machine (linked_dll d) ∷ specs_in Msvc d machine (shorts_wanted d wanted)) held)
 
-  linked_if_needed : (m : MemberView) → Needed machine (names_in Msvc d) (public_exports (renamed d)) wanted m → Among m (msvc_if_any d machine (shorts_wanted d wanted))
-  linked_if_needed m (TheDescriptor same any) = subst (λ x. Among x (msvc_if_any d machine (shorts_wanted d wanted))) (sym same) (spec_linked (descriptor_spec machine (names_in Msvc d)) any (among_later _ _ _ (among_first _ _)))
+  linked_if_needed : (m : MemberView) → Needed machine (names_for Msvc d) (public_exports (renamed d)) wanted m → Among m (msvc_if_any d machine (shorts_wanted d wanted))
+  linked_if_needed m (TheDescriptor same any) = subst (λ x. Among x (msvc_if_any d machine (shorts_wanted d wanted))) (sym same) (spec_linked (descriptor_spec machine (names_for Msvc d)) any (among_later _ _ _ (among_first _ _)))
   linked_if_needed m (TheNull same any) = subst (λ x. Among x (msvc_if_any d machine (shorts_wanted d wanted))) (sym same) (spec_linked (null_descriptor_spec machine (linked_dll d)) any (among_first _ _))
   linked_if_needed m (TheThunk same any) =
       subst (λ x. Among x (msvc_if_any d machine (shorts_wanted d wanted))) (sym same) (spec_linked (null_thunk_spec machine (linked_dll d)) any
-      (among_later _ _ _ (among_later _ _ _ (among_back _ (map (short_import_spec machine (names_in Msvc d)) (chosen_exports d (shorts_wanted d wanted))) _ (among_first _ _)))))
+      (among_later _ _ _ (among_later _ _ _ (among_back _ (map (short_import_spec machine (names_for Msvc d)) (chosen_exports d (shorts_wanted d wanted))) _ (among_first _ _)))))
   linked_if_needed m (AShort e among same want) =
       let any : AnyShort (public_exports (renamed d)) wanted = record { export = e; held = among; want = want } in
       let chosen : Among e (chosen_exports d (shorts_wanted d wanted)) = subst (Among e) (sym (chosen_are d wanted)) (among_passing (is_short_wanted wanted) e (public_exports (renamed d)) among want) in
-      subst (λ x. Among x (msvc_if_any d machine (shorts_wanted d wanted))) (sym same) (spec_linked (short_import_spec machine (names_in Msvc d) e) any
-      (among_later _ _ _ (among_later _ _ _ (among_front _ (map (short_import_spec machine (names_in Msvc d)) (chosen_exports d (shorts_wanted d wanted))) _
-      (among_map (short_import_spec machine (names_in Msvc d)) e (chosen_exports d (shorts_wanted d wanted)) chosen)))))
+      subst (λ x. Among x (msvc_if_any d machine (shorts_wanted d wanted))) (sym same) (spec_linked (short_import_spec machine (names_for Msvc d) e) any
+      (among_later _ _ _ (among_later _ _ _ (among_front _ (map (short_import_spec machine (names_for Msvc d)) (chosen_exports d (shorts_wanted d wanted))) _
+      (among_map (short_import_spec machine (names_for Msvc d)) e (chosen_exports d (shorts_wanted d wanted)) chosen)))))
 
   of_spec : (m : MemberView) (p : MemberSpec) (chosen : List ℕ) → chosen_exports d chosen ≡ filter (is_short_wanted wanted) (public_exports (renamed d)) → AnyShort (public_exports (renamed d)) wanted → m ≡ member_of p →
-      Among p (specs_in Msvc d machine chosen) → Needed machine (names_in Msvc d) (public_exports (renamed d)) wanted m
+      Among p (specs_in Msvc d machine chosen) → Needed machine (names_for Msvc d) (public_exports (renamed d)) wanted m
   unfolding Among
   of_spec m p chosen are any same (inl e) = TheDescriptor (same ∙ ap member_of e) any
   of_spec m p chosen are any same (inr held) =
-      elim (among_either p (map (short_import_spec machine (names_in Msvc d)) (chosen_exports d chosen)) (null_thunk_spec machine (linked_dll d) ∷ []) held) [
+      elim (among_either p (map (short_import_spec machine (names_for Msvc d)) (chosen_exports d chosen)) (null_thunk_spec machine (linked_dll d) ∷ []) held) [
         | inl own ↦
-            let e = among_mapped (short_import_spec machine (names_in Msvc d)) p (chosen_exports d chosen) own in
+            let e = among_mapped (short_import_spec machine (names_for Msvc d)) p (chosen_exports d chosen) own in
             let passes = passing_among (is_short_wanted wanted) e.0 (public_exports (renamed d)) (subst (Among e.0) are e.1) in
             AShort e.0 passes.0 (same ∙ ap member_of e.2) passes.1
         | inr last ↦ TheThunk (same ∙ ap member_of (only_one p (null_thunk_spec machine (linked_dll d)) last)) any
       ]
 
-  of_chosen : (m : MemberView) (chosen : List ℕ) → shorts_wanted d wanted ≡ chosen → Among m (msvc_if_any d machine chosen) → Needed machine (names_in Msvc d) (public_exports (renamed d)) wanted m
+  of_chosen : (m : MemberView) (chosen : List ℕ) → shorts_wanted d wanted ≡ chosen → Among m (msvc_if_any d machine chosen) → Needed machine (names_for Msvc d) (public_exports (renamed d)) wanted m
   unfolding Among
   of_chosen m [] is held = absurd held
   of_chosen m (n ∷ chosen) is held =

@@ -35,7 +35,7 @@ use Rattle.implib_link.proofs.Search.Lists.{among_either, among_mapped, any_amon
 use Rattle.implib_link.proofs.Search.Msvc.{left_asking, left_descriptor, left_null, left_thunk, name_taken, passing_chosen, some_export, taken_name}
 use Rattle.implib_link.proofs.Search.MsvcMembers.{Found, FoundDescriptor, FoundNull, FoundShort, FoundThunk, FoundWeak, IsPair, claims_weak, descriptor_found, descriptor_is, descriptor_of, found, null_found, null_is, null_of, short_found, short_is, short_of, taken_weak, thunk_found, thunk_is, thunk_of, weak_found, weak_is, weak_of}
 use Rattle.implib_link.proofs.Search.Search.{in_nothing, only_one, wanted_name, wants}
-use Rattle.implib.specs.LibraryName.{NamesOfDll, linked_dll, names_in}
+use Rattle.implib.specs.LibraryName.{NamesOfDll, linked_dll, names_for}
 
 -- some short import of a library is wanted
 pub record AnyImport (exports : List ExportView) (names : List (List ℕ)) : Type 0 where
@@ -69,7 +69,7 @@ thunk_not_weak : (machine : MachineType) (dll : NamesOfDll) → has_weak (Some (
 unfolding with_section_symbols object_of null_thunk entries_of name_text
 thunk_not_weak machine dll = refl
 
-asking_not_weak : (machine : MachineType) (dll symbol : List ℕ) (ask : Ask) (use_kind : Use) → has_weak (Some (import_object machine dll.text symbol ask use_kind)) ≡ false
+asking_not_weak : (machine : MachineType) (dll : NamesOfDll) (symbol : List ℕ) (ask : Ask) (use_kind : Use) → has_weak (Some (import_object machine dll.text symbol ask use_kind)) ≡ false
 unfolding import_object
 asking_not_weak machine dll symbol (Ordinal n) Code = refl
 asking_not_weak machine dll symbol (Ordinal n) Data = refl
@@ -90,19 +90,19 @@ weak_by machine m x o b same is weak = ap has_weak (ap (λ (y : MemberView). exp
 module _ (machine : MachineType) (m : MemberView) (l : Library) (made : IsMsvcLibrary machine l) where
   pub descriptor_plain : m ≡ descriptor_of machine l → is_weak_in machine m ≡ false
   descriptor_plain same =
-      weak_by machine m (descriptor_of machine l) (taken_descriptor machine (names_in Msvc l.definition)) false same (descriptor_is machine l made) (descriptor_not_weak machine (names_in Msvc l.definition))
+      weak_by machine m (descriptor_of machine l) (taken_descriptor machine (names_for Msvc l.definition)) false same (descriptor_is machine l made) (descriptor_not_weak machine (names_for Msvc l.definition))
 
   pub null_plain : m ≡ null_of machine l → is_weak_in machine m ≡ false
   null_plain same = weak_by machine m (null_of machine l) (taken_null machine) false same (null_is machine l made) (null_not_weak machine)
 
   pub thunk_plain : m ≡ thunk_of machine l → is_weak_in machine m ≡ false
   thunk_plain same =
-      weak_by machine m (thunk_of machine l) (taken_null_thunk machine (names_in Msvc l.definition)) false same (thunk_is machine l made) (thunk_not_weak machine (names_in Msvc l.definition))
+      weak_by machine m (thunk_of machine l) (taken_null_thunk machine (names_for Msvc l.definition)) false same (thunk_is machine l made) (thunk_not_weak machine (names_for Msvc l.definition))
 
   pub short_plain : (e : ExportView) → Among e (exports_of l) → m ≡ short_of machine l e → is_weak_in machine m ≡ false
   short_plain e there same =
-      weak_by machine m (short_of machine l e) (asking machine (names_in Msvc l.definition) e) false same (short_is machine l made e there)
-      (asking_not_weak machine (names_in Msvc l.definition) (short_import_symbol e) (ask_in Msvc machine e) (use_for e))
+      weak_by machine m (short_of machine l e) (asking machine (names_for Msvc l.definition) e) false same (short_is machine l made e there)
+      (asking_not_weak machine (names_for Msvc l.definition) (short_import_symbol e) (ask_in Msvc machine e) (use_for e))
 
 -- What is linked of libraries.
 
@@ -165,24 +165,24 @@ module _ (machine : MachineType) (l : Library) (names : List (List ℕ)) where
 
   pub linked_there : (m : MemberView) → Linked machine l names m → Among m (shorts_if_any machine l (imports_wanted l names))
   linked_there m (TheDescriptor same any) =
-      subst (λ x. Among x (shorts_if_any machine l (imports_wanted l names))) (sym same) (spec_linked (descriptor_spec machine (names_in Msvc l.definition)) any (among_first _ _))
+      subst (λ x. Among x (shorts_if_any machine l (imports_wanted l names))) (sym same) (spec_linked (descriptor_spec machine (names_for Msvc l.definition)) any (among_first _ _))
   linked_there m (TheThunk same any) =
       subst (λ x. Among x (shorts_if_any machine l (imports_wanted l names))) (sym same) (spec_linked (null_thunk_spec machine (linked_dll l.definition)) any
-      (among_later _ _ _ (among_back _ (map (short_import_spec machine (names_in Msvc l.definition)) (chosen_exports l.definition (imports_wanted l names))) _ (among_first _ _))))
+      (among_later _ _ _ (among_back _ (map (short_import_spec machine (names_for Msvc l.definition)) (chosen_exports l.definition (imports_wanted l names))) _ (among_first _ _))))
   linked_there m (AShort e held same want) =
       subst (λ x. Among x (shorts_if_any machine l (imports_wanted l names))) (sym same)
-      (spec_linked (short_import_spec machine (names_in Msvc l.definition) e) (record { export = e; held = held; want = want })
-      (among_later _ _ _ (among_front _ (map (short_import_spec machine (names_in Msvc l.definition)) (chosen_exports l.definition (imports_wanted l names))) _
-      (among_map (short_import_spec machine (names_in Msvc l.definition)) e (chosen_exports l.definition (imports_wanted l names)) (import_chosen e held want)))))
+      (spec_linked (short_import_spec machine (names_for Msvc l.definition) e) (record { export = e; held = held; want = want })
+      (among_later _ _ _ (among_front _ (map (short_import_spec machine (names_for Msvc l.definition)) (chosen_exports l.definition (imports_wanted l names))) _
+      (among_map (short_import_spec machine (names_for Msvc l.definition)) e (chosen_exports l.definition (imports_wanted l names)) (import_chosen e held want)))))
 
   of_spec : (m : MemberView) (p : MemberSpec) (chosen : List ℕ) → chosen_exports l.definition chosen ≡ filter (is_import_wanted names) (exports_of l) → AnyImport (exports_of l) names →
       m ≡ member_of p → Among p (specs_in Msvc l.definition machine chosen) → Linked machine l names m
   unfolding Among
   of_spec m p chosen are any same (inl e) = TheDescriptor (same ∙ ap member_of e) any
   of_spec m p chosen are any same (inr held) =
-      elim (among_either p (map (short_import_spec machine (names_in Msvc l.definition)) (chosen_exports l.definition chosen)) (null_thunk_spec machine (linked_dll l.definition) ∷ []) held) [
+      elim (among_either p (map (short_import_spec machine (names_for Msvc l.definition)) (chosen_exports l.definition chosen)) (null_thunk_spec machine (linked_dll l.definition) ∷ []) held) [
         | inl own ↦
-            let e = among_mapped (short_import_spec machine (names_in Msvc l.definition)) p (chosen_exports l.definition chosen) own in
+            let e = among_mapped (short_import_spec machine (names_for Msvc l.definition)) p (chosen_exports l.definition chosen) own in
             let kept = passing (is_import_wanted names) e.0 (exports_of l) (subst (Among e.0) are e.1) in
             AShort e.0 kept.0 (same ∙ ap member_of e.2) kept.1
         | inr last ↦ TheThunk (same ∙ ap member_of (only_one p (null_thunk_spec machine (linked_dll l.definition)) last)) any
@@ -257,16 +257,16 @@ module _ (machine : MachineType) (libraries : List Library) (archive : IsMsvcArc
   unfolding descriptor_spec null_descriptor_spec null_thunk_spec
   claims_listed names m o name (ForImport l held (TheDescriptor same any)) read claimed =
       subst (λ (y : MemberView). Among name y.symbols) (sym same)
-      (names_of claimed_names (descriptor_symbol (linked_dll l.definition) ∷ []) name m (descriptor_of machine l) o (taken_descriptor machine (names_in Msvc l.definition)) same
-      (descriptor_is machine l (made_of l held)) read (claims_descriptor machine (names_in Msvc l.definition)) claimed)
+      (names_of claimed_names (descriptor_symbol (linked_dll l.definition) ∷ []) name m (descriptor_of machine l) o (taken_descriptor machine (names_for Msvc l.definition)) same
+      (descriptor_is machine l (made_of l held)) read (claims_descriptor machine (names_for Msvc l.definition)) claimed)
   claims_listed names m o name (ForImport l held (TheThunk same any)) read claimed =
       subst (λ (y : MemberView). Among name y.symbols) (sym same)
-      (names_of claimed_names (null_thunk_symbol (linked_dll l.definition) ∷ []) name m (thunk_of machine l) o (taken_null_thunk machine (names_in Msvc l.definition)) same
-      (thunk_is machine l (made_of l held)) read (claims_thunk machine (names_in Msvc l.definition)) claimed)
+      (names_of claimed_names (null_thunk_symbol (linked_dll l.definition) ∷ []) name m (thunk_of machine l) o (taken_null_thunk machine (names_for Msvc l.definition)) same
+      (thunk_is machine l (made_of l held)) read (claims_thunk machine (names_for Msvc l.definition)) claimed)
   claims_listed names m o name (ForImport l held (AShort e there same want)) read claimed =
       subst (λ (y : MemberView). Among name y.symbols) (sym same)
-      (names_of claimed_names (short_import_symbols e) name m (short_of machine l e) o (asking machine (names_in Msvc l.definition) e) same
-      (short_is machine l (made_of l held) e there) read (claims_asking machine (names_in Msvc l.definition) (short_import_symbol e) (ask_in Msvc machine e) e.is_data e.constant) claimed)
+      (names_of claimed_names (short_import_symbols e) name m (short_of machine l e) o (asking machine (names_for Msvc l.definition) e) same
+      (short_is machine l (made_of l held) e there) read (claims_asking machine (names_for Msvc l.definition) (short_import_symbol e) (ask_in Msvc machine e) e.is_data e.constant) claimed)
   claims_listed names m o name (ForNull l rest is same x there any) read claimed =
       subst (λ (y : MemberView). Among name y.symbols) (sym same)
       (names_of claimed_names (null_descriptor_symbol ∷ []) name m (null_of machine l) o (taken_null machine) same
@@ -354,15 +354,15 @@ module _ (machine : MachineType) (libraries : List Library) (archive : IsMsvcArc
     unfolding left_in
     needed_by_left x (ForImport l held (TheDescriptor same any)) there o read name left m is =
         left_by_descriptor all_wanted l held any name
-        (names_of undefined_in (null_descriptor_symbol ∷ null_thunk_symbol (linked_dll l.definition) ∷ []) name x (descriptor_of machine l) o (taken_descriptor machine (names_in Msvc l.definition)) same
-        (descriptor_is machine l (made_of l held)) read (left_descriptor machine (names_in Msvc l.definition)) left) m is
+        (names_of undefined_in (null_descriptor_symbol ∷ null_thunk_symbol (linked_dll l.definition) ∷ []) name x (descriptor_of machine l) o (taken_descriptor machine (names_for Msvc l.definition)) same
+        (descriptor_is machine l (made_of l held)) read (left_descriptor machine (names_for Msvc l.definition)) left) m is
     needed_by_left x (ForImport l held (TheThunk same any)) there o read name left m is =
-        absurd (in_nothing name (names_of undefined_in [] name x (thunk_of machine l) o (taken_null_thunk machine (names_in Msvc l.definition)) same (thunk_is machine l (made_of l held)) read
-        (left_thunk machine (names_in Msvc l.definition)) left))
+        absurd (in_nothing name (names_of undefined_in [] name x (thunk_of machine l) o (taken_null_thunk machine (names_for Msvc l.definition)) same (thunk_is machine l (made_of l held)) read
+        (left_thunk machine (names_for Msvc l.definition)) left))
     needed_by_left x (ForImport l held (AShort e among same want)) there o read name left m is =
         let named : name ≡ descriptor_symbol_by_name l.definition.import_name =
-        only_one name _ (names_of undefined_in (descriptor_symbol_by_name l.definition.import_name ∷ []) name x (short_of machine l e) o (asking machine (names_in Msvc l.definition) e) same
-        (short_is machine l (made_of l held) e among) read (left_asking machine (names_in Msvc l.definition) (short_import_symbol e) (ask_in Msvc machine e) (use_for e)) left) in
+        only_one name _ (names_of undefined_in (descriptor_symbol_by_name l.definition.import_name ∷ []) name x (short_of machine l e) o (asking machine (names_for Msvc l.definition) e) same
+        (short_is machine l (made_of l held) e among) read (left_asking machine (names_for Msvc l.definition) (short_import_symbol e) (ask_in Msvc machine e) (use_for e)) left) in
         ForImport l held (TheDescriptor (same_first name m (descriptor_of machine l) is (ap (first_listed (archive_of libraries)) (named ∙ by_name l held) ∙ descriptor_found machine libraries archive l held))
         (any_in all_wanted l e among want))
     needed_by_left x (ForNull l rest first same y held any) there o read name left m is =
@@ -436,23 +436,23 @@ module _ (machine : MachineType) (libraries : List Library) (archive : IsMsvcArc
       descriptor_there : (l : Library) → Among l libraries → AnyImport (exports_of l) all_wanted → Among (descriptor_of machine l) taken
       descriptor_there l held any =
           reached (descriptor_symbol (linked_dll l.definition)) (descriptor_of machine l) (descriptor_found machine libraries archive l held)
-          (left_by (short_of machine l any.export) (asking machine (names_in Msvc l.definition) any.export) (descriptor_symbol (linked_dll l.definition))
+          (left_by (short_of machine l any.export) (asking machine (names_for Msvc l.definition) any.export) (descriptor_symbol (linked_dll l.definition))
           (short_taken l held any.export any.held any.want) (short_is machine l (made_of l held) any.export any.held)
           (subst (Among (descriptor_symbol (linked_dll l.definition)))
-          (sym (left_asking machine (names_in Msvc l.definition) (short_import_symbol any.export) (ask_in Msvc machine any.export) (use_for any.export)))
+          (sym (left_asking machine (names_for Msvc l.definition) (short_import_symbol any.export) (ask_in Msvc machine any.export) (use_for any.export)))
           (subst (λ n. Among (descriptor_symbol (linked_dll l.definition)) (n ∷ [])) (sym (by_name l held)) (among_first _ _))))
 
       null_there : (l : Library) (rest : List Library) → libraries ≡ l ∷ rest → (x : Library) → Among x libraries → AnyImport (exports_of x) all_wanted → Among (null_of machine l) taken
       null_there l rest first x held any =
           reached null_descriptor_symbol (null_of machine l) (null_found machine libraries archive l rest first)
-          (left_by (descriptor_of machine x) (taken_descriptor machine (names_in Msvc x.definition)) null_descriptor_symbol (descriptor_there x held any) (descriptor_is machine x (made_of x held))
-          (subst (Among null_descriptor_symbol) (sym (left_descriptor machine (names_in Msvc x.definition))) (among_first _ _)))
+          (left_by (descriptor_of machine x) (taken_descriptor machine (names_for Msvc x.definition)) null_descriptor_symbol (descriptor_there x held any) (descriptor_is machine x (made_of x held))
+          (subst (Among null_descriptor_symbol) (sym (left_descriptor machine (names_for Msvc x.definition))) (among_first _ _)))
 
       thunk_there : (l : Library) → Among l libraries → AnyImport (exports_of l) all_wanted → Among (thunk_of machine l) taken
       thunk_there l held any =
           reached (null_thunk_symbol (linked_dll l.definition)) (thunk_of machine l) (thunk_found machine libraries archive l held)
-          (left_by (descriptor_of machine l) (taken_descriptor machine (names_in Msvc l.definition)) (null_thunk_symbol (linked_dll l.definition)) (descriptor_there l held any) (descriptor_is machine l (made_of l held))
-          (subst (Among (null_thunk_symbol (linked_dll l.definition))) (sym (left_descriptor machine (names_in Msvc l.definition))) (among_later _ _ _ (among_first _ _))))
+          (left_by (descriptor_of machine l) (taken_descriptor machine (names_for Msvc l.definition)) (null_thunk_symbol (linked_dll l.definition)) (descriptor_there l held any) (descriptor_is machine l (made_of l held))
+          (subst (Among (null_thunk_symbol (linked_dll l.definition))) (sym (left_descriptor machine (names_for Msvc l.definition))) (among_later _ _ _ (among_first _ _))))
 
       linked_taken : (l : Library) → Among l libraries → (m : MemberView) → Linked machine l all_wanted m → Among m taken
       linked_taken l held m (TheDescriptor same any) = subst (λ x. Among x taken) (sym same) (descriptor_there l held any)

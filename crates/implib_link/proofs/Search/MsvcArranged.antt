@@ -25,7 +25,7 @@ use Rattle.implib_link.proofs.Search.Closed.{passes}
 use Rattle.implib_link.proofs.Search.Counts.{distinct_from, few_from, times, times_both, times_moved}
 use Rattle.implib_link.proofs.Search.Msvc.{some_export}
 use Rattle.implib_link.proofs.Search.MsvcArchives.{AnyImport, import_parts, imports_are, linked_of, of_linked}
-use Rattle.implib.specs.LibraryName.{NamesOfDll, linked_dll, names_in}
+use Rattle.implib.specs.LibraryName.{NamesOfDll, linked_dll, names_for}
 use Rattle.implib_link.specs.Flavors.Program.{dll_names_in}
 
 -- Libraries in another order are an archive, and the same members are linked of them.
@@ -137,10 +137,10 @@ module _ (machine : MachineType) where
   of_inputs inputs = flat_map (λ (k : FlavorBlock). symbols_of machine k.flavor k.dll k.exports) (map block_in inputs)
 
   library_fewer : (name : List ℕ) (l : Library) (names : List (List ℕ)) →
-      times name (symbols_of machine Msvc (names_in Msvc l.definition) (chosen_exports l.definition (imports_wanted l names))) ≤ times name (symbols_of_shorts l)
+      times name (symbols_of machine Msvc (names_for Msvc l.definition) (chosen_exports l.definition (imports_wanted l names))) ≤ times name (symbols_of_shorts l)
   unfolding symbols_of_shorts
   library_fewer name l names =
-      let dll : NamesOfDll = names_in Msvc l.definition in
+      let dll : NamesOfDll = names_for Msvc l.definition in
       let chosen : List ExportView = filter (is_import_wanted names) (exports_of l) in
       let few : times name (flat_map short_import_symbols chosen) ≤ times name (flat_map symbols_of_short (exports_of l)) = shorts_fewer name names (exports_of l) in
       let left : times name (symbols_of machine Msvc dll chosen)
@@ -155,10 +155,10 @@ module _ (machine : MachineType) where
       (omega arith)
 
   one_more : (name : List ℕ) (l : Library) (chosen : List ℕ) (others : List FlavorInput) →
-      times name (of_inputs (cons_option (short_input_if_any l chosen) others)) ≤ times name (symbols_of machine Msvc (names_in Msvc l.definition) (chosen_exports l.definition chosen)) + times name (of_inputs others)
+      times name (of_inputs (cons_option (short_input_if_any l chosen) others)) ≤ times name (symbols_of machine Msvc (names_for Msvc l.definition) (chosen_exports l.definition chosen)) + times name (of_inputs others)
   one_more name l [] others = omega arith
   one_more name l (n ∷ chosen) others =
-      (let both = times_both name (symbols_of machine Msvc (names_in Msvc l.definition) (chosen_exports l.definition (n ∷ chosen))) (of_inputs others) in omega arith)
+      (let both = times_both name (symbols_of machine Msvc (names_for Msvc l.definition) (chosen_exports l.definition (n ∷ chosen))) (of_inputs others) in omega arith)
 
   inputs_fewer : (name : List ℕ) (libraries : List Library) (names : List (List ℕ)) → times name (of_inputs (short_inputs libraries names)) ≤ times name (flat_map symbols_of_shorts libraries)
   unfolding times
@@ -166,9 +166,9 @@ module _ (machine : MachineType) where
   inputs_fewer name (l ∷ libraries) names =
       let chosen : List ℕ = imports_wanted l names in
       let first : times name (of_inputs (cons_option (short_input_if_any l chosen) (short_inputs libraries names)))
-      ≤ times name (symbols_of machine Msvc (names_in Msvc l.definition) (chosen_exports l.definition chosen)) + times name (of_inputs (short_inputs libraries names)) =
+      ≤ times name (symbols_of machine Msvc (names_for Msvc l.definition) (chosen_exports l.definition chosen)) + times name (of_inputs (short_inputs libraries names)) =
       one_more name l chosen (short_inputs libraries names) in
-      let own : times name (symbols_of machine Msvc (names_in Msvc l.definition) (chosen_exports l.definition chosen)) ≤ times name (symbols_of_shorts l) = library_fewer name l names in
+      let own : times name (symbols_of machine Msvc (names_for Msvc l.definition) (chosen_exports l.definition chosen)) ≤ times name (symbols_of_shorts l) = library_fewer name l names in
       let behind : times name (of_inputs (short_inputs libraries names)) ≤ times name (flat_map symbols_of_shorts libraries) = inputs_fewer name libraries names in
       let all : times name (symbols_of_shorts l ++ flat_map symbols_of_shorts libraries) ≡ times name (symbols_of_shorts l) + times name (flat_map symbols_of_shorts libraries) =
       times_both name (symbols_of_shorts l) (flat_map symbols_of_shorts libraries) in

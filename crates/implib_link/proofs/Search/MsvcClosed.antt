@@ -43,7 +43,7 @@ use Rattle.implib_link.proofs.Search.MsvcArchives.{AShort, AnyImport, TheDescrip
 use Rattle.implib_link.proofs.Search.MsvcArranged.{short_input_for, short_input_held, short_input_is, short_inputs_found, short_inputs_made, shorts_distinct, shorts_linked_moved, shorts_moved}
 use Rattle.implib_link.proofs.Search.MsvcMembers.{Found, FoundDescriptor, FoundNull, FoundShort, FoundThunk, FoundWeak, claims_weak, descriptor_found, descriptor_is, descriptor_of, found, null_found, null_is, null_of, short_found, short_is, short_of, taken_weak, thunk_found, thunk_is, thunk_of, weak_found, weak_is, weak_of}
 use Rattle.implib_link.proofs.Search.Search.{in_nothing, only_one, wanted_name, wants}
-use Rattle.implib.specs.LibraryName.{NamesOfDll, linked_dll, names_in}
+use Rattle.implib.specs.LibraryName.{NamesOfDll, linked_dll, names_for}
 
 -- The search for given objects is one for what they leave unresolved.
 
@@ -180,19 +180,19 @@ module _ (machine : MachineType) (libraries : List Library) (archive : IsMsvcArc
   found_first : (name : List ℕ) (m : MemberView) → Found machine libraries archive name m → IsFirst m
   unfolding descriptor_spec null_descriptor_spec null_thunk_spec
   found_first name m (FoundDescriptor l held same is) =
-      let dll : NamesOfDll = names_in Msvc l.definition in
+      let dll : NamesOfDll = names_for Msvc l.definition in
       is_first m (descriptor_of machine l) (taken_descriptor machine dll) (descriptor_symbol dll.linked ∷ []) same (descriptor_is machine l (made_of l held)) (claims_descriptor machine dll) refl
       (λ n one. ap (first_listed (archive_of libraries)) (only_one n (descriptor_symbol dll.linked) one) ∙ descriptor_found machine libraries archive l held)
   found_first name m (FoundNull l rest first same is) =
       is_first m (null_of machine l) (taken_null machine) (null_descriptor_symbol ∷ []) same (null_is machine l (made_of l (first_held l rest first))) (claims_null machine) refl
       (λ n one. ap (first_listed (archive_of libraries)) (only_one n null_descriptor_symbol one) ∙ null_found machine libraries archive l rest first)
   found_first name m (FoundThunk l held same is) =
-      let dll : NamesOfDll = names_in Msvc l.definition in
+      let dll : NamesOfDll = names_for Msvc l.definition in
       is_first m (thunk_of machine l) (taken_null_thunk machine dll) (null_thunk_symbol dll.linked ∷ []) same (thunk_is machine l (made_of l held)) (claims_thunk machine dll) refl
       (λ n one. ap (first_listed (archive_of libraries)) (only_one n (null_thunk_symbol dll.linked) one) ∙ thunk_found machine libraries archive l held)
   found_first name m (FoundShort l held e there none same listed) =
-      is_first m (short_of machine l e) (asking machine (names_in Msvc l.definition) e) (short_import_symbols e) same (short_is machine l (made_of l held) e there)
-      (claims_asking machine (names_in Msvc l.definition) (short_import_symbol e) (ask_in Msvc machine e) e.is_data e.constant) refl
+      is_first m (short_of machine l e) (asking machine (names_for Msvc l.definition) e) (short_import_symbols e) same (short_is machine l (made_of l held) e there)
+      (claims_asking machine (names_for Msvc l.definition) (short_import_symbol e) (ask_in Msvc machine e) e.is_data e.constant) refl
       (λ x one. short_found machine libraries archive l e x held there none one)
   found_first name m (FoundWeak l held e there alias weak target pair same named) =
       is_first m (weak_of machine l weak target) (taken_weak machine weak target) (weak ∷ []) same (weak_is machine l (made_of l held) e weak target there alias pair)
@@ -381,7 +381,7 @@ module _ (machine : MachineType) (libraries : List Library) (archive : IsMsvcArc
       before = is.linked.before;
       behind = is.linked.behind;
       members = is.linked.members;
-      tables = is.linked.tables ∙ null_tables is.linked.before is.linked.behind (linked_dll one_input.0.input.definition) one_library.0 one_held null_read;
+      tables = is.linked.tables ∙ null_tables is.linked.before is.linked.behind (names_for Msvc one_input.0.input.definition) one_library.0 one_held null_read;
       others = others_claim_none;
       found = short_inputs_found machine arranged wanted arranged_archive;
     }

@@ -47,7 +47,7 @@ use Rattle.implib_link.proofs.Search.MsvcClosed.{closed_links_for, held, in_turn
 use Rattle.implib_link.proofs.Search.MsvcGiven.{msvc_given_closes, msvc_given_ends, pulled_by}
 use Rattle.implib_link.proofs.Search.MsvcMembers.{Found, FoundDescriptor, FoundNull, FoundShort, FoundThunk, FoundWeak, descriptor_is, descriptor_of, null_is, null_of, short_is, short_of, taken_weak, thunk_is, thunk_of, weak_is, weak_of}
 use Rattle.implib_link.proofs.Search.MsvcRooms.{msvc_tables_near}
-use Rattle.implib.specs.LibraryName.{NamesOfDll, names_in}
+use Rattle.implib.specs.LibraryName.{NamesOfDll, names_for}
 
 -- Objects that close a program, packed.
 module _ (machine : MachineType) (libraries : List Library) (own : List Object) (taken : List MemberView) (arranged : List Library) (first : ℕ) (objects : List Object)
@@ -94,7 +94,7 @@ thunk_has : (machine : MachineType) (dll : NamesOfDll) → has_tables (taken_nul
 unfolding has_tables with_section_symbols object_of null_thunk entries_of name_text
 thunk_has machine dll = refl
 
-asking_has : (machine : MachineType) (dll symbol : List ℕ) (ask : Ask) (use_kind : Use) → has_tables (import_object machine dll.text symbol ask use_kind) ≡ true
+asking_has : (machine : MachineType) (dll : NamesOfDll) (symbol : List ℕ) (ask : Ask) (use_kind : Use) → has_tables (import_object machine dll.text symbol ask use_kind) ≡ true
 unfolding has_tables import_object
 asking_has machine dll symbol (Ordinal n) use_kind = refl
 asking_has machine dll symbol (Name text hint) use_kind = refl
@@ -136,12 +136,12 @@ module _ (machine : MachineType) (libraries : List Library) (archive : IsMsvcArc
 
   linked_has : (l : Library) → Among l libraries → (names : List (List ℕ)) (m : MemberView) (o : Object) → Linked machine l names m → expanded_in machine m.bytes ≡ Some o → has_tables o ≡ true
   linked_has l there names m o (TheDescriptor same any) read =
-      same_object true m (descriptor_of machine l) o (taken_descriptor machine (names_in Msvc l.definition)) same (descriptor_is machine l (made_of l there)) read (descriptor_has machine (names_in Msvc l.definition))
+      same_object true m (descriptor_of machine l) o (taken_descriptor machine (names_for Msvc l.definition)) same (descriptor_is machine l (made_of l there)) read (descriptor_has machine (names_for Msvc l.definition))
   linked_has l there names m o (TheThunk same any) read =
-      same_object true m (thunk_of machine l) o (taken_null_thunk machine (names_in Msvc l.definition)) same (thunk_is machine l (made_of l there)) read (thunk_has machine (names_in Msvc l.definition))
+      same_object true m (thunk_of machine l) o (taken_null_thunk machine (names_for Msvc l.definition)) same (thunk_is machine l (made_of l there)) read (thunk_has machine (names_for Msvc l.definition))
   linked_has l there names m o (AShort e among same want) read =
-      same_object true m (short_of machine l e) o (asking machine (names_in Msvc l.definition) e) same (short_is machine l (made_of l there) e among) read
-      (asking_has machine (names_in Msvc l.definition) (short_import_symbol e) (ask_in Msvc machine e) (use_for e))
+      same_object true m (short_of machine l e) o (asking machine (names_for Msvc l.definition) e) same (short_is machine l (made_of l there) e among) read
+      (asking_has machine (names_for Msvc l.definition) (short_import_symbol e) (ask_in Msvc machine e) (use_for e))
 
   first_has : (ls : List Library) → libraries ≡ ls → (m : MemberView) (o : Object) → Among m (first_null machine ls) → expanded_in machine m.bytes ≡ Some o → has_tables o ≡ true
   unfolding Among

@@ -35,7 +35,7 @@ use Rattle.implib_link.proofs.Search.MsvcClosed.{first_one, in_turn_for, pulled,
 use Rattle.implib_link.proofs.Search.MsvcEnds.{short_search_ends}
 use Rattle.implib_link.proofs.Search.MsvcMembers.{Found, FoundDescriptor, FoundNull, FoundShort, FoundThunk, FoundWeak, IsPair, descriptor_found, descriptor_is, descriptor_of, found, left_weak, null_found, null_is, null_of, short_is, short_of, taken_weak, thunk_found, thunk_is, thunk_of, weak_is, weak_of}
 use Rattle.implib_link.proofs.Search.Search.{in_nothing, only_one, wanted_name, wants}
-use Rattle.implib.specs.LibraryName.{linked_dll, names_in}
+use Rattle.implib.specs.LibraryName.{linked_dll, names_for}
 
 module _ (machine : MachineType) (libraries : List Library) (archive : IsMsvcArchive machine libraries) (own : List Object) (given : AreGivenForMsvc libraries own) where
   abbrev kept : List (List ℕ)
@@ -113,17 +113,17 @@ module _ (machine : MachineType) (libraries : List Library) (archive : IsMsvcArc
   left_by : (by name : List ℕ) (m : MemberView) (o : Object) → Found machine libraries archive by m → expanded_in machine m.bytes ≡ Some o → Among name (undefined_in o) → Left name
   left_by by name m o (FoundDescriptor l held same is) read left =
       of_descriptor l held name
-      (names_of (null_descriptor_symbol ∷ null_thunk_symbol (linked_dll l.definition) ∷ []) name m (descriptor_of machine l) o (taken_descriptor machine (names_in Msvc l.definition)) same
-      (descriptor_is machine l (made_of l held)) read (left_descriptor machine (names_in Msvc l.definition)) left)
+      (names_of (null_descriptor_symbol ∷ null_thunk_symbol (linked_dll l.definition) ∷ []) name m (descriptor_of machine l) o (taken_descriptor machine (names_for Msvc l.definition)) same
+      (descriptor_is machine l (made_of l held)) read (left_descriptor machine (names_for Msvc l.definition)) left)
   left_by by name m o (FoundNull l rest first same is) read left =
       absurd (in_nothing name (names_of [] name m (null_of machine l) o (taken_null machine) same (null_is machine l (made_of l (first_held l rest first))) read (left_null machine) left))
   left_by by name m o (FoundThunk l held same is) read left =
-      absurd (in_nothing name (names_of [] name m (thunk_of machine l) o (taken_null_thunk machine (names_in Msvc l.definition)) same (thunk_is machine l (made_of l held)) read
-      (left_thunk machine (names_in Msvc l.definition)) left))
+      absurd (in_nothing name (names_of [] name m (thunk_of machine l) o (taken_null_thunk machine (names_for Msvc l.definition)) same (thunk_is machine l (made_of l held)) read
+      (left_thunk machine (names_for Msvc l.definition)) left))
   left_by by name m o (FoundShort l held e there none same listed) read left =
       let named : name ≡ descriptor_symbol_by_name l.definition.import_name =
-      only_one name _ (names_of (descriptor_symbol_by_name l.definition.import_name ∷ []) name m (short_of machine l e) o (asking machine (names_in Msvc l.definition) e) same
-      (short_is machine l (made_of l held) e there) read (left_asking machine (names_in Msvc l.definition) (short_import_symbol e) (ask_in Msvc machine e) (use_for e)) left) in
+      only_one name _ (names_of (descriptor_symbol_by_name l.definition.import_name ∷ []) name m (short_of machine l e) o (asking machine (names_for Msvc l.definition) e) same
+      (short_is machine l (made_of l held) e there) read (left_asking machine (names_for Msvc l.definition) (short_import_symbol e) (ask_in Msvc machine e) (use_for e)) left) in
       LeftToDescriptor l held (named ∙ all_among (λ (x : Library). descriptor_symbol_by_name x.definition.import_name ≡ descriptor_symbol (linked_dll x.definition)) l libraries held archive.found)
   left_by by name m o (FoundWeak l held e there alias weak target pair same named) read left =
       LeftByWeak (subst (λ x. Among x (short_targets libraries))

@@ -32,13 +32,13 @@ use Rattle.implib_link.proofs.Search.ArchiveGroups.{Group, IsWithin, first_in_gr
 use Rattle.implib_link.proofs.Search.Arranged.{all_each, flat_among}
 use Rattle.implib_link.proofs.Search.Lists.{among_any, among_mapped, any_among, apart_none}
 use Rattle.implib_link.proofs.Search.Search.{in_nothing, only_one}
-use Rattle.implib.specs.LibraryName.{NamesOfDll, linked_dll, names_in}
+use Rattle.implib.specs.LibraryName.{NamesOfDll, linked_dll, names_for}
 use Rattle.implib.specs.declared.flavor.Flavor.TheVariants.{Msvc}
 
 -- The members.
 
 abbrev pub descriptor_of : MachineType → Library → MemberView
-descriptor_of machine l = member_of (descriptor_spec machine (names_in Msvc l.definition))
+descriptor_of machine l = member_of (descriptor_spec machine (names_for Msvc l.definition))
 
 abbrev pub null_of : MachineType → Library → MemberView
 null_of machine l = member_of (null_descriptor_spec machine (linked_dll l.definition))
@@ -47,11 +47,11 @@ abbrev pub thunk_of : MachineType → Library → MemberView
 thunk_of machine l = member_of (null_thunk_spec machine (linked_dll l.definition))
 
 abbrev pub short_of : MachineType → Library → ExportView → MemberView
-short_of machine l e = member_of (short_import_spec machine (names_in Msvc l.definition) e)
+short_of machine l e = member_of (short_import_spec machine (names_for Msvc l.definition) e)
 
 -- a weak external of an alias
 abbrev pub weak_of : MachineType → Library → List ℕ → List ℕ → MemberView
-weak_of machine l weak target = member_of (weak_spec machine (names_in Msvc l.definition) weak target)
+weak_of machine l weak target = member_of (weak_spec machine (linked_dll l.definition) weak target)
 
 -- what it is taken for
 abbrev pub taken_weak : MachineType → List ℕ → List ℕ → Object
@@ -105,7 +105,7 @@ module _ (machine : MachineType) where
   thunk_group l = record { members = thunk_of machine l ∷ []; symbols = null_thunk_symbol (linked_dll l.definition) ∷ [] }
 
   abbrev short_group : Library → ExportView → Group
-  short_group l e = record { members = map member_of (export_specs machine (names_in Msvc l.definition) e); symbols = symbols_of_short e }
+  short_group l e = record { members = map member_of (export_specs machine (names_for Msvc l.definition) e); symbols = symbols_of_short e }
 
   abbrev groups_of : Library → List Group
   groups_of l = descriptor_group l ∷ thunk_group l ∷ map (short_group l) (exports_of l)
@@ -113,11 +113,11 @@ module _ (machine : MachineType) where
   abbrev all_groups : List Library → List Group
   all_groups libraries = flat_map groups_of libraries
 
-  members_of_shorts : (l : Library) (es : List ExportView) → map member_of (flat_map (export_specs machine (names_in Msvc l.definition)) es) ≡ members_of_groups (map (short_group l) es)
+  members_of_shorts : (l : Library) (es : List ExportView) → map member_of (flat_map (export_specs machine (names_for Msvc l.definition)) es) ≡ members_of_groups (map (short_group l) es)
   members_of_shorts l [] = refl
   members_of_shorts l (e ∷ es) =
-      map-append member_of (export_specs machine (names_in Msvc l.definition) e) (flat_map (export_specs machine (names_in Msvc l.definition)) es)
-      ∙ ap (λ ms. map member_of (export_specs machine (names_in Msvc l.definition) e) ++ ms) (members_of_shorts l es)
+      map-append member_of (export_specs machine (names_for Msvc l.definition) e) (flat_map (export_specs machine (names_for Msvc l.definition)) es)
+      ∙ ap (λ ms. map member_of (export_specs machine (names_for Msvc l.definition) e) ++ ms) (members_of_shorts l es)
 
   symbols_of_groups_of : (l : Library) (es : List ExportView) → symbols_of_groups (map (short_group l) es) ≡ flat_map symbols_of_short es
   symbols_of_groups_of l [] = refl
@@ -404,32 +404,32 @@ module _ (machine : MachineType) where
 
   -- What members are taken for.
   module _ (l : Library) (made : IsMsvcLibrary machine l) where
-    pub descriptor_is : expanded_in machine (descriptor_of machine l).bytes ≡ Some (taken_descriptor machine (names_in Msvc l.definition))
+    pub descriptor_is : expanded_in machine (descriptor_of machine l).bytes ≡ Some (taken_descriptor machine (names_for Msvc l.definition))
     descriptor_is = descriptor_taken l.definition machine l.members [] made
 
     pub null_is : expanded_in machine (null_of machine l).bytes ≡ Some (taken_null machine)
     null_is = null_taken l.definition machine l.members [] made
 
-    pub thunk_is : expanded_in machine (thunk_of machine l).bytes ≡ Some (taken_null_thunk machine (names_in Msvc l.definition))
+    pub thunk_is : expanded_in machine (thunk_of machine l).bytes ≡ Some (taken_null_thunk machine (names_for Msvc l.definition))
     thunk_is = thunk_taken l.definition machine l.members [] made
 
-    pub short_is : (e : ExportView) → Among e (exports_of l) → expanded_in machine (short_of machine l e).bytes ≡ Some (asking machine (names_in Msvc l.definition) e)
+    pub short_is : (e : ExportView) → Among e (exports_of l) → expanded_in machine (short_of machine l e).bytes ≡ Some (asking machine (names_for Msvc l.definition) e)
     short_is e there = short_taken l.definition machine l.members [] made e there
 
-    pair_there : (e : ExportView) (weak target : List ℕ) → is_short_alias e ≡ true → IsPair e weak target → Among (weak_spec machine (names_in Msvc l.definition) weak target) (weak_specs machine (linked_dll l.definition) e)
+    pair_there : (e : ExportView) (weak target : List ℕ) → is_short_alias e ≡ true → IsPair e weak target → Among (weak_spec machine (linked_dll l.definition) weak target) (weak_specs machine (linked_dll l.definition) e)
     unfolding weak_specs Among
     pair_there e weak target alias (inl is) = rw alias (inl (pair_same e weak target (short_import_symbol e) e.alias_target is.0 is.1))
       where
-        pair_same : (e : ExportView) (weak target w t : List ℕ) → weak ≡ w → target ≡ t → weak_spec machine (names_in Msvc l.definition) weak target ≡ weak_spec machine (names_in Msvc l.definition) w t
-        pair_same e weak target w t same other = ap (λ x. weak_spec machine (names_in Msvc l.definition) x target) same ∙ ap (weak_spec machine (names_in Msvc l.definition) w) other
+        pair_same : (e : ExportView) (weak target w t : List ℕ) → weak ≡ w → target ≡ t → weak_spec machine (linked_dll l.definition) weak target ≡ weak_spec machine (linked_dll l.definition) w t
+        pair_same e weak target w t same other = ap (λ x. weak_spec machine (linked_dll l.definition) x target) same ∙ ap (weak_spec machine (linked_dll l.definition) w) other
     pair_there e weak target alias (inr is) =
-        rw alias (inr (inl (ap (λ x. weak_spec machine (names_in Msvc l.definition) x target) is.0 ∙ ap (weak_spec machine (names_in Msvc l.definition) (imp_symbol (short_import_symbol e))) is.1)))
+        rw alias (inr (inl (ap (λ x. weak_spec machine (linked_dll l.definition) x target) is.0 ∙ ap (weak_spec machine (linked_dll l.definition) (imp_symbol (short_import_symbol e))) is.1)))
 
     pub weak_is : (e : ExportView) (weak target : List ℕ) → Among e (exports_of l) → is_short_alias e ≡ true → IsPair e weak target →
         expanded_in machine (weak_of machine l weak target).bytes ≡ Some (taken_weak machine weak target)
     weak_is e weak target there alias pair =
-        let dll : NamesOfDll = names_in Msvc l.definition in
-        let p : MemberSpec = weak_spec machine dll weak target in
+        let dll : NamesOfDll = names_for Msvc l.definition in
+        let p : MemberSpec = weak_spec machine dll.linked weak target in
         taken_of l.definition machine l.members [] made p
         (among_back p (header_specs machine dll) (flat_map (export_specs machine dll) (exports_of l))
         (among_flat (export_specs machine dll) e (exports_of l) p there (among_front p (weak_specs machine dll.linked e) (short_import_spec machine dll e ∷ []) (pair_there e weak target alias pair))))

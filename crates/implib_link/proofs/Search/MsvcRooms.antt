@@ -32,7 +32,7 @@ use Rattle.implib_link.proofs.Flavors.Inputs.{block_in}
 use Rattle.implib_link.proofs.Flavors.Program.{kept_are, parts_are}
 use Rattle.implib_link.proofs.Search.MsvcArchives.{imports_are}
 use Rattle.implib_link.proofs.Search.Rooms.{all_rooms, own_rooms, packed_end_kept, packed_near, sections_room, sum_next, without_near}
-use Rattle.implib.specs.LibraryName.{NamesOfDll, names_in}
+use Rattle.implib.specs.LibraryName.{NamesOfDll, names_for}
 
 -- The name that is asked for is no longer than the symbol.
 
@@ -78,7 +78,7 @@ ask_near : (machine : MachineType) (e : ExportView) → ask_length (ask_in Msvc 
 ask_near machine e =
     either_near e.no_name e.ordinal (asked_by_name_type (name_type_of machine e) (short_import_symbol e)) (length (short_import_symbol e)) (name_near (name_type_of machine e) (short_import_symbol e))
 
-asking_near : (machine : MachineType) (dll symbol : List ℕ) (ask : Ask) (use_kind : Use) → own_rooms (import_object machine dll.text symbol ask use_kind) ≤ 40 + ask_length ask
+asking_near : (machine : MachineType) (dll : NamesOfDll) (symbol : List ℕ) (ask : Ask) (use_kind : Use) → own_rooms (import_object machine dll.text symbol ask use_kind) ≤ 40 + ask_length ask
 unfolding own_rooms sections_room import_object u16_bytes
 asking_near I386 dll symbol (Ordinal n) use_kind = omega arith
 asking_near ARMNT dll symbol (Ordinal n) use_kind = omega arith
@@ -89,9 +89,9 @@ asking_near ARMNT dll symbol (Name text hint) use_kind = (let all : length (text
 asking_near AMD64 dll symbol (Name text hint) use_kind = (let all : length (text ++ 0 ∷ []) ≡ length text + 1 = length-append text (0 ∷ []) in omega arith)
 asking_near ARM64 dll symbol (Name text hint) use_kind = (let all : length (text ++ 0 ∷ []) ≡ length text + 1 = length-append text (0 ∷ []) in omega arith)
 
-descriptor_near : (machine : MachineType) (dll : NamesOfDll) → own_rooms (taken_descriptor machine dll) ≤ 35 + length dll
+descriptor_near : (machine : MachineType) (dll : NamesOfDll) → own_rooms (taken_descriptor machine dll) ≤ 35 + length dll.text
 unfolding own_rooms sections_room with_section_symbols object_of descriptor entries_of name_text
-descriptor_near machine dll = (let name : length (dll.text ++ 0 ∷ []) ≡ length dll + 1 = length-append dll.text (0 ∷ []) in omega arith)
+descriptor_near machine dll = (let name : length (dll.text ++ 0 ∷ []) ≡ length dll.text + 1 = length-append dll.text (0 ∷ []) in omega arith)
 
 thunk_near : (machine : MachineType) (dll : NamesOfDll) → own_rooms (taken_null_thunk machine dll) ≤ 32
 unfolding own_rooms sections_room with_section_symbols object_of null_thunk entries_of name_text
@@ -125,7 +125,7 @@ library_near : (machine : MachineType) (l : Library) (chosen : List ℕ) (others
 unfolding all_rooms
 library_near machine l [] others n m behind own = omega arith
 library_near machine l (c ∷ chosen) others n m behind own =
-    let dll : NamesOfDll = names_in Msvc l.definition in
+    let dll : NamesOfDll = names_for Msvc l.definition in
     let first = descriptor_near machine dll in
     let rest = askings_near machine dll (chosen_exports l.definition (c ∷ chosen)) (all_objects machine (map block_in others) []) in
     omega arith

@@ -19,7 +19,7 @@ use Rattle.implib_link.specs.Search.NamedApart.{AreNamedApart, begins_plain, nam
 use Rattle.implib_link.proofs.Search.Closed.{there_not}
 use Rattle.implib_link.proofs.Search.Counts.{distinct_from, few_from, times, times_both, times_moved}
 use Rattle.implib_link.proofs.Search.Lists.{among_either, among_mapped, distinct_join}
-use Rattle.implib.specs.LibraryName.{linked_name, names_in}
+use Rattle.implib.specs.LibraryName.{linked_name, names_for}
 use Rattle.implib.specs.LibraryName.{NamesOfDll}
 use Rattle.implib.specs.declared.flavor.Flavor.TheVariants.{Gnu}
 
@@ -131,7 +131,7 @@ module _ (machine : MachineType) where
   unfolding times symbols_of_library
   library_count name [] = omega arith
   library_count name (l ∷ libraries) =
-      let dll : NamesOfDll = names_in Gnu l.definition in
+      let dll : NamesOfDll = names_for Gnu l.definition in
       let own : List (List ℕ) = map (λ (e : ExportView). e.name) (exports_of l) in
       let behind = library_count name libraries in
       let turned : times name (flat_map symbols_of_export (reverse (exports_of l))) ≡ times name (flat_map symbols_of_export (exports_of l)) =

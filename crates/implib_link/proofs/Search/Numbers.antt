@@ -16,7 +16,7 @@ use Rattle.implib.specs.Renaming.{renamed}
 use Rattle.implib.proofs.Link.Ranges.{Among, among_back, among_first}
 use Rattle.implib_link.proofs.Search.Lists.{all_listed, listed_mapped, distinct_apart, distinct_later, distinct_reversed, flat_map_among}
 use Rattle.implib_link.proofs.Search.Search.{address_listed, listed_export, name_differs, numbered_in, same_export}
-use Rattle.implib.specs.LibraryName.{NamesOfDll, linked_name, names_in}
+use Rattle.implib.specs.LibraryName.{NamesOfDll, linked_name, names_for}
 
 head_apart : (dll : List ℕ) (n : ℕ) → head_name dll ≡ export_name dll n → ⊥
 unfolding head_name numbered_name
@@ -85,12 +85,12 @@ module _ (d : DefinitionView) (machine : MachineType) (members : List MemberView
   one_number n k e other name is is_too listed listed_too =
       let exports : List ExportView = public_exports (renamed d) in
       let behind : List MemberSpec = reverse (numbered_specs machine (linked_name d) 0 exports) in
-      let all : IsDistinct bytes_eq ((tail_spec machine (names_in Gnu d)).symbols ++ ((head_spec machine (linked_name d)).symbols ++ flat_map (λ (p : MemberSpec). p.symbols) behind)) =
-      subst (IsDistinct bytes_eq) (ap all_listed made.made ∙ listed_mapped (tail_spec machine (names_in Gnu d) ∷ head_spec machine (linked_name d) ∷ behind)) distinct in
+      let all : IsDistinct bytes_eq ((tail_spec machine (names_for Gnu d)).symbols ++ ((head_spec machine (linked_name d)).symbols ++ flat_map (λ (p : MemberSpec). p.symbols) behind)) =
+      subst (IsDistinct bytes_eq) (ap all_listed made.made ∙ listed_mapped (tail_spec machine (names_for Gnu d) ∷ head_spec machine (linked_name d) ∷ behind)) distinct in
       one_place machine (linked_name d) exports 0 n k e other name
       (distinct_reversed (λ (p : MemberSpec). p.symbols) (numbered_specs machine (linked_name d) 0 exports)
       (distinct_later (head_spec machine (linked_name d)).symbols (flat_map (λ (p : MemberSpec). p.symbols) behind)
-      (distinct_later (tail_spec machine (names_in Gnu d)).symbols ((head_spec machine (linked_name d)).symbols ++ flat_map (λ (p : MemberSpec). p.symbols) behind) all)))
+      (distinct_later (tail_spec machine (names_for Gnu d)).symbols ((head_spec machine (linked_name d)).symbols ++ flat_map (λ (p : MemberSpec). p.symbols) behind) all)))
       is is_too listed listed_too
 
   -- one member is not that of two exports

@@ -24,7 +24,7 @@ use Rattle.implib_link.proofs.Search.ArchiveMembers.{export_not_weak, export_obj
 use Rattle.implib_link.proofs.Search.Archives.{input_linked, libraries_taken}
 use Rattle.implib_link.proofs.Search.Search.{IsHead, IsTail, Kind, Needed, OfAnExport, kind, linked_if_needed, needed_if_linked, no_alias, numbers_are_wanted}
 use Rattle.implib_link.proofs.Search.Lists.{all_listed, contains_among, listed_is, listed_mapped}
-use Rattle.implib.specs.LibraryName.{linked_name, names_in}
+use Rattle.implib.specs.LibraryName.{linked_name, names_for}
 
 -- members that are taken are members of the archive
 pub taken_held : (archive : List MemberView) (wanted : List (List ℕ)) (taken : List MemberView) → IsTakenInTurn archive wanted taken → (m : MemberView) → Among m taken → Among m archive
@@ -96,17 +96,17 @@ module _ (d : DefinitionView) (machine : MachineType) (members : List MemberView
   unfolding symbols_of_library tail_spec head_spec
   symbols_are =
       ap all_listed made.made
-      ∙ listed_mapped (gnu_specs machine (names_in Gnu d) exports)
+      ∙ listed_mapped (gnu_specs machine (names_for Gnu d) exports)
       ∙ ap (λ names. iname_symbol machine (linked_name d) ∷ head_symbol machine (linked_name d) ∷ names) (exports_listed machine (linked_name d) 0 exports have_none)
 
   archive : IsArchive machine (record { definition = d; members = members } ∷ [])
   archive = record { made = (made, tt); distinct = subst (IsDistinct bytes_eq) (symbols_are ∙ sym (append-nil (symbols_of_library machine one))) distinct }
 
-  not_weak : (m : MemberView) → Kind machine (linked_name d) (public_exports (renamed d)) m → is_weak m ≡ false
-  not_weak m (IsTail same) = tail_not_weak machine m (names_in Gnu d) (ap (λ (y : MemberView). object_in y.bytes) same ∙ tail_object_is machine one made)
-  not_weak m (IsHead same) = head_not_weak machine m (names_in Gnu d) (ap (λ (y : MemberView). object_in y.bytes) same ∙ head_object_is machine one made)
+  not_weak : (m : MemberView) → Kind machine (names_for Gnu d) (public_exports (renamed d)) m → is_weak m ≡ false
+  not_weak m (IsTail same) = tail_not_weak machine m (names_for Gnu d) (ap (λ (y : MemberView). object_in y.bytes) same ∙ tail_object_is machine one made)
+  not_weak m (IsHead same) = head_not_weak machine m (names_for Gnu d) (ap (λ (y : MemberView). object_in y.bytes) same ∙ head_object_is machine one made)
   not_weak m (OfAnExport x) =
-      export_not_weak machine m (names_in Gnu d) x.export (ap (λ (y : MemberView). object_in y.bytes) x.same ∙ export_object_is machine one made x.number x.export x.is)
+      export_not_weak machine m (names_for Gnu d) x.export (ap (λ (y : MemberView). object_in y.bytes) x.same ∙ export_object_is machine one made x.number x.export x.is)
 
   module _ (wanted : List (List ℕ)) (plain : NamesNoHeadOrTail machine (linked_name d) wanted) (taken : List MemberView) (takes : Takes members wanted taken) where
     none : AllByRecursion (λ m. is_weak m ≡ false) taken
@@ -133,12 +133,12 @@ module _ (d : DefinitionView) (machine : MachineType) (members : List MemberView
         subst (λ ms. HaveSame ms (linked_if_any d machine (exports_wanted d wanted))) (all_others taken none)
         (subst (HaveSame (others_among taken)) linked_one (subst (λ names. HaveSame (others_among taken) (all_linked machine (inputs_wanted (one ∷ []) names))) wanted_alone all.inputs))
 
-    pub needed : (m : MemberView) → Among m taken → Needed machine (linked_name d) (public_exports (renamed d)) wanted m
+    pub needed : (m : MemberView) → Among m taken → Needed machine (names_for Gnu d) (public_exports (renamed d)) wanted m
     needed m held =
         needed_if_linked d machine wanted (exports_wanted d wanted) (numbers_are_wanted exports wanted) m
         (contains_among m (linked_if_any d machine (exports_wanted d wanted)) ((takes_just m).0 (among_contains m taken held)))
 
-    pub taken_if_needed : (m : MemberView) → Needed machine (linked_name d) (public_exports (renamed d)) wanted m → Among m taken
+    pub taken_if_needed : (m : MemberView) → Needed machine (names_for Gnu d) (public_exports (renamed d)) wanted m → Among m taken
     taken_if_needed m need =
         contains_among m taken ((takes_just m).1 (among_contains m (linked_if_any d machine (exports_wanted d wanted))
         (linked_if_needed d machine wanted (exports_wanted d wanted) (numbers_are_wanted exports wanted) m need)))

@@ -33,7 +33,7 @@ use Rattle.implib_link.proofs.Gnu.Packed.{end_kept}
 use Rattle.implib_link.proofs.Search.Archives.{inputs_made}
 use Rattle.implib_link.proofs.Search.Arranged.{chosen_are}
 use Rattle.implib.specs.LibraryName.{NamesOfDll}
-use Rattle.implib.specs.LibraryName.{names_in}
+use Rattle.implib.specs.LibraryName.{names_for}
 use Rattle.implib.specs.declared.flavor.Flavor.TheVariants.{Gnu}
 
 -- The room of a group in objects: for each section its bytes and its alignment.
@@ -168,11 +168,11 @@ export_near machine dll e =
     let hint = hint_near machine e in
     rw (length-thunk machine e) (omega arith)
 
-tail_near : (machine : MachineType) (dll : NamesOfDll) → own_rooms (tail machine dll) ≤ 29 + length dll
+tail_near : (machine : MachineType) (dll : NamesOfDll) → own_rooms (tail machine dll) ≤ 29 + length dll.text
 unfolding own_rooms sections_room tail_object
 tail_near machine dll =
     let width = width_near machine in
-    let name : length (dll ++ 0 ∷ []) ≡ length dll + 1 = length-append dll (0 ∷ []) in
+    let name : length (dll.text ++ 0 ∷ []) ≡ length dll.text + 1 = length-append dll.text (0 ∷ []) in
     let thunk = length-replicate {A = ℕ} (thunk_width machine) 0 in
     rw thunk (omega arith)
 
@@ -193,7 +193,7 @@ exports_near machine dll (e ∷ es) rest =
     omega arith
 
 abbrev block_room : Block → ℕ
-block_room k = 61 + length k.dll + sum_by export_room k.exports
+block_room k = 61 + length k.dll.text + sum_by export_room k.exports
 
 blocks_near : (machine : MachineType) (blocks : List Block) → all_rooms (blocks_objects machine blocks (null_descriptor ∷ [])) ≤ sum_by block_room blocks + 24
 unfolding all_rooms
@@ -217,11 +217,11 @@ some_near test (e ∷ es) =
     elim (cases_Bool (test e)) [ inl is ↦ rw is (omega arith) | inr is ↦ rw is (omega arith) ]
 
 input_near : (l : Library) (chosen : List ℕ) (others : List LinkInput) (n m : ℕ) → sum_by block_room (map block_of others) ≤ n →
-    block_room (record { dll = names_in Gnu l.definition; exports = chosen_exports l.definition chosen }) ≤ m →
+    block_room (record { dll = names_for Gnu l.definition; exports = chosen_exports l.definition chosen }) ≤ m →
     sum_by block_room (map block_of (cons_option (input_if_any l chosen) others)) ≤ m + n
 input_near l [] others n m behind own = omega arith
 input_near l (c ∷ chosen) others n m behind own =
-    let own_block : Block = record { dll = names_in Gnu l.definition; exports = chosen_exports l.definition (c ∷ chosen) } in
+    let own_block : Block = record { dll = names_for Gnu l.definition; exports = chosen_exports l.definition (c ∷ chosen) } in
     let next : sum_by block_room (own_block ∷ map block_of others) ≡ block_room own_block + sum_by block_room (map block_of others) = sum_next block_room own_block (map block_of others) in
     omega arith
 
@@ -230,7 +230,7 @@ libraries_near [] wanted = omega arith
 libraries_near (l ∷ libraries) wanted =
     let all : sum_by library_room (l ∷ libraries) ≡ library_room l + sum_by library_room libraries = sum_next library_room l libraries in
     let some : sum_by export_room (filter (is_wanted wanted) (exports_of l)) ≤ sum_by export_room (exports_of l) = some_near (is_wanted wanted) (exports_of l) in
-    let own : block_room (record { dll = names_in Gnu l.definition; exports = chosen_exports l.definition (exports_wanted l.definition wanted) }) ≤ library_room l =
+    let own : block_room (record { dll = names_for Gnu l.definition; exports = chosen_exports l.definition (exports_wanted l.definition wanted) }) ≤ library_room l =
     subst (λ (es : List ExportView). 61 + length l.definition.import_name + sum_by export_room es ≤ library_room l) (sym (chosen_are l wanted)) (omega arith) in
     subst (λ n. sum_by block_room (map block_of (inputs_wanted (l ∷ libraries) wanted)) ≤ n) (sym all)
     (input_near l (exports_wanted l.definition wanted) (inputs_wanted libraries wanted) (sum_by library_room libraries) (library_room l) (libraries_near libraries wanted) own)

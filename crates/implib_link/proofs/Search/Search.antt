@@ -22,7 +22,7 @@ use Rattle.implib.proofs.Link.Placement.{export, head, tail}
 use Rattle.implib.proofs.Link.Ranges.{Among, among_back, among_first, among_front, among_later}
 use Rattle.implib_link.specs.Search.Search.{is_wanted, undefined_in, linked_if_any, numbers_wanted}
 use Rattle.implib_link.proofs.Search.Lists.{all_listed, among_any, among_either, among_mapped, among_reversed, any_among, one_member}
-use Rattle.implib.specs.LibraryName.{NamesOfDll, linked_name, names_in}
+use Rattle.implib.specs.LibraryName.{NamesOfDll, linked_name, names_for}
 
 -- What specifications there are.
 
@@ -230,18 +230,18 @@ pub record IsExport (machine : MachineType) (dll : List ℕ) (exports : List Exp
   pub is : slice_get exports number ≡ Some export
   pub same : m ≡ member_of (export_spec machine dll number export)
 
-pub data Kind (machine : MachineType) (dll : List ℕ) (exports : List ExportView) (m : MemberView) : Type 0 where
+pub data Kind (machine : MachineType) (dll : NamesOfDll) (exports : List ExportView) (m : MemberView) : Type 0 where
   IsTail : m ≡ member_of (tail_spec machine dll) → Kind machine dll exports m
-  IsHead : m ≡ member_of (head_spec machine dll) → Kind machine dll exports m
-  OfAnExport : IsExport machine dll exports m → Kind machine dll exports m
+  IsHead : m ≡ member_of (head_spec machine dll.linked) → Kind machine dll exports m
+  OfAnExport : IsExport machine dll.linked exports m → Kind machine dll exports m
 
 -- a member that is needed for wanted names
-pub data Needed (machine : MachineType) (dll : List ℕ) (exports : List ExportView) (wanted : List (List ℕ)) (m : MemberView) : Type 0 where
+pub data Needed (machine : MachineType) (dll : NamesOfDll) (exports : List ExportView) (wanted : List (List ℕ)) (m : MemberView) : Type 0 where
   TheTail : m ≡ member_of (tail_spec machine dll) → AnyWanted exports wanted → Needed machine dll exports wanted m
-  TheHead : m ≡ member_of (head_spec machine dll) → AnyWanted exports wanted → Needed machine dll exports wanted m
-  AnExport : (x : IsExport machine dll exports m) → is_wanted wanted x.export ≡ true → Needed machine dll exports wanted m
+  TheHead : m ≡ member_of (head_spec machine dll.linked) → AnyWanted exports wanted → Needed machine dll exports wanted m
+  AnExport : (x : IsExport machine dll.linked exports m) → is_wanted wanted x.export ≡ true → Needed machine dll exports wanted m
 
-pub any_wanted : (machine : MachineType) (dll : List ℕ) (exports : List ExportView) (wanted : List (List ℕ)) (m : MemberView) → Needed machine dll exports wanted m → AnyWanted exports wanted
+pub any_wanted : (machine : MachineType) (dll : NamesOfDll) (exports : List ExportView) (wanted : List (List ℕ)) (m : MemberView) → Needed machine dll exports wanted m → AnyWanted exports wanted
 any_wanted machine dll exports wanted m (TheTail same any) = any
 any_wanted machine dll exports wanted m (TheHead same any) = any
 any_wanted machine dll exports wanted m (AnExport x want) = record { number = x.number; export = x.export; is = x.is; want = want }
@@ -255,13 +255,13 @@ module _ (d : DefinitionView) (machine : MachineType) (members : List MemberView
   the_head = member_of (head_spec machine (linked_name d))
 
   abbrev pub the_tail : MemberView
-  the_tail = member_of (tail_spec machine (names_in Gnu d))
+  the_tail = member_of (tail_spec machine (names_for Gnu d))
 
   abbrev pub the_export : ℕ → ExportView → MemberView
   the_export n e = member_of (export_spec machine (linked_name d) n e)
 
-  specified : (p : MemberSpec) → Among p (gnu_specs machine (names_in Gnu d) public) → Among (member_of p) members
-  specified p held = subst (Among (member_of p)) (sym made.made) (among_map member_of p (gnu_specs machine (names_in Gnu d) public) held)
+  specified : (p : MemberSpec) → Among p (gnu_specs machine (names_for Gnu d) public) → Among (member_of p) members
+  specified p held = subst (Among (member_of p)) (sym made.made) (among_map member_of p (gnu_specs machine (names_for Gnu d) public) held)
 
   member_spec_held : (n : ℕ) (e : ExportView) (p : MemberSpec) → slice_get public n ≡ Some e → Among p (numbered_specs_of machine (linked_name d) n e) → Among (member_of p) members
   member_spec_held n e p is held =
@@ -290,7 +290,7 @@ module _ (d : DefinitionView) (machine : MachineType) (members : List MemberView
       (member_spec_held n e (alias_of n e) is (among_front (alias_of n e) (alias_specs machine (linked_name d) n e) (export_spec machine (linked_name d) n e ∷ []) (alias_there n e alias)))
       (export_held n e is) (among_first _ _) (address_listed e)))
 
-  kind_specified : (m : MemberView) (p : MemberSpec) → m ≡ member_of p → Among p (gnu_specs machine (names_in Gnu d) public) → Kind machine (linked_name d) public m
+  kind_specified : (m : MemberView) (p : MemberSpec) → m ≡ member_of p → Among p (gnu_specs machine (names_for Gnu d) public) → Kind machine (names_for Gnu d) public m
   unfolding Among
   kind_specified m p same (inl e) = IsTail (same ∙ ap member_of e)
   kind_specified m p same (inr (inl e)) = IsHead (same ∙ ap member_of e)
@@ -302,9 +302,9 @@ module _ (d : DefinitionView) (machine : MachineType) (members : List MemberView
         | inr alias ↦ absurd (no_alias own.0 own.1 own.2 alias)
       ]
 
-  pub kind : (m : MemberView) → Among m members → Kind machine (linked_name d) public m
+  pub kind : (m : MemberView) → Among m members → Kind machine (names_for Gnu d) public m
   kind m held =
-      let p = among_mapped member_of m (gnu_specs machine (names_in Gnu d) public) (subst (Among m) made.made held) in
+      let p = among_mapped member_of m (gnu_specs machine (names_for Gnu d) public) (subst (Among m) made.made held) in
       kind_specified m p.0 p.2 p.1
 
 -- What is linked of chosen exports.
@@ -325,10 +325,10 @@ numbers_are_wanted exports wanted = record {
       subst (λ n. Among n (numbers_wanted wanted 0 exports)) same (number_wanted wanted exports 0 k e is want);
 }
 
-abbrev member_specs_linked : MachineType → List ℕ → List ExportView → List ℕ → List MemberSpec
-member_specs_linked machine dll exports chosen = head_spec machine dll ∷ (filter_map (numbered_spec machine dll exports) chosen ++ tail_spec machine dll ∷ [])
+abbrev member_specs_linked : MachineType → NamesOfDll → List ExportView → List ℕ → List MemberSpec
+member_specs_linked machine dll exports chosen = head_spec machine dll.linked ∷ (filter_map (numbered_spec machine dll.linked exports) chosen ++ tail_spec machine dll ∷ [])
 
-member_spec_linked : (machine : MachineType) (dll : NamesOfDll) (exports : List ExportView) (chosen : List ℕ) (p : MemberSpec) → Among p (member_specs_linked machine dll.linked exports chosen) →
+member_spec_linked : (machine : MachineType) (dll : NamesOfDll) (exports : List ExportView) (chosen : List ℕ) (p : MemberSpec) → Among p (member_specs_linked machine dll exports chosen) →
     (p ≡ head_spec machine dll.linked) ⊎ ((p ≡ tail_spec machine dll) ⊎ Chosen machine dll.linked exports chosen p)
 unfolding Among
 member_spec_linked machine dll exports chosen p (inl e) = inl e
@@ -350,29 +350,29 @@ linked_some d machine [] m held = absurd (in_nothing m held)
 linked_some d machine (n ∷ chosen) m held = (n, among_first n chosen, held)
 
 module _ (d : DefinitionView) (machine : MachineType) (wanted : List (List ℕ)) (chosen : List ℕ) (are : AreWanted (public_exports (renamed d)) wanted chosen) where
-  pub member_spec_in : (p : MemberSpec) → Among p (member_specs_linked machine (linked_name d) (public_exports (renamed d)) chosen) → Among (member_of p) (linked_members d machine chosen)
-  member_spec_in p held = among_map member_of p (member_specs_linked machine (linked_name d) (public_exports (renamed d)) chosen) held
+  pub member_spec_in : (p : MemberSpec) → Among p (member_specs_linked machine (names_for Gnu d) (public_exports (renamed d)) chosen) → Among (member_of p) (linked_members d machine chosen)
+  member_spec_in p held = among_map member_of p (member_specs_linked machine (names_for Gnu d) (public_exports (renamed d)) chosen) held
 
-  pub linked_if_needed : (m : MemberView) → Needed machine (linked_name d) (public_exports (renamed d)) wanted m → Among m (linked_if_any d machine chosen)
+  pub linked_if_needed : (m : MemberView) → Needed machine (names_for Gnu d) (public_exports (renamed d)) wanted m → Among m (linked_if_any d machine chosen)
   linked_if_needed m (TheTail same any) =
       some_chosen d machine chosen any.number m (are.all any.number any.export any.is any.want) (subst (λ x. Among x (linked_members d machine chosen)) (sym same)
-      (member_spec_in (tail_spec machine (names_in Gnu d)) (among_later _ _ _
-      (among_back _ (filter_map (numbered_spec machine (linked_name d) (public_exports (renamed d))) chosen) (tail_spec machine (names_in Gnu d) ∷ []) (among_first _ _)))))
+      (member_spec_in (tail_spec machine (names_for Gnu d)) (among_later _ _ _
+      (among_back _ (filter_map (numbered_spec machine (linked_name d) (public_exports (renamed d))) chosen) (tail_spec machine (names_for Gnu d) ∷ []) (among_first _ _)))))
   linked_if_needed m (TheHead same any) =
       some_chosen d machine chosen any.number m (are.all any.number any.export any.is any.want) (subst (λ x. Among x (linked_members d machine chosen)) (sym same)
       (member_spec_in (head_spec machine (linked_name d)) (among_first _ _)))
   linked_if_needed m (AnExport x want) =
       some_chosen d machine chosen x.number m (are.all x.number x.export x.is want) (subst (λ y. Among y (linked_members d machine chosen)) (sym x.same)
       (member_spec_in (export_spec machine (linked_name d) x.number x.export) (among_later _ _ _
-      (among_front _ (filter_map (numbered_spec machine (linked_name d) (public_exports (renamed d))) chosen) (tail_spec machine (names_in Gnu d) ∷ [])
+      (among_front _ (filter_map (numbered_spec machine (linked_name d) (public_exports (renamed d))) chosen) (tail_spec machine (names_for Gnu d) ∷ [])
       (member_spec_chosen machine (linked_name d) (public_exports (renamed d)) chosen x.number x.export (are.all x.number x.export x.is want) x.is)))))
 
   any_of : (k : ℕ) → Among k chosen → AnyWanted (public_exports (renamed d)) wanted
   any_of k held = let found = are.only k held in record { number = k; export = found.0; is = found.1; want = found.2 }
 
   needed_member_spec : (m : MemberView) (p : MemberSpec) → m ≡ member_of p → AnyWanted (public_exports (renamed d)) wanted →
-      (p ≡ head_spec machine (linked_name d)) ⊎ ((p ≡ tail_spec machine (names_in Gnu d)) ⊎ Chosen machine (linked_name d) (public_exports (renamed d)) chosen p) →
-      Needed machine (linked_name d) (public_exports (renamed d)) wanted m
+      (p ≡ head_spec machine (linked_name d)) ⊎ ((p ≡ tail_spec machine (names_for Gnu d)) ⊎ Chosen machine (linked_name d) (public_exports (renamed d)) chosen p) →
+      Needed machine (names_for Gnu d) (public_exports (renamed d)) wanted m
   needed_member_spec m p same any (inl e) = TheHead (same ∙ ap member_of e) any
   needed_member_spec m p same any (inr (inl e)) = TheTail (same ∙ ap member_of e) any
   needed_member_spec m p same any (inr (inr c)) =
@@ -380,8 +380,8 @@ module _ (d : DefinitionView) (machine : MachineType) (wanted : List (List ℕ))
       let own : c.1 ≡ found.0 = same_export c.1 found.0 (sym c.3 ∙ found.1) in
       AnExport (record { number = c.0; export = c.1; is = c.3; same = same ∙ ap member_of c.4 }) (subst (λ e. is_wanted wanted e ≡ true) (sym own) found.2)
 
-  pub needed_if_linked : (m : MemberView) → Among m (linked_if_any d machine chosen) → Needed machine (linked_name d) (public_exports (renamed d)) wanted m
+  pub needed_if_linked : (m : MemberView) → Among m (linked_if_any d machine chosen) → Needed machine (names_for Gnu d) (public_exports (renamed d)) wanted m
   needed_if_linked m held =
       let some = linked_some d machine chosen m held in
-      let p = among_mapped member_of m (member_specs_linked machine (linked_name d) (public_exports (renamed d)) chosen) some.2 in
-      needed_member_spec m p.0 p.2 (any_of some.0 some.1) (member_spec_linked machine (names_in Gnu d) (public_exports (renamed d)) chosen p.0 p.1)
+      let p = among_mapped member_of m (member_specs_linked machine (names_for Gnu d) (public_exports (renamed d)) chosen) some.2 in
+      needed_member_spec m p.0 p.2 (any_of some.0 some.1) (member_spec_linked machine (names_for Gnu d) (public_exports (renamed d)) chosen p.0 p.1)

@@ -24,7 +24,7 @@ use Rattle.implib_link.proofs.Search.One.{needed, taken_held, taken_if_needed}
 use Rattle.implib_link.proofs.Search.Lists.{all_listed, among_either, among_mapped, apart_none, contains_among, distinct_apart, some_distinct}
 use Rattle.implib_link.proofs.Search.Search.{AnExport, IsExport, Needed, TheHead, TheTail, chosen_member_spec, in_nothing, numbers_are_wanted, only_one}
 use Rattle.implib_link.proofs.Search.Numbers.{head_no_export, same_number, tail_no_export}
-use Rattle.implib.specs.LibraryName.{linked_name, names_in}
+use Rattle.implib.specs.LibraryName.{linked_name, names_for}
 
 -- a member of a wanted export
 abbrev OfWanted : MachineType → List ℕ → List ExportView → List (List ℕ) → MemberView → Type 0
@@ -54,7 +54,7 @@ numbers_of machine dll exports wanted (x ∷ members) all =
 
 module _ (machine : MachineType) (d : DefinitionView) (members taken arranged : List MemberView) (wanted : List (List ℕ))
     (made : AreMembersOf d machine Gnu members) (distinct : IsDistinct bytes_eq (all_listed members)) (plain : NamesNoHeadOrTail machine (linked_name d) wanted)
-    (takes : Takes members wanted taken) (is_arranged : IsArranged machine (names_in Gnu d) taken arranged) where
+    (takes : Takes members wanted taken) (is_arranged : IsArranged machine (names_for Gnu d) taken arranged) where
   abbrev exports : List ExportView
   exports = public_exports (renamed d)
 
@@ -62,7 +62,7 @@ module _ (machine : MachineType) (d : DefinitionView) (members taken arranged : 
   head_member = member_of (head_spec machine (linked_name d))
 
   abbrev tail_member : MemberView
-  tail_member = member_of (tail_spec machine (names_in Gnu d))
+  tail_member = member_of (tail_spec machine (names_for Gnu d))
 
   abbrev between : List MemberView
   between = is_arranged.between
@@ -79,7 +79,7 @@ module _ (machine : MachineType) (d : DefinitionView) (members taken arranged : 
   is_in_order : (m : MemberView) → Among m taken → Among m in_order
   is_in_order m held = subst (Among m) is_arranged.order (contains_among m arranged ((is_arranged.same m).0 (among_contains m taken held)))
 
-  needed_between : (m : MemberView) → Among m between → Needed machine (linked_name d) exports wanted m → OfWanted machine (linked_name d) exports wanted m
+  needed_between : (m : MemberView) → Among m between → Needed machine (names_for Gnu d) exports wanted m → OfWanted machine (linked_name d) exports wanted m
   unfolding IsDistinct
   needed_between m held (TheTail same any) =
       absurd (distinct_apart (map (λ (m : MemberView). m.name) between) (tail_member.name ∷ []) tail_member.name
@@ -104,7 +104,7 @@ module _ (machine : MachineType) (d : DefinitionView) (members taken arranged : 
   are_linked =
       is_arranged.order
       ∙ ap (λ b. head_member ∷ (b ++ tail_member ∷ [])) numbers.1
-      ∙ ap (λ ms. head_member ∷ ms) (sym (map-append member_of (filter_map (numbered_spec machine (linked_name d) exports) numbers.0) (tail_spec machine (names_in Gnu d) ∷ [])))
+      ∙ ap (λ ms. head_member ∷ ms) (sym (map-append member_of (filter_map (numbered_spec machine (linked_name d) exports) numbers.0) (tail_spec machine (names_for Gnu d) ∷ [])))
 
   all_are : arranged ≡ all_linked machine (input ∷ [])
   all_are = are_linked ∙ sym (append-nil (linked_members d machine numbers.0))
@@ -119,7 +119,7 @@ module _ (machine : MachineType) (d : DefinitionView) (members taken arranged : 
               let p = among_mapped member_of m (filter_map (numbered_spec machine (linked_name d) exports) numbers.0) (subst (Among m) numbers.1 own) in
               let c = chosen_member_spec machine (linked_name d) exports numbers.0 p.0 p.1 in
               subst (λ n. Among n numbers.0) (sym (same_number d machine members made distinct k c.0 e c.1 is c.3 (p.2 ∙ ap member_of c.4))) c.2
-          | inr last ↦ absurd (tail_no_export machine (names_in Gnu d) k e (sym (only_one m tail_member last)))
+          | inr last ↦ absurd (tail_no_export machine (names_for Gnu d) k e (sym (only_one m tail_member last)))
         ]
       ]
 
@@ -161,13 +161,13 @@ module _ (machine : MachineType) (d : DefinitionView) (members taken arranged : 
 
 pub linked_in_order : (machine : MachineType) (d : DefinitionView) (members taken arranged : List MemberView) (wanted : List (List ℕ)) → AreMembersOf d machine Gnu members →
     IsDistinct bytes_eq (all_listed members) → NamesNoHeadOrTail machine (linked_name d) wanted → Takes members wanted taken →
-    IsArranged machine (names_in Gnu d) taken arranged → IsLinkedOfWanted machine d wanted arranged
+    IsArranged machine (names_for Gnu d) taken arranged → IsLinkedOfWanted machine d wanted arranged
 linked_in_order machine d members taken arranged wanted made distinct plain takes is_arranged =
     linked_of_wanted machine d members taken arranged wanted made distinct plain takes is_arranged
 
 pub searched_links : (machine : MachineType) (d : DefinitionView) (members taken : List MemberView) (wanted : List (List ℕ)) (bases : Bases) (objects : List Object) →
     AreMembersOf d machine Gnu members → IsDistinct bytes_eq (all_listed members) → NamesNoHeadOrTail machine (linked_name d) wanted → Takes members wanted taken →
-    IsLinkedWith machine (names_in Gnu d) bases taken objects → ImportsWanted machine d members wanted bases objects
+    IsLinkedWith machine (names_for Gnu d) bases taken objects → ImportsWanted machine d members wanted bases objects
 searched_links machine d members taken wanted bases objects made distinct plain takes program =
     imports_wanted machine d members taken program.arranged wanted made distinct plain takes program.is_arranged bases objects
     program.tables program.others program.admissible

@@ -22,7 +22,7 @@ use Rattle.implib_link.specs.Search.Search.{HaveSame, IsArranged, NamesNoHeadOrT
 use Rattle.implib_link.proofs.Search.Lists.{all_listed, contains_among}
 use Rattle.implib_link.proofs.Search.Search.{AnExport, AnyWanted, Needed, TheHead, TheTail, numbers_are_wanted}
 use Rattle.implib_link.proofs.Search.One.{needed, taken_if_needed}
-use Rattle.implib.specs.LibraryName.{NamesOfDll, linked_name, names_in}
+use Rattle.implib.specs.LibraryName.{NamesOfDll, linked_name, names_for}
 
 less_or_greater : Less ≡ Greater → ⊥
 less_or_greater same = cc
@@ -87,13 +87,13 @@ head_then_export machine dll n e = head_first dll n
 export_then_tail : (machine : MachineType) (dll : NamesOfDll) (n : ℕ) (e : ExportView) →
     ComesBefore (member_of (export_spec machine dll.linked n e)).name (member_of (tail_spec machine dll)).name
 unfolding tail_spec export_spec
-export_then_tail machine dll n e = tail_last dll n
+export_then_tail machine dll n e = tail_last dll.linked n
 
 head_then_tail : (machine : MachineType) (dll : NamesOfDll) → ComesBefore (member_of (head_spec machine dll.linked)).name (member_of (tail_spec machine dll)).name
 unfolding head_spec tail_spec
-head_then_tail machine dll = head_before_tail dll
+head_then_tail machine dll = head_before_tail dll.linked
 
-behind_head : (machine : MachineType) (dll : NamesOfDll) (exports : List ExportView) (wanted : List (List ℕ)) (m : MemberView) → Needed machine dll.linked exports wanted m →
+behind_head : (machine : MachineType) (dll : NamesOfDll) (exports : List ExportView) (wanted : List (List ℕ)) (m : MemberView) → Needed machine dll exports wanted m →
     (m ≡ member_of (head_spec machine dll.linked)) ⊎ ComesBefore (member_of (head_spec machine dll.linked)).name m.name
 behind_head machine dll exports wanted m (TheTail same any) =
     inr (subst (λ (z : MemberView). ComesBefore (member_of (head_spec machine dll.linked)).name z.name) (sym same) (head_then_tail machine dll))
@@ -101,7 +101,7 @@ behind_head machine dll exports wanted m (TheHead same any) = inl same
 behind_head machine dll exports wanted m (AnExport x want) =
     inr (subst (λ (z : MemberView). ComesBefore (member_of (head_spec machine dll.linked)).name z.name) (sym x.same) (head_then_export machine dll.linked x.number x.export))
 
-before_tail : (machine : MachineType) (dll : NamesOfDll) (exports : List ExportView) (wanted : List (List ℕ)) (m : MemberView) → Needed machine dll.linked exports wanted m →
+before_tail : (machine : MachineType) (dll : NamesOfDll) (exports : List ExportView) (wanted : List (List ℕ)) (m : MemberView) → Needed machine dll exports wanted m →
     (m ≡ member_of (tail_spec machine dll)) ⊎ ComesBefore m.name (member_of (tail_spec machine dll)).name
 before_tail machine dll exports wanted m (TheTail same any) = inl same
 before_tail machine dll exports wanted m (TheHead same any) =
@@ -129,17 +129,17 @@ ordered first last (x ∷ members) rise (inl e) (inr held) apart behind before =
 
 pub sorted_is_arranged : (machine : MachineType) (d : DefinitionView) (members taken arranged : List MemberView) (wanted : List (List ℕ)) (number : ℕ) →
     AreMembersOf d machine Gnu members → IsDistinct bytes_eq (all_listed members) → NamesNoHeadOrTail machine (linked_name d) wanted → Takes members wanted taken →
-    Contains (exports_wanted d wanted) number → HaveSame taken arranged → IsAscending (map (λ (m : MemberView). m.name) arranged) → IsArranged machine (names_in Gnu d) taken arranged
+    Contains (exports_wanted d wanted) number → HaveSame taken arranged → IsAscending (map (λ (m : MemberView). m.name) arranged) → IsArranged machine (names_for Gnu d) taken arranged
 sorted_is_arranged machine d members taken arranged wanted number made distinct plain takes some same rise =
     let exports : List ExportView = public_exports (renamed d) in
     let found = (numbers_are_wanted exports wanted).only number (contains_among number (exports_wanted d wanted) some) in
     let any : AnyWanted exports wanted = record { number = number; export = found.0; is = found.1; want = found.2 } in
     let is_needed = λ (m : MemberView) (held : Among m arranged).
     needed d machine members made distinct wanted plain taken takes m (contains_among m taken ((same m).1 (among_contains m arranged held))) in
-    let is_there = λ (m : MemberView) (need : Needed machine (linked_name d) exports wanted m).
+    let is_there = λ (m : MemberView) (need : Needed machine (names_for Gnu d) exports wanted m).
     contains_among m arranged ((same m).0 (among_contains m taken (taken_if_needed d machine members made distinct wanted plain taken takes m need))) in
-    let order = ordered (member_of (head_spec machine (linked_name d))) (member_of (tail_spec machine (names_in Gnu d))) arranged rise
-    (is_there (member_of (head_spec machine (linked_name d))) (TheHead refl any)) (is_there (member_of (tail_spec machine (names_in Gnu d))) (TheTail refl any))
-    (head_then_tail machine (names_in Gnu d))
-    (λ m held. behind_head machine (names_in Gnu d) exports wanted m (is_needed m held)) (λ m held. before_tail machine (names_in Gnu d) exports wanted m (is_needed m held)) in
+    let order = ordered (member_of (head_spec machine (linked_name d))) (member_of (tail_spec machine (names_for Gnu d))) arranged rise
+    (is_there (member_of (head_spec machine (linked_name d))) (TheHead refl any)) (is_there (member_of (tail_spec machine (names_for Gnu d))) (TheTail refl any))
+    (head_then_tail machine (names_for Gnu d))
+    (λ m held. behind_head machine (names_for Gnu d) exports wanted m (is_needed m held)) (λ m held. before_tail machine (names_for Gnu d) exports wanted m (is_needed m held)) in
     record { between = order.0; order = order.1; same = same; once = rising_differ arranged rise }

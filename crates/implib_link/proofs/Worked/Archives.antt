@@ -13,6 +13,7 @@ use Rattle.implib_link.specs.Search.Archives.{archive_of, is_weak, symbols_of_li
 use Rattle.implib_link.specs.Search.Search.{IsTakenInTurn, Takes, undefined_in, names_claimed, names_undefined}
 use Rattle.implib_link.specs.Worked.Archives.{WorkedArchives, both_wanted, two_libraries}
 use Rattle.implib_link.proofs.Worked.Search.{pulls_in_now, opened, settled_ends}
+use Rattle.implib.specs.LibraryName.{own_names}
 
 abbrev pub foo_weak : MemberView
 foo_weak = member_of (weak_spec AMD64 (weak_name (codes "foo.dll") 0) (codes "bar") (codes "baz"))
@@ -24,7 +25,7 @@ abbrev pub head_named : List ℕ → MemberView
 head_named dll = member_of (head_spec AMD64 dll)
 
 abbrev pub tail_named : List ℕ → MemberView
-tail_named dll = member_of (tail_spec AMD64 dll)
+tail_named dll = member_of (tail_spec AMD64 (own_names dll))
 
 abbrev pub zed_queue : MemberView
 zed_queue = member_of (export_spec AMD64 (codes "zed.dll") 0 (plain_export (codes "queue")))

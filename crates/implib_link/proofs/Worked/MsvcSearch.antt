@@ -23,6 +23,7 @@ use Rattle.implib_link.proofs.Search.Lists.{among_any, any_among, contains_among
 use Rattle.implib_link.proofs.Search.Msvc.{search_takes}
 use Rattle.implib_link.proofs.Search.MsvcEnds.{short_search_bounded, short_search_ends}
 use Rattle.implib_link.proofs.Worked.Programs.{distinct_by, opened}
+use Rattle.implib.specs.LibraryName.{own_names}
 
 -- whether a name pulls in no member any more
 abbrev is_settled : MachineType → List MemberView → List MemberView → List ℕ → Bool
@@ -91,7 +92,7 @@ abbrev the_thunk : MachineType → MemberView
 the_thunk machine = member_of (null_thunk_spec machine (codes "foo.dll"))
 
 abbrev the_descriptor : MachineType → MemberView
-the_descriptor machine = member_of (descriptor_spec machine (codes "foo.dll"))
+the_descriptor machine = member_of (descriptor_spec machine (own_names (codes "foo.dll")))
 
 amd64_takes : TakesFor AMD64 (short_members AMD64) (one_wanted AMD64) (four_taken AMD64)
 unfolding opened refusal renamed_refusal encoded_size expanded_in short_import_in import_object descriptor_symbol_by_name with_section_symbols descriptor null_descriptor null_thunk descriptor_symbol null_descriptor_symbol null_thunk_symbol base_name descriptor_spec null_descriptor_spec null_thunk_spec header_specs weak_specs left_in claimed_in undefined_in AreTakenInTurn

@@ -16,6 +16,7 @@ use Rattle.implib_link.specs.Directory.{DirectoryAt}
 use Rattle.implib_link.specs.Worked.RefusedLinks.{RefusedLinks, endless, exchanged, exports_by_hand, five_and_six, foo, linked_by_hand, named_otherwise, ordinal_8, right_image, stub_by_hand, timed, wide_image}
 use Rattle.implib_link.specs.Stub.{jump_reads}
 use Rattle.implib_link.proofs.Gnu.Stubs.{same_address}
+use Rattle.implib.specs.LibraryName.{own_names}
 
 -- numbers that are not equal
 pub differ : (n m : ℕ) → n ≡ m → n < m → ⊥
@@ -171,7 +172,7 @@ exchanged_taken : LoadsStrictly exchanged 8 0x1000 foo five_and_six
 unfolding u32_bytes
 exchanged_taken = strictly_by exchanged 0x1040 0x1028 foo parts_exchanged (omega arith) (omega arith) (zero_4 exchanged 0x1004 refl) (zero_4 exchanged 0x1008 refl)
 
-right_links : LinksStrictlyAt AMD64 right_image (linked_by_hand 0x1040) 0x1000 foo exports_by_hand
+right_links : LinksStrictlyAt AMD64 right_image (linked_by_hand 0x1040) 0x1000 (own_names foo) exports_by_hand
 unfolding right strictly_by loads_by EntriesAt head_symbol mangled_name
 right_links = record { head = refl; loads = right; entries = (refl, (refl, tt)) }
 
@@ -250,7 +251,7 @@ head_at : (entries : ℕ) → definitions_of (head_symbol AMD64 foo) (linked_by_
 unfolding head_symbol mangled_name
 head_at entries = refl
 
-exchanged_links : LinksStrictlyAt AMD64 exchanged (linked_by_hand 0x1040) 0x1000 foo exports_by_hand → ⊥
+exchanged_links : LinksStrictlyAt AMD64 exchanged (linked_by_hand 0x1040) 0x1000 (own_names foo) exports_by_hand → ⊥
 unfolding EntriesAt
 exchanged_links links =
     let entry : links.loads.plain.addresses ≡ 0x1040 =
@@ -259,7 +260,7 @@ exchanged_links links =
     number_once exchanged 4 0x1010 links.loads.plain.addresses 0x1028 links.loads.plain.addresses_field parts_exchanged.addresses_field in
     differ 0x1028 0x1040 (sym field ∙ entry) (omega arith)
 
-in_lookups : LinksStrictlyAt AMD64 right_image (linked_by_hand 0x1028) 0x1000 foo exports_by_hand → ⊥
+in_lookups : LinksStrictlyAt AMD64 right_image (linked_by_hand 0x1028) 0x1000 (own_names foo) exports_by_hand → ⊥
 unfolding EntriesAt
 in_lookups links =
     let entry : links.loads.plain.addresses ≡ 0x1028 =
@@ -268,7 +269,7 @@ in_lookups links =
     number_once right_image 4 0x1010 links.loads.plain.addresses 0x1040 links.loads.plain.addresses_field parts_right.addresses_field in
     differ 0x1028 0x1040 (sym entry ∙ field) (omega arith)
 
-out_of_place : LinksStrictlyAt AMD64 right_image (linked_by_hand 0x1040) 0x1014 foo exports_by_hand → ⊥
+out_of_place : LinksStrictlyAt AMD64 right_image (linked_by_hand 0x1040) 0x1014 (own_names foo) exports_by_hand → ⊥
 out_of_place links =
     differ 0x1000 0x1014 (same_address (head_symbol AMD64 foo) 0x1000 0x1014 (definitions_of (head_symbol AMD64 foo) (linked_by_hand 0x1040)) (head_at 0x1040) links.head) (omega arith)
 

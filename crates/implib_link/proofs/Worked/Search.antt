@@ -20,6 +20,7 @@ use Rattle.implib.proofs.Link.Ranges.{Among}
 use Rattle.implib_link.specs.Search.Search.{PullsIn, IsTakenInTurn, Takes, first_listed, undefined_in, names_claimed, names_undefined}
 use Rattle.implib_link.specs.Worked.Search.{MayTake, WorkedSearch, members_of, three, wanted}
 use Rattle.implib_link.proofs.Search.Lists.{among_any, any_among, contains_among}
+use Rattle.implib.specs.LibraryName.{own_names}
 
 -- whether a name pulls in no member any more
 abbrev is_settled : List MemberView → List MemberView → List ℕ → Bool
@@ -60,7 +61,7 @@ abbrev pub the_head : MemberView
 the_head = member_of (head_spec AMD64 (codes "foo.dll"))
 
 abbrev pub the_tail : MemberView
-the_tail = member_of (tail_spec AMD64 (codes "foo.dll"))
+the_tail = member_of (tail_spec AMD64 (own_names (codes "foo.dll")))
 
 abbrev pub bar : MemberView
 bar = member_of (export_spec AMD64 (codes "foo.dll") 0 (plain_export (codes "bar")))

@@ -30,6 +30,7 @@ use Rattle.implib_link.proofs.Search.Sorted.{sorted_is_arranged}
 use Rattle.implib_link.proofs.Worked.Archives.{both_taken, both_takes, worked_archives}
 use Rattle.implib_link.proofs.Worked.Programs.{claims_none_by, distinct_by, opened}
 use Rattle.implib_link.proofs.Worked.Search.{three_takes, worked_search}
+use Rattle.implib.specs.LibraryName.{own_names}
 
 -- Four members in two orders.
 
@@ -60,7 +61,7 @@ ascending : IsAscending (map (λ (m : MemberView). m.name) by_name)
 unfolding opened
 ascending = (refl, (refl, (refl, tt)))
 
-arranged : IsArranged AMD64 (codes "foo.dll") as_taken by_name
+arranged : IsArranged AMD64 (own_names (codes "foo.dll")) as_taken by_name
 unfolding opened alias_specs encoded_size
 arranged =
     sorted_is_arranged AMD64 three (members_of three) as_taken by_name wanted 0 worked_search.made worked_search.distinct worked_search.plain takes
@@ -72,11 +73,11 @@ other_first members others same differ own =
     let is : true ≡ false = sym own ∙ ap (λ ms. bytes_eq (first_name members) (first_name ms)) same ∙ differ in
     true≢false is
 
-tail_first : IsArranged AMD64 (codes "foo.dll") as_taken (tail_member ∷ bar_member ∷ qux_member ∷ head_member ∷ []) → ⊥
+tail_first : IsArranged AMD64 (own_names (codes "foo.dll")) as_taken (tail_member ∷ bar_member ∷ qux_member ∷ head_member ∷ []) → ⊥
 unfolding opened
 tail_first is = other_first (tail_member ∷ bar_member ∷ qux_member ∷ head_member ∷ []) (head_member ∷ (is.between ++ tail_member ∷ [])) is.order refl refl
 
-twice : IsArranged AMD64 (codes "foo.dll") as_taken (head_member ∷ bar_member ∷ bar_member ∷ qux_member ∷ tail_member ∷ []) → ⊥
+twice : IsArranged AMD64 (own_names (codes "foo.dll")) as_taken (head_member ∷ bar_member ∷ bar_member ∷ qux_member ∷ tail_member ∷ []) → ⊥
 unfolding opened IsDistinct
 twice is = true≢false is.once.1.0.0
 
@@ -91,7 +92,7 @@ plain_names = (record { head = refl; name = refl }, (record { head = refl; name 
 abbrev one_input : List LinkInput
 one_input = chosen_input AMD64 three (0 ∷ 2 ∷ []) ∷ []
 
-program : IsLinkedWith AMD64 (codes "foo.dll") (packed 1 searched_objects) as_taken searched_objects
+program : IsLinkedWith AMD64 (own_names (codes "foo.dll")) (packed 1 searched_objects) as_taken searched_objects
 unfolding opened alias_specs encoded_size has_tables group_end sections_end
 program = record {
   arranged = by_name;

@@ -10,7 +10,7 @@ use Rattle.implib.specs.Definition.{DefinitionView, ExportView}
 use Rattle.implib.specs.Members.Gnu.{head_symbol}
 use Rattle.implib.specs.Link.Image.{IsAdmissible, Range, image_of}
 use Rattle.implib.specs.Import.{Ask, Name, Ordinal, imp_symbol}
-use Rattle.implib.specs.LibraryName.{NamesOfDll, linked_dll, names_in}
+use Rattle.implib.specs.LibraryName.{NamesOfDll, linked_dll, names_for}
 use Rattle.implib.specs.Members.ImportTables.{thunk_width}
 use Rattle.implib.specs.Link.Linked.{AllFind, IsDefinedAt, IsDefinedOnce, undefined_names}
 use Rattle.implib.specs.Link.LinkedMembers.{LinkInput, chosen_exports, linked_specs}
@@ -46,7 +46,7 @@ dll_of p = p.input.definition.import_name
 
 -- the DLL's names: for the linker, and as the loader reads it
 abbrev pub dll_names_in : FlavorInput → NamesOfDll
-dll_names_in p = names_in p.flavor p.input.definition
+dll_names_in p = names_for p.flavor p.input.definition
 
 -- the exports that are chosen
 abbrev pub exports_chosen : FlavorInput → List ExportView
@@ -76,8 +76,8 @@ descriptor_in Gnu machine dll = head_symbol machine dll.linked
 -- the chosen exports and the null thunk, for GNU's the head, the chosen exports' members and the tail
 abbrev pub specs_in : Flavor → DefinitionView → MachineType → List ℕ → List MemberSpec
 specs_in Msvc d machine chosen =
-    descriptor_spec machine (names_in Msvc d)
-    ∷ (map (short_import_spec machine (names_in Msvc d)) (chosen_exports d chosen)
+    descriptor_spec machine (names_for Msvc d)
+    ∷ (map (short_import_spec machine (names_for Msvc d)) (chosen_exports d chosen)
     ++ null_thunk_spec machine (linked_dll d) ∷ [])
 specs_in Gnu d machine chosen = linked_specs d machine chosen
 

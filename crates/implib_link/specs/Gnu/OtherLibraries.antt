@@ -12,7 +12,7 @@ use Rattle.implib.specs.Link.Load.{BytesAt, LoadsStrictly}
 use Rattle.implib.specs.Link.Placement.{Addresses, Bases, Descriptors, DirectoryEnds, DllNames, Group, HintNames, Lookups, Placed, alignment, ends_after, group_named, placed_from, same_group}
 use Rattle.implib_link.specs.Directory.{DirectoryAt, Imported, imported}
 use Rattle.implib_link.specs.Gnu.Program.{ClaimsNone, ImportsBy, has_tables, linked_symbols, null_descriptor, thunks_before}
-use Rattle.implib.specs.LibraryName.{names_in}
+use Rattle.implib.specs.LibraryName.{names_for}
 use Rattle.implib.specs.declared.flavor.Flavor.TheVariants.{Gnu}
 
 -- The objects of other import libraries, what their descriptors import, and behind them the members of these
@@ -154,7 +154,7 @@ pub record RunLinks (machine : MachineType) (image : List Range) (linked : List 
   pub imports : (i : ℕ) (p : LinkInput) → slice_get r.inputs i ≡ Some p →
       ImportsBy machine image linked (b.descriptors + 20 * i)
       (b.addresses + thunk_width machine * thunks_before i r.inputs)
-      (names_in Gnu p.definition) (chosen_exports p.definition p.chosen)
+      (names_for Gnu p.definition) (chosen_exports p.definition p.chosen)
   pub targets : AllByRecursion (AllFind linked) (placed_from b (members_of_run machine r))
   pub defined : AllByRecursion (IsDefinedAt linked) (undefined_names (placed_from b (members_of_run machine r)))
 

@@ -15,7 +15,7 @@ use Rattle.implib.specs.Formats.Object.{ASymbol, Auxiliary, Entry, Object, Objec
 use Rattle.implib.specs.Link.Placement.{Bases, Placed, placed_from}
 use Rattle.implib.specs.Link.Resolution.{is_undefined_external, symbol_address}
 use Rattle.implib_link.specs.Directory.{DirectoryAt, imported}
-use Rattle.implib.specs.LibraryName.{NamesOfDll, names_in}
+use Rattle.implib.specs.LibraryName.{NamesOfDll, names_for}
 use Rattle.implib.specs.declared.flavor.Flavor.TheVariants.{Gnu}
 
 -- the descriptor of zeros that ends the import directory: linkers add it behind all others
@@ -128,7 +128,7 @@ pub record LinksAmong (machine : MachineType) (bases : Bases) (inputs : List Lin
   pub imports : (i : ℕ) (p : LinkInput) → slice_get inputs i ≡ Some p →
       ImportsBy machine (image_of machine bases (placed_from bases objects)) (placed_from bases objects)
       (bases.descriptors + 20 * i) (bases.addresses + thunk_width machine * thunks_before i inputs)
-      (names_in Gnu p.definition) (chosen_exports p.definition p.chosen)
+      (names_for Gnu p.definition) (chosen_exports p.definition p.chosen)
   pub directory : DirectoryAt (image_of machine bases (placed_from bases objects))
       (thunk_width machine) bases.descriptors (map (imported machine) inputs)
   pub targets : AllByRecursion (AllFind (placed_from bases objects)) (with_tables (placed_from bases objects))

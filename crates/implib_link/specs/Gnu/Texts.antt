@@ -19,7 +19,7 @@ use Rattle.implib.specs.Text.Parses.{Parses}
 use Rattle.implib.specs.Link.Placement.{Bases, Placed, placed_from}
 use Rattle.implib.specs.Renaming.{renamed}
 use Rattle.implib_link.specs.Gnu.Program.{ImportsBy, IsProgram, LinksAmong, thunks_before}
-use Rattle.implib.specs.LibraryName.{names_in}
+use Rattle.implib.specs.LibraryName.{names_for}
 
 -- a text, the library that holds its definition, the library's members, and the numbers of the exports that
 -- are chosen
@@ -66,7 +66,7 @@ pub record TextLinks (machine : MachineType) (image : List Range) (linked : List
     : Type 0 where
   pub parsed : DefinitionView
   pub parses : Parses s.text machine parsed
-  pub imports : ImportsBy machine image linked descriptor table (names_in Gnu parsed)
+  pub imports : ImportsBy machine image linked descriptor table (names_for Gnu parsed)
       (chosen_exports parsed s.chosen)
   pub statements : map (λ t. t.export) (chosen_stated parsed (exports_of_text parses.statements) s.chosen)
       ≡ chosen_exports parsed s.chosen

@@ -20,6 +20,7 @@ use Rattle.implib_link.specs.Search.Given.{AreGiven, symbols_kept}
 use Rattle.implib_link.specs.Worked.Archives.{library_of, two_libraries}
 use Rattle.implib_link.specs.Worked.Programs.{code_object, symbol_of_class}
 use Rattle.implib_link.specs.Worked.Search.{aliased}
+use Rattle.implib.specs.LibraryName.{own_names}
 
 -- an object that names data of foo.dll by its alias, a function of zed.dll by its pointer, and one of another
 -- library; and that has a function of its own, `stack`, which zed.dll exports, too
@@ -50,23 +51,23 @@ abbrev pub foo_linked : List MemberView
 foo_linked =
     member_of (head_spec AMD64 (codes "foo.dll"))
     ∷ member_of (export_spec AMD64 (codes "foo.dll") 1 (plain_export (codes "baz")))
-    ∷ member_of (tail_spec AMD64 (codes "foo.dll"))
+    ∷ member_of (tail_spec AMD64 (own_names (codes "foo.dll")))
     ∷ []
 
 abbrev pub zed_linked : List MemberView
 zed_linked =
     member_of (head_spec AMD64 (codes "zed.dll"))
     ∷ member_of (export_spec AMD64 (codes "zed.dll") 0 (plain_export (codes "queue")))
-    ∷ member_of (tail_spec AMD64 (codes "zed.dll"))
+    ∷ member_of (tail_spec AMD64 (own_names (codes "zed.dll")))
     ∷ []
 
 -- as a linker takes them, the last one first
 abbrev pub closed_taken : List MemberView
 closed_taken =
-    member_of (tail_spec AMD64 (codes "zed.dll"))
+    member_of (tail_spec AMD64 (own_names (codes "zed.dll")))
     ∷ member_of (head_spec AMD64 (codes "zed.dll"))
     ∷ member_of (export_spec AMD64 (codes "zed.dll") 0 (plain_export (codes "queue")))
-    ∷ member_of (tail_spec AMD64 (codes "foo.dll"))
+    ∷ member_of (tail_spec AMD64 (own_names (codes "foo.dll")))
     ∷ member_of (head_spec AMD64 (codes "foo.dll"))
     ∷ member_of (export_spec AMD64 (codes "foo.dll") 1 (plain_export (codes "baz")))
     ∷ foo_alias
@@ -77,7 +78,7 @@ abbrev pub without_last : List MemberView
 without_last =
     member_of (head_spec AMD64 (codes "zed.dll"))
     ∷ member_of (export_spec AMD64 (codes "zed.dll") 0 (plain_export (codes "queue")))
-    ∷ member_of (tail_spec AMD64 (codes "foo.dll"))
+    ∷ member_of (tail_spec AMD64 (own_names (codes "foo.dll")))
     ∷ member_of (head_spec AMD64 (codes "foo.dll"))
     ∷ member_of (export_spec AMD64 (codes "foo.dll") 1 (plain_export (codes "baz")))
     ∷ foo_alias

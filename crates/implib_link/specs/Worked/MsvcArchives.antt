@@ -16,6 +16,7 @@ use Rattle.implib_link.specs.Search.MsvcArchives.{IsMsvcArchive, NamesNoHeaderOf
 use Rattle.implib_link.specs.Search.Search.{first_listed}
 use Rattle.implib_link.specs.Worked.Archives.{both_wanted}
 use Rattle.implib_link.specs.Worked.Search.{aliased}
+use Rattle.implib.specs.LibraryName.{own_names}
 
 abbrev pub msvc_library : DefinitionView → Library
 msvc_library d = record { definition = d; members = map member_of (member_specs (renamed d) AMD64 Msvc) }
@@ -32,7 +33,7 @@ abbrev pub two_msvc : List Library
 two_msvc = msvc_foo ∷ msvc_zed ∷ []
 
 abbrev pub descriptor_named : List ℕ → MemberView
-descriptor_named dll = member_of (descriptor_spec AMD64 dll)
+descriptor_named dll = member_of (descriptor_spec AMD64 (own_names dll))
 
 abbrev pub null_named : List ℕ → MemberView
 null_named dll = member_of (null_descriptor_spec AMD64 dll)
@@ -41,7 +42,7 @@ abbrev pub thunk_named : List ℕ → MemberView
 thunk_named dll = member_of (null_thunk_spec AMD64 dll)
 
 abbrev pub short_named : List ℕ → List ℕ → MemberView
-short_named dll name = member_of (short_import_spec AMD64 dll (plain_export name))
+short_named dll name = member_of (short_import_spec AMD64 (own_names dll) (plain_export name))
 
 abbrev pub weak_named : List ℕ → List ℕ → MemberView
 weak_named weak target = member_of (weak_spec AMD64 (codes "foo.dll") weak target)

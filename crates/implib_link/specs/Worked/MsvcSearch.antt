@@ -16,6 +16,7 @@ use Rattle.implib_link.specs.Flavors.Expansion.{descriptor_symbol_by_name}
 use Rattle.implib_link.specs.Search.Msvc.{NamesNoHeader, TakesFor, msvc_if_any, shorts_wanted}
 use Rattle.implib_link.specs.Search.Search.{HaveSame}
 use Rattle.implib_link.specs.Worked.Programs.{symbol_on}
+use Rattle.implib.specs.LibraryName.{own_names}
 
 -- foo.dll with three functions
 abbrev pub three_on : MachineType → DefinitionView
@@ -36,13 +37,13 @@ one_wanted machine = symbol_on machine (codes "baz") ∷ symbol_on machine (code
 -- the members that are taken for them, the last one first
 abbrev pub baz_member : MachineType → MemberView
 baz_member machine =
-    member_of (short_import_spec machine (codes "foo.dll") (plain_export (symbol_on machine (codes "baz"))))
+    member_of (short_import_spec machine (own_names (codes "foo.dll")) (plain_export (symbol_on machine (codes "baz"))))
 
 abbrev pub four_taken : MachineType → List MemberView
 four_taken machine =
     member_of (null_thunk_spec machine (codes "foo.dll"))
     ∷ member_of (null_descriptor_spec machine (codes "foo.dll"))
-    ∷ member_of (descriptor_spec machine (codes "foo.dll"))
+    ∷ member_of (descriptor_spec machine (own_names (codes "foo.dll")))
     ∷ baz_member machine
     ∷ []
 

@@ -15,6 +15,7 @@ use Rattle.implib.specs.Link.Placement.{Addresses, At, Descriptors, Placed}
 use Rattle.implib.specs.Worked.Links.{nameless}
 use Rattle.implib_link.specs.Directory.{DirectoryAt}
 use Rattle.implib_link.specs.Stub.{code_relocated, jump_reads}
+use Rattle.implib.specs.LibraryName.{own_names}
 
 -- a descriptor's bytes, of its lookup table, time, name and address table
 abbrev pub descriptor_bytes : ℕ → ℕ → ℕ → ℕ → List ℕ
@@ -113,7 +114,7 @@ stub_by_hand index =
 pub record RefusedLinks : Type 0 where
   -- the right image
   pub right : LoadsStrictly right_image 8 0x1000 foo five_and_six
-  pub right_links : LinksStrictlyAt AMD64 right_image (linked_by_hand 0x1040) 0x1000 foo exports_by_hand
+  pub right_links : LinksStrictlyAt AMD64 right_image (linked_by_hand 0x1040) 0x1000 (own_names foo) exports_by_hand
   pub right_directory : DirectoryAt right_image 8 0x1000 (record { dll = foo; asks = five_and_six } ∷ [])
   pub right_stub : jump_reads AMD64 0x40_2000 (stub_by_hand 1) ≡ Some 0x40_1040
   -- another DLL's name
@@ -128,11 +129,11 @@ pub record RefusedLinks : Type 0 where
   pub wide_stops : Loads wide_image 4 0x1000 foo (Ordinal 5 ∷ [])
   -- the tables exchanged: a loader takes them, but the symbols are not at the address table's entries
   pub exchanged_taken : LoadsStrictly exchanged 8 0x1000 foo five_and_six
-  pub exchanged_links : LinksStrictlyAt AMD64 exchanged (linked_by_hand 0x1040) 0x1000 foo exports_by_hand → ⊥
+  pub exchanged_links : LinksStrictlyAt AMD64 exchanged (linked_by_hand 0x1040) 0x1000 (own_names foo) exports_by_hand → ⊥
   -- the `__imp_` symbols in the lookup table
-  pub in_lookups : LinksStrictlyAt AMD64 right_image (linked_by_hand 0x1028) 0x1000 foo exports_by_hand → ⊥
+  pub in_lookups : LinksStrictlyAt AMD64 right_image (linked_by_hand 0x1028) 0x1000 (own_names foo) exports_by_hand → ⊥
   -- the descriptor at another address than its symbol
-  pub out_of_place : LinksStrictlyAt AMD64 right_image (linked_by_hand 0x1040) 0x1014 foo exports_by_hand → ⊥
+  pub out_of_place : LinksStrictlyAt AMD64 right_image (linked_by_hand 0x1040) 0x1014 (own_names foo) exports_by_hand → ⊥
   -- a directory with a DLL that is not imported, and one that ends too early
   pub one_more : DirectoryAt right_image 8 0x1000
       (record { dll = foo; asks = five_and_six } ∷ record { dll = foo; asks = five_and_six } ∷ []) → ⊥

@@ -16,6 +16,7 @@ use Rattle.implib_link.specs.Search.Search.{HaveSame, ImportsWanted, IsArranged,
 use Rattle.implib_link.specs.Worked.Archives.{both_wanted, two_libraries}
 use Rattle.implib_link.specs.Worked.Programs.{code_object, symbol_of_class}
 use Rattle.implib_link.specs.Worked.Search.{members_of, three, wanted}
+use Rattle.implib.specs.LibraryName.{own_names}
 
 -- the members that are taken of the three exports' archive: the head, `bar`, `qux` and the tail
 abbrev pub head_member : MemberView
@@ -31,7 +32,7 @@ abbrev pub qux_member : MemberView
 qux_member = member_of (export_spec AMD64 (codes "foo.dll") 2 qux_export)
 
 abbrev pub tail_member : MemberView
-tail_member = member_of (tail_spec AMD64 (codes "foo.dll"))
+tail_member = member_of (tail_spec AMD64 (own_names (codes "foo.dll")))
 
 -- as a linker took them, the last one first, and in the order of their names
 abbrev pub as_taken : List MemberView
@@ -55,13 +56,13 @@ pub record WorkedSearched : Type 0 where
   pub some : Contains (exports_wanted three wanted) 0
   pub same : HaveSame as_taken by_name
   pub ascending : IsAscending (map (λ m. m.name) by_name)
-  pub arranged : IsArranged AMD64 (codes "foo.dll") as_taken by_name
+  pub arranged : IsArranged AMD64 (own_names (codes "foo.dll")) as_taken by_name
   pub of_wanted : IsLinkedOfWanted AMD64 three wanted by_name
-  pub tail_first : IsArranged AMD64 (codes "foo.dll") as_taken
+  pub tail_first : IsArranged AMD64 (own_names (codes "foo.dll")) as_taken
       (tail_member ∷ bar_member ∷ qux_member ∷ head_member ∷ []) → ⊥
-  pub twice : IsArranged AMD64 (codes "foo.dll") as_taken
+  pub twice : IsArranged AMD64 (own_names (codes "foo.dll")) as_taken
       (head_member ∷ bar_member ∷ bar_member ∷ qux_member ∷ tail_member ∷ []) → ⊥
-  pub program : IsLinkedWith AMD64 (codes "foo.dll") (packed 1 searched_objects) as_taken searched_objects
+  pub program : IsLinkedWith AMD64 (own_names (codes "foo.dll")) (packed 1 searched_objects) as_taken searched_objects
   pub imports : ImportsWanted AMD64 three (members_of three) wanted (packed 1 searched_objects) searched_objects
   pub ends : (taken : List MemberView) × Takes (members_of three) wanted taken
   pub bounded : length as_taken ≤ length (members_of three)

@@ -1,7 +1,7 @@
 //! Laws of archive search.
 
 ghost use Rattle.implib.specs.Definition.{DefinitionView};
-ghost use Rattle.implib.specs.LibraryName.{linked_name, names_in};
+ghost use Rattle.implib.specs.LibraryName.{linked_name, names_for};
 ghost use Rattle.implib.specs.Link.LinkedMembers.{IsAscending};
 ghost use Rattle.implib.specs.Members.Members.{AreMembersOf};
 ghost use Rattle.implib.specs.Members.MemberSpec.{MemberView};
@@ -48,7 +48,7 @@ pub fn searched_program_links()
         IsDistinct bytes_eq (flat_map (λ m. m.symbols) members) →
         NamesNoHeadOrTail machine (linked_name d) wanted →
         Takes members wanted taken →
-        IsArranged machine (names_in Gnu d) taken arranged →
+        IsArranged machine (names_for Gnu d) taken arranged →
         IsLinkedOfWanted machine d wanted arranged }
     ensures sorted { (machine : MachineType) (d : DefinitionView)
         (members taken arranged : List MemberView)
@@ -60,14 +60,14 @@ pub fn searched_program_links()
         Contains (exports_wanted d wanted) number →
         HaveSame taken arranged →
         IsAscending (map (λ m. m.name) arranged) →
-        IsArranged machine (names_in Gnu d) taken arranged }
+        IsArranged machine (names_for Gnu d) taken arranged }
     ensures imports { (machine : MachineType) (d : DefinitionView) (members taken : List MemberView)
         (wanted : List (List ℕ)) (bases : Bases) (objects : List Object) →
         AreMembersOf d machine Gnu members →
         IsDistinct bytes_eq (flat_map (λ m. m.symbols) members) →
         NamesNoHeadOrTail machine (linked_name d) wanted →
         Takes members wanted taken →
-        IsLinkedWith machine (names_in Gnu d) bases taken objects →
+        IsLinkedWith machine (names_for Gnu d) bases taken objects →
         ImportsWanted machine d members wanted bases objects }
 {}
 

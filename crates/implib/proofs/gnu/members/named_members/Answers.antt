@@ -2,7 +2,7 @@ use Rattle.std.proofs.Common.{◌≡◌, ◌++◌, ◌∷◌, [], ◌||◌, fals
 use Rattle.std.specs.List.{list_any}
 use Rattle.implib.specs.Definition.{definition_view}
 use Rattle.implib.specs.Import.{public_exports}
-use Rattle.implib.specs.LibraryName.{linked_name, names_in}
+use Rattle.implib.specs.LibraryName.{linked_name, names_for}
 use Rattle.implib.specs.declared.flavor.Flavor.TheVariants.{Gnu}
 use Rattle.implib.specs.Library.{member_view}
 use Rattle.implib.specs.Members.GnuMembers.{head_spec, numbered_specs, tail_spec}
@@ -16,7 +16,7 @@ returns-clause-made c =
     let machine = c.args.machine in
     let d = definition_view c.args.def.now in
     let dll = linked_name d in
-    let tail = tail_spec machine (names_in Gnu d) in
+    let tail = tail_spec machine (names_for Gnu d) in
     let built = numbered_specs machine dll 0 (public_exports (definition_view c.args.def.now)) in
     let pushed : map member_view c.push_head_and_tail.new.members.items ≡ map member_of built ++ map member_of (head_spec machine dll ∷ tail ∷ []) =
     rw (c.in_ok-members.ensures.made.ok, c.linked_name-library.ensures, c.as_str-2.ensures.value) at c.in_ok-push_head_and_tail.ensures.ok in

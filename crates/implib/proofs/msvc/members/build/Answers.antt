@@ -3,7 +3,7 @@ use Rattle.std.specs.List.{list_all, list_any}
 use Rattle.implib.specs.declared.flavor.Flavor.TheVariants.{Msvc}
 use Rattle.implib.specs.Definition.{ExportView, definition_view, export_view}
 use Rattle.implib.specs.Import.{public_exports}
-use Rattle.implib.specs.LibraryName.{names_in}
+use Rattle.implib.specs.LibraryName.{names_for}
 use Rattle.implib.specs.Library.{member_view}
 use Rattle.implib.specs.Members.MsvcMembers.{export_specs}
 use Rattle.implib.specs.Members.Members.{has_u16_ordinal, is_too_long, member_specs}
@@ -15,7 +15,7 @@ use Rattle.implib.proofs.msvc.members.build.Goals.{then-not-export+in_ok-push_ex
 pub loop-export-preserved : goal.loop-export-preserved
 loop-export-preserved c =
     let machine = c.args.machine in
-    let dll = names_in Msvc (definition_view c.args.def.now) in
+    let dll = names_for Msvc (definition_view c.args.def.now) in
     let specs = member_specs (definition_view c.args.def.now) machine Msvc in
     let all = map member_of specs in
     let long = list_any is_too_long specs in

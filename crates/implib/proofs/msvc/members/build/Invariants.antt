@@ -3,7 +3,7 @@ use Rattle.std.specs.Prelude.{not}
 use Rattle.std.specs.List.{filter, flat_map, list_all, list_any}
 use Rattle.implib.specs.Definition.{definition_view, export_view}
 use Rattle.implib.specs.Import.{public_exports}
-use Rattle.implib.specs.LibraryName.{names_in}
+use Rattle.implib.specs.LibraryName.{names_for}
 use Rattle.implib.specs.Library.{member_view}
 use Rattle.implib.specs.Members.MsvcMembers.{export_specs}
 use Rattle.implib.specs.Members.Members.{has_u16_ordinal, is_too_long, member_specs}
@@ -17,7 +17,7 @@ abbrev pub invariant-loop-export : goal.invariant-loop-export
 invariant-loop-export l =
     let exports = map export_view (drop l.export-index l.def.exports.items) in
     let public = filter (λ e. not e.private) exports in
-    let specs = flat_map (export_specs l.machine (names_in Msvc (definition_view l.def))) public in
+    let specs = flat_map (export_specs l.machine (names_for Msvc (definition_view l.def))) public in
     record {
       named : names_refusal Msvc l.machine l.export-index exports ≡ None;
       made : map member_view l.members.items ++ map member_of specs
