@@ -95,7 +95,12 @@ enum implib_status {
     IMPLIB_EMPTY_SYMBOL = 32,            /* of a member: a symbol is empty */
     IMPLIB_NUL_IN_SYMBOL = 33,           /* of a member: a symbol holds a NUL */
     IMPLIB_TOO_MANY_MEMBERS = 34,        /* 65,535 members or more; for Microsoft's linker */
-    IMPLIB_ARCHIVE_TOO_LONG = 35         /* a member would begin at an offset of 2^32 or more */
+    IMPLIB_ARCHIVE_TOO_LONG = 35,        /* a member would begin at an offset of 2^32 or more */
+
+    /* The library has a name of its own that no library can have; of no text. */
+    IMPLIB_EMPTY_LIBRARY_NAME = 36,      /* it is empty */
+    IMPLIB_NUL_IN_LIBRARY_NAME = 37,     /* it holds a NUL */
+    IMPLIB_LINE_END_IN_LIBRARY_NAME = 38 /* it holds a line feed */
 };
 
 /*

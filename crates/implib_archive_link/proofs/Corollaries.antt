@@ -28,6 +28,7 @@ use Rattle.implib_link.proofs.Search.Closed.{closed_links}
 use Rattle.implib_link.proofs.Search.Given.{given_closes, given_ends}
 use Rattle.implib_link.proofs.Search.Msvc.{search_takes}
 use Rattle.implib_link.proofs.Search.One.{takes_wanted}
+use Rattle.implib.specs.LibraryName.{linked_dll, linked_name}
 
 -- The three searches, by what they look at.
 
@@ -159,7 +160,7 @@ are_searched kind linker members ready = record {
 }
 
 pub bytes_take_wanted : (kind : Kind) (linker : LinkerMember) (machine : MachineType) (d : DefinitionView) (members : List MemberView) (wanted : List (List ℕ)) → HaveArchive kind linker members
-    → AreMembersOf d machine GnuFlavor members → IsDistinct bytes_eq (flat_map (λ m. m.symbols) members) → NamesNoHeadOrTail machine d.import_name wanted
+    → AreMembersOf d machine GnuFlavor members → IsDistinct bytes_eq (flat_map (λ m. m.symbols) members) → NamesNoHeadOrTail machine (linked_name d) wanted
     → TakesJust kind linker members (asks_for wanted) (λ taken. HaveSame taken (linked_if_any d machine (exports_wanted d wanted)))
 bytes_take_wanted kind linker machine d members wanted ready made distinct plain =
     takes_just kind linker members (asks_for wanted) (λ taken. HaveSame taken (linked_if_any d machine (exports_wanted d wanted))) ready
@@ -190,7 +191,7 @@ bytes_close_given kind linker machine libraries own ready archive given =
     (given_closes machine libraries own taken arranged bases objects archive given (given_taken (archive_of libraries) own taken takes) linked))
 
 pub bytes_take_short : (kind : Kind) (linker : LinkerMember) (machine : MachineType) (d : DefinitionView) (members : List MemberView) (wanted : List (List ℕ)) → HaveArchive kind linker members
-    → AreMembersOf d machine Msvc members → IsDistinct bytes_eq (flat_map (λ m. m.symbols) members) → descriptor_symbol_by_name d.import_name ≡ descriptor_symbol d.import_name → NamesNoHeader d.import_name wanted
+    → AreMembersOf d machine Msvc members → IsDistinct bytes_eq (flat_map (λ m. m.symbols) members) → descriptor_symbol_by_name d.import_name ≡ descriptor_symbol (linked_dll d) → NamesNoHeader (linked_dll d) wanted
     → TakesJust kind linker members (asks_on machine wanted) (λ taken. HaveSame taken (msvc_if_any d machine (shorts_wanted d wanted)))
 bytes_take_short kind linker machine d members wanted ready made distinct found plain =
     takes_just kind linker members (asks_on machine wanted) (λ taken. HaveSame taken (msvc_if_any d machine (shorts_wanted d wanted))) ready

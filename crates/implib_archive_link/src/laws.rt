@@ -3,6 +3,7 @@
 ghost use Rattle.implib.specs.Definition.{DefinitionView};
 ghost use Rattle.implib.specs.Formats.Object.{Object};
 ghost use Rattle.implib.specs.Link.Placement.{Bases};
+ghost use Rattle.implib.specs.LibraryName.{linked_dll, linked_name};
 ghost use Rattle.implib.specs.Members.MemberSpec.{MemberView};
 ghost use Rattle.implib.specs.Members.Members.{AreMembersOf};
 ghost use Rattle.implib.specs.Members.MsvcObjects.{descriptor_symbol};
@@ -66,7 +67,7 @@ pub fn search_takes_wanted()
         HaveArchive kind linker members →
         AreMembersOf d machine Gnu members →
         IsDistinct bytes_eq (flat_map (λ m. m.symbols) members) →
-        NamesNoHeadOrTail machine d.import_name wanted →
+        NamesNoHeadOrTail machine (linked_name d) wanted →
         TakesJust kind linker members (asks_for wanted)
         (λ taken. HaveSame taken (linked_if_any d machine (exports_wanted d wanted))) }
 {}
@@ -117,8 +118,8 @@ pub fn search_takes_short_imports()
         HaveArchive kind linker members →
         AreMembersOf d machine Msvc members →
         IsDistinct bytes_eq (flat_map (λ m. m.symbols) members) →
-        descriptor_symbol_by_name d.import_name ≡ descriptor_symbol d.import_name →
-        NamesNoHeader d.import_name wanted →
+        descriptor_symbol_by_name d.import_name ≡ descriptor_symbol (linked_dll d) →
+        NamesNoHeader (linked_dll d) wanted →
         TakesJust kind linker members (asks_on machine wanted)
         (λ taken. HaveSame taken (msvc_if_any d machine (shorts_wanted d wanted))) }
 {}

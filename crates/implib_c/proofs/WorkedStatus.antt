@@ -24,6 +24,9 @@ worked_statuses = record {
     empty_asked_name = λ index. refl;
     member_too_long = refl;
     no_name_type = λ index. refl;
+    empty_library_name = refl;
+    nul_in_library_name = refl;
+    line_end_in_library_name = refl;
   };
   library_numbers = record {
     packed = λ kind members. refl;
@@ -68,6 +71,9 @@ worked_statuses = record {
     text_34 = refl;
     text_35 = refl;
     text_36 = refl;
+    text_37 = refl;
+    text_38 = refl;
+    text_39 = refl;
     text_6 = refl;
     text_15 = refl;
   };

@@ -16,6 +16,7 @@ use Rattle.implib_c.specs.declared.status.Status.TheVariants.{EmptyAskedName, Me
 use Rattle.implib_c.specs.declared.status.Status.TheVariants.{EmptyMemberName, NulInMemberName}
 use Rattle.implib_c.specs.declared.status.Status.TheVariants.{LineEndInMemberName, EmptySymbol, NulInSymbol}
 use Rattle.implib_c.specs.declared.status.Status.TheVariants.{TooManyMembers, ArchiveTooLong}
+use Rattle.implib_c.specs.declared.status.Status.TheVariants.{EmptyLibraryName, LineEndInLibraryName, NulInLibraryName}
 
 -- the number of a status: those of the call first, and from 16 on those of the input's faults
 abbrev pub status_number : Status → ℕ
@@ -45,6 +46,9 @@ status_number EmptySymbol = 32
 status_number NulInSymbol = 33
 status_number TooManyMembers = 34
 status_number ArchiveTooLong = 35
+status_number EmptyLibraryName = 36
+status_number NulInLibraryName = 37
+status_number LineEndInLibraryName = 38
 
 -- the status with a number
 abbrev pub status_numbered : ℕ → Option Status
@@ -75,6 +79,9 @@ status_numbered number =
     else if number == 33 then Some NulInSymbol
     else if number == 34 then Some TooManyMembers
     else if number == 35 then Some ArchiveTooLong
+    else if number == 36 then Some EmptyLibraryName
+    else if number == 37 then Some NulInLibraryName
+    else if number == 38 then Some LineEndInLibraryName
     else None
 
 -- the text of a status
@@ -105,6 +112,9 @@ status_text EmptySymbol = codes "symbol is empty"
 status_text NulInSymbol = codes "symbol contains null byte"
 status_text TooManyMembers = codes "too many members"
 status_text ArchiveTooLong = codes "archive too long"
+status_text EmptyLibraryName = codes "library name is empty"
+status_text NulInLibraryName = codes "library name contains null byte"
+status_text LineEndInLibraryName = codes "library name contains line end"
 
 -- the status of a fault of the input
 abbrev pub cause_status : Cause → Status
@@ -116,6 +126,9 @@ cause_status (cause.InvalidOrdinal value) = InvalidOrdinal
 cause_status cause.LoneAt = LoneAt
 cause_status cause.EmptyImportName = EmptyImportName
 cause_status cause.NulInImportName = NulInImportName
+cause_status cause.EmptyLibraryName = EmptyLibraryName
+cause_status cause.NulInLibraryName = NulInLibraryName
+cause_status cause.LineEndInLibraryName = LineEndInLibraryName
 cause_status (cause.EmptyName index) = EmptyName
 cause_status (cause.NulInExport index) = NulInExport
 cause_status (cause.EmptyAskedName index) = EmptyAskedName

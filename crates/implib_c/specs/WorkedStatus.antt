@@ -43,6 +43,9 @@ pub record WorkedNumbers : Type 0 where
   pub empty_asked_name : (index : ℕ) → number_of (Refused (cause.EmptyAskedName index)) ≡ 26
   pub member_too_long : number_of (Refused cause.MemberTooLong) ≡ 27
   pub no_name_type : (index : ℕ) → number_of (Refused (cause.NoNameType index)) ≡ 28
+  pub empty_library_name : number_of (Refused cause.EmptyLibraryName) ≡ 36
+  pub nul_in_library_name : number_of (Refused cause.NulInLibraryName) ≡ 37
+  pub line_end_in_library_name : number_of (Refused cause.LineEndInLibraryName) ≡ 38
 
 -- the number with which a call that packs an archive ends so
 abbrev pub library_number : Ending → ℕ
@@ -92,7 +95,10 @@ pub record WorkedTexts : Type 0 where
   pub text_33 : text_for 33 ≡ codes "symbol contains null byte"
   pub text_34 : text_for 34 ≡ codes "too many members"
   pub text_35 : text_for 35 ≡ codes "archive too long"
-  pub text_36 : text_for 36 ≡ codes "unknown status"
+  pub text_36 : text_for 36 ≡ codes "library name is empty"
+  pub text_37 : text_for 37 ≡ codes "library name contains null byte"
+  pub text_38 : text_for 38 ≡ codes "library name contains line end"
+  pub text_39 : text_for 39 ≡ codes "unknown status"
   pub text_6 : text_for 6 ≡ codes "unknown status"
   pub text_15 : text_for 15 ≡ codes "unknown status"
 

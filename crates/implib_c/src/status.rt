@@ -61,6 +61,12 @@ pub enum Status {
     TooManyMembers,
     /// [`implib_archive::Fault::ArchiveTooLong`].
     ArchiveTooLong,
+    /// [`Fault::EmptyLibraryName`].
+    EmptyLibraryName,
+    /// [`Fault::NulInLibraryName`].
+    NulInLibraryName,
+    /// [`Fault::LineEndInLibraryName`].
+    LineEndInLibraryName,
 }
 
 impl Status {
@@ -95,6 +101,9 @@ impl Status {
             Status::NulInSymbol => 33,
             Status::TooManyMembers => 34,
             Status::ArchiveTooLong => 35,
+            Status::EmptyLibraryName => 36,
+            Status::NulInLibraryName => 37,
+            Status::LineEndInLibraryName => 38,
         }
     }
 
@@ -129,6 +138,9 @@ impl Status {
             33 => Some(Status::NulInSymbol),
             34 => Some(Status::TooManyMembers),
             35 => Some(Status::ArchiveTooLong),
+            36 => Some(Status::EmptyLibraryName),
+            37 => Some(Status::NulInLibraryName),
+            38 => Some(Status::LineEndInLibraryName),
             _ => None,
         }
     }
@@ -166,6 +178,9 @@ impl Status {
             Status::NulInSymbol => "symbol contains null byte",
             Status::TooManyMembers => "too many members",
             Status::ArchiveTooLong => "archive too long",
+            Status::EmptyLibraryName => "library name is empty",
+            Status::NulInLibraryName => "library name contains null byte",
+            Status::LineEndInLibraryName => "library name contains line end",
         }
     }
 
@@ -182,6 +197,9 @@ impl Status {
             Fault::LoneAt => Status::LoneAt,
             Fault::EmptyImportName => Status::EmptyImportName,
             Fault::NulInImportName => Status::NulInImportName,
+            Fault::EmptyLibraryName => Status::EmptyLibraryName,
+            Fault::NulInLibraryName => Status::NulInLibraryName,
+            Fault::LineEndInLibraryName => Status::LineEndInLibraryName,
             Fault::EmptyName(_) => Status::EmptyName,
             Fault::NulInExport(_) => Status::NulInExport,
             Fault::EmptyAskedName(_) => Status::EmptyAskedName,

@@ -350,7 +350,7 @@ fn the_version_is_that_of_the_header(rt: HostRuntime) -> Result<(), Fail> {
 }
 
 // The statuses with their texts, and numbers that are none.
-const TEXTS: [(u32, &str); 30] = [
+const TEXTS: [(u32, &str); 33] = [
     (0, "success"),
     (1, "buffer too small"),
     (2, "out of memory"),
@@ -379,7 +379,10 @@ const TEXTS: [(u32, &str); 30] = [
     (33, "symbol contains null byte"),
     (34, "too many members"),
     (35, "archive too long"),
-    (36, "unknown status"),
+    (36, "library name is empty"),
+    (37, "library name contains null byte"),
+    (38, "library name contains line end"),
+    (39, "unknown status"),
     (0xFFFF_FFFF, "unknown status"),
 ];
 

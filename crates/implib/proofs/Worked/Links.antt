@@ -12,10 +12,11 @@ use Rattle.implib.specs.Members.Members.{refusal, renamed_refusal}
 use Rattle.implib.specs.Formats.Object.{before_nul, bytes_at, data_at, each_at, entries_at, name_of, object_in, object_of_header, relocation_at, relocation_of, section_at, section_of, strings_at, symbol_of, u16_at, u32_at, up_to_nul}
 use Rattle.implib.specs.Formats.Layout.{auxiliary_bytes, auxiliary_count, contents, contents_offset, contents_size, header_bytes, encoded, encoded_size, name_field, offsets_from, pointer_or_zero, record_count, records, relocation_bytes, section_header, section_headers, string_bytes_of, string_offsets, string_size, string_table, strings_size, symbol_bytes, symbol_table_offset}
 use Rattle.implib.specs.Formats.Writer.{long_names, name_location, layout_of, symbol_written, with_long_name, with_name}
-use Rattle.implib.specs.Worked.Links.{MayLink, InputsMayLink, WorkedLinks, bases_64, bases_of_two, foo, placed, placed_two, two_inputs}
+use Rattle.implib.specs.Worked.Links.{MayLink, InputsMayLink, WorkedLinks, bases_64, bases_of_two, foo, inputs_of_one_dll, inputs_of_one_name, placed, placed_of_one_dll, placed_two, two_inputs}
 use Rattle.implib.specs.declared.machine.MachineType.TheVariants.{AMD64}
 use Rattle.implib.specs.Link.Image.{Range, image_of}
 use Rattle.implib.proofs.Link.Ranges.{apart_as_they_rise, ends_below}
+use Rattle.std.specs.declared.cmp.Ordering.TheVariants.{Equal, Less}
 
 -- what the computing has to open
 abbrev opened : Unit {0}
@@ -76,12 +77,66 @@ two_may_link = record {
   };
 }
 
+abbrev one_dll_image : List Range
+one_dll_image = image_of AMD64 bases_of_two placed_of_one_dll
+
+two_of_one_dll_may_link : InputsMayLink AMD64 bases_of_two inputs_of_one_dll
+unfolding opened refusal renamed_refusal alias_specs encoded_size IsDistinct
+two_of_one_dll_may_link = record {
+  made = (
+    record { made = record { accepted = refl; made = refl; ordinals = refl }; numbers = (omega arith, tt); in_order = tt },
+    (record { made = record { accepted = refl; made = refl; ordinals = refl }; numbers = (omega arith, tt); in_order = tt }, tt),
+  );
+  rising = (refl, tt);
+  apart = (
+    (
+      (
+        λ b. let digits_of : 50 ≡ 49 = ap (λ (text : List ℕ). slice_index text 8) b.1 in omega arith,
+        λ b. let digits_of : 49 ≡ 50 = ap (λ (text : List ℕ). slice_index text 8) b.1 in omega arith,
+      ),
+      tt,
+    ),
+    (tt, tt),
+  );
+  distinct = ((refl, (refl, (refl, (refl, (refl, (refl, (refl, tt))))))), ((refl, (refl, (refl, (refl, (refl, (refl, tt)))))), ((refl, (refl, (refl, (refl, (refl, tt))))), ((refl, (refl, (refl, (refl, tt)))), ((refl, (refl, (refl, tt))), ((refl, (refl, tt)), ((refl, tt), (tt, tt))))))));
+  admissible = record {
+    descriptors = (omega arith, refl);
+    directory_ends = (omega arith, refl);
+    lookups = (omega arith, refl);
+    addresses = (omega arith, refl);
+    hint_names = (omega arith, refl);
+    dll_names = (omega arith, refl);
+    ends = ends_below (2 ^ 31) one_dll_image refl;
+    apart = apart_as_they_rise (2 ^ 31) one_dll_image refl;
+  };
+}
+
+two_of_one_name_may_not : InputsMayLink AMD64 bases_of_two inputs_of_one_name → ⊥
+unfolding opened
+two_of_one_name_may_not may = (let equal : Equal ≡ Less = may.rising.0 in cc)
+
 pub worked_links : WorkedLinks
 unfolding opened
 worked_links = record {
   two_may_link = two_may_link;
   both_may_link = both_may_link;
   two = record { descriptors = refl; lookups = refl; addresses = refl; bar = refl; qux = refl };
+  two_of_one_dll_may_link = two_of_one_dll_may_link;
+  two_of_one_dll = record {
+    descriptors = refl;
+    lookups = refl;
+    addresses = refl;
+    first_text = refl;
+    second_text = refl;
+    first_head = refl;
+    second_head = refl;
+    no_head = refl;
+    first_name = refl;
+    second_name = refl;
+    bar = refl;
+    qux = refl;
+  };
+  two_of_one_name_may_not = two_of_one_name_may_not;
   both = record { descriptor = refl; lookups = refl; addresses = refl; hints = refl; dll = refl; section_addresses = refl };
   none = record { descriptor = refl; lookups = refl; addresses = refl; hints = refl; dll = refl; section_addresses = refl };
   both_32 = record { descriptor = refl; lookups = refl; addresses = refl; hints = refl; dll = refl; section_addresses = refl };

@@ -19,6 +19,7 @@ use Rattle.implib.specs.Link.LinkedMembers.{IsAscending, ComesBefore, IsLinkInpu
 use Rattle.implib.specs.Link.LinkedMembers.{member_prefix, linked_members, objects_in}
 use Rattle.implib.specs.Worked.Members.{of_dll}
 use Rattle.implib.specs.Worked.Statements.{plain_export}
+use Rattle.implib.specs.Worked.LibraryNames.{of_library}
 
 -- the chosen members of a definition, placed
 abbrev pub placed : DefinitionView → MachineType → Bases → List ℕ → List Placed
@@ -136,6 +137,45 @@ pub record TwoLink : Type 0 where
   pub bar : addresses_of (codes "__imp_bar") placed_two ≡ Some 0x1050 ∷ []
   pub qux : addresses_of (codes "__imp_qux") placed_two ≡ Some 0x1060 ∷ []
 
+-- two libraries of foo.dll, each with a name of its own and one export
+abbrev pub named_input : List ℕ → List ℕ → LinkInput
+named_input library name = record {
+  definition = of_library library (codes "foo.dll") (plain_export name ∷ []);
+  members = map member_of (member_specs (renamed (of_library library (codes "foo.dll") (plain_export name ∷ []))) AMD64 Gnu);
+  chosen = 0 ∷ [];
+}
+
+abbrev pub inputs_of_one_dll : List LinkInput
+inputs_of_one_dll = named_input (codes "foo.dll_1") (codes "bar") ∷ named_input (codes "foo.dll_2") (codes "qux") ∷ []
+
+abbrev pub placed_of_one_dll : List Placed
+placed_of_one_dll = placed_from bases_of_two (objects_in (all_linked AMD64 inputs_of_one_dll))
+
+-- Each library has its own head, tables and entries, and both descriptors lead to the text foo.dll. No symbol is
+-- named after the DLL alone.
+pub record OneDllLink : Type 0 where
+  pub descriptors : numbers_from (image_of AMD64 bases_of_two placed_of_one_dll) 4 10 0x1000
+      ≡ Some (0x1030 ∷ 0 ∷ 0 ∷ 0x1084 ∷ 0x1050 ∷ 0x1040 ∷ 0 ∷ 0 ∷ 0x1090 ∷ 0x1060 ∷ [])
+  pub lookups : numbers_from (image_of AMD64 bases_of_two placed_of_one_dll) 8 4 0x1030
+      ≡ Some (0x1070 ∷ 0 ∷ 0x1076 ∷ 0 ∷ [])
+  pub addresses : numbers_from (image_of AMD64 bases_of_two placed_of_one_dll) 8 4 0x1050
+      ≡ Some (0x1070 ∷ 0 ∷ 0x1076 ∷ 0 ∷ [])
+  pub first_text : bytes_from (image_of AMD64 bases_of_two placed_of_one_dll) 8 0x1084
+      ≡ Some (codes "foo.dll" ++ 0 ∷ [])
+  pub second_text : bytes_from (image_of AMD64 bases_of_two placed_of_one_dll) 8 0x1090
+      ≡ Some (codes "foo.dll" ++ 0 ∷ [])
+  pub first_head : addresses_of (codes "_head_foo_dll_1") placed_of_one_dll ≡ Some 0x1000 ∷ []
+  pub second_head : addresses_of (codes "_head_foo_dll_2") placed_of_one_dll ≡ Some 0x1014 ∷ []
+  pub no_head : addresses_of (codes "_head_foo_dll") placed_of_one_dll ≡ []
+  pub first_name : addresses_of (codes "foo_dll_1_iname") placed_of_one_dll ≡ Some 0x1084 ∷ []
+  pub second_name : addresses_of (codes "foo_dll_2_iname") placed_of_one_dll ≡ Some 0x1090 ∷ []
+  pub bar : addresses_of (codes "__imp_bar") placed_of_one_dll ≡ Some 0x1050 ∷ []
+  pub qux : addresses_of (codes "__imp_qux") placed_of_one_dll ≡ Some 0x1060 ∷ []
+
+-- two libraries of one name: their symbols are not distinct, and the names of their members do not rise
+abbrev pub inputs_of_one_name : List LinkInput
+inputs_of_one_name = named_input (codes "foo.dll_1") (codes "bar") ∷ named_input (codes "foo.dll_1") (codes "qux") ∷ []
+
 -- The law of linking speaks of these: they are the members of a definition that is not refused, they
 -- are placed where they may be, and their archive symbols are distinct.
 pub record MayLink (d : DefinitionView) (machine : MachineType) (bases : Bases) (chosen : List ℕ)
@@ -157,6 +197,9 @@ pub record WorkedLinks : Type 0 where
   pub two_may_link : InputsMayLink AMD64 bases_of_two two_inputs
   pub both_may_link : MayLink (foo (codes "bar") (codes "baz")) AMD64 bases_64 (0 ∷ 1 ∷ [])
   pub two : TwoLink
+  pub two_of_one_dll_may_link : InputsMayLink AMD64 bases_of_two inputs_of_one_dll
+  pub two_of_one_dll : OneDllLink
+  pub two_of_one_name_may_not : InputsMayLink AMD64 bases_of_two inputs_of_one_name → ⊥
   pub both : Answers (foo (codes "bar") (codes "baz")) AMD64
       (record { bases = bases_64; width = 8; thunks = 3; hints = 6; dll = 0x1088 }) (0 ∷ 1 ∷ [])
       (codes "__imp_bar" ∷ codes "__imp_baz" ∷ codes "bar" ∷ codes "_head_foo_dll" ∷ [])
