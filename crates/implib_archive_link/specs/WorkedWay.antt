@@ -9,6 +9,7 @@ use Rattle.implib.specs.Link.LinkedMembers.{objects_in}
 use Rattle.implib.specs.Link.Placement.{Bases, Placed, Unplaced, placed_from}
 use Rattle.implib.specs.Link.Resolution.{definitions_of, target_address}
 use Rattle.implib.specs.Members.Gnu.{section, text_name}
+use Rattle.implib.specs.LibraryName.{own_names}
 use Rattle.implib.specs.Members.GnuMembers.{export_spec, head_spec, tail_spec}
 use Rattle.implib.specs.Members.MemberSpec.{MemberView, member_of}
 use Rattle.implib.specs.Definition.{DefinitionView}
@@ -73,7 +74,7 @@ own = caller ∷ []
 -- what a linker takes, the last one first
 abbrev pub taken : List MemberView
 taken =
-    member_of (tail_spec AMD64 (codes "foo.dll"))
+    member_of (tail_spec AMD64 (own_names (codes "foo.dll")))
     ∷ member_of (head_spec AMD64 (codes "foo.dll"))
     ∷ member_of (export_spec AMD64 (codes "foo.dll") 0 (plain_export (codes "bar")))
     ∷ []
@@ -83,7 +84,7 @@ abbrev pub objects : List Object
 objects = caller ∷ (objects_in (
     member_of (head_spec AMD64 (codes "foo.dll"))
     ∷ member_of (export_spec AMD64 (codes "foo.dll") 0 (plain_export (codes "bar")))
-    ∷ member_of (tail_spec AMD64 (codes "foo.dll"))
+    ∷ member_of (tail_spec AMD64 (own_names (codes "foo.dll")))
     ∷ [])
     ++ null_descriptor ∷ [])
 

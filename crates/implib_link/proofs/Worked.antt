@@ -6,6 +6,7 @@ pub mod Search
 pub mod Archives
 pub mod Expansion
 pub mod Flavors
+pub mod Found
 pub mod Jumps
 pub mod LongNames
 pub mod MsvcSearch

@@ -82,6 +82,19 @@ fn faults_of_names_and_memory_show_their_texts(rt: HostRuntime) -> Result<(), Fa
         Fault::NulInImportName,
         "import name contains null byte",
     )?;
+    expect_shown(&rt, alloc, Fault::EmptyLibraryName, "library name is empty")?;
+    expect_shown(
+        &rt,
+        alloc,
+        Fault::NulInLibraryName,
+        "library name contains null byte",
+    )?;
+    expect_shown(
+        &rt,
+        alloc,
+        Fault::LineEndInLibraryName,
+        "library name contains line end",
+    )?;
     expect_shown(&rt, alloc, Fault::EmptyName(7), "export name is empty")?;
     expect_shown(
         &rt,

@@ -1,18 +1,20 @@
 //! The law of archive search of members for Microsoft's linker.
 
 ghost use Rattle.implib.specs.Definition.{DefinitionView};
-ghost use Rattle.implib.specs.LibraryName.{linked_dll};
+ghost use Rattle.implib.specs.LibraryName.{linked_dll, names_for};
 ghost use Rattle.implib.specs.Members.MemberSpec.{MemberView};
 ghost use Rattle.implib.specs.Members.Members.{AreMembersOf};
 ghost use Rattle.implib.specs.Members.MsvcObjects.{descriptor_symbol};
 ghost use Rattle.implib.specs.declared.machine.MachineType.{MachineType};
 ghost use Rattle.implib.specs.declared.flavor.Flavor.TheVariants.{Msvc};
-ghost use Rattle.implib_link.specs.Flavors.Expansion.{descriptor_symbol_by_name};
+ghost use Rattle.implib_link.specs.Flavors.Expansion.{before_last_stop, descriptor_symbol_by_name};
+ghost use Rattle.implib_link.specs.Flavors.Program.{IsFoundByName};
 ghost use Rattle.implib_link.specs.Search.Msvc.{AreTakenInTurn, NamesNoHeader, TakesFor};
 ghost use Rattle.implib_link.specs.Search.Msvc.{msvc_if_any, shorts_wanted};
 ghost use Rattle.implib_link.specs.Search.Search.{HaveSame};
+ghost use Rattle.implib_link.specs.Worked.Found.{WorkedFound};
 ghost use Rattle.std.specs.List.{IsDistinct, flat_map};
-ghost use Rattle.std.specs.Prelude.{◌≡◌, ◌≤◌, ℕ, List, bytes_eq, length};
+ghost use Rattle.std.specs.Prelude.{◌≡◌, ◌≤◌, ℕ, List, Some, bytes_eq, length};
 
 /// A linker takes of an archive of the members for Microsoft's linker just the short imports that
 /// are wanted, the import descriptor, the null descriptor and the null thunk, which are found by
@@ -40,4 +42,13 @@ pub fn search_of_short_imports_ends()
     ensures bounded { (machine : MachineType) (archive taken : List MemberView)
         (wanted : List (List ℕ)) →
         AreTakenInTurn machine archive wanted taken → length taken ≤ length archive }
+{}
+
+/// Linkers find the descriptor of a library whose name is the DLL's up to its last full stop,
+/// whatever the ending of the DLL's name.
+pub fn named_by_stem_is_found()
+    ensures found { (d : DefinitionView) →
+        d.library_name ≡ Some (before_last_stop d.import_name) →
+        IsFoundByName Msvc (names_for Msvc d) }
+    ensures worked { WorkedFound }
 {}
