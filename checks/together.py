@@ -157,8 +157,8 @@ def of_one_dll(bench):
 
 
 def several(bench, what, machine, flavour, objects, named, libraries, last=()):
-    """Libraries of the program for one DLL. In Microsoft's flavour they have one name, and GNU ld loses imports; in
-    GNU's lld would, if they had."""
+    """Libraries of the program for one DLL, each in an archive and all in one. In Microsoft's flavour they have one
+    name, and GNU ld loses imports; in GNU's lld would, if they had. In one archive neither does."""
     all_orders, loses = orders(libraries, last), NONE
     controls, controls_lose = [], NONE
     if flavour == "msvc":
@@ -168,6 +168,8 @@ def several(bench, what, machine, flavour, objects, named, libraries, last=()):
         controls_lose = by_lld(len(controls))
     case = Case(f"{what}, {flavour}", machine, objects, named, all_orders, loses, controls, controls_lose)
     try_case(bench, case)
+    whole = one_archive(libraries, last)
+    try_case(bench, Case(f"{what} in one archive, {flavour}", machine, objects, named, whole))
 
 
 def many(bench):
@@ -180,12 +182,13 @@ def many(bench):
     calls = f"{' + '.join(f'{name}()' for name in names)} - {total} + 42"
     code = f"{declared}__declspec(noreturn) void ExitProcess(int);\nvoid run(void) {{ ExitProcess({calls}); }}\n"
     for flavour, machine in itertools.product(tools.FLAVOURS, X86):
-        libraries = []
-        for part in (names[:300], names[280:]):
-            name, text = f"many{len(part)}.{ENDINGS[flavour]}", definition("many.dll", part)
-            libraries.append(bench.library(machine, name, text, "--flavor", flavour))
+        libraries, spelled = [], [f"{name}:4" for name in names]
+        for part in (spelled[:300], spelled[280:]):
+            text = definition("many.dll", of_windows(machine, part)[0])
+            name, more = f"many{len(part)}.{ENDINGS[flavour]}", of_flavour(machine, flavour)
+            libraries.append(bench.library(machine, name, text, *more))
         last, ends = exit_library(bench, machine, flavour)
-        named = functions("many.dll", *names) + ends
+        named = functions("many.dll", *of_windows(machine, spelled)[1]) + ends
         objects = workbench.program_of(bench, machine, named, code)
         several(bench, "two of ours for many.dll", machine, flavour, objects, named, libraries, last)
 
