@@ -75,10 +75,10 @@ def fault(bench, linker, case, files):
 
 
 def faults(bench, linker, case, all_orders, loses):
-    """What is wrong in orders of libraries, which has to be so in as many as is written."""
+    """What is wrong in orders of libraries: in as many as is written, an import is lost, and nothing else is wrong."""
     found = [fault(bench, linker, case, files) for files in all_orders]
     wrong = [one for one in found if one is not None]
-    if len(wrong) != loses[linker.kind]:
+    if len(wrong) != loses[linker.kind] or not all(one.startswith(workbench.LOST) for one in wrong):
         what = f"{case.what}{', control' * (all_orders is case.controls)}, {case.machine}, {linker}"
         sys.exit(f"{what}: wrong in {len(wrong)} of {counted(all_orders)}, not in {loses[linker.kind]}: {found}")
     return wrong
@@ -244,6 +244,7 @@ def beside(bench):
 
 
 def beside_peer(bench, machine, flavour, peer):
+    """A library of the program in this flavour beside that of the other tool, in both orders."""
     ours = bench.library(machine, f"ours.{ENDINGS[flavour]}", peer.text, *of_flavour(machine, flavour))
     last, ends = exit_library(bench, machine, flavour) if peer.exits else ([], [])
     loses, controls, controls_lose = peer.loses, [], NONE
@@ -321,8 +322,8 @@ def endings(bench):
 def ending(bench, flavour, dll, machine):
     """One of these libraries. In Microsoft's flavour GNU ld finds imports by names of members that end in `.dll` and
     by the descriptor under the DLL's name without its ending; the controls have other ones."""
-    source = tools.file_of(bench.folder, "dll.def", workbench.ZOO)
-    bench.dll(machine, file_of(dll), workbench.ZOO_DLL, source)
+    if machine == "AMD64":
+        bench.dll(machine, file_of(dll), workbench.ZOO_DLL, tools.file_of(bench.folder, "dll.def", workbench.ZOO))
     name, text = f"zoo.{ENDINGS[flavour]}", workbench.ZOO.replace("zoo.dll", dll)
     # without an option the program, too, adds `.dll`
     library = bench.library(machine, name, text, "--flavor", flavour, *(["-D", dll] if "." not in dll else []))
@@ -375,7 +376,8 @@ def two_alike(bench, flavour, pair, machine):
     exports, libraries, named = (["zoo_open", "zoo_shut"], ["zoo_feed", "zoo_clean"]), [], []
     bodies = "".join(f"int {name}(void) {{ return {4 ** index}; }}\n" for index, name in enumerate(sum(exports, [])))
     for number, (dll, names) in enumerate(zip(pair.dlls, exports)):
-        bench.dll(machine, file_of(dll).lower(), bodies)
+        if machine == "AMD64":
+            bench.dll(machine, file_of(dll).lower(), bodies)
         name, more = f"zoo{number}.{ENDINGS[flavour]}", ["-D", dll, "--flavor", flavour]
         libraries.append(bench.library(machine, name, definition(dll, names), *more))
         named += functions(dll, *names)

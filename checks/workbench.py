@@ -12,7 +12,7 @@ from dataclasses import dataclass
 
 import targets
 import tools
-from image import BadImage, Image
+from image import Image
 
 NAMES = {"I386": "i386", "AMD64": "i386:x86-64"}
 GCC = "x86_64-w64-mingw32-gcc"
@@ -29,6 +29,9 @@ __declspec(dllimport) int zoo_secret(void);
 extern __declspec(dllimport) int zoo_animals;
 static int calls(void) { return zoo_open() + zoo_secret() + zoo_animals; }
 """
+
+# How a difference begins of import tables that lack something.
+LOST = "lost is"
 
 
 class Wrong(Exception):
@@ -61,7 +64,7 @@ class Bench:
         return made
 
     def dll(self, machine, name, source, *more):
-        """A DLL that MinGW's gcc makes of a program in C; what it says fails."""
+        """A DLL that MinGW's gcc makes of functions in C."""
         text, made = tools.file_of(self.folder, "dll.c", source), self.path(name)
         tools.done([GCCS[machine], "-shared", text, "-o", made, *more])
         return made
@@ -191,7 +194,7 @@ def difference(found, wanted):
         return "; ".join(f"{shortened(asks)} of {dll}" for dll, asks in pairs if asks)
 
     lost, more = of(wanted, found), of(found, wanted)
-    words = [f"lost is {lost}"] * bool(lost) + [f"asked is for {more}"] * bool(more)
+    words = [f"{LOST} {lost}"] * bool(lost) + [f"asked is for {more}"] * bool(more)
     return ", and ".join(words) or f"asked is twice for the same: {found}"
 
 
