@@ -75,7 +75,7 @@ def fault(bench, linker, case, files):
 
 
 def faults(bench, linker, case, all_orders, loses):
-    """What is wrong in orders of libraries: in as many as is written, an import is lost, and nothing else is wrong."""
+    """What is wrong in orders of libraries: in as many as is written imports are lost, and nothing else is wrong."""
     found = [fault(bench, linker, case, files) for files in all_orders]
     wrong = [one for one in found if one is not None]
     if len(wrong) != loses[linker.kind] or not all(one.startswith(workbench.LOST) for one in wrong):
