@@ -1,5 +1,5 @@
 -- The names of an import library for the linker.
-use Rattle.std.proofs.Common.{◌≡◌, ℕ, ◌+◌, ◌-◌, ◌||◌, Bool, true, List, [], ◌∷◌, ◌++◌, Option, Some, None, ap, codes, if◌then◌else◌, length, length-append, refl, sym, take, arith, ◌∙◌}
+use Rattle.std.proofs.Common.{◌≡◌, ℕ, ◌-◌, true, List, ◌++◌, Option, Some, None, ap, codes, length, length-append, refl, take, arith, ◌∙◌}
 use Rattle.std.specs.Prelude.{nat_eq, unwrap_or}
 use Rattle.std.specs.List.{ends_with}
 use Rattle.std.specs.Option.{option_map}

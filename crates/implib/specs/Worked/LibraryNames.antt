@@ -1,10 +1,9 @@
 -- Definitions whose library has a name of its own, with what their members are or why they have none, worked by
 -- hand.
-use Rattle.std.specs.Prelude.{◌≡◌, ℕ, List, [], ◌∷◌, ◌++◌, map, Option, Some, None, codes}
+use Rattle.std.specs.Prelude.{◌≡◌, ℕ, List, [], ◌∷◌, ◌++◌, Some, None, codes}
 use Rattle.implib.specs.declared.flavor.Flavor.TheVariants.{Msvc, Gnu}
-use Rattle.implib.specs.declared.machine.MachineType.{MachineType}
 use Rattle.implib.specs.declared.machine.MachineType.TheVariants.{I386, AMD64, ARM64}
-use Rattle.implib.specs.Definition.{DefinitionView, ExportView, empty_definition, empty_export}
+use Rattle.implib.specs.Definition.{DefinitionView, ExportView, empty_export}
 use Rattle.implib.specs.Fault.{Cause, EmptyImportName, EmptyLibraryName, EmptyName, LineEndInLibraryName}
 use Rattle.implib.specs.Fault.{NulInImportName, NulInLibraryName}
 use Rattle.implib.specs.Members.Members.{refusal}
