@@ -39,7 +39,7 @@ use Rattle.implib.proofs.Members.NotRefused.{Sound, exports_sound, import_name_i
 use Rattle.implib.proofs.Link.Placement.{export, head, tail}
 use Rattle.implib.proofs.Link.Ranges.{Among, all_among, among_back, among_first, among_flat, among_front, among_later}
 use Rattle.implib_link.specs.Flavors.Expansion.{Code, Constant, Data, import_object, expansion, is_import_for, expanded_as, expanded_in, use_of}
-use Rattle.implib_link.specs.Flavors.Program.{FlavorInput, IsFoundByName, IsMadeFor, IsTaken, all_members, ask_in, dll_of, exports_chosen, members_linked, null_member, objects_taken, specs_in, symbols_listed}
+use Rattle.implib_link.specs.Flavors.Program.{FlavorInput, IsFoundByName, IsMadeFor, IsTaken, all_members, ask_in, exports_chosen, members_linked, null_member, objects_taken, specs_in, symbols_listed}
 use Rattle.implib_link.specs.Flavors.SectionSymbols.{with_section_symbols}
 use Rattle.implib_link.proofs.Flavors.Block.{FitsIn, asking, objects_of, symbols_of}
 use Rattle.implib_link.proofs.Flavors.Blocks.{CanLink, FlavorBlock, all_objects}

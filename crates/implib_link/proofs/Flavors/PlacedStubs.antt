@@ -12,7 +12,7 @@ use Rattle.implib.specs.Link.Resolution.{definitions_of, symbol_address}
 use Rattle.implib.specs.Members.Gnu.{section, stub_bytes, stub_relocations, text_name}
 use Rattle.implib.specs.Members.ImportTables.{thunk_width}
 use Rattle.implib.proofs.Link.Ranges.{Among, all_among}
-use Rattle.implib_link.specs.Flavors.Program.{FlavorInput, IsCode, IsFlavorProgram, IsMadeFor, dll_of, exports_chosen, symbol_in, thunks_of}
+use Rattle.implib_link.specs.Flavors.Program.{FlavorInput, IsCode, IsFlavorProgram, IsMadeFor, exports_chosen, symbol_in, thunks_of}
 use Rattle.implib_link.specs.Gnu.Calls.{AreBeside, Defines, PlacedCode}
 use Rattle.implib_link.specs.Gnu.Program.{has_tables}
 use Rattle.implib_link.proofs.Flavors.Inputs.{block_in}

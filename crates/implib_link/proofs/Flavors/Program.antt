@@ -29,7 +29,7 @@ use Rattle.implib.proofs.Link.Placement.{aligned, export, tail}
 use Rattle.implib.proofs.Link.Ranges.{Among, all_among, among_first, among_later}
 use Rattle.implib_link.specs.Directory.{DirectoryAt}
 use Rattle.implib_link.specs.Flavors.Expansion.{import_object, expanded_in}
-use Rattle.implib_link.specs.Flavors.Program.{AreFlavorObjects, FlavorInput, FlavorsLink, InputImports, IsFlavorProgram, IsMadeFor, SymbolsAt, SymbolsGet, imp_symbols, all_members, ask_in, dll_of, exports_chosen, imported_in, null_member, objects_taken, symbol_in, symbols_listed, thunks_of}
+use Rattle.implib_link.specs.Flavors.Program.{AreFlavorObjects, FlavorInput, FlavorsLink, InputImports, IsFlavorProgram, IsMadeFor, SymbolsAt, SymbolsGet, imp_symbols, all_members, ask_in, exports_chosen, imported_in, null_member, objects_taken, symbol_in, symbols_listed, thunks_of}
 use Rattle.implib_link.specs.Gnu.Packed.{group_end, sections_end}
 use Rattle.implib_link.specs.Gnu.Program.{claimed_names, has_tables, names_claimed_in, with_tables}
 use Rattle.implib_link.specs.Search.Search.{HaveSame}

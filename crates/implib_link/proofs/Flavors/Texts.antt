@@ -25,7 +25,7 @@ use Rattle.implib.specs.Link.Resolution.{definitions_of}
 use Rattle.implib.proofs.Members.Asked.{asks_for_words}
 use Rattle.implib.proofs.Link.LinkedMembers.{all_at}
 use Rattle.implib.proofs.Text.SymbolNames.{parsed_lacks}
-use Rattle.implib_link.specs.Flavors.Program.{FlavorInput, InputImports, IsFlavorProgram, IsMadeFor, SymbolsAt, SymbolsGet, ask_in, descriptor_in, dll_names_in, dll_of, exports_chosen, symbol_in, thunks_of}
+use Rattle.implib_link.specs.Flavors.Program.{FlavorInput, InputImports, IsFlavorProgram, IsMadeFor, SymbolsAt, SymbolsGet, ask_in, descriptor_in, dll_names_in, exports_chosen, symbol_in, thunks_of}
 use Rattle.implib_link.specs.Flavors.Texts.{FlavorSource, FlavorTextLinks, FlavorTextsLink, IsFlavorSource, input_parsed, input_of}
 use Rattle.implib_link.specs.Gnu.Texts.{Stated, ask_stated, chosen_stated, stated}
 use Rattle.implib_link.proofs.Flavors.Program.{flavors_link}

@@ -1,5 +1,5 @@
 -- The members and the null descriptor are a program by themselves.
-use Rattle.std.proofs.Common.{◌≡◌, ℕ, true, List, [], ◌∷◌, ◌++◌, map, refl, ap, sym, ◌∙◌, subst}
+use Rattle.std.proofs.Common.{◌≡◌, true, List, [], ◌∷◌, ◌++◌, map, refl, ap, sym, ◌∙◌, subst}
 use Rattle.std.specs.Prelude.{bytes_eq, not}
 use Rattle.std.specs.List.{AllByRecursion, IsDistinct, filter}
 use Rattle.implib.specs.declared.machine.MachineType.{MachineType}

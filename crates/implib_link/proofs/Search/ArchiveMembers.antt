@@ -13,7 +13,7 @@ use Rattle.implib.specs.Formats.Layout.{encoded_size, entries_of, name_text, obj
 use Rattle.implib.specs.Members.MemberSpec.{MemberSpec, MemberView}
 use Rattle.implib.specs.Members.Members.{is_too_long}
 use Rattle.implib.specs.Formats.Object.{object_in}
-use Rattle.implib.proofs.Link.LinkedMembers.{among_reverse, dll_free, linked_free, export_reads, head_reads, not_long, sound, tail_reads}
+use Rattle.implib.proofs.Link.LinkedMembers.{among_reverse, linked_free, export_reads, head_reads, not_long, sound, tail_reads}
 use Rattle.implib.proofs.Members.MsvcObjects.{Fits-weak_object}
 use Rattle.implib.proofs.Members.NotRefused.{Sound, short_enough}
 use Rattle.implib.proofs.Formats.ObjectReading.{object_in-encoded}

@@ -21,7 +21,6 @@ use Rattle.implib_link.proofs.Search.Archives.{input_linked, inputs_made}
 use Rattle.implib_link.proofs.Search.Counts.{distinct_from, few_from, times, times_both, times_moved}
 use Rattle.implib_link.proofs.Search.Lists.{among_either, contains_among}
 use Rattle.implib_link.proofs.Search.Search.{in_nothing}
-use Rattle.implib.specs.LibraryName.{linked_name}
 use Rattle.implib.specs.LibraryName.{NamesOfDll, names_for}
 use Rattle.implib.specs.declared.flavor.Flavor.TheVariants.{Gnu}
 

@@ -21,7 +21,7 @@ use Rattle.implib.specs.Members.MsvcObjects.{descriptor_symbol, null_descriptor_
 use Rattle.implib.proofs.Link.LinkedMembers.{among_contains}
 use Rattle.implib.proofs.Link.Ranges.{Among, all_among, among_back, among_first, among_flat, among_front, among_later}
 use Rattle.implib_link.specs.Flavors.Expansion.{expanded_in}
-use Rattle.implib_link.specs.Flavors.Program.{AreFlavorObjects, FlavorInput, FlavorsLink, IsFlavorProgram, IsMadeFor, all_members, ask_in, dll_of, exports_chosen, null_member, objects_taken, symbols_listed, thunks_of}
+use Rattle.implib_link.specs.Flavors.Program.{AreFlavorObjects, FlavorInput, FlavorsLink, IsFlavorProgram, IsMadeFor, all_members, ask_in, exports_chosen, null_member, objects_taken, symbols_listed, thunks_of}
 use Rattle.implib_link.specs.Gnu.Program.{ClaimsNone, claimed_names, has_tables}
 use Rattle.implib_link.specs.Search.Archives.{Library, archive_of, exports_of}
 use Rattle.implib_link.specs.Search.Closed.{listed_in, unresolved}
