@@ -219,37 +219,43 @@ fn libraries_of_one_dll_have_names(rt: HostRuntime) -> Result<(), Fail> {
     Ok(())
 }
 
+// The status and the library of a definition in a flavour.
+fn library_of(rt: &HostRuntime, flavor: &str, text: &[u8]) -> Result<(u8, Vec<u8>), Fail> {
+    let file = env::temp_dir(rt)?.join(rt.alloc(), "implib_dlltool_repeats.a")?;
+    let words = [
+        "-d",
+        "-",
+        "-m",
+        "arm64",
+        "--flavor",
+        flavor,
+        "-l",
+        file.as_str(),
+    ];
+    let (got, _) = ran(rt, words.as_slice(), text)?;
+    let library = fs::read(rt, file.as_path())?;
+    fs::remove_file(rt, file.as_path())?;
+    Ok((got, library))
+}
+
 // In both flavours the first export of a word stays, and later ones are left out.
 #[test]
 fn repeats_are_left_out(rt: HostRuntime) -> Result<(), Fail> {
-    let file = env::temp_dir(&rt)?.join(rt.alloc(), "implib_dlltool_repeats.a")?;
     for flavor in ["msvc", "gnu"] {
-        let words = [
-            "-d",
-            "-",
-            "-m",
-            "arm64",
-            "--flavor",
-            flavor,
-            "-l",
-            file.as_str(),
-        ];
-        let (got, _) = ran(
+        let (first, repeated) = library_of(
             &rt,
-            words.as_slice(),
+            flavor,
             b"LIBRARY zoo\nEXPORTS\n two\n two DATA\n hypot\n hypot == _hypot\n g PRIVATE\n g @3\n",
         )?;
-        assert_eq!(rt; got, 0);
-        let repeated = fs::read(&rt, file.as_path())?;
-        let (got, _) = ran(
+        let (second, once) = library_of(
             &rt,
-            words.as_slice(),
+            flavor,
             b"LIBRARY zoo\nEXPORTS\n two\n hypot\n g @3\n",
         )?;
-        assert_eq!(rt; got, 0);
-        assert!(rt; fs::read(&rt, file.as_path())?.as_slice() == repeated.as_slice());
+        assert_eq!(rt; first, 0);
+        assert_eq!(rt; second, 0);
+        assert!(rt; repeated.as_slice() == once.as_slice());
     }
-    fs::remove_file(&rt, file.as_path())?;
     Ok(())
 }
 
