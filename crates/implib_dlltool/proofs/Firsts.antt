@@ -8,7 +8,8 @@ use Rattle.implib.specs.declared.def.definition.ShortExport.{ShortExport}
 use Rattle.std.specs.List.{list_any}
 use Rattle.implib.specs.Definition.{ExportView, export_view}
 use Rattle.implib_dlltool.specs.Linked.{word_of}
-use Rattle.implib_dlltool.specs.Warnings.{earlier, first_of_ordinal, first_of_word, first_where, ordinal_notice, repeat_notice}
+use Rattle.implib_dlltool.specs.Repeats.{declares, repeats}
+use Rattle.implib_dlltool.specs.Warnings.{earlier, first_declared, first_of_ordinal, first_of_word, first_where, ordinal_notice, repeat_notice}
 
 push_first : (is last : Bool) (found all : Option ℕ) (n : ℕ) → all ≡ option_or found (if last then Some n else None)
     → (if is then Some 0 else option_map suc all) ≡ option_or (if is then Some 0 else option_map suc found) (if last then Some (suc n) else None)
@@ -23,6 +24,46 @@ pub first_where-push : {A : Type 0} (test : A → Bool) (items : List A) (item :
 first_where-push test [] item = refl
 first_where-push test (first ∷ items) item =
     push_first (test first) (test item) (first_where test items) (first_where test (items ++ item ∷ [])) (length items) (first_where-push test items item)
+
+-- one export more, by a test
+where_more : (test : ExportView → Bool) (items : List ShortExport) (index : ℕ) (d : ShortExport) → index < length items
+    → option_or (first_where test (map export_view (take index items))) (if test (export_view (get_or items index d)) then Some index else None)
+    ≡ first_where test (map export_view (take (index + 1) items))
+where_more test items index d within =
+    let before = map export_view (take index items) in
+    let e = export_view (get_or items index d) in
+    let long : length before ≡ index = length-map (take index items) export_view ∙ length-take-le index items (omega (arith, within)) in
+    ap (λ (n : ℕ). option_or (first_where test before) (if test e then Some n else None)) (sym long)
+    ∙ sym (first_where-push test before e)
+    ∙ sym (ap (λ (t : List ShortExport). first_where test (map export_view t)) (take_more items index d within)
+    ∙ ap (first_where test) (map-append export_view (take index items) (get_or items index d ∷ [])))
+
+-- one export more that is not private, by its word
+pub declared_public : (word : List ℕ) (items : List ShortExport) (index : ℕ) (d : ShortExport) (at : List ℕ) → index < length items
+    → (export_view (get_or items index d)).private ≡ false → at ≡ word_of (export_view (get_or items index d))
+    → option_or (first_declared word (map export_view (take index items))) (if bytes_eq word at then Some index else None)
+    ≡ first_declared word (map export_view (take (index + 1) items))
+declared_public word items index d at within public is =
+    let before = map export_view (take index items) in
+    let e = export_view (get_or items index d) in
+    ap (λ (a : List ℕ). option_or (first_declared word before) (if bytes_eq word a then Some index else None)) is
+    ∙ ap (λ (b : Bool). option_or (first_declared word before) (if not b && bytes_eq word (word_of e) then Some index else None)) (sym public)
+    ∙ where_more (λ x. declares x word) items index d within
+
+none_more : (o : Option ℕ) → o ≡ option_or o None
+none_more None = refl
+none_more (Some n) = refl
+
+-- a private one declares nothing
+pub declared_private : (word : List ℕ) (items : List ShortExport) (index : ℕ) (d : ShortExport) → index < length items
+    → (export_view (get_or items index d)).private ≡ true
+    → first_declared word (map export_view (take index items)) ≡ first_declared word (map export_view (take (index + 1) items))
+declared_private word items index d within private =
+    let before = map export_view (take index items) in
+    let e = export_view (get_or items index d) in
+    none_more (first_declared word before)
+    ∙ ap (λ (b : Bool). option_or (first_declared word before) (if not b && bytes_eq word (word_of e) then Some index else None)) (sym private)
+    ∙ where_more (λ x. declares x word) items index d within
 
 -- one export more, by its word
 pub word_more : (word : List ℕ) (items : List ShortExport) (index : ℕ) (d : ShortExport) (at : List ℕ) → index < length items
@@ -111,18 +152,19 @@ where_before test (first ∷ items) zero = none_before (first_where test (first 
 where_before test (first ∷ items) (suc index) =
     where_first (test first) (first_where test items) index (list_any test (take index items)) (where_before test items index)
 
-is_some-map : {A B : Type 0} (f : A → B) (o : Option A) → is_some (option_map f o) ≡ is_some o
+pub is_some-map : {A B : Type 0} (f : A → B) (o : Option A) → is_some (option_map f o) ≡ is_some o
 is_some-map f None = refl
 is_some-map f (Some x) = refl
-
-pub word_repeated : (word : List ℕ) (exports : List ExportView) (index : ℕ)
-    → is_some (repeat_notice word (first_of_word word exports) index) ≡ list_any (λ e. bytes_eq word (word_of e)) (take index exports)
-word_repeated word exports index =
-    is_some-map _ (earlier (first_of_word word exports) index) ∙ where_before (λ e. bytes_eq word (word_of e)) exports index
 
 if_given : {A : Type 0} (none : Bool) (o : Option A) (before : Bool) → is_some o ≡ before → is_some (if none then None else o) ≡ (not none && before)
 if_given true o before same = refl
 if_given false o before same = same
+
+-- an export is said to repeat a word where it is left out
+pub word_repeated : (e : ExportView) (exports : List ExportView) (index : ℕ)
+    → is_some (repeat_notice e (first_declared (word_of e) exports) index) ≡ repeats (take index exports) e
+word_repeated e exports index =
+    if_given e.private _ _ (is_some-map _ (earlier (first_declared (word_of e) exports) index) ∙ where_before (λ x. declares x (word_of e)) exports index)
 
 pub ordinal_repeated : (ordinal : ℕ) (exports : List ExportView) (index : ℕ)
     → is_some (ordinal_notice ordinal (first_of_ordinal ordinal exports) index)

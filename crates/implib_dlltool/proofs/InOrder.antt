@@ -1,6 +1,6 @@
 -- The warnings of a text are in the order of their offsets.
 use Rattle.std.proofs.Common.{◌≡◌, ◌∙◌, ℕ, suc, ◌+◌, ◌-◌, ◌==◌, ◌≤◌, Bool, true, false, List, [], ◌∷◌, ◌++◌, Option, None, Some, append_assoc, append-nil, arith, fold, length, subst, sym}
-use Rattle.std.specs.Prelude.{slice_get, if◌then◌else◌}
+use Rattle.std.specs.Prelude.{is_some, slice_get, if◌then◌else◌}
 use Rattle.std.proofs.lemmas.List.{length-append}
 use Rattle.std.specs.Str.{trim, trim_end, trim_start}
 use Rattle.implib.specs.declared.def.lexer.TokenKind.TheVariants as kind
@@ -16,7 +16,7 @@ use Rattle.implib_dlltool.specs.declared.places.Walk.{Walk}
 use Rattle.implib_dlltool.specs.Linked.{word_of}
 use Rattle.implib_dlltool.specs.Places.{Walked, placed, places_in, site_at, started, walk_behind, walked, walked_on}
 use Rattle.implib_dlltool.specs.Request.{RequestView}
-use Rattle.implib_dlltool.specs.Warnings.{Ascends, NoticeView, OpensLine, WarningView, first_of_ordinal, first_of_word, heading_notice, if_export, index_after}
+use Rattle.implib_dlltool.specs.Warnings.{Ascends, NoticeView, OpensLine, WarningView, asked_warnings, first_declared, first_of_ordinal, first_of_word, heading_notice, if_export, index_after}
 use Rattle.implib_dlltool.specs.Warnings.{lowered_notice, no_export_notice, ordinal_like_notice, ordinal_notice, other_kind_notice, repeat_notice, stdcall_notice}
 use Rattle.implib_dlltool.specs.Warnings.{target_notice, warned, warnings_at, warnings_at_site, warnings_for, warnings_from, warnings_of, whole, word_before}
 
@@ -124,22 +124,30 @@ both_before : (position : Position) (first second : List WarningView) → GoBefo
 both_before position first second one other =
     λ rest from. subst (Ascends position.offset) (sym (append_assoc first second rest)) (one (second ++ rest) (other rest from))
 
+-- the warnings of what an export asks for
+asked_before : (request : RequestView) (exports : List ExportView) (is_left_out : Bool) (position : Position) (e : ExportView)
+    → GoBefore position (asked_warnings request exports is_left_out position e)
+asked_before request exports true position e = λ rest from. from
+asked_before request exports false position e =
+    both_before position _ _
+    (one_before (stdcall_notice request.machine request.naming e) position)
+    (one_before (target_notice request.flavor e (first_of_word e.alias_target exports)) position)
+
 -- the warnings of an export
 export_before : (request : RequestView) (exports : List ExportView) (index : ℕ) (position : Position) (found : Option ExportView)
     → GoBefore position (if_export request exports index position found)
 export_before request exports index position None = λ rest from. from
 export_before request exports index position (Some e) =
+    let repeated = repeat_notice e (first_declared (word_of e) exports) index in
     both_before position _ _
     (both_before position _ _
     (both_before position _ _
     (both_before position _ _
-    (both_before position _ _
-    (one_before (repeat_notice (word_of e) (first_of_word (word_of e) exports) index) position)
+    (one_before repeated position)
     (one_before (ordinal_notice e.ordinal (first_of_ordinal e.ordinal exports) index) position))
     (one_before (lowered_notice (word_of e)) position))
     (one_before (ordinal_like_notice (word_of e)) position))
-    (one_before (stdcall_notice request.machine request.naming e) position))
-    (one_before (target_notice request.flavor e (first_of_word e.alias_target exports)) position)
+    (asked_before request exports (is_some repeated) position e)
 
 -- the warnings at what stands there, and others from there on
 site_first : (request : RequestView) (exports : List ExportView) (index : ℕ) (at : Site) (position : Position) (rest : List WarningView)

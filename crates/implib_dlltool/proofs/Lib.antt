@@ -3,6 +3,10 @@ pub mod TokensGiven
 pub mod Parts
 pub mod Asked
 pub mod Targets
+pub mod LeftOut
+pub mod LibraryNames
+pub mod Symbols
+pub mod LibrariesApart
 pub mod Accepted
 pub mod Ordered
 pub mod OrderedReadings

@@ -7,6 +7,7 @@ use Rattle.implib.specs.declared.machine.MachineType.{MachineType}
 use Rattle.implib.specs.declared.flavor.Flavor.TheVariants.{Msvc}
 use Rattle.implib.specs.Definition.{DefinitionView, ExportView}
 use Rattle.implib.specs.Import.{imp_symbol}
+use Rattle.implib.specs.LibraryName.{NamesOfDll, names_in}
 use Rattle.implib.specs.Members.Members.{member_specs}
 use Rattle.implib.specs.Members.MemberSpec.{MemberSpec, MemberView, member_of}
 use Rattle.implib.specs.Members.Msvc.{short_import_symbol}
@@ -36,7 +37,7 @@ take-suc_front (suc k) [] = refl
 take-suc_front (suc k) (x ∷ xs) = ap (λ t. x ∷ t) (take-suc_front k xs)
 
 -- the members of a DLL are three
-pub length-header_specs : (machine : MachineType) (dll : List ℕ) → length (header_specs machine dll) ≡ 3
+pub length-header_specs : (machine : MachineType) (dll : NamesOfDll) → length (header_specs machine dll) ≡ 3
 unfolding header_specs
 length-header_specs machine dll = refl
 
@@ -45,18 +46,18 @@ none_kept : {X : Type 0} (code : Bool) (both : List X) → both ≡ [] → (if c
 none_kept true both none = none
 none_kept false both none = ap (drop 1) none
 
-module _ (machine : MachineType) (dll : List ℕ) (e : ExportView) where
-  weak_specs-two : is_weak e ≡ true → weak_specs machine dll e ≡ weak_spec machine dll (short_import_symbol e) e.alias_target ∷ weak_spec machine dll (imp_symbol (short_import_symbol e)) (imp_symbol e.alias_target) ∷ []
+module _ (machine : MachineType) (dll : NamesOfDll) (e : ExportView) where
+  weak_specs-two : is_weak e ≡ true → weak_specs machine dll.linked e ≡ weak_spec machine dll.linked (short_import_symbol e) e.alias_target ∷ weak_spec machine dll.linked (imp_symbol (short_import_symbol e)) (imp_symbol e.alias_target) ∷ []
   unfolding weak_specs
   weak_specs-two weak =
-      ap (λ b. if b then weak_spec machine dll (short_import_symbol e) e.alias_target ∷ weak_spec machine dll (imp_symbol (short_import_symbol e)) (imp_symbol e.alias_target) ∷ [] else []) weak
+      ap (λ b. if b then weak_spec machine dll.linked (short_import_symbol e) e.alias_target ∷ weak_spec machine dll.linked (imp_symbol (short_import_symbol e)) (imp_symbol e.alias_target) ∷ [] else []) weak
 
-  pub weak_specs-none : is_weak e ≡ false → weak_specs machine dll e ≡ []
+  pub weak_specs-none : is_weak e ≡ false → weak_specs machine dll.linked e ≡ []
   unfolding weak_specs
   weak_specs-none none =
-      ap (λ b. if b then weak_spec machine dll (short_import_symbol e) e.alias_target ∷ weak_spec machine dll (imp_symbol (short_import_symbol e)) (imp_symbol e.alias_target) ∷ [] else []) none
+      ap (λ b. if b then weak_spec machine dll.linked (short_import_symbol e) e.alias_target ∷ weak_spec machine dll.linked (imp_symbol (short_import_symbol e)) (imp_symbol e.alias_target) ∷ [] else []) none
 
-  pub length-weak_specs : is_weak e ≡ true → length (weak_specs machine dll e) ≡ 2
+  pub length-weak_specs : is_weak e ≡ true → length (weak_specs machine dll.linked e) ≡ 2
   length-weak_specs weak = ap length (weak_specs-two weak)
 
   pub import_specs-weak : is_weak e ≡ true → import_specs machine dll e ≡ []
@@ -69,7 +70,7 @@ module _ (machine : MachineType) (dll : List ℕ) (e : ExportView) where
   export_specs-own none = ap (λ t. t ++ short_import_spec machine dll e ∷ []) (weak_specs-none none)
 
   pub alias_specs-none : is_weak e ≡ false → alias_specs machine dll e ≡ []
-  alias_specs-none none = none_kept (has_code e) (weak_specs machine dll e) (weak_specs-none none)
+  alias_specs-none none = none_kept (has_code e) (weak_specs machine dll.linked e) (weak_specs-none none)
 
   length-export_specs : (b : Bool) → is_weak e ≡ b → length (export_specs machine dll e) ≡ member_count e
   length-export_specs true weak =
@@ -79,7 +80,7 @@ module _ (machine : MachineType) (dll : List ℕ) (e : ExportView) where
       ap length (export_specs-own none) ∙ sym (ap (λ b. if b then 3 else 1) none)
 
 -- The exports that are left: their members, and those found, which with theirs are all.
-pub record Sorting (machine : MachineType) (dll : List ℕ) (all_imports all_aliases left imports aliases : List MemberView)
+pub record Sorting (machine : MachineType) (dll : NamesOfDll) (all_imports all_aliases left imports aliases : List MemberView)
     (exports : List ExportView) : Type 0 where
   pub left_is : left ≡ map member_of (flat_map (export_specs machine dll) (filter (λ e. not e.private) exports))
   pub imports_are : imports ++ map member_of (flat_map (import_specs machine dll) (filter (λ e. not e.private) exports)) ≡ all_imports
@@ -93,7 +94,7 @@ joined found more these others are =
     ∙ (ap (λ t. found ++ (t ++ map member_of others)) are
     ∙ ap (λ t. found ++ t) (sym (map-append member_of these others)))
 
-module _ {X : Type 0} (view : X → MemberView) (machine : MachineType) (dll : List ℕ) (all_imports all_aliases : List MemberView) (e : ExportView) (exports : List ExportView) where
+module _ {X : Type 0} (view : X → MemberView) (machine : MachineType) (dll : NamesOfDll) (all_imports all_aliases : List MemberView) (e : ExportView) (exports : List ExportView) where
   kept : e.private ≡ false → filter (λ x. not x.private) (e ∷ exports) ≡ e ∷ filter (λ x. not x.private) exports
   kept public = ap (λ b. if not b then e ∷ filter (λ x. not x.private) exports else filter (λ x. not x.private) exports) public
 
@@ -119,18 +120,18 @@ module _ {X : Type 0} (view : X → MemberView) (machine : MachineType) (dll : L
         ∙ (taken view member_of xs (short_import_spec machine dll e ∷ []) others 1 refl (here ∙ ap (λ t. map member_of (t ++ others)) (export_specs-own machine dll e none))
         ∙ sym (ap (map member_of) (import_specs-own machine dll e none)))
 
-    two_taken : is_weak e ≡ true → map view (take 2 xs) ≡ map member_of (weak_specs machine dll e)
+    two_taken : is_weak e ≡ true → map view (take 2 xs) ≡ map member_of (weak_specs machine dll.linked e)
     two_taken weak =
-        taken view member_of xs (weak_specs machine dll e) (short_import_spec machine dll e ∷ others) 2 (length-weak_specs machine dll e weak)
-        (here ∙ ap (map member_of) (append_assoc (weak_specs machine dll e) (short_import_spec machine dll e ∷ []) others))
+        taken view member_of xs (weak_specs machine dll.linked e) (short_import_spec machine dll e ∷ others) 2 (length-weak_specs machine dll e weak)
+        (here ∙ ap (map member_of) (append_assoc (weak_specs machine dll.linked e) (short_import_spec machine dll e ∷ []) others))
 
     kept_taken : (code : Bool) → is_weak e ≡ true
-        → map view (if code then take 2 xs else drop 1 (take 2 xs)) ≡ map member_of (if code then weak_specs machine dll e else drop 1 (weak_specs machine dll e))
+        → map view (if code then take 2 xs else drop 1 (take 2 xs)) ≡ map member_of (if code then weak_specs machine dll.linked e else drop 1 (weak_specs machine dll.linked e))
     kept_taken true weak = two_taken weak
     kept_taken false weak =
         sym (drop-map view 1 (take 2 xs))
         ∙ (ap (drop 1) (two_taken weak)
-        ∙ drop-map member_of 1 (weak_specs machine dll e))
+        ∙ drop-map member_of 1 (weak_specs machine dll.linked e))
 
     alias_part : (b : Bool) → is_weak e ≡ b → map view (if is_weak e then kept_of_alias e (take 2 xs) else []) ≡ map member_of (alias_specs machine dll e)
     alias_part true weak =
@@ -163,7 +164,7 @@ module _ {X : Type 0} (view : X → MemberView) (machine : MachineType) (dll : L
       }
 
 -- where the members of the DLL are found, and no more
-pub begun : {X : Type 0} (view : X → MemberView) (machine : MachineType) (dll : List ℕ) (exports : List ExportView) (xs left empty imports aliases : List X)
+pub begun : {X : Type 0} (view : X → MemberView) (machine : MachineType) (dll : NamesOfDll) (exports : List ExportView) (xs left empty imports aliases : List X)
     → map view xs ≡ map member_of (header_specs machine dll ++ flat_map (export_specs machine dll) (filter (λ e. not e.private) exports))
     → left ≡ drop 3 xs → imports ≡ empty ++ take 3 xs → empty ≡ [] → aliases ≡ []
     → Sorting machine dll
@@ -184,12 +185,12 @@ begun view machine dll exports xs left empty imports aliases all left_is imports
     }
 
 -- where no export is left, those found are all
-pub sorted : (machine : MachineType) (dll : List ℕ) (all_imports all_aliases left imports aliases : List MemberView)
+pub sorted : (machine : MachineType) (dll : NamesOfDll) (all_imports all_aliases left imports aliases : List MemberView)
     → Sorting machine dll all_imports all_aliases left imports aliases [] → (imports ≡ all_imports) × (aliases ≡ all_aliases)
 sorted machine dll all_imports all_aliases left imports aliases end =
     (sym (append-nil imports) ∙ end.imports_are, sym (append-nil aliases) ∙ end.aliases_are)
 
-module _ (machine : MachineType) (dll : List ℕ) where
+module _ (machine : MachineType) (dll : NamesOfDll) where
   -- the members of exports in their order are in order without an alias
   abbrev InOrder : List ExportView → Type 0
   InOrder exports =
@@ -216,4 +217,4 @@ module _ (machine : MachineType) (dll : List ℕ) where
 pub plain_order : (machine : MachineType) (d : DefinitionView) → has_alias d.exports ≡ false
     → map member_of (member_specs d machine Msvc) ≡ map member_of (msvc_specs machine d)
 plain_order machine d none =
-    ap (λ t. map member_of (header_specs machine d.import_name ++ t)) (in_order-plain machine d.import_name d.exports none)
+    ap (λ t. map member_of (header_specs machine (names_in Msvc d) ++ t)) (in_order-plain machine (names_in Msvc d) d.exports none)

@@ -9,6 +9,7 @@ use Rattle.implib.specs.declared.machine.MachineType.{MachineType}
 use Rattle.implib.specs.Definition.{DefinitionView, ExportView}
 use Rattle.implib.specs.Formats.File.{AnAlias, AnImport, Meaning, declared_by, dll_in, file_in, meaning_in}
 use Rattle.implib.specs.Import.{Alias, aliases_for, expected_import, imp_symbol, public_exports}
+use Rattle.implib.specs.LibraryName.{NamesOfDll, names_in}
 use Rattle.implib.specs.Members.Members.{AreMembersOf, member_specs}
 use Rattle.implib.specs.Members.MemberSpec.{MemberSpec, MemberView, member_of}
 use Rattle.implib.specs.Members.Msvc.{short_import_symbol, symbol_or_name}
@@ -44,22 +45,22 @@ module _ {A M Y : Type 0} (F : A → Y) (G : M → Y) where
       ∙ sym (map-append G us others)))
 
 -- what exports show, by their weak externals and their short imports, in order
-module _ {M Y : Type 0} (F : MemberSpec → Y) (G : M → Y) (machine : MachineType) (dll : List ℕ) (aliases imports : ExportView → List M)
-    (long : (e : ExportView) → length (weak_specs machine dll e) ≡ length (aliases e)) (one : (e : ExportView) → length (imports e) ≡ 1) where
+module _ {M Y : Type 0} (F : MemberSpec → Y) (G : M → Y) (machine : MachineType) (dll : NamesOfDll) (aliases imports : ExportView → List M)
+    (long : (e : ExportView) → length (weak_specs machine dll.linked e) ≡ length (aliases e)) (one : (e : ExportView) → length (imports e) ≡ 1) where
   import_shown : (b : Bool) (e : ExportView) → map F (short_import_spec machine dll e ∷ []) ≡ map G (imports e)
       → map F (if b then [] else short_import_spec machine dll e ∷ []) ≡ map G (if b then [] else imports e)
   import_shown true e same = refl
   import_shown false e same = same
 
-  kept_shown : (code : Bool) (e : ExportView) → map F (weak_specs machine dll e) ≡ map G (aliases e)
-      → map F (if code then weak_specs machine dll e else drop 1 (weak_specs machine dll e)) ≡ map G (if code then aliases e else drop 1 (aliases e))
+  kept_shown : (code : Bool) (e : ExportView) → map F (weak_specs machine dll.linked e) ≡ map G (aliases e)
+      → map F (if code then weak_specs machine dll.linked e else drop 1 (weak_specs machine dll.linked e)) ≡ map G (if code then aliases e else drop 1 (aliases e))
   kept_shown true e same = same
   kept_shown false e same =
-      sym (drop-map F 1 (weak_specs machine dll e)) ∙ (ap (drop 1) same ∙ drop-map G 1 (aliases e))
+      sym (drop-map F 1 (weak_specs machine dll.linked e)) ∙ (ap (drop 1) same ∙ drop-map G 1 (aliases e))
 
   long_both : (e : ExportView) → length (export_specs machine dll e) ≡ length (aliases e ++ imports e)
   long_both e =
-      length-append (weak_specs machine dll e) (short_import_spec machine dll e ∷ [])
+      length-append (weak_specs machine dll.linked e) (short_import_spec machine dll e ∷ [])
       ∙ (let same = long e in let last = one e in let both = length-append (aliases e) (imports e) in omega (arith, same, last, both))
 
   pub shown_in_order : (exports : List ExportView)
@@ -69,23 +70,23 @@ module _ {M Y : Type 0} (F : MemberSpec → Y) (G : M → Y) (machine : MachineT
   shown_in_order [] same = (refl, refl)
   shown_in_order (e ∷ exports) same =
       let first = cut F G (export_specs machine dll e) (flat_map (export_specs machine dll) exports) (aliases e ++ imports e) (flat_map (λ x. aliases x ++ imports x) exports) (long_both e) same in
-      let own = cut F G (weak_specs machine dll e) (short_import_spec machine dll e ∷ []) (aliases e) (imports e) (long e) first.0 in
+      let own = cut F G (weak_specs machine dll.linked e) (short_import_spec machine dll e ∷ []) (aliases e) (imports e) (long e) first.0 in
       let rest = shown_in_order exports first.1 in (
         join F G (import_specs machine dll e) (flat_map (import_specs machine dll) exports) (if is_weak e then [] else imports e) (flat_map (λ x. if is_weak x then [] else imports x) exports) (import_shown (is_weak e) e own.1) rest.0,
         join F G (alias_specs machine dll e) (flat_map (alias_specs machine dll) exports) (kept_of_alias e (aliases e)) (flat_map (λ x. kept_of_alias x (aliases x)) exports) (kept_shown (has_code e) e own.0) rest.1,
       )
 
 -- an alias is two weak externals
-module _ (machine : MachineType) (dll : List ℕ) where
+module _ (machine : MachineType) (dll : NamesOfDll) where
   -- the aliases that an export's members mean
   abbrev aliases_meant : ExportView → List Meaning
   aliases_meant e = map AnAlias (aliases_for (short_import_symbol e) e.alias_target)
 
   -- its import
   abbrev import_meant : ExportView → List Meaning
-  import_meant e = AnImport (import_written machine dll e) ∷ []
+  import_meant e = AnImport (import_written machine dll.text e) ∷ []
 
-  two_each : (b : Bool) (e : ExportView) → is_weak e ≡ b → length (weak_specs machine dll e) ≡ length (aliases_meant e)
+  two_each : (b : Bool) (e : ExportView) → is_weak e ≡ b → length (weak_specs machine dll.linked e) ≡ length (aliases_meant e)
   two_each true e weak =
       length-weak_specs machine dll e weak
       ∙ sym (ap (λ b. length (map AnAlias (if b then record { weak = short_import_symbol e; target = e.alias_target } ∷ record { weak = imp_symbol (short_import_symbol e); target = imp_symbol e.alias_target } ∷ [] else []))) weak)
@@ -93,20 +94,20 @@ module _ (machine : MachineType) (dll : List ℕ) where
       ap length (weak_specs-none machine dll e none)
       ∙ sym (ap (λ b. length (map AnAlias (if b then record { weak = short_import_symbol e; target = e.alias_target } ∷ record { weak = imp_symbol (short_import_symbol e); target = imp_symbol e.alias_target } ∷ [] else []))) none)
 
-  import_expected : (b : Bool) (e : ExportView) (exports : List ExportView) → import_written machine dll e ≡ expected_import machine dll e
-      → flat_map (λ x. if is_weak x then [] else import_meant x) exports ≡ map AnImport (map (expected_import machine dll) (filter (λ x. not (is_weak x)) exports))
+  import_expected : (b : Bool) (e : ExportView) (exports : List ExportView) → import_written machine dll.text e ≡ expected_import machine dll.text e
+      → flat_map (λ x. if is_weak x then [] else import_meant x) exports ≡ map AnImport (map (expected_import machine dll.text) (filter (λ x. not (is_weak x)) exports))
       → (if b then [] else import_meant e) ++ flat_map (λ x. if is_weak x then [] else import_meant x) exports
-      ≡ map AnImport (map (expected_import machine dll) (if not b then e ∷ filter (λ x. not (is_weak x)) exports else filter (λ x. not (is_weak x)) exports))
+      ≡ map AnImport (map (expected_import machine dll.text) (if not b then e ∷ filter (λ x. not (is_weak x)) exports else filter (λ x. not (is_weak x)) exports))
   import_expected true e exports same rest = rest
   import_expected false e exports same rest =
       ap (λ i. AnImport i ∷ flat_map (λ x. if is_weak x then [] else import_meant x) exports) same
-      ∙ ap (λ t. AnImport (expected_import machine dll e) ∷ t) rest
+      ∙ ap (λ t. AnImport (expected_import machine dll.text e) ∷ t) rest
 
   imports_expected : (exports : List ExportView) → AllByRecursion (λ e. e.symbol_name ≡ []) exports → AllByRecursion (AsksNoOther Msvc machine) exports
-      → flat_map (λ e. if is_weak e then [] else import_meant e) exports ≡ map AnImport (map (expected_import machine dll) (filter (λ e. not (is_weak e)) exports))
+      → flat_map (λ e. if is_weak e then [] else import_meant e) exports ≡ map AnImport (map (expected_import machine dll.text) (filter (λ e. not (is_weak e)) exports))
   imports_expected [] plain ask = refl
   imports_expected (e ∷ exports) plain ask =
-      import_expected (is_weak e) e exports (import_written-expected machine dll e plain.0 ask.0) (imports_expected exports plain.1 ask.1)
+      import_expected (is_weak e) e exports (import_written-expected machine dll.text e plain.0 ask.0) (imports_expected exports plain.1 ask.1)
 
   kept_meant : (code : Bool) (these : List Alias)
       → (if code then map AnAlias these else drop 1 (map AnAlias these)) ≡ map AnAlias (if code then these else drop 1 these)
@@ -123,11 +124,11 @@ module _ (machine : MachineType) (dll : List ℕ) where
       ∙ (ap (λ t. map AnAlias (kept_of_alias e (aliases_for e.name e.alias_target)) ++ t) (aliases_expected exports plain.1)
       ∙ sym (map-append AnAlias (kept_of_alias e (aliases_for e.name e.alias_target)) (flat_map (λ x. kept_of_alias x (aliases_for x.name x.alias_target)) exports))))
 
-drop_header : (machine : MachineType) (dll : List ℕ) (specs : List MemberSpec) → drop 3 (map member_of (header_specs machine dll ++ specs)) ≡ map member_of specs
+drop_header : (machine : MachineType) (dll : NamesOfDll) (specs : List MemberSpec) → drop 3 (map member_of (header_specs machine dll ++ specs)) ≡ map member_of specs
 unfolding header_specs
 drop_header machine dll specs = refl
 
-first_of : (machine : MachineType) (dll : List ℕ) (specs : List MemberSpec) → slice_get (map member_of (header_specs machine dll ++ specs)) 0 ≡ Some (member_of (descriptor_spec machine dll))
+first_of : (machine : MachineType) (dll : NamesOfDll) (specs : List MemberSpec) → slice_get (map member_of (header_specs machine dll ++ specs)) 0 ≡ Some (member_of (descriptor_spec machine dll))
 unfolding header_specs
 first_of machine dll specs = refl
 
@@ -137,7 +138,7 @@ pub reads_in_order : (d : DefinitionView) (machine : MachineType) (all members :
     → AllByRecursion (λ e. e.symbol_name ≡ []) (public_exports d)
     → members ≡ map member_of (msvc_specs machine d) → ReadsInOrder d machine members
 reads_in_order d machine all members made reads once plain is =
-    let dll = d.import_name in
+    let dll = names_in Msvc d in
     let exports = public_exports d in
     let header = header_specs machine dll in
     let each = flat_map (export_specs machine dll) exports in
@@ -154,14 +155,14 @@ reads_in_order d machine all members made reads once plain is =
     ∙ (ap (map (λ (m : MemberView). Some m.symbols)) whole
     ∙ map_after (λ (m : MemberView). Some m.symbols) member_of (header ++ each)))) in
     let declared_parts = cut files listed header each header each refl declared_all in
-    let declared_rest = shown_in_order files listed machine dll (weak_specs machine dll) (λ e. short_import_spec machine dll e ∷ []) (λ e. refl) (λ e. refl) exports declared_parts.1 in
+    let declared_rest = shown_in_order files listed machine dll (weak_specs machine dll.linked) (λ e. short_import_spec machine dll e ∷ []) (λ e. refl) (λ e. refl) exports declared_parts.1 in
     let declared_members = join files listed header (imports ++ aliases) header (imports ++ aliases) declared_parts.0
     (join files listed imports aliases imports aliases declared_rest.0 declared_rest.1) in
     let mean = λ (p : MemberSpec). meaning_in (member_of p).bytes in
-    let meanings_all : map mean each ≡ map Some (flat_map (meanings_written machine dll) exports) =
+    let meanings_all : map mean each ≡ map Some (flat_map (meanings_written machine dll.text) exports) =
     sym (map_after (λ (m : MemberView). meaning_in m.bytes) member_of each)
     ∙ (sym (ap (map (λ (m : MemberView). meaning_in m.bytes)) (ap (drop 3) whole ∙ drop_header machine dll each))
-    ∙ (reads.meanings ∙ ap (λ (x : DefinitionView). map Some (flat_map (meanings_written machine dll) (public_exports x))) once)) in
+    ∙ (reads.meanings ∙ ap (λ (x : DefinitionView). map Some (flat_map (meanings_written machine dll.text) (public_exports x))) once)) in
     let meanings_rest = shown_in_order mean Some machine dll (aliases_meant machine dll) (import_meant machine dll) (λ e. two_each machine dll (is_weak e) e refl) (λ e. refl) exports meanings_all in
     let meanings_members = join mean Some imports aliases (flat_map (λ e. if is_weak e then [] else import_meant machine dll e) exports) (flat_map (λ e. kept_of_alias e (aliases_meant machine dll e)) exports) meanings_rest.0 meanings_rest.1 in
     record {

@@ -1,5 +1,5 @@
 -- Exports as they are linked have no symbol names.
-use Rattle.std.proofs.Common.{◌≡◌, ℕ, Bool, true, false, List, [], ◌∷◌, ◌++◌, if◌then◌else◌, map, refl, sym, subst}
+use Rattle.std.proofs.Common.{◌≡◌, ◌∙◌, ap, drop, ℕ, Bool, true, false, List, [], ◌∷◌, ◌++◌, if◌then◌else◌, map, refl, sym, subst}
 use Rattle.std.specs.Prelude.{◌&&◌, not}
 use Rattle.std.specs.List.{AllByRecursion, filter, list_all}
 use Rattle.std.proofs.lemmas.Bool.{and_parts}
@@ -13,6 +13,7 @@ use Rattle.implib.proofs.Members.MemberReadings.{all_append}
 use Rattle.implib.proofs.Text.SymbolNames.{parsed_lacks}
 use Rattle.implib_dlltool.specs.Library.{DefinitionFor}
 use Rattle.implib_dlltool.specs.Linked.{NamingView, is_among, is_linked_alias, linked_alias, linked_export, linked_import, new_target, target_import, target_symbol, targets_added, targets_beside, with_target}
+use Rattle.implib_dlltool.specs.Repeats.{left_out, left_out_by, repeats_behind, without_repeated}
 use Rattle.implib_dlltool.specs.Request.{RequestView}
 
 -- the export has no symbol name
@@ -55,14 +56,31 @@ plain_public [] plain = tt
 plain_public (e ∷ exports) plain =
     kept_plain e.private e (filter (λ x. not x.private) (map renamed_export exports)) plain.0 (plain_public exports plain.1)
 
+plain_by : (flags : List Bool) (e : ExportView) → is_empty_text (left_out_by flags e).symbol_name ≡ is_empty_text e.symbol_name
+plain_by [] e = refl
+plain_by (flag ∷ flags) e = refl
+
+plain_flagged : (flags : List Bool) (exports : List ExportView) → list_all (λ e. is_empty_text e.symbol_name) exports ≡ true
+    → list_all (λ e. is_empty_text e.symbol_name) (left_out flags exports) ≡ true
+plain_flagged flags [] plain = plain
+plain_flagged flags (e ∷ exports) plain =
+    let parts = and_parts (is_empty_text e.symbol_name) (list_all (λ (x : ExportView). is_empty_text x.symbol_name) exports) plain in
+    ap (λ b. b && list_all (λ (x : ExportView). is_empty_text x.symbol_name) (left_out (drop 1 flags) exports)) (plain_by flags e ∙ parts.0)
+    ∙ plain_flagged (drop 1 flags) exports parts.1
+
+plain_left_out : (exports : List ExportView) → list_all (λ e. is_empty_text e.symbol_name) exports ≡ true
+    → list_all (λ e. is_empty_text e.symbol_name) (without_repeated exports) ≡ true
+unfolding without_repeated
+plain_left_out exports plain = plain_flagged (repeats_behind [] exports) exports plain
+
 -- no export of the definition of a text has a symbol name
 pub plain_of : (text : List ℕ) (request : RequestView) (d : DefinitionView) → DefinitionFor text request d → AllByRecursion IsPlain (public_exports (renamed d))
 plain_of text request d meant =
     let lacks = parsed_lacks text AMD64 meant.parsed meant.parses in
-    let exports = meant.parsed.exports in
+    let exports = without_repeated meant.parsed.exports in
     let linked = map (linked_export request.machine request.naming request.flavor) exports in
     let targets = targets_added request.machine request.naming request.flavor exports in
     let plain : AllByRecursion IsPlain (linked ++ targets) =
-    all_append IsPlain linked targets (plain_linked request.machine request.naming request.flavor exports lacks.parsed)
+    all_append IsPlain linked targets (plain_linked request.machine request.naming request.flavor exports (plain_left_out meant.parsed.exports lacks.parsed))
     (plain_targets request.machine request.naming request.flavor _ exports) in
     subst (λ (x : DefinitionView). AllByRecursion IsPlain (public_exports (renamed x))) (sym meant.is) (plain_public (linked ++ targets) plain)

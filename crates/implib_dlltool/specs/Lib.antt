@@ -3,6 +3,8 @@ pub mod Arguments
 pub mod Names
 pub mod Request
 pub mod Linked
+pub mod Repeats
+pub mod LibraryName
 pub mod Order
 pub mod Library
 pub mod Places
@@ -12,3 +14,5 @@ pub mod Worked
 pub mod WorkedNames
 pub mod WorkedOptions
 pub mod WorkedWarnings
+pub mod LibraryLaws
+pub mod WorkedLibraryNames

@@ -31,10 +31,12 @@ use Rattle.implib_dlltool.specs.declared.library.LibraryError.{LibraryError}
 use Rattle.implib_dlltool.specs.declared.library.LibraryError.TheVariants.{Refused, Writing}
 use Rattle.implib_dlltool.specs.declared.library.Refusal.{Refusal}
 use Rattle.implib_dlltool.specs.declared.library.Refusal.TheVariants.{NotUtf8, Syntax, NoName, Members, Archive, OutOfMemory}
+use Rattle.implib_dlltool.specs.LibraryName.{with_library_name}
 use Rattle.implib_dlltool.specs.Linked.{linked}
 use Rattle.implib_dlltool.specs.Names.{dll_name, is_program, lacks_name}
 use Rattle.implib_dlltool.specs.Order.{LibraryReads, library_specs}
 use Rattle.implib_dlltool.specs.Places.{IsAtFault}
+use Rattle.implib_dlltool.specs.Repeats.{without_repeats}
 use Rattle.implib_dlltool.specs.Request.{RequestView}
 
 -- the refusals of errors of the libraries
@@ -50,14 +52,15 @@ archive_refusal (archive.OutOfMemory refused) = OutOfMemory
 abbrev pub without_mark : List ℕ → List ℕ
 without_mark bytes = if starts_with nat_eq bytes (0xEF ∷ 0xBB ∷ 0xBF ∷ []) then drop 3 bytes else bytes
 
--- the definition under the name of its DLL, and each export as it is linked
+-- the definition under the name of its DLL, without repeats, each export as it is linked, and with the name of its
+-- library
 abbrev pub definition_for : RequestView → DefinitionView → Bool → DefinitionView
-definition_for request parsed program = linked request.machine request.naming request.flavor (record parsed {
-  import_name = dll_name request.dll parsed.import_name program;
-})
+definition_for request parsed program = with_library_name request.flavor (linked request.machine request.naming request.flavor
+    (without_repeats (record parsed { import_name = dll_name request.dll parsed.import_name program })))
 
 -- The definition of a text for a request: what the text means with its words as they are written, which is what
--- it means on AMD64, under the name of the DLL, and each export as it is linked on the machine.
+-- it means on AMD64, under the name of the DLL; of the exports of one word the first alone, each as it is linked on
+-- the machine; and with the name of its library for the linker.
 pub record DefinitionFor (text : List ℕ) (request : RequestView) (definition : DefinitionView) : Type 0 where
   pub parsed : DefinitionView
   pub parses : Parses text AMD64 parsed

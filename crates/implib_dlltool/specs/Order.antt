@@ -9,6 +9,7 @@ use Rattle.implib.specs.declared.machine.MachineType.{MachineType}
 use Rattle.implib.specs.Definition.{DefinitionView, ExportView}
 use Rattle.implib.specs.Formats.File.{AnAlias, AnImport, declared_by, dll_in, file_in, meaning_in}
 use Rattle.implib.specs.Import.{Alias, Import, aliases_for, expected_import, is_alias, public_exports}
+use Rattle.implib.specs.LibraryName.{NamesOfDll, names_in}
 use Rattle.implib.specs.Members.Members.{member_specs}
 use Rattle.implib.specs.Members.MemberSpec.{MemberSpec, MemberView}
 use Rattle.implib.specs.Members.Msvc.{short_import_symbol}
@@ -23,7 +24,7 @@ abbrev pub has_alias : List ExportView → Bool
 has_alias exports = list_any (λ e. not e.private && is_weak e) exports
 
 -- the specification of the short import of an export; an alias has none
-abbrev pub import_specs : MachineType → List ℕ → ExportView → List MemberSpec
+abbrev pub import_specs : MachineType → NamesOfDll → ExportView → List MemberSpec
 import_specs machine dll e = if is_weak e then [] else short_import_spec machine dll e ∷ []
 
 -- whether an export is a function, which has a symbol beside that of its address
@@ -35,16 +36,16 @@ abbrev pub kept_of_alias : {X : Type 0} → ExportView → List X → List X
 kept_of_alias e both = if has_code e then both else drop 1 both
 
 -- the specifications of the weak externals of an export; an import has none
-abbrev pub alias_specs : MachineType → List ℕ → ExportView → List MemberSpec
-alias_specs machine dll e = kept_of_alias e (weak_specs machine dll e)
+abbrev pub alias_specs : MachineType → NamesOfDll → ExportView → List MemberSpec
+alias_specs machine dll e = kept_of_alias e (weak_specs machine dll.linked e)
 
 -- the members for Microsoft's linker: those of the DLL, the short imports of the exports in their order, and
 -- last the weak externals in the order of theirs
 abbrev pub msvc_specs : MachineType → DefinitionView → List MemberSpec
 msvc_specs machine d =
-    header_specs machine d.import_name
-    ++ (flat_map (import_specs machine d.import_name) (public_exports d)
-    ++ flat_map (alias_specs machine d.import_name) (public_exports d))
+    header_specs machine (names_in Msvc d)
+    ++ (flat_map (import_specs machine (names_in Msvc d)) (public_exports d)
+    ++ flat_map (alias_specs machine (names_in Msvc d)) (public_exports d))
 
 -- the members of a library
 abbrev pub library_specs : DefinitionView → MachineType → Flavor → List MemberSpec

@@ -1,6 +1,8 @@
 -- View: arguments of the program as lists, and what its functions test.
 use Rattle.std.specs.Prelude.{ℕ, Bool, ◌&&◌, not, List, Option, None, Some, is_none}
 use Rattle.std.specs.Borrow.{Bor}
+use Rattle.std.specs.HashSet.{HashSet, contains_by}
+use Rattle.std.specs.Str.{bytes_eq}
 use Rattle.implib.specs.declared.machine.MachineType.{MachineType}
 use Rattle.implib.specs.Definition.{ExportView}
 use Rattle.implib.specs.Import.{is_empty_text}
@@ -14,3 +16,7 @@ given_bytes (Some text) = Some text.now
 -- whether an export's word is its symbol and what it asks for
 abbrev pub is_linked : MachineType → ExportView → Bool
 is_linked machine e = not (has_leading_underscore machine) && (is_none e.ext_name && is_empty_text e.alias_target)
+
+-- whether a set has a word
+abbrev pub has_word : {S : Type 0} → HashSet (Bor (List ℕ)) S → List ℕ → Bool
+has_word words word = contains_by (λ k. bytes_eq word k.now) words

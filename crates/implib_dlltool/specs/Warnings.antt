@@ -25,6 +25,7 @@ use Rattle.implib_dlltool.specs.declared.warnings.words.Attribute.{Attribute}
 use Rattle.implib_dlltool.specs.declared.warnings.words.Attribute.TheVariants.{Data, Constant, Private, NoName}
 use Rattle.implib_dlltool.specs.Linked.{NamingView, has_at_sign, is_at_sign, word_of}
 use Rattle.implib_dlltool.specs.Places.{places_in}
+use Rattle.implib_dlltool.specs.Repeats.{declares, repeats}
 use Rattle.implib_dlltool.specs.Request.{RequestView}
 
 -- whether a word is an attribute, unless it is quoted
@@ -72,7 +73,7 @@ pub data NoticeView : Type 0 where
   HasNoExport : NoticeView
   -- there are too many members for an archive of Microsoft's kind
   IsOtherKind : NoticeView
-  -- the export of this index has the same word
+  -- the export of this index has the same word, so this one is left out
   IsRepeated : List ℕ → ℕ → NoticeView
   -- the export of this index has the same ordinal
   RepeatsOrdinal : ℕ → ℕ → NoticeView
@@ -120,6 +121,10 @@ first_where test (item ∷ items) = if test item then Some 0 else option_map suc
 abbrev pub first_of_word : List ℕ → List ExportView → Option ℕ
 first_of_word word exports = first_where (λ e. bytes_eq word (word_of e)) exports
 
+-- the first export of a word that is not private: the one that declares it
+abbrev pub first_declared : List ℕ → List ExportView → Option ℕ
+first_declared word exports = first_where (λ e. declares e word) exports
+
 -- the first export of an ordinal; 0 stands for none
 abbrev pub first_of_ordinal : ℕ → List ExportView → Option ℕ
 first_of_ordinal ordinal exports = first_where (λ e. nat_eq ordinal e.ordinal) exports
@@ -127,6 +132,10 @@ first_of_ordinal ordinal exports = first_where (λ e. nat_eq ordinal e.ordinal) 
 -- a table has the first export of each word
 abbrev pub AreFirstWords : {S : Type 0} → HashMap (Bor (List ℕ)) ℕ S → List ExportView → Type 0
 AreFirstWords firsts exports = (word : List ℕ) → get_by (λ k. bytes_eq word k.now) firsts ≡ first_of_word word exports
+
+-- a table has the export that declares each word
+abbrev pub AreFirstDeclared : {S : Type 0} → HashMap (Bor (List ℕ)) ℕ S → List ExportView → Type 0
+AreFirstDeclared firsts exports = (word : List ℕ) → get_by (λ k. bytes_eq word k.now) firsts ≡ first_declared word exports
 
 -- a table has the first export of each ordinal
 abbrev pub AreFirstOrdinals : {S : Type 0} → HashMap ℕ ℕ S → List ExportView → Type 0
@@ -137,9 +146,9 @@ abbrev pub earlier : Option ℕ → ℕ → Option ℕ
 earlier None index = None
 earlier (Some first) index = if nat_lt first index then Some first else None
 
--- an export has the word of an earlier one, by the first of its word
-abbrev pub repeat_notice : List ℕ → Option ℕ → ℕ → Option NoticeView
-repeat_notice word first index = option_map (IsRepeated word) (earlier first index)
+-- an export is left out for an earlier one of its word, by the one that declares the word
+abbrev pub repeat_notice : ExportView → Option ℕ → ℕ → Option NoticeView
+repeat_notice e first index = if e.private then None else option_map (IsRepeated (word_of e)) (earlier first index)
 
 -- an export has the ordinal of an earlier one, by the first of its ordinal; 0 is none
 abbrev pub ordinal_notice : ℕ → Option ℕ → ℕ → Option NoticeView
@@ -190,15 +199,21 @@ abbrev pub warned : Option NoticeView → Position → List WarningView
 warned None position = []
 warned (Some notice) position = record { notice = notice; position = position } ∷ []
 
+-- the warnings of what an export asks for; one that is left out asks for nothing
+abbrev pub asked_warnings : RequestView → List ExportView → Bool → Position → ExportView → List WarningView
+asked_warnings request exports true position e = []
+asked_warnings request exports false position e =
+    warned (stdcall_notice request.machine request.naming e) position
+    ++ warned (target_notice request.flavor e (first_of_word e.alias_target exports)) position
+
 -- the warnings of an export at its position, by its index
 abbrev pub warnings_of_export : RequestView → List ExportView → ℕ → Position → ExportView → List WarningView
 warnings_of_export request exports index position e =
-    warned (repeat_notice (word_of e) (first_of_word (word_of e) exports) index) position
+    warned (repeat_notice e (first_declared (word_of e) exports) index) position
     ++ warned (ordinal_notice e.ordinal (first_of_ordinal e.ordinal exports) index) position
     ++ warned (lowered_notice (word_of e)) position
     ++ warned (ordinal_like_notice (word_of e)) position
-    ++ warned (stdcall_notice request.machine request.naming e) position
-    ++ warned (target_notice request.flavor e (first_of_word e.alias_target exports)) position
+    ++ asked_warnings request exports (is_some (repeat_notice e (first_declared (word_of e) exports) index)) position e
 
 -- the warnings of the export of an index, if there is one
 abbrev pub if_export : RequestView → List ExportView → ℕ → Position → Option ExportView → List WarningView
@@ -255,11 +270,11 @@ warnings_of request exports places count =
 abbrev pub warnings_for : RequestView → List ExportView → List Place → ℕ → List WarningView
 warnings_for request exports places count = if request.is_verbose then warnings_of request exports places count else []
 
--- An export is said to repeat a word, or an ordinal, just where an export before it has the word, or the ordinal,
--- which is not 0.
+-- An export is said to repeat a word just where it is left out for one before it that declares the word; and to
+-- repeat an ordinal just where an export before it has the ordinal, which is not 0.
 pub record RepeatsStandBefore : Type 0 where
-  pub words : (word : List ℕ) (exports : List ExportView) (index : ℕ) →
-      is_some (repeat_notice word (first_of_word word exports) index) ≡ list_any (λ e. bytes_eq word (word_of e)) (take index exports)
+  pub words : (e : ExportView) (exports : List ExportView) (index : ℕ) →
+      is_some (repeat_notice e (first_declared (word_of e) exports) index) ≡ repeats (take index exports) e
   pub ordinals : (ordinal : ℕ) (exports : List ExportView) (index : ℕ) →
       is_some (ordinal_notice ordinal (first_of_ordinal ordinal exports) index)
       ≡ (not (ordinal == 0) && list_any (λ e. nat_eq ordinal e.ordinal) (take index exports))

@@ -84,7 +84,8 @@ pub record PlacesWorked : Type 0 where
 abbrev pub ordinary : List ℕ → ℕ → ExportView
 ordinary word ordinal = record empty_export { name = word; ordinal = ordinal }
 
--- exports with something to warn of each, but for the first
+-- Exports with something to warn of each, but for the first. What is left out asks for nothing, and what is private
+-- declares nothing.
 abbrev pub doubtful : List ExportView
 doubtful =
     ordinary (codes "f") 5
@@ -96,6 +97,10 @@ doubtful =
     ∷ ordinary (codes "@70000") 0
     ∷ record empty_export { name = codes "G@8"; private = true }
     ∷ record empty_export { name = codes "H@8"; no_name = true; ordinal = 9 }
+    ∷ record empty_export { name = codes "a"; alias_target = codes "y" }
+    ∷ ordinary (codes "F@8") 0
+    ∷ ordinary (codes "G@8") 0
+    ∷ record empty_export { name = codes "G@8"; private = true }
     ∷ []
 
 -- where they are, with an attribute that opens a line behind the second, and a second heading
@@ -112,6 +117,10 @@ doubtful_places =
     ∷ place site.Export (at_line 70 9 1)
     ∷ place site.Export (at_line 80 10 1)
     ∷ place site.Export (at_line 90 11 1)
+    ∷ place site.Export (at_line 100 12 1)
+    ∷ place site.Export (at_line 110 13 1)
+    ∷ place site.Export (at_line 120 14 1)
+    ∷ place site.Export (at_line 130 15 1)
     ∷ []
 
 -- a library for Microsoft's linker on I386
@@ -142,6 +151,9 @@ pub record WarningsWorked : Type 0 where
       ∷ warning (IsLowered (codes "data") Data) (at_line 40 6 1)
       ∷ warning (IsNotExported (codes "b")) (at_line 50 7 1)
       ∷ warning (IsOrdinalLike (codes "@70000")) (at_line 70 9 1)
+      ∷ warning (IsRepeated (codes "a") 4) (at_line 100 12 1)
+      ∷ warning (IsRepeated (codes "F@8") 1) (at_line 110 13 1)
+      ∷ warning (IsStdcall (codes "G@8")) (at_line 120 14 1)
       ∷ []
   pub killed : warnings_for (asked true true (Some (codes "z.dll"))) doubtful doubtful_places 65534
       ≡ warning (OpensLine Constant (codes "F@8")) (at_line 14 3 1)
@@ -150,6 +162,8 @@ pub record WarningsWorked : Type 0 where
       ∷ warning (IsLowered (codes "data") Data) (at_line 40 6 1)
       ∷ warning (IsNotExported (codes "b")) (at_line 50 7 1)
       ∷ warning (IsOrdinalLike (codes "@70000")) (at_line 70 9 1)
+      ∷ warning (IsRepeated (codes "a") 4) (at_line 100 12 1)
+      ∷ warning (IsRepeated (codes "F@8") 1) (at_line 110 13 1)
       ∷ []
   pub silent : warnings_for (asked false false None) doubtful doubtful_places 65535 ≡ []
   pub none : warnings_for (asked false true None) [] [] 3 ≡ warning HasNoExport (at_line 0 1 1) ∷ []

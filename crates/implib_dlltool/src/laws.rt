@@ -6,9 +6,12 @@ ghost use Rattle.implib.specs.Members.NameRules.{name_refusal};
 ghost use Rattle.implib.specs.declared.flavor.Flavor.TheVariants.{Msvc};
 ghost use Rattle.implib.specs.declared.machine.MachineType.{MachineType};
 ghost use Rattle.implib_dlltool.specs.Linked.{AsksAsLinked, NamingView, target_import};
+ghost use Rattle.implib_dlltool.specs.LibraryLaws.{GnuLibrariesAreApart, MsvcLibrariesAreFound};
 ghost use Rattle.implib_dlltool.specs.Places.{AreAtWords};
+ghost use Rattle.implib_dlltool.specs.Repeats.{AreLeftOut, SymbolsAreOfWords};
 ghost use Rattle.implib_dlltool.specs.Warnings.{AreInOrder, RepeatsStandBefore};
 ghost use Rattle.implib_dlltool.specs.Worked.{CallsRead};
+ghost use Rattle.implib_dlltool.specs.WorkedLibraryNames.{LibrariesWorked};
 ghost use Rattle.implib_dlltool.specs.WorkedNames.{AliasesLinked, CallsAnswered, DllsNamed};
 ghost use Rattle.implib_dlltool.specs.WorkedNames.{ExportsLinked, MembersInOrder};
 ghost use Rattle.implib_dlltool.specs.WorkedOptions.{OptionsNamed};
@@ -40,6 +43,33 @@ pub fn exports_linked()
 /// not.
 pub fn asks_as_linked()
     ensures { AsksAsLinked }
+{}
+
+/// Two exports have one symbol only where they have one word.
+pub fn symbols_are_of_words()
+    ensures { SymbolsAreOfWords }
+{}
+
+/// Of the exports of one word the first that is not private stays, and later ones are left out.
+pub fn repeats_are_left_out()
+    ensures { AreLeftOut }
+{}
+
+/// The library of a text for Microsoft's linker is one that GNU `ld` finds, whatever the ending of
+/// the DLL's name.
+pub fn msvc_libraries_are_found()
+    ensures { MsvcLibrariesAreFound }
+{}
+
+/// Two libraries of one DLL for GNU's linker are kept apart where they have different names: the
+/// names of the members of neither begin with what those of the other do.
+pub fn gnu_libraries_are_apart()
+    ensures { GnuLibrariesAreApart }
+{}
+
+/// Libraries have the names that were worked by hand, and those exports are left out.
+pub fn libraries_worked()
+    ensures { LibrariesWorked }
 {}
 
 /// Exports with `==` are in Microsoft's flavour the aliases and imports that were worked by hand,

@@ -13,9 +13,11 @@ ghost use Rattle.std.specs.Prelude.{◌≡◌, IfErr, IfOk, MatchOption, None, O
 ghost use Rattle.std.specs.Str.{IsUtf8};
 
 use crate::aliases::link_with_targets;
+use crate::library_name::library_name_for;
 use crate::name::{dll_name, gets_ending, is_program, lacks_name};
 use crate::order::in_order;
 use crate::places::position_of_fault;
+use crate::repeats::leave_out_repeats;
 use crate::request::Request;
 use implib::def::{ModuleDef, Position};
 use implib::{Error, Fault, Flavor, ImportLibrary, MachineType, Member, ParseError};
@@ -140,8 +142,9 @@ pub fn text_in(bytes: &[u8]) -> Option<&str>
     str::from_utf8(without_mark(bytes)).ok()
 }
 
-/// The definition that a text means for a DLL of the name that is given, or of its own, with each
-/// export as it is linked on the machine.
+/// The definition that a text means for a DLL of the name that is given, or of its own: of the
+/// exports of one word the first alone, each as it is linked on the machine, and with the name of
+/// its library for the linker.
 ///
 /// # Errors
 ///
@@ -160,6 +163,7 @@ pub fn definition_for(alloc: Global, text: &str, request: &Request) -> Result<Mo
     // The headings of the text are looked for only where the ending depends on them.
     let is_program = gets_ending(request.dll, own) && is_program(text);
     def.import_name = dll_name(alloc, request.dll, own, is_program)?;
+    leave_out_repeats(alloc, &mut def.exports)?;
     link_with_targets(
         alloc,
         request.machine,
@@ -167,6 +171,7 @@ pub fn definition_for(alloc: Global, text: &str, request: &Request) -> Result<Mo
         request.flavor,
         &mut def.exports,
     )?;
+    def.library_name = library_name_for(alloc, request.flavor, &def)?;
     Ok(def)
 }
 

@@ -2,14 +2,15 @@
 //!
 //! What the words of the command line ask for, which name the DLL has, and which bytes a library
 //! has, or why there is none, are decided by functions with contracts ([`arguments`], [`request`],
-//! [`name`], [`linked`], [`aliases`], [`order`], [`library`]). What then is read and written are
-//! files ([`output`], [`program`]).
+//! [`name`], [`repeats`], [`linked`], [`aliases`], [`library_name`], [`order`], [`library`]). What then
+//! is read and written are files ([`output`], [`program`]).
 #![tactic(auto)]
 
 pub mod aliases;
 pub mod arguments;
 pub mod laws;
 pub mod library;
+pub mod library_name;
 pub mod linked;
 mod message;
 pub mod name;
@@ -18,6 +19,7 @@ pub mod order;
 mod output;
 mod places;
 pub mod program;
+pub mod repeats;
 pub mod request;
 pub mod warnings;
 

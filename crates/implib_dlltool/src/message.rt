@@ -64,6 +64,10 @@ impl<'a> fmt::Display for Told<'a> {
             Fault::LoneAt => f.write_str("expected a name behind `=`, not `@`"),
             Fault::EmptyImportName => f.write_str("the name of the DLL is empty"),
             Fault::NulInImportName => f.write_str("the name of the DLL has a null byte"),
+            // The library's name is made of the DLL's.
+            Fault::EmptyLibraryName => f.write_str("the name of the library is empty"),
+            Fault::NulInLibraryName => f.write_str("the name of the library has a null byte"),
+            Fault::LineEndInLibraryName => f.write_str("the name of the DLL has a line feed"),
             Fault::EmptyName(_) => f.write_str("the name of the export is empty"),
             Fault::NulInExport(_) => f.write_str("a name of the export has a null byte"),
             Fault::EmptyAskedName(_) => {

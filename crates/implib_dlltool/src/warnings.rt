@@ -1,9 +1,10 @@
 //! What the program warns of in a definition.
 
-ghost use Rattle.implib.specs.Definition.{export_view};
+ghost use Rattle.implib.specs.Definition.{ExportView, export_view};
 ghost use Rattle.implib_dlltool.specs.Linked.{naming_view};
 ghost use Rattle.implib_dlltool.specs.Request.{request_view};
-ghost use Rattle.implib_dlltool.specs.Warnings.{AreFirstOrdinals, AreFirstWords, earlier};
+ghost use Rattle.implib_dlltool.specs.Warnings.{AreFirstDeclared, AreFirstOrdinals, AreFirstWords};
+ghost use Rattle.implib_dlltool.specs.Warnings.{asked_warnings, earlier};
 ghost use Rattle.implib_dlltool.specs.Warnings.{export_notices, heading_notice, is_asked_by_word};
 ghost use Rattle.implib_dlltool.specs.Warnings.{index_after, lowered_notice, notice_view};
 ghost use Rattle.implib_dlltool.specs.Warnings.{ordinal_like_notice, ordinal_notice};
@@ -12,7 +13,7 @@ ghost use Rattle.implib_dlltool.specs.Warnings.{repeat_notice, stdcall_notice, t
 ghost use Rattle.implib_dlltool.specs.Warnings.{warned, warning_view, warnings_at, warnings_for};
 ghost use Rattle.implib_dlltool.specs.Warnings.{warnings_of, word_before};
 ghost use Rattle.std.specs.Option.{option_map};
-ghost use Rattle.std.specs.Prelude.{◌≡◌, ◌++◌, ◌-◌, ◌<◌, ◌^◌, IfOk, OnOk, map};
+ghost use Rattle.std.specs.Prelude.{◌≡◌, ◌++◌, ◌-◌, ◌<◌, ◌^◌, IfOk, List, OnOk, map};
 
 pub mod firsts;
 pub mod words;
@@ -20,7 +21,7 @@ pub mod words;
 use crate::linked::{Naming, word_of};
 use crate::places::{Place, Site};
 use crate::request::Request;
-use crate::warnings::firsts::{first_ordinals, first_words};
+use crate::warnings::firsts::{first_declared, first_ordinals, first_words};
 use crate::warnings::words::{Attribute, is_ordinal_like, is_stdcall_word, lowered_attribute};
 use implib::def::{Position, ShortExport};
 use implib::{Flavor, MachineType};
@@ -35,7 +36,7 @@ pub enum Notice<'a> {
     NoExport,
     /// There are too many members for an archive of Microsoft's kind.
     OtherKind,
-    /// The export of this index has the same word.
+    /// The export of this index has the same word, so this one is left out.
     Repeated(&'a str, usize),
     /// The export of this index has the same ordinal.
     RepeatedOrdinal(u16, usize),
@@ -79,12 +80,20 @@ fn earlier(first: Option<usize>, index: usize) -> Option<usize>
     }
 }
 
-// That an export has the word of an earlier one; `first` is the first of its word.
-fn repeat_notice<'a>(word: &'a str, first: Option<usize>, index: usize) -> Option<Notice<'a>>
-    ensures { option_map notice_view result ≡ repeat_notice word.now first index }
+// That an export has the word of an earlier one, and is left out; `first` is the first of its word
+// that is not private.
+fn repeat_notice<'a>(
+    export: &'a ShortExport,
+    first: Option<usize>,
+    index: usize,
+) -> Option<Notice<'a>>
+    ensures { option_map notice_view result ≡ repeat_notice (export_view export.now) first index }
 {
+    if export.private {
+        return None;
+    }
     match earlier(first, index) {
-        Some(first) => Some(Notice::Repeated(word, first)),
+        Some(first) => Some(Notice::Repeated(word_of(export), first)),
         None => None,
     }
 }
@@ -218,36 +227,23 @@ fn push_notice<'a>(
     Ok(())
 }
 
-// Appends the warnings of an export by its index.
-fn push_export<'a>(
+// Appends the warnings of what an export asks for, unless it is left out.
+fn push_asked<'a>(
     warnings: &mut Vec<Warning<'a>>,
     words: &HashMap<&'a str, usize>,
-    ordinals: &HashMap<u16, usize>,
-    exports: &'a [ShortExport],
+    export: &'a ShortExport,
     request: &Request<'_>,
-    index: usize,
+    is_left_out: bool,
     position: Position,
 ) -> Result<(), AllocError>
-    requires words { AreFirstWords words.now (map export_view exports.now) }
-    requires ordinals { AreFirstOrdinals ordinals.now (map export_view exports.now) }
-    ensures { OnOk result (map warning_view warnings.new.items
-        ≡ map warning_view warnings.old.items
-        ++ export_notices (request_view request.now) (map export_view exports.now) index position) }
+    ensures { (exports : List ExportView) → AreFirstWords words.now exports →
+        OnOk result (map warning_view warnings.new.items ≡ map warning_view warnings.old.items
+        ++ asked_warnings (request_view request.now) exports is_left_out position
+        (export_view export.now)) }
 {
-    let Some(export) = exports.get(index) else {
+    if is_left_out {
         return Ok(());
-    };
-    let word = word_of(export);
-    let first = words.get(word).copied();
-    push_notice(warnings, repeat_notice(word, first, index), position)?;
-    let first = ordinals.get(&export.ordinal).copied();
-    push_notice(
-        warnings,
-        ordinal_notice(export.ordinal, first, index),
-        position,
-    )?;
-    push_notice(warnings, lowered_notice(word), position)?;
-    push_notice(warnings, ordinal_like_notice(word), position)?;
+    }
     push_notice(
         warnings,
         stdcall_notice(request.machine, request.naming, export),
@@ -257,6 +253,49 @@ fn push_export<'a>(
     push_notice(
         warnings,
         target_notice(request.flavor, export, first),
+        position,
+    )
+}
+
+// Appends the warnings of an export by its index.
+fn push_export<'a>(
+    warnings: &mut Vec<Warning<'a>>,
+    words: &HashMap<&'a str, usize>,
+    declared: &HashMap<&'a str, usize>,
+    ordinals: &HashMap<u16, usize>,
+    exports: &'a [ShortExport],
+    request: &Request<'_>,
+    index: usize,
+    position: Position,
+) -> Result<(), AllocError>
+    requires words { AreFirstWords words.now (map export_view exports.now) }
+    requires declared { AreFirstDeclared declared.now (map export_view exports.now) }
+    requires ordinals { AreFirstOrdinals ordinals.now (map export_view exports.now) }
+    ensures { OnOk result (map warning_view warnings.new.items
+        ≡ map warning_view warnings.old.items
+        ++ export_notices (request_view request.now) (map export_view exports.now) index position) }
+{
+    let Some(export) = exports.get(index) else {
+        return Ok(());
+    };
+    let word = word_of(export);
+    let first = declared.get(word).copied();
+    let repeated = repeat_notice(export, first, index);
+    push_notice(warnings, repeated, position)?;
+    let first = ordinals.get(&export.ordinal).copied();
+    push_notice(
+        warnings,
+        ordinal_notice(export.ordinal, first, index),
+        position,
+    )?;
+    push_notice(warnings, lowered_notice(word), position)?;
+    push_notice(warnings, ordinal_like_notice(word), position)?;
+    push_asked(
+        warnings,
+        words,
+        export,
+        request,
+        repeated.is_some(),
         position,
     )?;
     Ok(())
@@ -279,6 +318,7 @@ fn word_before(exports: &[ShortExport], index: usize) -> &str
 fn push_place<'a>(
     warnings: &mut Vec<Warning<'a>>,
     words: &HashMap<&'a str, usize>,
+    declared: &HashMap<&'a str, usize>,
     ordinals: &HashMap<u16, usize>,
     exports: &'a [ShortExport],
     request: &Request<'_>,
@@ -286,6 +326,7 @@ fn push_place<'a>(
     place: Place,
 ) -> Result<(), AllocError>
     requires words { AreFirstWords words.now (map export_view exports.now) }
+    requires declared { AreFirstDeclared declared.now (map export_view exports.now) }
     requires ordinals { AreFirstOrdinals ordinals.now (map export_view exports.now) }
     ensures { OnOk result (map warning_view warnings.new.items
         ≡ map warning_view warnings.old.items
@@ -295,6 +336,7 @@ fn push_place<'a>(
         Site::Export => push_export(
             warnings,
             words,
+            declared,
             ordinals,
             exports,
             request,
@@ -332,6 +374,7 @@ fn warnings_of<'a>(
         ≡ warnings_of (request_view request.now) (map export_view exports.now) places.now count) }
 {
     let words = first_words(alloc, exports)?;
+    let declared = first_declared(alloc, exports)?;
     let ordinals = first_ordinals(alloc, exports)?;
     let mut warnings = Vec::new(alloc);
     push_notice(&mut warnings, no_export_notice(exports), WHOLE)?;
@@ -345,6 +388,7 @@ fn warnings_of<'a>(
         push_place(
             &mut warnings,
             &words,
+            &declared,
             &ordinals,
             exports,
             request,
@@ -417,7 +461,10 @@ impl<'a> fmt::Display for Told<'a> {
             ),
             Notice::Repeated(word, first) => {
                 let line = self.1.get(first).copied().unwrap_or(0);
-                write!(f, "`{word}` is exported twice, first in line {line}")
+                write!(
+                    f,
+                    "`{word}` is exported twice, first in line {line}; this one is left out",
+                )
             }
             Notice::RepeatedOrdinal(ordinal, first) => {
                 let line = self.1.get(first).copied().unwrap_or(0);

@@ -189,6 +189,91 @@ fn aliases_are_weak_externals(rt: HostRuntime) -> Result<(), Fail> {
     Ok(())
 }
 
+// Two libraries of one DLL for GNU's linker are told apart by what they import: the digits are those of
+// md5sum of `ExitProcess`, three null bytes, two more for the ordinal and `--`, and the same of the
+// other name.
+#[test]
+fn libraries_of_one_dll_have_names(rt: HostRuntime) -> Result<(), Fail> {
+    let file = env::temp_dir(&rt)?.join(rt.alloc(), "implib_dlltool_names.a")?;
+    let words = ["-d", "-", "-m", "i386:x86-64", "-l", file.as_str()];
+    for (text, names) in [
+        (
+            "LIBRARY kernel32.dll\nEXPORTS\n ExitProcess\n GetStdHandle\n",
+            "kernel32_dll_abc2aeefe38647de_iname\0_head_kernel32_dll_abc2aeefe38647de\0",
+        ),
+        (
+            "LIBRARY kernel32.dll\nEXPORTS\n ExitProcess\n WriteFile\n Beep PRIVATE\n",
+            "kernel32_dll_16834b715b4ee572_iname\0_head_kernel32_dll_16834b715b4ee572\0",
+        ),
+    ] {
+        let (got, wrote) = ran(&rt, words.as_slice(), text.as_bytes())?;
+        assert_eq!(rt; wrote.as_str(), "");
+        assert_eq!(rt; got, 0);
+        let library = fs::read(&rt, file.as_path())?;
+        assert!(rt;
+            library.as_slice()[96..].starts_with(names.as_bytes()),
+            "{text}"
+        );
+    }
+    fs::remove_file(&rt, file.as_path())?;
+    Ok(())
+}
+
+// The status and the library of a definition in a flavour.
+fn library_of(rt: &HostRuntime, flavor: &str, text: &[u8]) -> Result<(u8, Vec<u8>), Fail> {
+    let file = env::temp_dir(rt)?.join(rt.alloc(), "implib_dlltool_repeats.a")?;
+    let words = [
+        "-d",
+        "-",
+        "-m",
+        "arm64",
+        "--flavor",
+        flavor,
+        "-l",
+        file.as_str(),
+    ];
+    let (got, _) = ran(rt, words.as_slice(), text)?;
+    let library = fs::read(rt, file.as_path())?;
+    fs::remove_file(rt, file.as_path())?;
+    Ok((got, library))
+}
+
+// In both flavours the first export of a word stays, and later ones are left out.
+#[test]
+fn repeats_are_left_out(rt: HostRuntime) -> Result<(), Fail> {
+    for flavor in ["msvc", "gnu"] {
+        let (first, repeated) = library_of(
+            &rt,
+            flavor,
+            b"LIBRARY zoo\nEXPORTS\n two\n two DATA\n hypot\n hypot == _hypot\n g PRIVATE\n g @3\n",
+        )?;
+        let (second, once) = library_of(
+            &rt,
+            flavor,
+            b"LIBRARY zoo\nEXPORTS\n two\n hypot\n g @3\n",
+        )?;
+        assert_eq!(rt; first, 0);
+        assert_eq!(rt; second, 0);
+        assert!(rt; repeated.as_slice() == once.as_slice());
+    }
+    Ok(())
+}
+
+// A library's name is made of the DLL's, and a line feed in it is refused.
+#[test]
+fn line_feeds_in_names_are_refused(rt: HostRuntime) -> Result<(), Fail> {
+    for flavor in ["msvc", "gnu"] {
+        let words = ["-d", "-", "-D", "a\nb.dll", "--flavor", flavor];
+        let (got, wrote) = ran(&rt, words.as_slice(), b"LIBRARY zoo\nEXPORTS a\n")?;
+        assert_eq!(rt;
+            wrote.as_str(),
+            "-:1:1: the name of the DLL has a line feed\n"
+        );
+        assert_eq!(rt; got, 1);
+    }
+    Ok(())
+}
+
 // A library is written beside its file, and the file is then the library; a directory is refused.
 #[test]
 fn libraries_are_written(rt: HostRuntime) -> Result<(), Fail> {
@@ -235,8 +320,8 @@ fn warnings_are_told(rt: HostRuntime) -> Result<(), Fail> {
         (
             amd64,
             "LIBRARY zoo\nEXPORTS\n f\n g = f\n f @2\n\tf DATA\n",
-            "-:5:2: warning: `f` is exported twice, first in line 3\n\
-             -:6:2: warning: `f` is exported twice, first in line 3\n",
+            "-:5:2: warning: `f` is exported twice, first in line 3; this one is left out\n\
+             -:6:2: warning: `f` is exported twice, first in line 3; this one is left out\n",
         ),
         (
             amd64,
@@ -284,7 +369,7 @@ fn warnings_are_told(rt: HostRuntime) -> Result<(), Fail> {
             amd64,
             "LIBRARY zoo\nEXPORTS a\nNAME zoo\nEXPORTS a\nLIBRARY zoo",
             "-:3:1: warning: the name of the DLL is given twice; the last counts\n\
-             -:4:9: warning: `a` is exported twice, first in line 2\n\
+             -:4:9: warning: `a` is exported twice, first in line 2; this one is left out\n\
              -:5:1: warning: the name of the DLL is given twice; the last counts\n",
         ),
         (named, "LIBRARY zoo\nEXPORTS a\nNAME zoo\n", ""),
@@ -308,7 +393,7 @@ fn warnings_come_before_refusals(rt: HostRuntime) -> Result<(), Fail> {
     for (text, said) in [
         (
             "LIBRARY zoo\nEXPORTS a\n a\n \"\"\n",
-            "-:3:2: warning: `a` is exported twice, first in line 2\n\
+            "-:3:2: warning: `a` is exported twice, first in line 2; this one is left out\n\
              -:4:3: the name of the export is empty\n",
         ),
         (

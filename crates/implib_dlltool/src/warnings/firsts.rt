@@ -1,7 +1,7 @@
 //! The first export of each word and of each ordinal.
 
 ghost use Rattle.implib.specs.Definition.{export_view};
-ghost use Rattle.implib_dlltool.specs.Warnings.{AreFirstOrdinals, AreFirstWords};
+ghost use Rattle.implib_dlltool.specs.Warnings.{AreFirstDeclared, AreFirstOrdinals, AreFirstWords};
 ghost use Rattle.std.specs.HashMap.{get, get_by};
 ghost use Rattle.std.specs.Option.{option_or};
 ghost use Rattle.std.specs.Prelude.{◌≡◌, ℕ, IfOk, List, None, OnOk, Some, if◌then◌else◌, map};
@@ -61,6 +61,26 @@ pub fn first_words<'a>(
     let mut firsts = HashMap::new(alloc);
     for (index, export) in exports.iter().enumerate() {
         note_word(&mut firsts, word_of(export), index)?;
+    }
+    Ok(firsts)
+}
+
+/// The index of the first export of each word that is not private: of the one that declares it.
+///
+/// # Errors
+///
+/// An allocation failed.
+pub fn first_declared<'a>(
+    alloc: Global,
+    exports: &'a [ShortExport],
+) -> Result<HashMap<&'a str, usize>, AllocError>
+    ensures { IfOk result (λ firsts. AreFirstDeclared firsts (map export_view exports.now)) }
+{
+    let mut firsts = HashMap::new(alloc);
+    for (index, export) in exports.iter().enumerate() {
+        if !export.private {
+            note_word(&mut firsts, word_of(export), index)?;
+        }
     }
     Ok(firsts)
 }

@@ -1,11 +1,12 @@
-use Rattle.std.proofs.Common.{◌≡◌, ◌∙◌, ◌++◌, Some, None, ap, append-nil, length, map, refl, sym}
+use Rattle.std.proofs.Common.{◌≡◌, ◌∙◌, ◌++◌, Bool, Some, None, ap, append-nil, is_some, length, map, refl, sym}
 use Rattle.std.specs.Option.{option_map}
 use Rattle.std.specs.Prelude.{slice_get}
 use Rattle.std.proofs.lemmas.Option.{slice_get-map, slice_get_past, slice_get_read}
 use Rattle.implib.specs.Definition.{export_view}
 use Rattle.implib_dlltool.specs.Linked.{word_of}
 use Rattle.implib_dlltool.specs.Request.{request_view}
-use Rattle.implib_dlltool.specs.Warnings.{first_of_ordinal, first_of_word, if_export, lowered_notice, ordinal_like_notice, ordinal_notice, repeat_notice, target_notice, warning_view}
+use Rattle.implib_dlltool.specs.Warnings.{asked_warnings, first_declared, first_of_ordinal, if_export, lowered_notice, notice_view, ordinal_like_notice, ordinal_notice, repeat_notice, warning_view}
+use Rattle.implib_dlltool.proofs.Firsts.{is_some-map}
 use Rattle.implib_dlltool.proofs.Warned.{said_as, said_then}
 use Rattle.implib_dlltool.proofs.warnings.push_export.Goals as goal
 
@@ -30,21 +31,19 @@ returns c =
     slice_get-map export_view c.args.exports.now index
     ∙ ap (option_map export_view) (slice_get_read c.args.exports.now (length c.args.exports.now) index c.in-Some.export.now refl look.3.0 look.1) in
     let word : c.word_of-word.result.now ≡ word_of e = c.word_of-word.ensures in
-    let first : c.copied-first.result ≡ first_of_word (word_of e) exports =
-    c.copied-first.ensures ∙ c.get-2.ensures.value ∙ c.requires.words c.word_of-word.result.now ∙ ap (λ w. first_of_word w exports) word in
+    let first : c.copied-first.result ≡ first_declared (word_of e) exports =
+    c.copied-first.ensures ∙ c.get-2.ensures.value ∙ c.requires.declared c.word_of-word.result.now ∙ ap (λ w. first_declared w exports) word in
     let second : c.copied-first-2.result ≡ first_of_ordinal e.ordinal exports =
     c.copied-first-2.ensures ∙ c.get-3.ensures.value ∙ c.requires.ordinals e.ordinal in
-    let third : c.copied-first-3.result ≡ first_of_word e.alias_target exports =
-    c.copied-first-3.ensures ∙ c.get-4.ensures.value ∙ c.requires.words c.as_str.result.now ∙ ap (λ w. first_of_word w exports) c.as_str.ensures.value in
-    let repeated =
-    c.repeat_notice.ensures ∙ ap (λ f. repeat_notice c.word_of-word.result.now f index) first
-    ∙ ap (λ w. repeat_notice w (first_of_word (word_of e) exports) index) word in
+    let repeated = c.repeat_notice-repeated.ensures ∙ ap (λ f. repeat_notice e f index) first in
+    let left_out = c.is_some.ensures ∙ sym (is_some-map notice_view c.repeat_notice-repeated.result) ∙ ap is_some repeated in
     let ordinal = c.ordinal_notice.ensures ∙ ap (λ f. ordinal_notice e.ordinal f index) second in
     let lowered = c.lowered_notice.ensures ∙ ap lowered_notice word in
     let like = c.ordinal_like_notice.ensures ∙ ap ordinal_like_notice word in
-    let target = c.target_notice.ensures ∙ ap (target_notice request.flavor e) third in
+    let asked =
+    c.in_ok-push_asked.ensures exports c.requires.words
+    ∙ ap (λ (b : Bool). map warning_view c.push_notice-4.new.warnings.items ++ asked_warnings request exports b c.args.position e) left_out in
     said_then _ _ _ _ _
-    (said_then _ _ _ _ _
     (said_then _ _ _ _ _
     (said_then _ _ _ _ _
     (said_then _ _ _ _ _
@@ -52,6 +51,5 @@ returns c =
     (said_as _ _ _ _ c.args.position ordinal c.in_ok-push_notice-2.ensures))
     (said_as _ _ _ _ c.args.position lowered c.in_ok-push_notice-3.ensures))
     (said_as _ _ _ _ c.args.position like c.in_ok-push_notice-4.ensures))
-    (said_as _ _ _ _ c.args.position c.stdcall_notice.ensures c.in_ok-push_notice-5.ensures))
-    (said_as _ _ _ _ c.args.position target c.in_ok-push_notice-6.ensures)
+    asked
     ∙ ap (λ o. old ++ if_export request exports index c.args.position o) (sym found)
