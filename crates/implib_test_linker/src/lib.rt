@@ -136,12 +136,18 @@ fn place<'a>(
     let mut image = Image::new(alloc, bases)?;
     let mut objects = Vec::new(alloc);
     let mut machine = 0;
-    for (name, object) in files {
+    for (name, mut object) in files {
         if machine != 0 && machine != object.machine {
             return Err(Fail::new("objects are for two machines"));
         }
         machine = object.machine;
-        objects.push(place_object(alloc, &mut image, name, object)?)?;
+        object.settle(alloc)?;
+        let addresses = place_sections(alloc, &mut image, object.sections.as_slice())?;
+        objects.push(Placed {
+            name,
+            object,
+            addresses,
+        })?;
     }
     Ok(Linked {
         machine,
@@ -151,23 +157,17 @@ fn place<'a>(
     })
 }
 
-/// Places the sections of an object behind those of others.
-fn place_object<'a>(
+/// Places sections behind others, and gives the addresses of those that are placed.
+fn place_sections(
     alloc: Global,
     image: &mut Image,
-    name: &'a str,
-    mut object: Object<'a>,
-) -> Result<Placed<'a>, Fail> {
-    object.settle(alloc)?;
+    sections: &[Section],
+) -> Result<Vec<Option<usize>>, Fail> {
     let mut addresses = Vec::new(alloc);
-    for section in object.sections.iter() {
+    for section in sections {
         addresses.push(image.place(section)?)?;
     }
-    Ok(Placed {
-        name,
-        object,
-        addresses,
-    })
+    Ok(addresses)
 }
 
 /// The same with the end of the import directory.
@@ -505,12 +505,14 @@ fn show_import(text: &mut String, import: &Import) -> Result<(), AllocError> {
 
 /// Appends the addresses in a descriptor.
 fn show_descriptor(text: &mut String, descriptor: &Descriptor) -> Result<(), AllocError> {
-    let dll = descriptor.dll;
-    let name = descriptor.name;
-    let lookups = descriptor.lookups;
-    let addresses = descriptor.addresses;
-    writeln!(
-        text,
-        "{dll}: name {name:#x}, lookups {lookups:#x}, addresses {addresses:#x}"
-    )
+    text.push_str(descriptor.dll)?;
+    show_address(text, ": name ", descriptor.name)?;
+    show_address(text, ", lookups ", descriptor.lookups)?;
+    show_address(text, ", addresses ", descriptor.addresses)?;
+    text.push('\n')
+}
+
+/// Appends words and an address.
+fn show_address(text: &mut String, words: &str, address: usize) -> Result<(), AllocError> {
+    write!(text, "{words}{address:#x}")
 }
