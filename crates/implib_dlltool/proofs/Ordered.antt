@@ -7,7 +7,7 @@ use Rattle.implib.specs.declared.machine.MachineType.{MachineType}
 use Rattle.implib.specs.declared.flavor.Flavor.TheVariants.{Msvc}
 use Rattle.implib.specs.Definition.{DefinitionView, ExportView}
 use Rattle.implib.specs.Import.{imp_symbol}
-use Rattle.implib.specs.LibraryName.{NamesOfDll, names_in}
+use Rattle.implib.specs.LibraryName.{NamesOfDll, names_for}
 use Rattle.implib.specs.Members.Members.{member_specs}
 use Rattle.implib.specs.Members.MemberSpec.{MemberSpec, MemberView, member_of}
 use Rattle.implib.specs.Members.Msvc.{short_import_symbol}
@@ -217,4 +217,4 @@ module _ (machine : MachineType) (dll : NamesOfDll) where
 pub plain_order : (machine : MachineType) (d : DefinitionView) → has_alias d.exports ≡ false
     → map member_of (member_specs d machine Msvc) ≡ map member_of (msvc_specs machine d)
 plain_order machine d none =
-    ap (λ t. map member_of (header_specs machine (names_in Msvc d) ++ t)) (in_order-plain machine (names_in Msvc d) d.exports none)
+    ap (λ t. map member_of (header_specs machine (names_for Msvc d) ++ t)) (in_order-plain machine (names_for Msvc d) d.exports none)

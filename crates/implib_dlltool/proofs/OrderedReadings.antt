@@ -9,7 +9,7 @@ use Rattle.implib.specs.declared.machine.MachineType.{MachineType}
 use Rattle.implib.specs.Definition.{DefinitionView, ExportView}
 use Rattle.implib.specs.Formats.File.{AnAlias, AnImport, Meaning, declared_by, dll_in, file_in, meaning_in}
 use Rattle.implib.specs.Import.{Alias, aliases_for, expected_import, imp_symbol, public_exports}
-use Rattle.implib.specs.LibraryName.{NamesOfDll, names_in}
+use Rattle.implib.specs.LibraryName.{NamesOfDll, names_for}
 use Rattle.implib.specs.Members.Members.{AreMembersOf, member_specs}
 use Rattle.implib.specs.Members.MemberSpec.{MemberSpec, MemberView, member_of}
 use Rattle.implib.specs.Members.Msvc.{short_import_symbol, symbol_or_name}
@@ -138,7 +138,7 @@ pub reads_in_order : (d : DefinitionView) (machine : MachineType) (all members :
     → AllByRecursion (λ e. e.symbol_name ≡ []) (public_exports d)
     → members ≡ map member_of (msvc_specs machine d) → ReadsInOrder d machine members
 reads_in_order d machine all members made reads once plain is =
-    let dll = names_in Msvc d in
+    let dll = names_for Msvc d in
     let exports = public_exports d in
     let header = header_specs machine dll in
     let each = flat_map (export_specs machine dll) exports in

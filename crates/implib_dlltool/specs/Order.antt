@@ -9,7 +9,7 @@ use Rattle.implib.specs.declared.machine.MachineType.{MachineType}
 use Rattle.implib.specs.Definition.{DefinitionView, ExportView}
 use Rattle.implib.specs.Formats.File.{AnAlias, AnImport, declared_by, dll_in, file_in, meaning_in}
 use Rattle.implib.specs.Import.{Alias, Import, aliases_for, expected_import, is_alias, public_exports}
-use Rattle.implib.specs.LibraryName.{NamesOfDll, names_in}
+use Rattle.implib.specs.LibraryName.{NamesOfDll, names_for}
 use Rattle.implib.specs.Members.Members.{member_specs}
 use Rattle.implib.specs.Members.MemberSpec.{MemberSpec, MemberView}
 use Rattle.implib.specs.Members.Msvc.{short_import_symbol}
@@ -43,9 +43,9 @@ alias_specs machine dll e = kept_of_alias e (weak_specs machine dll.linked e)
 -- last the weak externals in the order of theirs
 abbrev pub msvc_specs : MachineType → DefinitionView → List MemberSpec
 msvc_specs machine d =
-    header_specs machine (names_in Msvc d)
-    ++ (flat_map (import_specs machine (names_in Msvc d)) (public_exports d)
-    ++ flat_map (alias_specs machine (names_in Msvc d)) (public_exports d))
+    header_specs machine (names_for Msvc d)
+    ++ (flat_map (import_specs machine (names_for Msvc d)) (public_exports d)
+    ++ flat_map (alias_specs machine (names_for Msvc d)) (public_exports d))
 
 -- the members of a library
 abbrev pub library_specs : DefinitionView → MachineType → Flavor → List MemberSpec

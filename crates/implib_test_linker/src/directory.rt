@@ -50,13 +50,23 @@ impl Image {
     pub fn check_directory(&self, address: usize, is_32bit: bool) -> Result<usize, Flaw> {
         let mut count = 0usize;
         for bytes in self.bytes_from(address)?.chunks_exact(20) {
-            match self.descriptor(bytes)? {
-                Some(descriptor) => self.check_tables(&descriptor, is_32bit)?,
-                None => return Ok(count),
+            if !self.check_dll(bytes, is_32bit)? {
+                return Ok(count);
             }
             count = count.saturating_add(1);
         }
         Err("a directory has no end")
+    }
+
+    /// Whether bytes are a descriptor, whose tables are right, and not the null descriptor.
+    fn check_dll(&self, bytes: &[u8], is_32bit: bool) -> Result<bool, Flaw> {
+        match self.descriptor(bytes)? {
+            Some(descriptor) => {
+                self.check_tables(&descriptor, is_32bit)?;
+                Ok(true)
+            }
+            None => Ok(false),
+        }
     }
 
     /// The descriptor in bytes, or none where it is the null descriptor. It is bound to nothing,

@@ -115,16 +115,17 @@ fn image_relative(machine: u16) -> Result<u16, Flaw> {
 impl Expansion {
     /// The object.
     pub fn object(&self, alloc: Global) -> Result<Object<'_>, Fail> {
+        let sections = self.sections(alloc)?;
+        Ok(Object::new(self.machine, sections, self.symbols(alloc)?))
+    }
+
+    /// The sections: the stub, both tables, and the hint and the name.
+    fn sections(&self, alloc: Global) -> Result<Vec<Section<'_>>, Fail> {
         let mut sections = Vec::new(alloc);
         sections.push(self.code(alloc)?)?;
         sections.push(self.table(alloc, ".idata$5")?)?;
         sections.push(self.table(alloc, ".idata$4")?)?;
-        let mut symbols = Vec::new(alloc);
-        symbols.push(Some(Symbol::new(self.descriptor.as_str(), 0, 2)))?;
-        symbols.push(Some(Symbol::new(".text", 1, 3)))?;
-        symbols.push(Some(Symbol::new(self.entry.as_str(), 2, 2)))?;
         if let Some(hint_name) = &self.hint_name {
-            symbols.push(Some(Symbol::new(".idata$6", 4, 3)))?;
             sections.push(Section {
                 name: ".idata$6",
                 flags: 0xC020_0040,
@@ -132,12 +133,25 @@ impl Expansion {
                 relocations: Vec::new(alloc),
             })?;
         }
+        Ok(sections)
+    }
+
+    /// The symbols, of which the hint's and the name's is number 3.
+    fn symbols(&self, alloc: Global) -> Result<Vec<Option<Symbol<'_>>>, Fail> {
+        let mut symbols = vec![in alloc;
+            Some(Symbol::new(self.descriptor.as_str(), 0, 2)),
+            Some(Symbol::new(".text", 1, 3)),
+            Some(Symbol::new(self.entry.as_str(), 2, 2)),
+        ]?;
+        if self.hint_name.is_some() {
+            symbols.push(Some(Symbol::new(".idata$6", 4, 3)))?;
+        }
         match self.import_type {
             0 => symbols.push(Some(Symbol::new(self.symbol.as_str(), 1, 2)))?,
             2 => symbols.push(Some(Symbol::new(self.symbol.as_str(), 2, 2)))?,
             _ => {}
         }
-        Ok(Object::new(self.machine, sections, symbols))
+        Ok(symbols)
     }
 
     /// Section 1: the stub of code, which jumps by the entry, symbol 2.

@@ -28,7 +28,7 @@ pub struct Image {
 }
 
 /// Why bases do not serve.
-#[derive(Clone, Copy, Debug, PartialEq, Eq)]
+#[derive(Clone, Copy)]
 pub enum Misplaced {
     /// The base of a group is 0 or no multiple of 4.
     Base(&'static str),

@@ -19,21 +19,20 @@ mod processor;
 mod search;
 mod short_import;
 
-use bound::bound;
-pub use bound::{given, given_address};
+use bound::{bound, given_address};
 use code::{ARMNT, I386, IMAGE_BASE, jump_reads, relocated, whole_size};
-use directory::{Import, thunk_size};
+use directory::{Descriptor, Import, thunk_size};
 pub use expansion::{Expansion, expanded};
 pub use file::{File, Purpose, file_in};
 pub use image::{Bases, Image, Misplaced};
-use loader::show_ask;
 pub use memory::Memory;
-pub use object::Flaw;
-use object::{Object, Relocation, Section, Symbol, bytes_at, object_in, u32_at};
+pub use object::{Flaw, Object};
+use object::{Relocation, Section, Symbol, bytes_at, object_in, u32_at};
 pub use processor::Arrival;
 pub use search::{Archive, left_undefined};
-pub use short_import::Ask;
+pub use short_import::{Ask, push_ask};
 use std::alloc::{AllocError, Global};
+use std::fmt;
 use std::test::Fail;
 
 /// An object of a file, with the address of each of its sections that is placed.
@@ -63,7 +62,7 @@ impl Placed<'_> {
 }
 
 /// Why objects do not link.
-#[derive(Clone, Copy, Debug, PartialEq, Eq)]
+#[derive(Clone, Copy)]
 pub enum Unlinked<'a> {
     /// No object defines the symbol.
     Undefined(&'a str),
@@ -71,45 +70,49 @@ pub enum Unlinked<'a> {
     Ambiguous(&'a str),
     /// The bases do not serve.
     Misplaced(Misplaced),
+    /// A field cannot be relocated.
+    Unrelocated(Flaw),
 }
 
-/// Links the objects in files of these names and bytes, in this order. The bases are those of
-/// `.idata$2`, `$4`, `$5`, `$6`, `$7` and `.text`.
+impl fmt::Display for Unlinked<'_> {
+    fn fmt<W: fmt::Write>(&self, f: &mut fmt::Formatter<W>) -> fmt::Result {
+        match self {
+            Unlinked::Undefined(name) => write!(f, "{name} is not defined"),
+            Unlinked::Ambiguous(name) => write!(f, "{name} is defined twice"),
+            Unlinked::Misplaced(Misplaced::Base(group)) => {
+                write!(f, "the base of {group} is 0 or no multiple of 4")
+            }
+            Unlinked::Misplaced(Misplaced::End(group)) => {
+                write!(f, "{group} does not end below 2^31")
+            }
+            Unlinked::Misplaced(Misplaced::Overlap(first, second)) => {
+                write!(f, "{first} and {second} overlap")
+            }
+            Unlinked::Unrelocated(flaw) => write!(f, "{flaw}"),
+        }
+    }
+}
+
+/// Links objects, each with its file's name, in this order. The bases are those of `.idata$2`, `$4`,
+/// `$5`, `$6`, `$7` and `.text`. Where the directory is not to be ended, `.idata$2` has the
+/// descriptors of the objects alone, and no `.idata$3` is placed.
 pub fn link<'a>(
-    alloc: Global,
-    files: &[(&'a str, &'a [u8])],
-    bases: Bases,
-) -> Result<Linked<'a>, Fail> {
-    relocated_objects(place(alloc, files, bases)?)
-}
-
-/// The same without the null descriptor: in `.idata$2` are the descriptors of the objects alone. No
-/// `.idata$3` is placed.
-pub fn link_without_null_descriptor<'a>(
-    alloc: Global,
-    files: &[(&'a str, &'a [u8])],
-    bases: Bases,
-) -> Result<Linked<'a>, Fail> {
-    let objects = objects_in(alloc, files)?;
-    relocated_objects(place_descriptors(alloc, objects, bases)?)
-}
-
-/// The same as `link` of objects, each with its file's name.
-pub fn link_objects<'a>(
     alloc: Global,
     objects: Vec<(&'a str, Object<'a>)>,
     bases: Bases,
-) -> Result<Linked<'a>, Fail> {
-    relocated_objects(place_objects(alloc, objects, bases)?)
-}
-
-/// Resolves and relocates objects whose sections are placed.
-fn relocated_objects(mut linked: Linked) -> Result<Linked, Fail> {
-    if let Some(unlinked) = linked.refusal() {
-        return Err(Fail::from(unlinked));
+    is_ended: bool,
+) -> Result<Result<Linked<'a>, Unlinked<'a>>, Fail> {
+    let mut linked = place(alloc, objects, bases)?;
+    if is_ended {
+        linked = ended(linked)?;
     }
-    linked.relocate()?;
-    Ok(linked)
+    if let Some(unlinked) = linked.refusal() {
+        return Ok(Err(unlinked));
+    }
+    match linked.relocate() {
+        Ok(()) => Ok(Ok(linked)),
+        Err(flaw) => Ok(Err(Unlinked::Unrelocated(flaw))),
+    }
 }
 
 /// The object in a file's bytes, or the one that a short import stands for.
@@ -124,65 +127,8 @@ pub fn object_of<'a>(
     }
 }
 
-/// What is wrong with the relocations of the objects in such files.
-pub fn flaw(alloc: Global, files: &[(&str, &[u8])], bases: Bases) -> Result<Option<Flaw>, Fail> {
-    Ok(place(alloc, files, bases)?.relocate().err())
-}
-
-/// Why the objects in such files do not link, if they do not.
-pub fn refusal<'a>(
-    alloc: Global,
-    files: &[(&'a str, &'a [u8])],
-    bases: Bases,
-) -> Result<Option<Unlinked<'a>>, Fail> {
-    Ok(place(alloc, files, bases)?.refusal())
-}
-
-/// Places the sections of the objects in such files, and relocates none.
-fn place<'a>(
-    alloc: Global,
-    files: &[(&'a str, &'a [u8])],
-    bases: Bases,
-) -> Result<Linked<'a>, Fail> {
-    place_objects(alloc, objects_in(alloc, files)?, bases)
-}
-
-/// The objects in such files.
-fn objects_in<'a>(
-    alloc: Global,
-    files: &[(&'a str, &'a [u8])],
-) -> Result<Vec<(&'a str, Object<'a>)>, Fail> {
-    let mut objects = Vec::new(alloc);
-    for (name, bytes) in files {
-        objects.push((*name, object_in(alloc, *bytes)?))?;
-    }
-    Ok(objects)
-}
-
-/// Places the sections of objects. What ends the import directory comes last.
-fn place_objects<'a>(
-    alloc: Global,
-    files: Vec<(&'a str, Object<'a>)>,
-    bases: Bases,
-) -> Result<Linked<'a>, Fail> {
-    let linked = place_descriptors(alloc, files, bases)?;
-    let Linked {
-        machine,
-        directory,
-        mut objects,
-        mut image,
-    } = linked;
-    end_directory(&mut image, &mut objects)?;
-    Ok(Linked {
-        machine,
-        directory,
-        objects,
-        image,
-    })
-}
-
 /// Places the sections of objects, and nothing that ends the import directory.
-fn place_descriptors<'a>(
+fn place<'a>(
     alloc: Global,
     files: Vec<(&'a str, Object<'a>)>,
     bases: Bases,
@@ -196,10 +142,7 @@ fn place_descriptors<'a>(
         }
         machine = object.machine;
         object.settle(alloc)?;
-        let mut addresses = Vec::new(alloc);
-        for section in object.sections.iter() {
-            addresses.push(image.place(section)?)?;
-        }
+        let addresses = place_sections(alloc, &mut image, object.sections.as_slice())?;
         objects.push(Placed {
             name,
             object,
@@ -209,6 +152,36 @@ fn place_descriptors<'a>(
     Ok(Linked {
         machine,
         directory: bases[0],
+        objects,
+        image,
+    })
+}
+
+/// Places sections behind others, and gives the addresses of those that are placed.
+fn place_sections(
+    alloc: Global,
+    image: &mut Image,
+    sections: &[Section],
+) -> Result<Vec<Option<usize>>, Fail> {
+    let mut addresses = Vec::new(alloc);
+    for section in sections {
+        addresses.push(image.place(section)?)?;
+    }
+    Ok(addresses)
+}
+
+/// The same with the end of the import directory.
+fn ended(linked: Linked) -> Result<Linked, Fail> {
+    let Linked {
+        machine,
+        directory,
+        mut objects,
+        mut image,
+    } = linked;
+    end_directory(&mut image, &mut objects)?;
+    Ok(Linked {
+        machine,
+        directory,
         objects,
         image,
     })
@@ -336,16 +309,25 @@ impl<'a> Linked<'a> {
             return Some(Unlinked::Misplaced(misplaced));
         }
         for placed in self.objects.iter() {
-            for symbol in placed.object.symbols.iter().flatten() {
-                if symbol.is_external()
-                    && let Err(unlinked) = defined_address(&self.objects, symbol.name)
-                {
-                    return Some(unlinked);
-                }
+            let unlinked = unresolved(&self.objects, &placed.object);
+            if unlinked.is_some() {
+                return unlinked;
             }
         }
         None
     }
+}
+
+/// Why a symbol of an object among others has no address.
+fn unresolved<'a>(objects: &[Placed<'a>], object: &Object<'a>) -> Option<Unlinked<'a>> {
+    for symbol in object.symbols.iter().flatten() {
+        if symbol.is_external()
+            && let Err(unlinked) = defined_address(objects, symbol.name)
+        {
+            return Some(unlinked);
+        }
+    }
+    None
 }
 
 impl Linked<'_> {
@@ -425,21 +407,33 @@ impl Linked<'_> {
     pub fn address_of(&self, name: &str) -> Result<usize, Fail> {
         match defined_address(&self.objects, name) {
             Ok(address) => Ok(address.ok_or("a symbol has no address")?),
-            Err(unlinked) => Err(Fail::new(format_args!("{unlinked:?}"))),
+            Err(unlinked) => Err(Fail::new(unlinked)),
         }
     }
 
-    /// The addresses of all symbols of the address tables, those that begin with `__imp_`.
-    pub fn entries(&self, alloc: Global) -> Result<Vec<usize>, Fail> {
-        let mut addresses = Vec::new(alloc);
+    /// The symbols of the address tables, those that begin with `__imp_`, with their addresses.
+    pub fn entries(&self, alloc: Global) -> Result<Vec<(&str, usize)>, Fail> {
+        let mut entries = Vec::new(alloc);
         for placed in self.objects.iter() {
-            for symbol in placed.object.symbols.iter().flatten() {
-                if symbol.is_defined() && symbol.name.starts_with("__imp_") {
-                    addresses.push(placed.own_address(symbol).ok_or("no address")?)?;
-                }
+            push_entries(placed, &mut entries)?;
+        }
+        Ok(entries)
+    }
+
+    /// What DLLs give for what the import directory asks them for: an address each, with the DLL
+    /// and what it is asked for.
+    pub fn given(&self, alloc: Global) -> Result<Vec<(u64, String)>, Fail> {
+        let size = self.entry_size();
+        let mut given = Vec::new(alloc);
+        for import in self.imports(alloc)? {
+            let dll = import.descriptor.dll;
+            for (_, ask) in import.thunks.iter() {
+                let mut asked = format!(in alloc; "{dll}: ")?;
+                push_ask(&mut asked, *ask)?;
+                given.push((given_address(dll, *ask, size), asked))?;
             }
         }
-        Ok(addresses)
+        Ok(given)
     }
 
     /// The addresses of the code of the objects in files of this name.
@@ -454,11 +448,6 @@ impl Linked<'_> {
         Ok(addresses)
     }
 
-    /// The word at an address.
-    pub fn word_at(&self, address: usize) -> Result<usize, Flaw> {
-        Ok(u32_at(self.image.bytes_from(address)?, 0)? as usize)
-    }
-
     /// The address from which the code at an address reads where it jumps.
     pub fn jump_at(&self, address: usize) -> Result<usize, Flaw> {
         let code = self.image.bytes_from(address)?;
@@ -471,14 +460,8 @@ impl Linked<'_> {
         for import in self.imports(alloc)? {
             show_import(&mut text, &import)?;
         }
-        for placed in self.objects.iter() {
-            for symbol in placed.object.symbols.iter().flatten() {
-                if symbol.is_defined() && symbol.name.starts_with("__imp_") {
-                    let name = symbol.name;
-                    let address = placed.own_address(symbol).ok_or("no address")?;
-                    writeln!(text, "{name} {address:#x}")?;
-                }
-            }
+        for (name, address) in self.entries(alloc)? {
+            writeln!(text, "{name} {address:#x}")?;
         }
         Ok(text)
     }
@@ -498,20 +481,38 @@ fn push_base_relocations(placed: &Placed, fields: &mut Vec<(usize, usize)>) -> R
     Ok(())
 }
 
-/// Appends what a DLL is asked for.
-fn show_import(text: &mut String, import: &Import) -> Result<(), AllocError> {
-    let Import { descriptor, thunks } = import;
-    let dll = descriptor.dll;
-    let name = descriptor.name;
-    let lookups = descriptor.lookups;
-    let addresses = descriptor.addresses;
-    writeln!(
-        text,
-        "{dll}: name {name:#x}, lookups {lookups:#x}, addresses {addresses:#x}"
-    )?;
-    for (thunk, ask) in thunks.iter() {
-        write!(text, "  {thunk:#x}: ")?;
-        show_ask(text, *ask)?;
+/// Appends an object's symbols of the address tables.
+fn push_entries<'a>(placed: &Placed<'a>, entries: &mut Vec<(&'a str, usize)>) -> Result<(), Fail> {
+    for symbol in placed.object.symbols.iter().flatten() {
+        if symbol.is_defined() && symbol.name.starts_with("__imp_") {
+            let address = placed.own_address(symbol).ok_or("no address")?;
+            entries.push((symbol.name, address))?;
+        }
     }
     Ok(())
+}
+
+/// Appends what a DLL is asked for.
+fn show_import(text: &mut String, import: &Import) -> Result<(), AllocError> {
+    show_descriptor(text, &import.descriptor)?;
+    for (thunk, ask) in import.thunks.iter() {
+        write!(text, "  {thunk:#x}: ")?;
+        push_ask(text, *ask)?;
+        text.push('\n')?;
+    }
+    Ok(())
+}
+
+/// Appends the addresses in a descriptor.
+fn show_descriptor(text: &mut String, descriptor: &Descriptor) -> Result<(), AllocError> {
+    text.push_str(descriptor.dll)?;
+    show_address(text, ": name ", descriptor.name)?;
+    show_address(text, ", lookups ", descriptor.lookups)?;
+    show_address(text, ", addresses ", descriptor.addresses)?;
+    text.push('\n')
+}
+
+/// Appends words and an address.
+fn show_address(text: &mut String, words: &str, address: usize) -> Result<(), AllocError> {
+    write!(text, "{words}{address:#x}")
 }

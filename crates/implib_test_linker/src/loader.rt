@@ -4,7 +4,7 @@
 use super::bound::given;
 use super::memory::Memory;
 use super::object::Flaw;
-use super::short_import::Ask;
+use super::short_import::{Ask, push_ask};
 use std::alloc::{AllocError, Global};
 
 const NO_MEMORY: Flaw = "memory is refused";
@@ -41,7 +41,9 @@ impl Memory {
         let Some(descriptor) = self.image.descriptor(bytes)? else {
             return Ok(false);
         };
-        let dll = String::from_str(alloc, descriptor.dll).map_err(|_| NO_MEMORY)?;
+        let Ok(dll) = String::from_str(alloc, descriptor.dll) else {
+            return Err(NO_MEMORY);
+        };
         let mut lookup = descriptor.lookups;
         let mut entry = descriptor.addresses;
         let size = self.address_size();
@@ -64,25 +66,33 @@ impl Memory {
         entry: usize,
         asked: &mut String,
     ) -> Result<bool, Flaw> {
+        let Some(ask) = self.asked(lookup, entry)? else {
+            return Ok(false);
+        };
+        if show_asked(asked, dll, ask).is_err() {
+            return Err(NO_MEMORY);
+        }
+        let bytes = given(dll, ask);
+        let bytes = bytes.get(..self.address_size());
+        self.image
+            .write(entry, bytes.ok_or("an entry is too wide")?)?;
+        Ok(true)
+    }
+
+    /// What the thunks at two addresses ask for, which is the same.
+    fn asked(&self, lookup: usize, entry: usize) -> Result<Option<Ask<'_>>, Flaw> {
         let size = self.address_size();
         let ask = self.image.ask(self.image.bytes_at(lookup, size)?)?;
         if self.image.ask(self.image.bytes_at(entry, size)?)? != ask {
             return Err("two tables differ");
         }
-        let Some(ask) = ask else { return Ok(false) };
-        write!(asked, "{dll}: ").map_err(|_| NO_MEMORY)?;
-        show_ask(asked, ask).map_err(|_| NO_MEMORY)?;
-        let bytes = given(dll, ask);
-        let bytes = bytes.get(..size).ok_or("an entry is too wide")?;
-        self.image.write(entry, bytes)?;
-        Ok(true)
+        Ok(ask)
     }
 }
 
-/// Appends what a DLL is asked for, and ends the line.
-pub fn show_ask(text: &mut String, ask: Ask) -> Result<(), AllocError> {
-    match ask {
-        Ask::Name(name, hint) => writeln!(text, "{name}, hint {hint}"),
-        Ask::Ordinal(ordinal) => writeln!(text, "ordinal {ordinal}"),
-    }
+/// Appends a line of what a DLL is asked for.
+fn show_asked(asked: &mut String, dll: &str, ask: Ask) -> Result<(), AllocError> {
+    write!(asked, "{dll}: ")?;
+    push_ask(asked, ask)?;
+    asked.push('\n')
 }

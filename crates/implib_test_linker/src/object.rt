@@ -249,12 +249,7 @@ fn filled_text(record: &[u8]) -> Result<&str, Flaw> {
 
 /// The object in a file's bytes.
 pub fn object_in(alloc: Global, bytes: &[u8]) -> Result<Object<'_>, Fail> {
-    let headers_offset = 20 + usize::from(u16_at(bytes, 16)?);
-    let headers_count = usize::from(u16_at(bytes, 2)?);
-    let mut sections = Vec::new(alloc);
-    for header in bytes_at(bytes, headers_offset, 40 * headers_count)?.chunks_exact(40) {
-        sections.push(section_of(alloc, bytes, header)?)?;
-    }
+    let sections = sections_in(alloc, bytes)?;
     let symbols_size = 18 * usize_at(bytes, 12)?;
     let (records, strings) = bytes_from(bytes, usize_at(bytes, 8)?)?
         .split_at_checked(symbols_size)
@@ -268,6 +263,17 @@ pub fn object_in(alloc: Global, bytes: &[u8]) -> Result<Object<'_>, Fail> {
     })
 }
 
+/// The sections of an object, in the order of their headers.
+fn sections_in(alloc: Global, bytes: &[u8]) -> Result<Vec<Section<'_>>, Fail> {
+    let headers_offset = 20 + usize::from(u16_at(bytes, 16)?);
+    let headers_count = usize::from(u16_at(bytes, 2)?);
+    let mut sections = Vec::new(alloc);
+    for header in bytes_at(bytes, headers_offset, 40 * headers_count)?.chunks_exact(40) {
+        sections.push(section_of(alloc, bytes, header)?)?;
+    }
+    Ok(sections)
+}
+
 /// The section that a header describes. Where the offset of its data is 0 it has none.
 fn section_of<'a>(alloc: Global, bytes: &'a [u8], header: &'a [u8]) -> Result<Section<'a>, Fail> {
     let data_offset = usize_at(header, 20)?;
@@ -276,21 +282,32 @@ fn section_of<'a>(alloc: Global, bytes: &'a [u8], header: &'a [u8]) -> Result<Se
     } else {
         usize_at(header, 16)?
     };
-    let records_count = usize::from(u16_at(header, 32)?);
-    let records = bytes_at(bytes, usize_at(header, 24)?, 10 * records_count)?;
-    let mut relocations = Vec::new(alloc);
-    for record in records.chunks_exact(10) {
-        relocations.push(Relocation {
-            offset: usize_at(record, 0)?,
-            symbol: usize_at(record, 4)?,
-            kind: u16_at(record, 8)?,
-        })?;
-    }
     Ok(Section {
         name: filled_text(header)?,
         flags: u32_at(header, 36)?,
         data: bytes_at(bytes, data_offset, data_size)?,
-        relocations,
+        relocations: relocations_of(alloc, bytes, header)?,
+    })
+}
+
+/// The relocations of the section that a header describes.
+fn relocations_of(alloc: Global, bytes: &[u8], header: &[u8]) -> Result<Vec<Relocation>, Fail> {
+    let records_count = usize::from(u16_at(header, 32)?);
+    let records = bytes_at(bytes, usize_at(header, 24)?, 10 * records_count)?;
+    let mut relocations = Vec::new(alloc);
+    for record in records.chunks_exact(10) {
+        relocations.push(relocation_in(record)?)?;
+    }
+    Ok(relocations)
+}
+
+/// The relocation in a record: an offset, the index of a symbol and a type.
+fn relocation_in(record: &[u8]) -> Result<Relocation, Flaw> {
+    let [o0, o1, o2, o3, s0, s1, s2, s3, k0, k1] = array_at::<10>(record, 0)?;
+    Ok(Relocation {
+        offset: u32::from_le_bytes([o0, o1, o2, o3]) as usize,
+        symbol: u32::from_le_bytes([s0, s1, s2, s3]) as usize,
+        kind: u16::from_le_bytes([k0, k1]),
     })
 }
 

@@ -6,7 +6,7 @@ use super::memory::Memory;
 use super::object::{Flaw, u32_at};
 
 /// Where code leads out of the image.
-#[derive(Clone, Copy, Debug, PartialEq, Eq)]
+#[derive(Clone, Copy)]
 pub struct Arrival {
     /// The address in memory that is run next.
     pub address: u64,

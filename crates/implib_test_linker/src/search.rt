@@ -2,7 +2,7 @@
 //! members; what they leave to others is read in their bytes.
 
 use super::expansion::Expansion;
-use super::object::{Object, object_in};
+use super::object::Object;
 use super::object_of;
 use implib::Member;
 use std::alloc::Global;
@@ -16,21 +16,12 @@ pub struct Archive<'a> {
 }
 
 impl<'a> Archive<'a> {
-    /// The archive of members, all of which are objects.
-    pub fn new(alloc: Global, members: &'a [Member]) -> Result<Self, Fail> {
-        let mut archive = Archive::empty(alloc);
-        for member in members {
-            archive.members.push(member)?;
-            archive
-                .objects
-                .push(object_in(alloc, member.bytes.as_slice())?)?;
-        }
-        Ok(archive)
-    }
-
     /// The archive of files, each a member and, if it is a short import, what it is taken for.
     pub fn of_files(alloc: Global, files: &'a [(Member, Option<Expansion>)]) -> Result<Self, Fail> {
-        let mut archive = Archive::empty(alloc);
+        let mut archive = Archive {
+            members: Vec::new(alloc),
+            objects: Vec::new(alloc),
+        };
         for (member, expansion) in files {
             archive.members.push(member)?;
             archive
@@ -38,23 +29,6 @@ impl<'a> Archive<'a> {
                 .push(object_of(alloc, member.bytes.as_slice(), expansion)?)?;
         }
         Ok(archive)
-    }
-
-    /// An archive of no members.
-    fn empty(alloc: Global) -> Self {
-        Archive {
-            members: Vec::new(alloc),
-            objects: Vec::new(alloc),
-        }
-    }
-
-    /// The members that are taken for wanted names, in the order of the archive.
-    pub fn search(&self, alloc: Global, wanted: &[&str]) -> Result<Vec<&'a Member>, Fail> {
-        let mut members = Vec::new(alloc);
-        for index in self.taken(alloc, wanted)? {
-            members.push(*self.members.get(index).ok_or("an index has no member")?)?;
-        }
-        Ok(members)
     }
 
     /// The indexes of the members that are taken for wanted names, from the first on: as long as a

@@ -2,6 +2,7 @@
 //! types, by `docs/FORMATS.md`.
 
 use super::object::{Flaw, bytes_from, text_in, text_of, u16_at, usize_at};
+use std::alloc::AllocError;
 
 /// A short import.
 #[derive(Clone, Copy)]
@@ -14,11 +15,19 @@ pub struct ShortImport<'a> {
 }
 
 /// What a DLL is asked for.
-#[derive(Clone, Copy, Debug, PartialEq, Eq)]
+#[derive(Clone, Copy, PartialEq, Eq)]
 pub enum Ask<'a> {
     Ordinal(u16),
     /// A name, with the hint.
     Name(&'a str, u16),
+}
+
+/// Appends what a DLL is asked for.
+pub fn push_ask(text: &mut String, ask: Ask) -> Result<(), AllocError> {
+    match ask {
+        Ask::Ordinal(ordinal) => write!(text, "ordinal {ordinal}"),
+        Ask::Name(name, hint) => write!(text, "{name}, hint {hint}"),
+    }
 }
 
 /// Whether a file is a short import, and no object.

@@ -5,7 +5,7 @@ use Rattle.implib.specs.Definition.{DefinitionView, ExportView, export_view}
 use Rattle.implib.specs.Import.{public_exports}
 use Rattle.implib.specs.declared.flavor.Flavor.TheVariants.{Msvc}
 use Rattle.implib.specs.Library.{member_view}
-use Rattle.implib.specs.LibraryName.{names_in}
+use Rattle.implib.specs.LibraryName.{names_for}
 use Rattle.implib.specs.Members.MemberSpec.{member_of}
 use Rattle.implib.specs.Members.MsvcMembers.{header_specs}
 use Rattle.implib.proofs.Members.MembersLoop.{exports_from}
@@ -18,7 +18,7 @@ pub loop-export-init : goal.loop-export-init
 loop-export-init c =
     let d = c.args.library.now.definition in
     let machine = c.args.library.now.machine in
-    let dll = names_in Msvc d in
+    let dll = names_for Msvc d in
     let all_imports = map member_of (header_specs machine dll ++ flat_map (import_specs machine dll) (public_exports d)) in
     let all_aliases = map member_of (flat_map (alias_specs machine dll) (public_exports d)) in
     let exports = ap (map export_view) c.deref-export-items.ensures.value ∙ ap (λ (x : DefinitionView). x.exports) c.definition-def.ensures in
@@ -32,7 +32,7 @@ pub loop-export-preserved : goal.loop-export-preserved
 loop-export-preserved c =
     let d = c.args.library.now.definition in
     let machine = c.args.library.now.machine in
-    let dll = names_in Msvc d in
+    let dll = names_for Msvc d in
     let all_imports = map member_of (header_specs machine dll ++ flat_map (import_specs machine dll) (public_exports d)) in
     let all_aliases = map member_of (flat_map (alias_specs machine dll) (public_exports d)) in
     let items = c.deref-export-items.result.now in
