@@ -1,5 +1,5 @@
 -- Words that rise are not repeated.
-use Rattle.std.proofs.Common.{◌≡◌, ◌∙◌, ℕ, Bool, true, false, not, ◌&&◌, ◌||◌, List, [], ◌∷◌, ◌++◌, ap, bytes_eq, drop, refl, subst, sym}
+use Rattle.std.proofs.Common.{◌≡◌, ◌∙◌, ℕ, Bool, true, false, not, ◌&&◌, ◌||◌, List, [], ◌∷◌, ◌++◌, ap, bytes_eq, refl, subst, sym}
 use Rattle.std.specs.declared.cmp.Ordering.{Ordering}
 use Rattle.std.specs.declared.cmp.Ordering.TheVariants.{Less, Equal, Greater}
 use Rattle.std.specs.Cmp.Lexicographic.{nat_list_cmp_total, slice_cmp}
@@ -10,7 +10,7 @@ use Rattle.std.proofs.lemmas.List.Folds.{list_any-append}
 use Rattle.std.proofs.lemmas.Slice.Eq.{bytes_eq-Decides}
 use Rattle.implib.specs.Definition.{ExportView}
 use Rattle.implib_dlltool.specs.Linked.{word_of}
-use Rattle.implib_dlltool.specs.Repeats.{declares, is_declared, left_out, repeats, repeats_behind, without_repeated}
+use Rattle.implib_dlltool.specs.Repeats.{declares, is_declared, repeats, repeats_behind, without_repeated}
 use Rattle.implib_dlltool.specs.Views.{comes_before, rise_from}
 use Rattle.implib_dlltool.proofs.LeftOut.{none_left_out, or_false}
 

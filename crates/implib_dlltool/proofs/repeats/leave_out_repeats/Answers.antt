@@ -1,5 +1,4 @@
-use Rattle.std.proofs.Common.{◌≡◌, ◌∙◌, Bool, true, List, [], ap, false, map, refl, sym}
-use Rattle.std.specs.List.{list_any}
+use Rattle.std.proofs.Common.{◌≡◌, ◌∙◌, Bool, true, List, [], ap, map, refl, sym}
 use Rattle.implib.specs.Definition.{export_view}
 use Rattle.implib_dlltool.specs.Repeats.{left_out, repeats_behind, without_repeated}
 use Rattle.implib_dlltool.specs.Views.{rise_from}
