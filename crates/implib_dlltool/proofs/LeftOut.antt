@@ -1,5 +1,5 @@
 -- Exports of a word that one before them declares.
-use Rattle.std.proofs.Common.{◌≡◌, ◌∙◌, ℕ, zero, suc, ◌+◌, ◌<◌, Bool, true, false, not, ◌&&◌, ◌||◌, List, [], ◌∷◌, ◌++◌, Option, None, Some, ap, append-nil, append_assoc, bytes_eq, drop, get_or, if◌then◌else◌, length, map, refl, sym, take, cond}
+use Rattle.std.proofs.Common.{◌≡◌, ◌∙◌, ℕ, zero, suc, ◌+◌, ◌<◌, Bool, true, false, ◌||◌, List, [], ◌∷◌, ◌++◌, Some, ap, append-nil, append_assoc, bytes_eq, drop, get_or, length, map, refl, sym, take, cond}
 use Rattle.std.specs.Prelude.{slice_get}
 use Rattle.std.specs.Option.{option_map}
 use Rattle.std.specs.List.{list_any}

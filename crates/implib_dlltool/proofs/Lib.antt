@@ -4,6 +4,7 @@ pub mod Parts
 pub mod Asked
 pub mod Targets
 pub mod LeftOut
+pub mod Rising
 pub mod LibraryNames
 pub mod Symbols
 pub mod LibrariesApart

@@ -1,5 +1,5 @@
 -- Libraries of one DLL for GNU's linker are kept apart by their digits, and GNU `ld` finds those for Microsoft's.
-use Rattle.std.proofs.Common.{◌≡◌, ◌≢◌, ◌∙◌, ℕ, zero, suc, ◌+◌, ◌*◌, ◌/◌, ◌%◌, ◌==◌, Bool, true, false, not, ◌&&◌, List, [], ◌∷◌, ◌++◌, Option, None, Some, ap, append-nil, append_assoc, arith, codes, get_or, if◌then◌else◌, length, length-append, map, refl, sym, take}
+use Rattle.std.proofs.Common.{◌≡◌, ◌≢◌, ◌∙◌, ℕ, zero, suc, ◌*◌, ◌/◌, ◌%◌, ◌==◌, Bool, true, false, not, List, [], ◌∷◌, ◌++◌, Option, None, Some, ap, append_assoc, arith, codes, get_or, if◌then◌else◌, length, map, refl, sym, take}
 use Rattle.std.specs.Prelude.{slice_index, unwrap_or}
 use Rattle.std.specs.List.{list_all}
 use Rattle.std.specs.Option.{option_map}
@@ -15,10 +15,9 @@ use Rattle.implib.specs.declared.flavor.Flavor.TheVariants.{Msvc, Gnu}
 use Rattle.implib.specs.Ascii.{underscore}
 use Rattle.implib.specs.Definition.{DefinitionView}
 use Rattle.implib.specs.Import.{is_empty_text}
-use Rattle.implib.specs.LibraryName.{linked_dll}
 use Rattle.implib.specs.Link.LinkedMembers.{IsPrefixOf, member_prefix}
 use Rattle.implib.specs.Members.Gnu.{mangled_name, without_full_stop}
-use Rattle.implib.specs.Members.MsvcObjects.{base_name, descriptor_symbol}
+use Rattle.implib.specs.Members.MsvcObjects.{descriptor_symbol}
 use Rattle.implib.proofs.LibraryNames.{base_of_named}
 use Rattle.implib_dlltool.specs.Library.{DefinitionFor}
 use Rattle.implib_dlltool.specs.LibraryLaws.{IsFoundByGnu}

@@ -1,5 +1,5 @@
 -- The name of a library.
-use Rattle.std.proofs.Common.{◌≡◌, ◌≢◌, ◌∙◌, ℕ, ◌+◌, ◌-◌, ◌<◌, ◌≤◌, ◌==◌, Bool, true, false, not, List, [], ◌∷◌, ◌++◌, ap, append-nil, append_assoc, arith, get_or, if◌then◌else◌, length, map, refl, sym, take}
+use Rattle.std.proofs.Common.{◌≡◌, ◌≢◌, ◌∙◌, ℕ, ◌+◌, ◌-◌, ◌<◌, Bool, true, false, not, List, [], ◌∷◌, ◌++◌, ap, append-nil, arith, get_or, if◌then◌else◌, length, map, sym, take}
 use Rattle.std.specs.List.{before_last, filter, flat_map, list_any, suffix_len}
 use Rattle.std.proofs.lemmas.Bool.{eqb-true, false_from_ne_true}
 use Rattle.std.proofs.lemmas.List.Elements.{filter-append}
@@ -8,7 +8,7 @@ use Rattle.std.proofs.lemmas.List.Folds.{Any-from_list_any, list_any_at}
 use Rattle.std.proofs.lemmas.Grind.{flat_map-append}
 use Rattle.std.proofs.lemmas.List.Sums.{suffix_len_is}
 use Rattle.implib.specs.declared.def.definition.ShortExport.{ShortExport}
-use Rattle.implib.specs.Definition.{ExportView, export_view}
+use Rattle.implib.specs.Definition.{export_view}
 use Rattle.implib_dlltool.proofs.LeftOut.{one_more}
 use Rattle.implib_dlltool.specs.LibraryName.{export_taken, exports_taken, is_full_stop, without_ending}
 

@@ -1,5 +1,5 @@
 -- What the names of libraries are for: a linker finds a library, and keeps it apart from others of its DLL.
-use Rattle.std.specs.Prelude.{◌≡◌, ◌≢◌, ℕ, false, List, ◌++◌, Some, codes}
+use Rattle.std.specs.Prelude.{◌≡◌, ◌≢◌, ℕ, false, List, ◌++◌, codes}
 use Rattle.implib.specs.declared.flavor.Flavor.TheVariants.{Msvc, Gnu}
 use Rattle.implib.specs.Definition.{DefinitionView}
 use Rattle.implib.specs.Import.{is_empty_text}

@@ -1,5 +1,5 @@
 -- The name that a library is given for the linker (docs/DECISIONS.md, "The name of a library").
-use Rattle.std.specs.Prelude.{ℕ, Bool, not, List, [], ◌∷◌, ◌++◌, Option, None, Some, ◌-◌, ◌==◌, if◌then◌else◌, length, take}
+use Rattle.std.specs.Prelude.{ℕ, Bool, not, List, [], ◌∷◌, ◌++◌, Option, None, Some, ◌==◌, if◌then◌else◌, take}
 use Rattle.std.specs.Int.{to_le_bytes, w16}
 use Rattle.std.specs.List.{before_last, filter, flat_map, list_any}
 use Rattle.hex.specs.Hex.{encode_lower}

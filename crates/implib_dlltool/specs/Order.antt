@@ -1,6 +1,6 @@
 -- The members of a library in the order of llvm-dlltool, and what they are read as (docs/DECISIONS.md, "A
 -- program in place of dlltool").
-use Rattle.std.specs.Prelude.{◌≡◌, ℕ, Bool, ◌&&◌, not, List, [], ◌∷◌, ◌++◌, Some, drop, if◌then◌else◌, map, slice_get}
+use Rattle.std.specs.Prelude.{◌≡◌, Bool, ◌&&◌, not, List, [], ◌∷◌, ◌++◌, Some, drop, if◌then◌else◌, map, slice_get}
 use Rattle.std.specs.List.{filter, flat_map, list_any}
 use Rattle.std.specs.Option.{option_and_then, option_map}
 use Rattle.implib.specs.declared.flavor.Flavor.{Flavor}

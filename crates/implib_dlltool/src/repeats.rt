@@ -4,7 +4,7 @@ ghost use Rattle.implib.specs.Definition.{export_view};
 ghost use Rattle.implib_dlltool.specs.Linked.{word_of};
 ghost use Rattle.implib_dlltool.specs.Repeats.{left_out, left_out_by, repeats_behind};
 ghost use Rattle.implib_dlltool.specs.Repeats.{without_repeated};
-ghost use Rattle.implib_dlltool.specs.Views.{has_word};
+ghost use Rattle.implib_dlltool.specs.Views.{comes_before, has_word, rise_from};
 ghost use Rattle.std.specs.Prelude.{◌≡◌, ◌&&◌, ◌||◌, ℕ, [], IfOk, List, OnOk, drop, map, not};
 ghost use Rattle.std.specs.Str.{bytes_eq};
 
@@ -13,6 +13,29 @@ use implib::def::ShortExport;
 use std::alloc::{AllocError, Global};
 use std::collections::HashSet;
 use std::slice::Iter;
+
+// Whether a word comes before another, byte by byte.
+fn comes_before(word: &str, next: &str) -> bool
+    ensures { result ≡ comes_before word.now next.now }
+{
+    word < next
+}
+
+// Whether each word comes before the next one, so that none is there twice. A first word that is
+// empty does not.
+fn words_rise(exports: &[ShortExport]) -> bool
+    ensures { result ≡ rise_from [] (map export_view exports.now) }
+{
+    let mut last = "";
+    for export in exports {
+        let word = word_of(export);
+        if !comes_before(last, word) {
+            return false;
+        }
+        last = word;
+    }
+    true
+}
 
 // Whether an export repeats a word that is declared; if it does not, and is not private, it declares
 // its word.
@@ -73,6 +96,10 @@ pub fn leave_out_repeats(alloc: Global, exports: &mut Vec<ShortExport>) -> Resul
     ensures ok { OnOk result (map export_view exports.new.items
         ≡ without_repeated (map export_view exports.old.items)) }
 {
+    // Definitions that tools write are mostly sorted.
+    if words_rise(exports.as_slice()) {
+        return Ok(());
+    }
     let flags = repeats_in(alloc, exports.as_slice())?;
     if flags.contains(&true) {
         leave_out(exports, flags.as_slice());

@@ -210,6 +210,7 @@ fn libraries_of_one_dll_have_names(rt: HostRuntime) -> Result<(), Fail> {
         assert_eq!(rt; wrote.as_str(), "");
         assert_eq!(rt; got, 0);
         let library = fs::read(&rt, file.as_path())?;
+        assert!(rt; library.len() > 96);
         assert!(rt;
             library.as_slice()[96..].starts_with(names.as_bytes()),
             "{text}"

@@ -3,7 +3,7 @@ use Rattle.hex.specs.Hex.{encode_with}
 use Rattle.md5.specs.Md5.{block_words, rounds, compress, hash_after, digest_bytes, md5}
 use Rattle.implib_dlltool.specs.LibraryName.{gnu_library_name}
 use Rattle.implib_dlltool.specs.Repeats.{without_repeated}
-use Rattle.implib_dlltool.specs.WorkedLibraryNames.{ExportsTaken, GnuLibrariesNamed, LibrariesWorked, MsvcLibrariesNamed, RepeatsWorked}
+use Rattle.implib_dlltool.specs.WorkedLibraryNames.{ExportsTaken, GnuLibrariesNamed, MsvcLibrariesNamed, RepeatsWorked}
 use Rattle.implib_dlltool.proofs.laws.libraries_worked.Goals as goal
 
 taken : ExportsTaken

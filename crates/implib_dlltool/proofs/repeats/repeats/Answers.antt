@@ -1,4 +1,4 @@
-use Rattle.std.proofs.Common.{◌≡◌, ◌∙◌, ◌&&◌, ◌||◌, ap, bytes_eq, not, sym}
+use Rattle.std.proofs.Common.{◌∙◌, ◌&&◌, ◌||◌, ap, bytes_eq, not, sym}
 use Rattle.implib.specs.Definition.{export_view}
 use Rattle.implib_dlltool.specs.Linked.{word_of}
 use Rattle.implib_dlltool.specs.Views.{has_word}

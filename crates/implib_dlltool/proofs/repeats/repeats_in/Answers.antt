@@ -1,8 +1,7 @@
-use Rattle.std.proofs.Common.{◌≡◌, ◌∙◌, ◌+◌, ◌++◌, ◌∷◌, ◌&&◌, ◌||◌, [], ap, drop, map, not, sym, take}
+use Rattle.std.proofs.Common.{◌∙◌, ◌+◌, ◌++◌, ◌&&◌, ◌||◌, ap, drop, map, not, sym, take}
 use Rattle.implib.specs.Definition.{export_view}
 use Rattle.implib_dlltool.specs.Linked.{word_of}
 use Rattle.implib_dlltool.specs.Repeats.{declares, is_declared, repeats, repeats_behind}
-use Rattle.implib_dlltool.specs.Views.{has_word}
 use Rattle.implib_dlltool.proofs.LeftOut.{declared_more, flags_more}
 use Rattle.implib_dlltool.proofs.repeats.repeats_in.Goals as goal
 
