@@ -1,0 +1,4 @@
+pub mod Entries
+pub mod Gathering
+pub mod Records
+pub mod Texts
