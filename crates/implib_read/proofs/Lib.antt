@@ -1,4 +1,5 @@
 pub mod Entries
+pub mod FieldNames
 pub mod Gathering
 pub mod Records
 pub mod Texts

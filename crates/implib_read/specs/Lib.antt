@@ -1,3 +1,5 @@
+pub mod MemberNames
+pub mod NameViews
 pub mod Objects
 pub mod ObjectViews
 pub mod ShortImports
