@@ -1,6 +1,8 @@
 -- Loops that gather what a definition by recursion has as a whole, or find that it has nothing.
-use Rattle.std.proofs.Common.{◌≡◌, ℕ, zero, suc, ◌+◌, ◌-◌, ◌<◌, List, [], ◌∷◌, ◌++◌, Option, Some, None, map, refl, ap, ◌∙◌, sym, append-nil, append_assoc, arith}
-use Rattle.std.proofs.lemmas.List.{map-append}
+use Rattle.std.proofs.Common.{◌≡◌, ℕ, zero, suc, ◌+◌, ◌-◌, ◌<◌, List, [], ◌∷◌, ◌++◌, Option, Some, None, map, refl, ap, ◌∙◌, sym, append-nil, append_assoc, arith, get_or, length, take}
+use Rattle.std.proofs.lemmas.List.Elements.{filter_map-append}
+use Rattle.std.proofs.lemmas.List.{map-append, take_more}
+use Rattle.std.specs.List.{cons_option, filter_map}
 use Rattle.std.specs.Option.{option_and_then, option_map}
 use Rattle.implib.specs.Formats.Object.{each_at}
 
@@ -52,3 +54,12 @@ pub gathers-read : {A X : Type 0} (view : A → X) (read : ℕ → Option X) (wh
 gathers-read view read whole place width n items next x pushed some is so_far =
     let more = gathers-more whole (each_at read place width n) (map view items) (view x) (each_at read (place + width) width (n - 1)) so_far (each_at-more read place width n (view x) some is) in
     more ∙ ap (λ done. option_map (λ later. done ++ later) (each_at read (place + width) width (n - 1))) (sym (ap (map view) pushed ∙ map-append view items (x ∷ [])))
+
+-- a loop over items keeps what a function has of one more of them, or nothing
+pub kept-more : {A B C : Type 0} (view : A → B) (f : B → Option C) (items : List A) (i : ℕ) (d : A) (done : List C) (got : Option C) → i < length items
+    → f (view (get_or items i d)) ≡ got → done ≡ filter_map f (map view (take i items)) → done ++ cons_option got [] ≡ filter_map f (map view (take (i + 1) items))
+kept-more view f items i d done got within is so_far =
+    ap (λ o. done ++ cons_option o []) (sym is)
+    ∙ (ap (λ t. t ++ cons_option (f (view (get_or items i d))) []) so_far
+    ∙ (sym (filter_map-append f (map view (take i items)) (view (get_or items i d) ∷ []))
+    ∙ ap (filter_map f) (sym (ap (map view) (take_more items i d within) ∙ map-append view (take i items) (get_or items i d ∷ [])))))

@@ -1,3 +1,4 @@
+pub mod ArchiveParts
 pub mod Entries
 pub mod FieldNames
 pub mod Gathering

@@ -1,3 +1,5 @@
+pub mod Archives
+pub mod ArchiveViews
 pub mod MemberNames
 pub mod NameViews
 pub mod Objects

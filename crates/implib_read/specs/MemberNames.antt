@@ -1,8 +1,8 @@
 -- What the name field of a member's header says, in archives of any maker (the common archive format; PE/COFF
 -- specification, "Archive Member Headers"). A name ends at its slash or at the spaces; one that begins with a
 -- slash is a number in the long names, or special.
-use Rattle.std.specs.Prelude.{◌≡◌, ℕ, ◌-◌, Bool, false, ◌&&◌, not, List, [], ◌∷◌, Option, None, Some, bytes_eq, codes, drop, if◌then◌else◌, length, nat_eq, take, take_while}
-use Rattle.implib_archive.specs.Reader.{Name, Linker, LongNames, LongAt, Short, Unknown, name_in, number_in, trimmed}
+use Rattle.std.specs.Prelude.{ℕ, ◌-◌, Bool, false, ◌&&◌, not, List, [], ◌∷◌, Option, None, Some, bytes_eq, codes, drop, if◌then◌else◌, length, nat_eq, take, take_while}
+use Rattle.implib_archive.specs.Reader.{number_in, trimmed}
 
 -- a name: of a linker member, of the long names, the offset of a long name, a text, or special
 pub data MemberName : Type 0 where
@@ -42,15 +42,3 @@ unfoldable pub long_name_of : List ℕ → List ℕ
 long_name_of text =
     let line = take_while (λ c. not (nat_eq c 0) && not (nat_eq c 10)) text in
     if begins_with_byte 10 (drop (length line) text) then without_slash line else line
-
--- how `implib_archive`'s reader says the same, but for names that it does not know
-abbrev pub SameName : MemberName → Name → Type 0
-SameName found Linker = found ≡ LinkerMember
-SameName found LongNames = found ≡ LongNamesMember
-SameName found (LongAt offset) = found ≡ NameAt offset
-SameName found (Short text) = found ≡ Named text
-SameName found Unknown = found ≡ found
-
--- each name that `implib_archive`'s reader knows, this one has
-abbrev pub SameNames : Type 0
-SameNames = (field : List ℕ) → SameName (member_name field) (name_in field)

@@ -1,5 +1,4 @@
 -- What a caller sees of a member's name.
-use Rattle.std.specs.Prelude.{ℕ, List}
 use Rattle.implib_read.specs.MemberNames.{MemberName as Seen, LinkerMember, LongNamesMember, NameAt, Named, Special}
 use Rattle.implib_read.specs.declared.names.MemberName.{MemberName}
 use Rattle.implib_read.specs.declared.names.MemberName.TheVariants.{Linker, LongNames, LongAt, Text, Special as AsSpecial}

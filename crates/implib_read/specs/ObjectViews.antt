@@ -1,5 +1,5 @@
 -- What a caller sees of the values that borrow an object's bytes.
-use Rattle.std.specs.Prelude.{ℕ, List, map}
+use Rattle.std.specs.Prelude.{map}
 use Rattle.implib.specs.Formats.Object.{Entry as FileEntry, ASymbol, Auxiliary as AnAuxiliary, Object as FileObject, ObjectSection, ObjectSymbol}
 use Rattle.implib_read.specs.Objects.{relocations_of}
 use Rattle.implib_read.specs.declared.object.Section.{Section}

@@ -1,11 +1,11 @@
 -- A short import with the third text that name type 4 has. The PE/COFF specification knows name types 0 to 3
 -- and two texts ("Import Library Format"); IMPORT_NAME_EXPORTAS of Microsoft's headers is the fourth, and gives
 -- behind the DLL the name that is asked for. `implib`'s reader has no value where a third text stands.
-use Rattle.std.specs.Prelude.{◌≡◌, ℕ, ◌/◌, ◌%◌, ◌==◌, Bool, false, nat_le, ◌&&◌, List, [], ◌∷◌, drop, Option, Some, None, if◌then◌else◌}
+use Rattle.std.specs.Prelude.{◌≡◌, ℕ, ◌/◌, ◌%◌, ◌==◌, false, nat_le, List, [], ◌∷◌, drop, Option, Some, None, if◌then◌else◌}
 use Rattle.std.specs.Option.{option_map}
 use Rattle.implib.specs.Formats.Object.{u16_at, u32_at}
 use Rattle.implib.specs.Formats.ShortImport.{ShortImport, import_const, import_data, import_of_short_import, is_short_import, short_import_header_size, short_import_in, text_in}
-use Rattle.implib.specs.Import.{Ask, Name, Import, import_symbols}
+use Rattle.implib.specs.Import.{Name, Import, import_symbols}
 use Rattle.implib_read.specs.declared.short_import.ShortImport.{ShortImport as Found}
 
 -- what is read of a short import: its fields, and by name type 4 the name that it asks for

@@ -94,3 +94,10 @@ pub(crate) fn up_to_nul(bytes: &[u8]) -> &[u8]
 {
     &bytes[..nul_or_len(bytes)]
 }
+
+/// The bytes behind the first `count`, or none where there are fewer.
+pub(crate) fn behind(bytes: &[u8], count: usize) -> &[u8]
+    ensures { result.now ≡ drop count bytes.now }
+{
+    &bytes[count.min(bytes.len())..]
+}

@@ -1,5 +1,6 @@
 //! Laws of reading. The functions do nothing: their contracts are the laws.
 
+ghost use Rattle.implib_read.specs.Archives.{SameParts};
 ghost use Rattle.implib_read.specs.Objects.{SameObjects};
 ghost use Rattle.implib_read.specs.ShortImports.{SameShortImports};
 
@@ -12,4 +13,9 @@ pub fn same_objects()
 /// name type 4 without its third text.
 pub fn same_short_imports()
     ensures { SameShortImports }
+{}
+
+/// The parts that the reader of `implib_archive`'s definitions has of an archive, [`crate::Archive::read`] has.
+pub fn same_parts()
+    ensures { SameParts }
 {}

@@ -1,12 +1,14 @@
 //! A reader of import libraries, whoever made them.
 #![tactic(auto)]
 
+mod archive;
 mod fields;
 pub mod laws;
 mod names;
 mod object;
 mod short_import;
 
+pub use archive::{Archive, Part, StoredMember};
 pub use names::MemberName;
 pub use object::{Entry, Object, Section, Symbol};
 pub use short_import::ShortImport;

@@ -7,6 +7,8 @@ ghost use Rattle.implib_archive.specs.Reader.{is_digit, number_in, trimmed};
 ghost use Rattle.implib_read.specs.MemberNames.{begins_with_byte, long_name_of, member_name, without_slash};
 ghost use Rattle.implib_read.specs.NameViews.{name_view};
 
+use crate::fields::behind;
+
 /// What the name field of a header says.
 #[derive(Clone, Copy)]
 pub enum MemberName<'a> {
@@ -74,7 +76,7 @@ pub(crate) fn number_in(text: &[u8]) -> Option<usize>
 }
 
 /// Whether a text is another.
-fn is_text(text: &[u8], other: &[u8]) -> bool
+pub(crate) fn is_text(text: &[u8], other: &[u8]) -> bool
     ensures { result ≡ bytes_eq text.now other.now }
 {
     text == other
@@ -150,5 +152,5 @@ fn long_name_of(text: &[u8]) -> &[u8]
 pub(crate) fn long_name_at(names: &[u8], offset: usize) -> &[u8]
     ensures { result.now ≡ long_name_of (drop offset names.now) }
 {
-    long_name_of(&names[offset.min(names.len())..])
+    long_name_of(behind(names, offset))
 }

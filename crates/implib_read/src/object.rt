@@ -7,7 +7,7 @@ ghost use Rattle.implib.specs.Formats.Object.{section_at, section_of, strings_at
 ghost use Rattle.implib_read.specs.Objects.{begins_with_zeros, entries_found, entry_at, object_found, object_of_found, relocations_of};
 ghost use Rattle.implib_read.specs.ObjectViews.{entry_view, object_view, section_view, symbol_view};
 
-use crate::fields::{before_nul, bytes_at, u16_at, u32_at, up_to_nul};
+use crate::fields::{before_nul, behind, bytes_at, u16_at, u32_at, up_to_nul};
 use std::alloc::{AllocError, Global};
 
 /// A section.
@@ -154,7 +154,7 @@ fn strings_at(bytes: &[u8], offset: usize) -> Option<&[u8]>
 fn string_at(strings: &[u8], offset: usize) -> Option<&[u8]>
     ensures { option_map (λ found. found.now) result ≡ before_nul (drop offset strings.now) }
 {
-    before_nul(&strings[offset.min(strings.len())..])
+    before_nul(behind(strings, offset))
 }
 
 /// Whether a name's field begins with four zero bytes, so that the name is in the string table.

@@ -1,6 +1,5 @@
-use Rattle.std.proofs.Common.{◌≡◌, ℕ, ◌/◌, ◌%◌, ◌==◌, Bool, true, false, List, [], ◌∷◌, drop, Option, Some, None, if◌then◌else◌, refl, sym, ap, ◌∙◌}
+use Rattle.std.proofs.Common.{◌≡◌, ℕ, ◌==◌, Bool, true, false, List, [], ◌∷◌, drop, Option, Some, None, if◌then◌else◌, ap, ◌∙◌}
 use Rattle.std.specs.Option.{option_map}
-use Rattle.implib.specs.Formats.Object.{u16_at}
 use Rattle.implib.specs.Formats.ShortImport.{ShortImport, is_short_import, short_import_from, short_import_header_size, short_import_in, short_import_with, text_in}
 use Rattle.implib_read.specs.ShortImports.{WithExported, fields_with, found_from, found_with, import_name_exportas, last_text, no_text, short_import_found}
 use Rattle.implib_read.proofs.laws.same_short_imports.Goals as goal

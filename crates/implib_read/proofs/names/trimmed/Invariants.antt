@@ -1,4 +1,4 @@
-use Rattle.std.proofs.Common.{◌≡◌, ℕ, ◌≤◌, length, take}
+use Rattle.std.proofs.Common.{◌≡◌, ◌≤◌, length, take}
 use Rattle.implib_archive.specs.Reader.{trimmed}
 use Rattle.implib_read.proofs.names.trimmed.Given as goal
 

@@ -1,4 +1,4 @@
-use Rattle.std.proofs.Common.{rules, arith, ◌+◌, ◌*◌, ◌<◌, ◌≤◌, ◌^◌, length}
+use Rattle.std.proofs.Common.{rules, arith, length}
 use Rattle.implib_read.proofs.FieldNames.{small_power}
 use Rattle.implib_read.proofs.names.value_of.Goals as goal
 

@@ -1,4 +1,4 @@
-use Rattle.std.proofs.Common.{◌≡◌, ℕ, ◌+◌, ◌-◌, ◌*◌, ◌≤◌, ◌^◌, fold, take}
+use Rattle.std.proofs.Common.{◌≡◌, ◌+◌, ◌-◌, ◌*◌, ◌≤◌, ◌^◌, fold, take}
 use Rattle.implib_read.proofs.names.value_of.Given as goal
 
 abbrev pub invariant-loop-c : goal.invariant-loop-c

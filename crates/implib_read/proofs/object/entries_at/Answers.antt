@@ -1,5 +1,4 @@
-use Rattle.std.proofs.Common.{◌≡◌, ◌∙◌, ◌+◌, ◌*◌, ◌-◌, ◌<◌, None, Some, map, refl, sym, ap, rules, arith}
-use Rattle.implib.specs.Formats.Object.{entries_at}
+use Rattle.std.proofs.Common.{◌≡◌, ◌<◌, None, Some, sym, rules, arith}
 use Rattle.implib_read.specs.Objects.{entry_at}
 use Rattle.implib_read.specs.ObjectViews.{entry_view}
 use Rattle.implib_read.proofs.Gathering.{gathers-end, gathers-none}

@@ -1,4 +1,4 @@
-use Rattle.std.proofs.Common.{◌≡◌, ℕ, ◌+◌, ◌*◌, map}
+use Rattle.std.proofs.Common.{◌≡◌, ◌+◌, ◌*◌, map}
 use Rattle.implib.specs.Formats.Object.{entries_at}
 use Rattle.implib_read.specs.ObjectViews.{entry_view}
 use Rattle.implib_read.proofs.Gathering.{Gathers}

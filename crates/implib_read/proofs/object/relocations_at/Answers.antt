@@ -1,6 +1,6 @@
-use Rattle.std.proofs.Common.{ap, ◌∙◌, refl, sym, rules, arith}
+use Rattle.std.proofs.Common.{ap, ◌∙◌, sym, rules, arith}
 use Rattle.std.specs.Option.{option_map}
-use Rattle.implib.specs.Formats.Object.{each_at, relocation_at, relocation_of}
+use Rattle.implib.specs.Formats.Object.{relocation_at}
 use Rattle.implib_read.specs.Objects.{records_in, relocations_of}
 use Rattle.implib_read.proofs.Gathering.{each_at-end}
 use Rattle.implib_read.proofs.Records.{relocations_at-is, seen}
