@@ -1,5 +1,6 @@
 -- Records one behind the other: relocations.
-use Rattle.std.proofs.Common.{◌≡◌, ℕ, zero, suc, ◌+◌, ◌-◌, ◌*◌, ◌/◌, ◌<◌, ◌≤◌, Bool, true, false, List, ◌∷◌, Option, Some, None, length, take, drop, nat_le, if◌then◌else◌, refl, ap, ◌∙◌, sym, arith, Bor}
+use Rattle.std.proofs.Common.{◌≡◌, ℕ, zero, suc, ◌+◌, ◌-◌, ◌*◌, ◌/◌, ◌<◌, ◌≤◌, Bool, true, false, List, ◌∷◌, Option, Some, None, length, take, drop, nat_le, if◌then◌else◌, cond, ◌==◌, slice_get, refl, ap, ◌∙◌, sym, arith, Bor}
+use Rattle.std.specs.List.{find}
 use Rattle.std.specs.Option.{option_and_then, option_map}
 use Rattle.std.proofs.Math.Nat.{mul-div_cancel_left}
 use Rattle.std.proofs.Math.Seq.{drop-drop}
@@ -7,7 +8,7 @@ use Rattle.std.proofs.lemmas.List.{drop-take}
 use Rattle.std.proofs.lemmas.Bool.{le-leb, false_from_ne_true, leb-true}
 use Rattle.std.proofs.lemmas.Grind.{common_steps}
 use Rattle.implib.specs.declared.coff.object.Relocation.{Relocation}
-use Rattle.implib.specs.Formats.Object.{bytes_at, each_at, relocation_at, relocation_of}
+use Rattle.implib.specs.Formats.Object.{bytes_at, each_at, relocation_at, relocation_of, section_numbered}
 use Rattle.implib_read.specs.Objects.{records_in, relocations_of}
 
 pub bytes_at-some : (bytes : List ℕ) (offset count : ℕ) → offset + count ≤ length bytes → bytes_at bytes offset count ≡ Some (take count (drop offset bytes))
@@ -87,3 +88,38 @@ relocations_at-is bytes offset (suc n) some = relocations_at-found bytes offset 
 pub seen : {X : Type 0} (f : List ℕ → X) (found : Option (Bor (List ℕ))) → option_map (λ b. f b.now) found ≡ option_map f (option_map (λ b. b.now) found)
 seen f None = refl
 seen f (Some b) = refl
+
+relocations_of-cons : (bytes : List ℕ) → 10 ≤ length bytes → relocations_of bytes ≡ relocation_of (take 10 bytes) ∷ relocations_of (drop 10 bytes)
+unfolding records_in
+relocations_of-cons bytes long =
+    let shorter : length (drop 10 bytes) ≡ length bytes - 10 = grind (arith, common_steps) in
+    let one_more : length bytes / 10 ≡ suc (length (drop 10 bytes) / 10) = omega (arith, long, shorter) in
+    ap (λ n. records_in relocation_of 10 n bytes) one_more
+
+-- whether a relocation is of the field at an offset
+abbrev is_at : ℕ → Relocation → Bool
+is_at offset r = r.offset == offset
+
+pub relocation-first : (offset : ℕ) (bytes : List ℕ) (r : Relocation) → 10 ≤ length bytes → r ≡ relocation_of (take 10 bytes) → (r.offset == offset) ≡ true
+    → find (λ r. r.offset == offset) (relocations_of bytes) ≡ Some r
+relocation-first offset bytes r long is here =
+    ap (find (is_at offset)) (relocations_of-cons bytes long)
+    ∙ (ap (λ s. cond (is_at offset s) (Some s) (find (is_at offset) (relocations_of (drop 10 bytes)))) (sym is)
+    ∙ ap (λ b. cond b (Some r) (find (is_at offset) (relocations_of (drop 10 bytes)))) here)
+
+pub relocation-later : (offset : ℕ) (bytes : List ℕ) (r : Relocation) → 10 ≤ length bytes → r ≡ relocation_of (take 10 bytes) → (r.offset == offset) ≡ false
+    → find (λ r. r.offset == offset) (relocations_of bytes) ≡ find (λ r. r.offset == offset) (relocations_of (drop 10 bytes))
+relocation-later offset bytes r long is here =
+    ap (find (is_at offset)) (relocations_of-cons bytes long)
+    ∙ (ap (λ s. cond (is_at offset s) (Some s) (find (is_at offset) (relocations_of (drop 10 bytes)))) (sym is)
+    ∙ ap (λ b. cond b (Some r) (find (is_at offset) (relocations_of (drop 10 bytes)))) here)
+
+pub relocation-none : (offset : ℕ) (bytes : List ℕ) → length bytes < 10 → find (λ r. r.offset == offset) (relocations_of bytes) ≡ None
+unfolding records_in
+relocation-none offset bytes short =
+    let none : length bytes / 10 ≡ 0 = omega (arith, short) in
+    ap (λ n. find (is_at offset) (records_in relocation_of 10 n bytes)) none
+
+pub section_numbered-at : {X : Type 0} (items : List X) (number : ℕ) → 0 < number → section_numbered items number ≡ slice_get items (number - 1)
+section_numbered-at items zero some = absurd (omega (arith, some))
+section_numbered-at items (suc index) some = ap (slice_get items) (omega arith)

@@ -1,5 +1,9 @@
 pub mod Archives
 pub mod ArchiveViews
+pub mod Following
+pub mod FollowingViews
+pub mod Imports
+pub mod ImportViews
 pub mod MemberNames
 pub mod NameViews
 pub mod Objects

@@ -2,13 +2,17 @@
 #![tactic(auto)]
 
 mod archive;
+mod ask;
 mod fields;
+mod follow;
+mod imports;
 pub mod laws;
 mod names;
 mod object;
 mod short_import;
 
 pub use archive::{Archive, Part, StoredMember};
+pub use ask::{AskFound, DeclaredFound, ImportFound};
 pub use names::MemberName;
 pub use object::{Entry, Object, Section, Symbol};
 pub use short_import::ShortImport;
