@@ -1,6 +1,7 @@
 pub mod ArchiveParts
 pub mod Entries
 pub mod FieldNames
+pub mod FirstPlaces
 pub mod Gathering
 pub mod Records
 pub mod Texts

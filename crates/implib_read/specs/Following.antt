@@ -1,7 +1,7 @@
 -- Where a relocated field of an object leads: to a section and an offset in it, in the object itself or in one
 -- that defines the symbol. Addends and values of symbols count, and no name of a symbol tells what it is for.
 use Rattle.std.specs.Prelude.{ℕ, ◌+◌, ◌%◌, ◌^◌, ◌==◌, List, [], ◌∷◌, Option, None, Some, bytes_eq, drop, if◌then◌else◌}
-use Rattle.std.specs.List.{filter_map, find}
+use Rattle.std.specs.List.{find}
 use Rattle.std.specs.Option.{option_and_then, option_map, option_or}
 use Rattle.implib.specs.declared.coff.object.Relocation.{Relocation}
 use Rattle.implib.specs.Formats.Object.{Entry, Object, ObjectSection, ObjectSymbol, before_nul, bytes_at, u32_at}
@@ -27,11 +27,6 @@ place_by_entry o name e =
 abbrev pub place_among : Object → List ℕ → List Entry → Option Place
 place_among o name [] = None
 place_among o name (e ∷ es) = option_or (place_by_entry o name e) (place_among o name es)
-
--- Where the external of a name is defined: by the first object that defines it, as a linker takes it.
-abbrev pub definer : List Object → List ℕ → Option Place
-definer [] name = None
-definer (o ∷ others) name = option_or (place_among o name o.entries) (definer others name)
 
 -- where a symbol of an object is: where it is defined if the object does not define it
 abbrev pub resolved : (List ℕ → Option Place) → Object → ObjectSymbol → Option Place

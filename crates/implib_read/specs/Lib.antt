@@ -1,5 +1,9 @@
+pub mod Aliases
+pub mod AliasViews
 pub mod Archives
 pub mod ArchiveViews
+pub mod Files
+pub mod FileViews
 pub mod Following
 pub mod FollowingViews
 pub mod Imports

@@ -1,9 +1,12 @@
 //! A reader of import libraries, whoever made them.
 #![tactic(auto)]
 
+mod alias;
 mod archive;
 mod ask;
+mod definers;
 mod fields;
+mod file;
 mod follow;
 mod imports;
 pub mod laws;
@@ -11,8 +14,10 @@ mod names;
 mod object;
 mod short_import;
 
+pub use alias::AliasFound;
 pub use archive::{Archive, Part, StoredMember};
 pub use ask::{AskFound, DeclaredFound, ImportFound};
+pub use file::FileFound;
 pub use names::MemberName;
 pub use object::{Entry, Object, Section, Symbol};
 pub use short_import::ShortImport;
