@@ -9,6 +9,7 @@ use Rattle.std.proofs.lemmas.Bool.{le-leb, false_from_ne_true, leb-true}
 use Rattle.std.proofs.lemmas.Grind.{common_steps}
 use Rattle.implib.specs.declared.coff.object.Relocation.{Relocation}
 use Rattle.implib.specs.Formats.Object.{bytes_at, each_at, relocation_at, relocation_of, section_numbered}
+use Rattle.implib_read.specs.Classes.{is_empty}
 use Rattle.implib_read.specs.Objects.{records_in, relocations_of}
 
 pub bytes_at-some : (bytes : List ℕ) (offset count : ℕ) → offset + count ≤ length bytes → bytes_at bytes offset count ≡ Some (take count (drop offset bytes))
@@ -123,3 +124,14 @@ relocation-none offset bytes short =
 pub section_numbered-at : {X : Type 0} (items : List X) (number : ℕ) → 0 < number → section_numbered items number ≡ slice_get items (number - 1)
 section_numbered-at items zero some = absurd (omega (arith, some))
 section_numbered-at items (suc index) some = ap (slice_get items) (omega arith)
+
+pub is_empty-short : (bytes : List ℕ) → length bytes < 10 → is_empty (relocations_of bytes) ≡ true
+unfolding records_in
+is_empty-short bytes short =
+    let none : length bytes / 10 ≡ 0 = omega (arith, short) in
+    ap (λ n. is_empty (records_in relocation_of 10 n bytes)) none
+
+pub is_empty-long : (bytes : List ℕ) → 10 ≤ length bytes → is_empty (relocations_of bytes) ≡ false
+is_empty-long bytes long = ap is_empty (relocations_of-cons bytes long)
+
+pub ruleset no_relocation = (is_empty-short, is_empty-long)

@@ -1,5 +1,5 @@
 -- Weak externals.
-use Rattle.std.specs.Prelude.{ℕ, ◌==◌, Option, Some, None, if◌then◌else◌}
+use Rattle.std.specs.Prelude.{◌==◌, Option, Some, None, if◌then◌else◌}
 use Rattle.implib.specs.Formats.Constants.{class_weak_external}
 use Rattle.implib.specs.Formats.Object.{Entry, ASymbol, Auxiliary, ObjectSymbol}
 

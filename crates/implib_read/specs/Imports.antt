@@ -1,10 +1,10 @@
 -- What an object imports, for GNU's linker: found by where its fields lead (docs/FORMATS.md, "Reading an export's
 -- object"), whoever made it.
-use Rattle.std.specs.Prelude.{ℕ, ◌-◌, List, Option, None, Some, codes, drop, length, nat_le, slice_index, if◌then◌else◌}
+use Rattle.std.specs.Prelude.{ℕ, List, Option, None, Some, codes, length, nat_le, if◌then◌else◌}
 use Rattle.std.specs.Option.{option_and_then, option_map}
 use Rattle.implib.specs.declared.coff.object.Relocation.{Relocation}
 use Rattle.implib.specs.Formats.Object.{Object, bytes_at, u16_at}
-use Rattle.implib.specs.Import.{Ask, Ordinal, Name, Import}
+use Rattle.implib.specs.Import.{Ask, Name, Import}
 use Rattle.implib.specs.Members.GnuReader.{ask_by_ordinal, import_from}
 use Rattle.implib_read.specs.Following.{Place, Spot, begin_of, further, only_in, pointed, pointed_by, relocation_of_field, text_at}
 

@@ -2,6 +2,8 @@ pub mod Aliases
 pub mod AliasViews
 pub mod Archives
 pub mod ArchiveViews
+pub mod Classes
+pub mod ClassViews
 pub mod Files
 pub mod FileViews
 pub mod Following

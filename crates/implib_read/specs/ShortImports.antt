@@ -4,8 +4,8 @@
 use Rattle.std.specs.Prelude.{◌≡◌, ℕ, ◌/◌, ◌%◌, ◌==◌, false, nat_le, List, [], ◌∷◌, drop, Option, Some, None, if◌then◌else◌}
 use Rattle.std.specs.Option.{option_map}
 use Rattle.implib.specs.Formats.Object.{u16_at, u32_at}
-use Rattle.implib.specs.Formats.ShortImport.{ShortImport, import_const, import_data, import_of_short_import, is_short_import, short_import_header_size, short_import_in, text_in}
-use Rattle.implib.specs.Import.{Name, Import, import_symbols}
+use Rattle.implib.specs.Formats.ShortImport.{ShortImport, ask_of_short_import, import_const, import_data, import_name_undecorate, is_short_import, short_import_header_size, short_import_in, text_in}
+use Rattle.implib.specs.Import.{Ask, Name, Import, import_symbols}
 use Rattle.implib_read.specs.declared.short_import.ShortImport.{ShortImport as Found}
 
 -- what is read of a short import: its fields, and by name type 4 the name that it asks for
@@ -78,19 +78,21 @@ short_import_view i = record {
   exported = option_map (λ text. text.now) i.exported;
 }
 
--- the import of a short import that gives its exported name, or otherwise of its fields
-abbrev pub import_with : ShortImport → Option (List ℕ) → Option Import
-import_with r None = import_of_short_import r
-import_with r (Some name) =
-    if nat_le r.import_type import_const then Some record {
-      dll = r.dll;
-      declared = import_symbols (r.import_type == import_data) r.symbol;
-      ask = Name name r.ordinal;
-    } else None
+-- what is asked for by a short import that gives its exported name, or otherwise by its name type
+abbrev pub ask_with : ShortImport → Option (List ℕ) → Option Ask
+ask_with r (Some name) = Some (Name name r.ordinal)
+ask_with r None = if nat_le r.name_type import_name_undecorate then Some (ask_of_short_import r) else None
 
--- the import that a short import is, where its types have a meaning
+-- what a short import asks for, where its types have a meaning
+abbrev pub ask_of_found : WithExported → Option Ask
+ask_of_found r = if nat_le r.fields.import_type import_const then ask_with r.fields r.exported else None
+
+-- The import that a short import is, where its types have a meaning. For example, name type 4 with the third text
+-- `bar` asks for bar, whatever the symbol is.
 abbrev pub import_of_found : WithExported → Option Import
-import_of_found r = import_with r.fields r.exported
+import_of_found r = option_map
+    (λ ask. record { dll = r.fields.dll; declared = import_symbols (r.fields.import_type == import_data) r.fields.symbol; ask = ask })
+    (ask_of_found r)
 
 -- What `implib`'s reader has of a short import, this one has, with no exported name; only name type 4 without
 -- its third text is refused.

@@ -16,10 +16,22 @@ pub enum DeclaredFound<'a> {
     OfObject(Vec<&'a [u8]>, Vec<&'a [u8]>),
 }
 
+/// What an import is of.
+#[derive(Clone, Copy, PartialEq, Eq)]
+pub enum ImportKind {
+    Code,
+    Data,
+    Const,
+    /// Objects for GNU's linker do not tell CONSTANT from code.
+    CodeOrConst,
+}
+
 /// An import.
 #[derive(Drop)]
 pub struct ImportFound<'a> {
     pub dll: &'a [u8],
     pub declared: DeclaredFound<'a>,
     pub ask: AskFound<'a>,
+    pub kind: ImportKind,
+    pub machine: u16,
 }

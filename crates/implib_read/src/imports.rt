@@ -8,10 +8,12 @@ ghost use Rattle.implib.specs.Members.GnuReader.{external_in, externals_in, is_d
 ghost use Rattle.implib_read.specs.Following.{begin_of, further, only_in, pointed, relocation_of_field, text_at};
 ghost use Rattle.implib_read.specs.FollowingViews.{places_of, spot_view};
 ghost use Rattle.implib_read.specs.Imports.{ask_at, ask_of_object, descriptor_of, dll_of_object, hint_and_name, import_of_object, ordinal_in};
-ghost use Rattle.implib_read.specs.ImportViews.{ask_view, import_view};
+ghost use Rattle.implib_read.specs.ImportViews.{ask_view};
+ghost use Rattle.implib_read.specs.Classes.{imported_by_object, kind_of_code};
+ghost use Rattle.implib_read.specs.ClassViews.{imported_view};
 ghost use Rattle.implib_read.specs.ObjectViews.{entry_view, object_view, symbol_view};
 
-use crate::ask::{AskFound, DeclaredFound, ImportFound};
+use crate::ask::{AskFound, DeclaredFound, ImportFound, ImportKind};
 use crate::fields::{before_nul, behind, bytes_at, u16_at};
 use crate::follow::{
     Definers, SpotFound, is_defined_external, pointed, pointed_by, relocation_of_field,
@@ -187,14 +189,24 @@ fn externals_in<'a>(
     externals_among(alloc, object, section, &object.entries)
 }
 
+/// The kind that an object's symbols of code tell.
+fn kind_of_code(names: &[&[u8]]) -> ImportKind
+    ensures { result ≡ kind_of_code (map (λ t. t.now) names.now) }
+{
+    match names {
+        [] => ImportKind::Data,
+        [_, ..] => ImportKind::CodeOrConst,
+    }
+}
+
 /// The import that an object is.
 #[tactic(auto, unfolding(crate::specs::Imports::import_of_object))]
-pub(crate) fn import_of_object<'o, 'a>(
+pub(crate) fn imported_by_object<'o, 'a>(
     alloc: Global,
     definers: &Definers<'o, 'a>,
     object: &'o Object<'a>,
 ) -> Result<Option<ImportFound<'a>>, AllocError>
-    ensures { IfOk result (λ found. option_map import_view found ≡ import_of_object (places_of definers.now) (object_view object.now)) }
+    ensures { IfOk result (λ found. option_map imported_view found ≡ imported_by_object (places_of definers.now) (object_view object.now)) }
 {
     let Some(dll) = dll_of_object(definers, object) else {
         return Ok(None);
@@ -204,9 +216,12 @@ pub(crate) fn import_of_object<'o, 'a>(
     };
     let addresses = externals_in(alloc, object, b".idata$5")?;
     let code = externals_in(alloc, object, b".text\0\0\0")?;
+    let kind = kind_of_code(&code);
     Ok(Some(ImportFound {
         dll,
         declared: DeclaredFound::OfObject(addresses, code),
         ask,
+        kind,
+        machine: object.machine,
     }))
 }

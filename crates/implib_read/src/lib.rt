@@ -4,20 +4,25 @@
 mod alias;
 mod archive;
 mod ask;
+mod class;
 mod definers;
 mod fields;
 mod file;
 mod follow;
 mod imports;
 pub mod laws;
+mod library;
 mod names;
 mod object;
 mod short_import;
+mod short_meaning;
 
 pub use alias::AliasFound;
 pub use archive::{Archive, Part, StoredMember};
-pub use ask::{AskFound, DeclaredFound, ImportFound};
+pub use ask::{AskFound, DeclaredFound, ImportFound, ImportKind};
+pub use class::{MemberClass, MemberRead};
 pub use file::FileFound;
+pub use library::Library;
 pub use names::MemberName;
 pub use object::{Entry, Object, Section, Symbol};
 pub use short_import::ShortImport;

@@ -1,4 +1,4 @@
-use Rattle.std.proofs.Common.{◌≡◌, ℕ, drop, map}
+use Rattle.std.proofs.Common.{◌≡◌, drop, map}
 use Rattle.implib.specs.Formats.File.{weak_symbols}
 use Rattle.implib_read.specs.ObjectViews.{entry_view}
 use Rattle.implib_read.proofs.alias.first_weak.Given as goal

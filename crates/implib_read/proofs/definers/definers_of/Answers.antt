@@ -1,4 +1,4 @@
-use Rattle.std.proofs.Common.{◌≡◌, ℕ, List, rules}
+use Rattle.std.proofs.Common.{rules}
 use Rattle.implib_read.specs.FileViews.{file_view}
 use Rattle.implib_read.proofs.FirstPlaces.{noted-file}
 use Rattle.implib_read.proofs.definers.definers_of.Goals as goal

@@ -1,5 +1,4 @@
-use Rattle.std.proofs.Common.{◌≡◌, ℕ, List, sym, rules}
-use Rattle.std.specs.Option.{option_or}
+use Rattle.std.proofs.Common.{sym, rules}
 use Rattle.implib_read.specs.FollowingViews.{places_of}
 use Rattle.implib_read.specs.ObjectViews.{entry_view, object_view}
 use Rattle.implib_read.proofs.FirstPlaces.{noted-entry, option_or-none}

@@ -1,4 +1,4 @@
-use Rattle.std.proofs.Common.{◌≡◌, ◌∙◌, ℕ, List, None, Some, bytes_eq, rules}
+use Rattle.std.proofs.Common.{◌≡◌, ◌∙◌, None, bytes_eq, rules}
 use Rattle.std.specs.HashMap.{get_by}
 use Rattle.std.proofs.lemmas.Map.Text.{hash_map_updates_str}
 use Rattle.implib_read.proofs.FirstPlaces.{placed}

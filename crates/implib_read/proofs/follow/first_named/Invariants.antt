@@ -1,4 +1,4 @@
-use Rattle.std.proofs.Common.{◌≡◌, ℕ, bytes_eq, drop, map}
+use Rattle.std.proofs.Common.{◌≡◌, bytes_eq, drop, map}
 use Rattle.std.specs.List.{find}
 use Rattle.implib_read.specs.ObjectViews.{section_view}
 use Rattle.implib_read.proofs.follow.first_named.Given as goal

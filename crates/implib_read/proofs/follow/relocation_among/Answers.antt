@@ -1,6 +1,5 @@
-use Rattle.std.proofs.Common.{◌≡◌, ◌∙◌, ◌==◌, ◌<◌, ◌≤◌, true, false, length, take, drop, sym, ap, rules, arith}
+use Rattle.std.proofs.Common.{◌≡◌, ◌∙◌, ◌==◌, true, false, sym, ap, rules}
 use Rattle.std.specs.List.{find}
-use Rattle.implib.specs.Formats.Object.{relocation_of}
 use Rattle.implib_read.specs.Objects.{relocations_of}
 use Rattle.implib_read.proofs.Records.{relocation-first, relocation-later, relocation-none}
 use Rattle.implib_read.proofs.follow.relocation_among.Goals as goal

@@ -1,4 +1,4 @@
-use Rattle.std.proofs.Common.{◌≡◌, ℕ, ◌==◌, length}
+use Rattle.std.proofs.Common.{◌≡◌, ◌==◌, length}
 use Rattle.std.specs.List.{find}
 use Rattle.implib_read.specs.Objects.{relocations_of}
 use Rattle.implib_read.proofs.follow.relocation_among.Given as goal

@@ -1,4 +1,4 @@
-use Rattle.std.proofs.Common.{◌≡◌, ℕ, take, map}
+use Rattle.std.proofs.Common.{◌≡◌, take, map}
 use Rattle.std.specs.List.{filter_map}
 use Rattle.implib.specs.Members.GnuReader.{external_in}
 use Rattle.implib_read.specs.ObjectViews.{entry_view, object_view}
