@@ -1,6 +1,5 @@
 -- What each member of a library is for.
-use Rattle.std.specs.Prelude.{ℕ, ◌==◌, Bool, true, false, List, [], ◌∷◌, Option, Some, None, bytes_eq, codes, if◌then◌else◌, map, take}
-use Rattle.std.specs.List.{list_any}
+use Rattle.std.specs.Prelude.{ℕ, ◌==◌, Bool, true, false, List, [], ◌∷◌, Option, Some, None, codes, if◌then◌else◌, map}
 use Rattle.std.specs.Option.{is_some, option_map}
 use Rattle.implib.specs.Formats.File.{alias_of_object}
 use Rattle.implib.specs.Formats.Object.{Object, ObjectSection}
@@ -60,29 +59,37 @@ pub data Class : Type 0 where
 abbrev pub has_section : Object → List ℕ → Bool
 has_section o name = is_some (section_named o name)
 
--- whether a section is of the tables of delayed imports
-abbrev pub is_delay_section : ObjectSection → Bool
-is_delay_section s = bytes_eq (take 7 s.name) (codes ".didat$")
-
 -- whether a list is empty
 abbrev pub is_empty : {X : Type 0} → List X → Bool
 is_empty [] = true
 is_empty (x ∷ xs) = false
 
--- what an object with `.idata$5`, and no import, is for, by its `.idata$7`: the tail has the DLL's name there. One
--- whose `.idata$7` leads elsewhere is not understood.
+-- What an object with `.idata$5`, and no import, is for, by its `.idata$7`. The tail has the DLL's name there. The
+-- members of GNU dlltool for a delayed DLL have it empty. Where it leads elsewhere, it is not understood.
 abbrev pub class_of_thunks : Option ObjectSection → Class
 class_of_thunks None = NullThunk
-class_of_thunks (Some s) = if is_empty s.relocations then Tail else NotUnderstood
+class_of_thunks (Some s) =
+    if is_empty s.bytes then DelayImport else if is_empty s.relocations then Tail else NotUnderstood
+
+-- What an object with `.idata$2` is for, by that and by whether it has `.idata$5`. That of a delayed DLL has its
+-- descriptor elsewhere, and an empty `.idata$2`.
+abbrev pub class_of_descriptor : ObjectSection → Bool → Class
+class_of_descriptor s thunks = if is_empty s.bytes then DelayImport else if thunks then Head else Descriptor
+
+-- what an object is for, by its `.idata$2`, its `.idata$5` and its `.idata$7`
+abbrev pub class_of_sections : Option ObjectSection → Bool → Option ObjectSection → Class
+class_of_sections (Some s) thunks names = class_of_descriptor s thunks
+class_of_sections None true names = class_of_thunks names
+class_of_sections None false names = Other
 
 -- What an object that is neither an import nor an alias is for, by its sections of import tables.
 abbrev pub class_by_tables : Object → Class
 class_by_tables o =
-    if list_any is_delay_section o.sections then DelayImport
-    else if has_section o (codes ".idata$3") then NullDescriptor
-    else if has_section o (codes ".idata$2") then (if has_section o (codes ".idata$5") then Head else Descriptor)
-    else if has_section o (codes ".idata$5") then class_of_thunks (section_named o (codes ".idata$7"))
-    else Other
+    if has_section o (codes ".idata$3") then NullDescriptor
+    else class_of_sections
+    (section_named o (codes ".idata$2"))
+    (has_section o (codes ".idata$5"))
+    (section_named o (codes ".idata$7"))
 
 -- what an object is for, by its alias and its import
 abbrev pub class_with : Object → Option Alias → Option Imported → Class

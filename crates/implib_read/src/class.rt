@@ -1,11 +1,10 @@
 //! What each member of a library is for.
 
 ghost use Rattle.std.specs.Prelude.{◌≡◌, map, IfOk};
-ghost use Rattle.std.specs.List.{list_any};
 ghost use Rattle.std.specs.Option.{option_map};
 ghost use Rattle.implib.specs.Formats.File.{alias_of_object};
-ghost use Rattle.implib_read.specs.Classes.{class_by_tables, class_of_file, class_of_import, class_of_thunks, class_with};
-ghost use Rattle.implib_read.specs.Classes.{has_section, imported_by_object, is_delay_section, is_empty};
+ghost use Rattle.implib_read.specs.Classes.{class_by_tables, class_of_descriptor, class_of_file, class_of_import, class_of_thunks, class_with};
+ghost use Rattle.implib_read.specs.Classes.{has_section, imported_by_object, is_empty};
 ghost use Rattle.implib_read.specs.ClassViews.{class_view, imported_view};
 ghost use Rattle.implib_read.specs.FileViews.{file_view};
 ghost use Rattle.implib_read.specs.FollowingViews.{places_of};
@@ -17,7 +16,6 @@ use crate::ask::ImportFound;
 use crate::file::FileFound;
 use crate::follow::{Definers, section_named};
 use crate::imports::imported_by_object;
-use crate::names::is_text;
 use crate::object::{Object, Section};
 use crate::short_meaning::imported_by_short_import;
 use std::alloc::{AllocError, Global};
@@ -63,25 +61,6 @@ fn has_section(object: &Object, name: &[u8]) -> bool
     section_named(object, name).is_some()
 }
 
-/// Whether a section is of the tables of delayed imports.
-fn is_delay_section(section: &Section) -> bool
-    ensures { result ≡ is_delay_section (section_view section.now) }
-{
-    is_text(&section.name[..section.name.len().min(7)], b".didat$")
-}
-
-/// Whether a section is of the tables of delayed imports.
-fn any_delay_section(sections: &[Section]) -> bool
-    ensures { result ≡ list_any is_delay_section (map section_view sections.now) }
-{
-    for section in sections {
-        if is_delay_section(section) {
-            return true;
-        }
-    }
-    false
-}
-
 /// Whether there is no relocation in records.
 #[tactic(auto, using(crate::proofs::Records::no_relocation))]
 fn has_no_relocation(records: &[u8]) -> bool
@@ -94,15 +73,30 @@ fn has_no_relocation(records: &[u8]) -> bool
 fn class_of_thunks<'a>(section: Option<Section<'a>>) -> MemberClass<'a>
     ensures { class_view result ≡ class_of_thunks (option_map section_view section.entry) }
 {
-    match section {
-        None => MemberClass::NullThunk,
-        Some(section) => {
-            if has_no_relocation(section.relocations) {
-                MemberClass::Tail
-            } else {
-                MemberClass::NotUnderstood
-            }
-        }
+    let Some(section) = section else {
+        return MemberClass::NullThunk;
+    };
+    if section.bytes.is_empty() {
+        return MemberClass::DelayImport;
+    }
+    if has_no_relocation(section.relocations) {
+        MemberClass::Tail
+    } else {
+        MemberClass::NotUnderstood
+    }
+}
+
+/// What an object with `.idata$2` is for, by that and by whether it has `.idata$5`.
+fn class_of_descriptor<'a>(section: Section<'a>, thunks: bool) -> MemberClass<'a>
+    ensures { class_view result ≡ class_of_descriptor (section_view section.entry) thunks }
+{
+    if section.bytes.is_empty() {
+        return MemberClass::DelayImport;
+    }
+    if thunks {
+        MemberClass::Head
+    } else {
+        MemberClass::Descriptor
     }
 }
 
@@ -110,20 +104,14 @@ fn class_of_thunks<'a>(section: Option<Section<'a>>) -> MemberClass<'a>
 fn class_by_tables<'a>(object: &Object<'a>) -> MemberClass<'a>
     ensures { class_view result ≡ class_by_tables (object_view object.now) }
 {
-    if any_delay_section(&object.sections) {
-        return MemberClass::DelayImport;
-    }
     if has_section(object, b".idata$3") {
         return MemberClass::NullDescriptor;
     }
-    if has_section(object, b".idata$2") {
-        return if has_section(object, b".idata$5") {
-            MemberClass::Head
-        } else {
-            MemberClass::Descriptor
-        };
+    let thunks = has_section(object, b".idata$5");
+    if let Some(descriptor) = section_named(object, b".idata$2") {
+        return class_of_descriptor(descriptor, thunks);
     }
-    if has_section(object, b".idata$5") {
+    if thunks {
         return class_of_thunks(section_named(object, b".idata$7"));
     }
     MemberClass::Other
