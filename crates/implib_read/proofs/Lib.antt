@@ -6,3 +6,4 @@ pub mod Gathering
 pub mod MemberClasses
 pub mod Records
 pub mod Texts
+pub mod WorkedBytes

@@ -12,7 +12,7 @@ use Rattle.implib_read.specs.Following.{Place}
 use Rattle.implib_read.specs.Imports.{import_of_object}
 use Rattle.implib_read.specs.ShortImports.{WithExported, import_of_found}
 use Rattle.implib_read.specs.declared.ask.ImportKind.{ImportKind}
-use Rattle.implib_read.specs.declared.ask.ImportKind.TheVariants.{Code, CodeOrConst, Const, «Data»}
+use Rattle.implib_read.specs.declared.ask.ImportKind.TheVariants.{Code, CodeOrConst, Const, Data}
 
 -- an import, with its kind and its machine
 pub record Imported : Type 0 where
@@ -23,11 +23,11 @@ pub record Imported : Type 0 where
 -- the kind that a short import's type says
 abbrev pub kind_of_type : ℕ → ImportKind
 kind_of_type import_type =
-    if import_type == import_code then Code else if import_type == import_data then «Data» else Const
+    if import_type == import_code then Code else if import_type == import_data then Data else Const
 
 -- the kind that an object's symbols of code tell: a symbol of code is declared for CONSTANT too
 abbrev pub kind_of_code : List (List ℕ) → ImportKind
-kind_of_code [] = «Data»
+kind_of_code [] = Data
 kind_of_code (name ∷ names) = CodeOrConst
 
 -- the import that a short import is

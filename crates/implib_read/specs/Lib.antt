@@ -15,3 +15,5 @@ pub mod NameViews
 pub mod Objects
 pub mod ObjectViews
 pub mod ShortImports
+pub mod WorkedFiles
+pub mod WorkedLibraries
