@@ -3,6 +3,7 @@ pub mod Entries
 pub mod FieldNames
 pub mod FirstPlaces
 pub mod Gathering
+pub mod IndexEntries
 pub mod MemberClasses
 pub mod Records
 pub mod Texts

@@ -7,10 +7,11 @@ use Rattle.implib_read.specs.Archives.{archive_in, parts_from, parts_in}
 use Rattle.implib_read.specs.Classes.{library_in, members_read}
 use Rattle.implib_read.specs.Following.{pointed, pointed_by}
 use Rattle.implib_read.specs.Imports.{ask_of_object, dll_of_object, import_of_object}
+use Rattle.implib_read.specs.Indexes.{entries_from, first_index_in, second_index_in}
 use Rattle.implib_read.specs.MemberNames.{long_name_of, member_name, without_slash}
 use Rattle.implib_read.specs.Objects.{entries_found, entry_at, object_found, object_of_found, records_in}
 use Rattle.implib_read.specs.ShortImports.{short_import_found}
-use Rattle.implib_read.specs.WorkedFiles.{WorkedChanges, WorkedNames, WorkedParts, WorkedShortImports, worked_by_name, worked_exported, worked_no_slash, worked_unpadded}
+use Rattle.implib_read.specs.WorkedFiles.{WorkedChanges, WorkedIndexes, WorkedNames, WorkedParts, WorkedShortImports, worked_by_name, worked_exported, worked_first_index, worked_no_slash, worked_second_index, worked_unpadded}
 use Rattle.implib_read.specs.WorkedLibraries.{WorkedLibraries, worked_dlltool, worked_ld, worked_llvm}
 
 pub worked_libraries : WorkedLibraries
@@ -61,3 +62,17 @@ worked_names = record {
 pub worked_changes : WorkedChanges
 unfolding before_nul bytes_at data_at each_at entries_at name_of relocation_at relocation_of section_at section_of strings_at symbol_of u16_at u32_at up_to_nul bytes_of_digits archive_data_at number_in stored_at trimmed archive_in parts_from parts_in library_in members_read pointed pointed_by ask_of_object dll_of_object import_of_object long_name_of member_name without_slash entries_found object_found object_of_found records_in short_import_found worked_ld
 worked_changes = record { as_it_is = refl; addend = refl; no_descriptor = refl }
+
+pub worked_indexes : WorkedIndexes
+unfolding bytes_at bytes_of_digits entries_from first_index_in second_index_in u16_at u32_at worked_first_index worked_second_index
+worked_indexes = record {
+  first = refl;
+  second = refl;
+  offsets = refl;
+  one = refl;
+  two = refl;
+  most = refl;
+  no_nul = refl;
+  no_count = refl;
+  none = refl;
+}

@@ -10,6 +10,8 @@ pub mod Following
 pub mod FollowingViews
 pub mod Imports
 pub mod ImportViews
+pub mod Indexes
+pub mod IndexViews
 pub mod MemberNames
 pub mod NameViews
 pub mod Objects

@@ -1,12 +1,13 @@
 -- Short imports and archives byte by byte, and bytes that are none; a library with changed bytes.
-use Rattle.std.specs.Prelude.{◌≡◌, ℕ, ◌+◌, List, [], ◌∷◌, ◌++◌, Option, None, Some, codes, drop, take}
-use Rattle.std.specs.Option.{option_and_then}
-use Rattle.implib.specs.Import.{Name, Import}
+use Rattle.std.specs.Prelude.{◌≡◌, ℕ, ◌+◌, List, [], ◌∷◌, ◌++◌, Option, None, Some, codes, drop, map, take}
+use Rattle.std.specs.Option.{option_and_then, option_map}
+use Rattle.implib.specs.Import.{Ask, Ordinal, Name, Import}
 use Rattle.implib.specs.Worked.Digits.{hex}
-use Rattle.implib_read.specs.Archives.{Part, parts_in}
+use Rattle.implib_read.specs.Archives.{Part, Archive, StoredMember, parts_in}
 use Rattle.implib_read.specs.Classes.{Class, NotUnderstood, MemberRead, library_in}
+use Rattle.implib_read.specs.Indexes.{IndexEntry, first_index_in, second_index_in}
 use Rattle.implib_read.specs.MemberNames.{MemberName, Named, NameAt, LinkerMember, LongNamesMember, Special, long_name_of, member_name}
-use Rattle.implib_read.specs.ShortImports.{import_of_found, short_import_found}
+use Rattle.implib_read.specs.ShortImports.{WithExported, import_of_found, short_import_found}
 use Rattle.implib_read.specs.WorkedLibraries.{of_foo, worked_ld}
 use Rattle.implib_read.specs.declared.ask.ImportKind.TheVariants.{CodeOrConst}
 
@@ -107,3 +108,53 @@ pub record WorkedChanges : Type 0 where
   pub addend : last_class_in (changed 1642 1 worked_ld) ≡ Some (of_foo CodeOrConst (codes "__imp_bar" ∷ codes "bar" ∷ []) (Name (codes "ar") 0x6200))
   -- `.idata$7` leads beside the descriptor
   pub no_descriptor : last_class_in (changed 1638 4 worked_ld) ≡ Some NotUnderstood
+
+-- the first linker member that llvm-dlltool writes for the library worked_llvm: 144 bytes
+unfoldable pub worked_first_index : List ℕ
+worked_first_index =
+    hex "00 00 00 08 00 00 01 ac 00 00 03 4e 00 00 04 0a 00 00 04 e6 00 00 04 e6 00 00 05 42 00 00 05 9e 00 00 05 9e 5f 5f 49 4d 50 4f 52 54 5f 44 45 53"
+    ++ hex "43 52 49 50 54 4f 52 5f 66 6f 6f 00 5f 5f 4e 55 4c 4c 5f 49 4d 50 4f 52 54 5f 44 45 53 43 52 49 50 54 4f 52 00 7f 66 6f 6f 5f 4e 55 4c 4c 5f 54"
+    ++ hex "48 55 4e 4b 5f 44 41 54 41 00 5f 5f 69 6d 70 5f 62 61 72 00 62 61 72 00 5f 5f 69 6d 70 5f 62 61 7a 00 5f 5f 69 6d 70 5f 71 75 78 00 71 75 78 00"
+
+-- the second one: 156 bytes
+unfoldable pub worked_second_index : List ℕ
+worked_second_index =
+    hex "06 00 00 00 ac 01 00 00 4e 03 00 00 0a 04 00 00 e6 04 00 00 42 05 00 00 9e 05 00 00 08 00 00 00 01 00 02 00 04 00 05 00 06 00 04 00 06 00 03 00"
+    ++ hex "5f 5f 49 4d 50 4f 52 54 5f 44 45 53 43 52 49 50 54 4f 52 5f 66 6f 6f 00 5f 5f 4e 55 4c 4c 5f 49 4d 50 4f 52 54 5f 44 45 53 43 52 49 50 54 4f 52"
+    ++ hex "00 5f 5f 69 6d 70 5f 62 61 72 00 5f 5f 69 6d 70 5f 62 61 7a 00 5f 5f 69 6d 70 5f 71 75 78 00 62 61 72 00 71 75 78 00 7f 66 6f 6f 5f 4e 55 4c 4c"
+    ++ hex "5f 54 48 55 4e 4b 5f 44 41 54 41 00"
+
+-- an entry of an index
+abbrev pub entry : List ℕ → ℕ → IndexEntry
+entry symbol place = record { symbol = symbol; place = place }
+
+-- What indexes say, and what is none.
+pub record WorkedIndexes : Type 0 where
+  pub first : first_index_in worked_first_index ≡ Some (
+    entry (codes "__IMPORT_DESCRIPTOR_foo") 428
+    ∷ entry (codes "__NULL_IMPORT_DESCRIPTOR") 846
+    ∷ entry (codes "\x7ffoo_NULL_THUNK_DATA") 1034
+    ∷ entry (codes "__imp_bar") 1254
+    ∷ entry (codes "bar") 1254
+    ∷ entry (codes "__imp_baz") 1346
+    ∷ entry (codes "__imp_qux") 1438
+    ∷ entry (codes "qux") 1438 ∷ []
+  )
+  pub second : option_map (λ i. i.entries) (second_index_in worked_second_index) ≡ Some (
+    entry (codes "__IMPORT_DESCRIPTOR_foo") 1
+    ∷ entry (codes "__NULL_IMPORT_DESCRIPTOR") 2
+    ∷ entry (codes "__imp_bar") 4
+    ∷ entry (codes "__imp_baz") 5
+    ∷ entry (codes "__imp_qux") 6
+    ∷ entry (codes "bar") 4
+    ∷ entry (codes "qux") 6
+    ∷ entry (codes "\x7ffoo_NULL_THUNK_DATA") 3 ∷ []
+  )
+  pub offsets : option_map (λ i. i.offsets) (second_index_in worked_second_index) ≡ Some (hex "ac 01 00 00 4e 03 00 00 0a 04 00 00 e6 04 00 00 42 05 00 00 9e 05 00 00")
+  pub one : first_index_in (hex "00 00 00 01 00 00 00 48 66 00") ≡ Some (entry (codes "f") 0x48 ∷ [])
+  -- a count that is too high, and the largest one; a symbol without its NUL; no count
+  pub two : first_index_in (hex "00 00 00 02 00 00 00 48 66 00") ≡ None
+  pub most : first_index_in (hex "ff ff ff ff 00 00 00 48 66 00") ≡ None
+  pub no_nul : first_index_in (hex "00 00 00 01 00 00 00 48 66") ≡ None
+  pub no_count : first_index_in (hex "00 00 00") ≡ None
+  pub none : first_index_in (hex "00 00 00 00") ≡ Some []
