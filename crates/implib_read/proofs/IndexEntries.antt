@@ -35,9 +35,9 @@ entry-read view whole second n places later symbols symbol rest place items next
     let left = entries_from second (n - 1) later rest in
     let this : view x ≡ record { symbol = symbol; place = place_in second places } = seen ∙ ap (λ p. record { symbol = symbol; place = p }) at in
     let step : entries_from second n places symbols ≡ option_map (λ es. view x ∷ es) left =
-      entries_from-more second n places symbols symbol rest some is
-      ∙ (ap (λ e. option_map (λ es. e ∷ es) (entries_from second (n - 1) (drop (place_size second) places) rest)) (sym this)
-      ∙ ap (λ t. option_map (λ es. view x ∷ es) (entries_from second (n - 1) t rest)) (sym behind)) in
+    entries_from-more second n places symbols symbol rest some is
+    ∙ (ap (λ e. option_map (λ es. e ∷ es) (entries_from second (n - 1) (drop (place_size second) places) rest)) (sym this)
+    ∙ ap (λ t. option_map (λ es. view x ∷ es) (entries_from second (n - 1) t rest)) (sym behind)) in
     let more = gathers-more whole (entries_from second n places symbols) (map view items) (view x) left so_far step in
     more ∙ ap (λ done. option_map (λ es. done ++ es) left) (sym (ap (map view) pushed ∙ map-append view items (x ∷ [])))
 

@@ -30,6 +30,7 @@ worked_short_imports = record {
   no_nul = refl;
   import_type = refl;
   name_type = refl;
+  arm64ec = refl;
 }
 
 pub worked_parts : WorkedParts

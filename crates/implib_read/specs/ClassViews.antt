@@ -2,7 +2,7 @@
 use Rattle.implib_read.specs.AliasViews.{alias_view}
 use Rattle.implib_read.specs.Classes.{Class, AnImport, AnAlias, Descriptor as ADescriptor, NullDescriptor as ANullDescriptor, NullThunk as ANullThunk, Head as AHead, Tail as ATail, DelayImport as ADelayImport, Other as AnOther, NotUnderstood as NotOne, Imported, MemberRead as SeenMember}
 use Rattle.implib_read.specs.ImportViews.{import_view}
-use Rattle.implib_read.specs.declared.ask.ImportFound.{ImportFound}
+use Rattle.implib_read.specs.declared.import.ImportFound.{ImportFound}
 use Rattle.implib_read.specs.declared.class.MemberClass.{MemberClass}
 use Rattle.implib_read.specs.declared.class.MemberClass.TheVariants.{Import, Alias, Descriptor, NullDescriptor, NullThunk, Head, Tail, DelayImport, Other, NotUnderstood}
 use Rattle.implib_read.specs.declared.class.MemberRead.{MemberRead}

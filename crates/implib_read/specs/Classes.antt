@@ -11,8 +11,8 @@ use Rattle.implib_read.specs.Files.{File, ShortImportFile, ObjectFile, NotRead, 
 use Rattle.implib_read.specs.Following.{Place}
 use Rattle.implib_read.specs.Imports.{import_of_object}
 use Rattle.implib_read.specs.ShortImports.{WithExported, import_of_found}
-use Rattle.implib_read.specs.declared.ask.ImportKind.{ImportKind}
-use Rattle.implib_read.specs.declared.ask.ImportKind.TheVariants.{Code, CodeOrConst, Const, Data}
+use Rattle.implib_read.specs.declared.import.ImportKind.{ImportKind}
+use Rattle.implib_read.specs.declared.import.ImportKind.TheVariants.{Code, CodeOrConst, Const, Data}
 
 -- an import, with its kind and its machine
 pub record Imported : Type 0 where

@@ -1,11 +1,11 @@
 -- What a caller sees of imports.
 use Rattle.std.specs.Prelude.{ℕ, List, ◌++◌, map}
 use Rattle.implib.specs.Import.{Ask, Name as ByName, Ordinal as ByOrdinal, Import, import_symbols}
-use Rattle.implib_read.specs.declared.ask.AskFound.{AskFound}
-use Rattle.implib_read.specs.declared.ask.AskFound.TheVariants.{Name, Ordinal}
-use Rattle.implib_read.specs.declared.ask.DeclaredFound.{DeclaredFound}
-use Rattle.implib_read.specs.declared.ask.DeclaredFound.TheVariants.{OfName, OfObject}
-use Rattle.implib_read.specs.declared.ask.ImportFound.{ImportFound}
+use Rattle.implib_read.specs.declared.import.AskFound.{AskFound}
+use Rattle.implib_read.specs.declared.import.AskFound.TheVariants.{Name, Ordinal}
+use Rattle.implib_read.specs.declared.import.DeclaredFound.{DeclaredFound}
+use Rattle.implib_read.specs.declared.import.DeclaredFound.TheVariants.{OfName, OfObject}
+use Rattle.implib_read.specs.declared.import.ImportFound.{ImportFound}
 
 abbrev pub ask_view : AskFound → Ask
 ask_view (Name name hint) = ByName name.now hint

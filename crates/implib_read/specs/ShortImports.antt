@@ -1,7 +1,7 @@
 -- A short import with the third text that name type 4 has. The PE/COFF specification knows name types 0 to 3
 -- and two texts ("Import Library Format"); IMPORT_NAME_EXPORTAS of Microsoft's headers is the fourth, and gives
 -- behind the DLL the name that is asked for. `implib`'s reader has no value where a third text stands.
-use Rattle.std.specs.Prelude.{◌≡◌, ℕ, ◌/◌, ◌%◌, ◌==◌, false, nat_le, List, [], ◌∷◌, drop, Option, Some, None, if◌then◌else◌}
+use Rattle.std.specs.Prelude.{◌≡◌, ℕ, ◌/◌, ◌%◌, ◌==◌, false, nat_le, ◌&&◌, not, List, [], ◌∷◌, drop, Option, Some, None, if◌then◌else◌}
 use Rattle.std.specs.Option.{option_map}
 use Rattle.implib.specs.Formats.Object.{u16_at, u32_at}
 use Rattle.implib.specs.Formats.ShortImport.{ShortImport, ask_of_short_import, import_const, import_data, import_name_undecorate, is_short_import, short_import_header_size, short_import_in, text_in}
@@ -83,9 +83,16 @@ abbrev pub ask_with : ShortImport → Option (List ℕ) → Option Ask
 ask_with r (Some name) = Some (Name name r.ordinal)
 ask_with r None = if nat_le r.name_type import_name_undecorate then Some (ask_of_short_import r) else None
 
--- what a short import asks for, where its types have a meaning
+-- the machine of code for ARM64 that calls code for AMD64 ("Machine Types": ARM64EC)
+abbrev pub arm64ec : ℕ
+arm64ec = 0xA641
+
+-- What a short import asks for, where its types have a meaning. One of ARM64EC declares other symbols than this
+-- reader knows, so it has no meaning here.
 abbrev pub ask_of_found : WithExported → Option Ask
-ask_of_found r = if nat_le r.fields.import_type import_const then ask_with r.fields r.exported else None
+ask_of_found r =
+    if nat_le r.fields.import_type import_const && not (r.fields.machine == arm64ec) then ask_with r.fields r.exported
+    else None
 
 -- The import that a short import is, where its types have a meaning. For example, name type 4 with the third text
 -- `bar` asks for bar, whatever the symbol is.

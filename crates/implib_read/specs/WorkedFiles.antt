@@ -9,7 +9,7 @@ use Rattle.implib_read.specs.Indexes.{IndexEntry, first_index_in, second_index_i
 use Rattle.implib_read.specs.MemberNames.{MemberName, Named, NameAt, LinkerMember, LongNamesMember, Special, long_name_of, member_name}
 use Rattle.implib_read.specs.ShortImports.{WithExported, import_of_found, short_import_found}
 use Rattle.implib_read.specs.WorkedLibraries.{of_foo, worked_ld}
-use Rattle.implib_read.specs.declared.ask.ImportKind.TheVariants.{CodeOrConst}
+use Rattle.implib_read.specs.declared.import.ImportKind.TheVariants.{CodeOrConst}
 
 -- the short import that llvm-dlltool writes for `alias==real`, of name type 4
 unfoldable pub worked_exported : List ℕ
@@ -51,6 +51,8 @@ pub record WorkedShortImports : Type 0 where
   -- import type 3 and name type 5 have no meaning
   pub import_type : imported (changed 18 7 worked_by_name) ≡ None
   pub name_type : imported (changed 18 20 worked_by_name) ≡ None
+  -- nor has a short import of ARM64EC
+  pub arm64ec : imported (changed 6 0x41 (changed 7 0xA6 worked_by_name)) ≡ None
 
 -- an archive of one member of one byte, without the padding of that: 69 bytes
 unfoldable pub worked_unpadded : List ℕ
@@ -131,25 +133,25 @@ entry symbol place = record { symbol = symbol; place = place }
 -- What indexes say, and what is none.
 pub record WorkedIndexes : Type 0 where
   pub first : first_index_in worked_first_index ≡ Some (
-    entry (codes "__IMPORT_DESCRIPTOR_foo") 428
-    ∷ entry (codes "__NULL_IMPORT_DESCRIPTOR") 846
-    ∷ entry (codes "\x7ffoo_NULL_THUNK_DATA") 1034
-    ∷ entry (codes "__imp_bar") 1254
-    ∷ entry (codes "bar") 1254
-    ∷ entry (codes "__imp_baz") 1346
-    ∷ entry (codes "__imp_qux") 1438
-    ∷ entry (codes "qux") 1438 ∷ []
-  )
+      entry (codes "__IMPORT_DESCRIPTOR_foo") 428
+      ∷ entry (codes "__NULL_IMPORT_DESCRIPTOR") 846
+      ∷ entry (codes "\u{7f}foo_NULL_THUNK_DATA") 1034
+      ∷ entry (codes "__imp_bar") 1254
+      ∷ entry (codes "bar") 1254
+      ∷ entry (codes "__imp_baz") 1346
+      ∷ entry (codes "__imp_qux") 1438
+      ∷ entry (codes "qux") 1438 ∷ []
+      )
   pub second : option_map (λ i. i.entries) (second_index_in worked_second_index) ≡ Some (
-    entry (codes "__IMPORT_DESCRIPTOR_foo") 1
-    ∷ entry (codes "__NULL_IMPORT_DESCRIPTOR") 2
-    ∷ entry (codes "__imp_bar") 4
-    ∷ entry (codes "__imp_baz") 5
-    ∷ entry (codes "__imp_qux") 6
-    ∷ entry (codes "bar") 4
-    ∷ entry (codes "qux") 6
-    ∷ entry (codes "\x7ffoo_NULL_THUNK_DATA") 3 ∷ []
-  )
+      entry (codes "__IMPORT_DESCRIPTOR_foo") 1
+      ∷ entry (codes "__NULL_IMPORT_DESCRIPTOR") 2
+      ∷ entry (codes "__imp_bar") 4
+      ∷ entry (codes "__imp_baz") 5
+      ∷ entry (codes "__imp_qux") 6
+      ∷ entry (codes "bar") 4
+      ∷ entry (codes "qux") 6
+      ∷ entry (codes "\u{7f}foo_NULL_THUNK_DATA") 3 ∷ []
+      )
   pub offsets : option_map (λ i. i.offsets) (second_index_in worked_second_index) ≡ Some (hex "ac 01 00 00 4e 03 00 00 0a 04 00 00 e6 04 00 00 42 05 00 00 9e 05 00 00")
   pub one : first_index_in (hex "00 00 00 01 00 00 00 48 66 00") ≡ Some (entry (codes "f") 0x48 ∷ [])
   -- a count that is too high, and the largest one; a symbol without its NUL; no count

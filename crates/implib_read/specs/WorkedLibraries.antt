@@ -4,8 +4,8 @@ use Rattle.std.specs.Prelude.{◌≡◌, ℕ, List, [], ◌∷◌, ◌++◌, Opt
 use Rattle.implib.specs.Import.{Ask, Ordinal, Name, Import}
 use Rattle.implib.specs.Worked.Digits.{hex}
 use Rattle.implib_read.specs.Classes.{Class, AnImport, AnAlias, Descriptor, NullDescriptor, NullThunk, Head, Tail, DelayImport, Other, NotUnderstood, Imported, MemberRead, library_in}
-use Rattle.implib_read.specs.declared.ask.ImportKind.{ImportKind}
-use Rattle.implib_read.specs.declared.ask.ImportKind.TheVariants.{Code, CodeOrConst, Const, Data}
+use Rattle.implib_read.specs.declared.import.ImportKind.{ImportKind}
+use Rattle.implib_read.specs.declared.import.ImportKind.TheVariants.{Code, CodeOrConst, Const, Data}
 
 -- a member
 abbrev pub member : List ℕ → ℕ → Class → MemberRead
@@ -142,21 +142,21 @@ worked_llvm =
 -- What the libraries mean.
 pub record WorkedLibraries : Type 0 where
   pub ld : library_in worked_ld ≡ Some (
-    member (codes "foo_dll_d000004.o") 164 Tail
-    ∷ member (codes "foo_dll_d000000.o") 478 Head
-    ∷ member (codes "foo_dll_d000003.o") 850 (of_foo CodeOrConst (codes "__imp_qux" ∷ codes "qux" ∷ []) (Ordinal 5))
-    ∷ member (codes "foo_dll_d000001.o") 1350 (of_foo CodeOrConst (codes "__imp_bar" ∷ codes "bar" ∷ []) (Name (codes "bar") 3)) ∷ []
-  )
+      member (codes "foo_dll_d000004.o") 164 Tail
+      ∷ member (codes "foo_dll_d000000.o") 478 Head
+      ∷ member (codes "foo_dll_d000003.o") 850 (of_foo CodeOrConst (codes "__imp_qux" ∷ codes "qux" ∷ []) (Ordinal 5))
+      ∷ member (codes "foo_dll_d000001.o") 1350 (of_foo CodeOrConst (codes "__imp_bar" ∷ codes "bar" ∷ []) (Name (codes "bar") 3)) ∷ []
+      )
   pub dlltool : library_in worked_dlltool ≡ Some (
-    member (codes "dlltool_a_t.o") 128 Tail
-    ∷ member (codes "dlltool_a_h.o") 764 Head
-    ∷ member (codes "dlltool_a_s00000.o") 1460 (of_foo CodeOrConst (codes "__imp_bar" ∷ codes "bar" ∷ []) (Name (codes "bar") 6)) ∷ []
-  )
+      member (codes "dlltool_a_t.o") 128 Tail
+      ∷ member (codes "dlltool_a_h.o") 764 Head
+      ∷ member (codes "dlltool_a_s00000.o") 1460 (of_foo CodeOrConst (codes "__imp_bar" ∷ codes "bar" ∷ []) (Name (codes "bar") 6)) ∷ []
+      )
   pub llvm : library_in worked_llvm ≡ Some (
-    member (codes "foo.dll") 8 Descriptor
-    ∷ member (codes "foo.dll") 426 NullDescriptor
-    ∷ member (codes "foo.dll") 614 NullThunk
-    ∷ member (codes "foo.dll") 834 (of_foo Code (codes "__imp_bar" ∷ codes "bar" ∷ []) (Name (codes "bar") 0))
-    ∷ member (codes "foo.dll") 926 (of_foo Data (codes "__imp_baz" ∷ []) (Name (codes "baz") 0))
-    ∷ member (codes "foo.dll") 1018 (of_foo Code (codes "__imp_qux" ∷ codes "qux" ∷ []) (Ordinal 5)) ∷ []
-  )
+      member (codes "foo.dll") 8 Descriptor
+      ∷ member (codes "foo.dll") 426 NullDescriptor
+      ∷ member (codes "foo.dll") 614 NullThunk
+      ∷ member (codes "foo.dll") 834 (of_foo Code (codes "__imp_bar" ∷ codes "bar" ∷ []) (Name (codes "bar") 0))
+      ∷ member (codes "foo.dll") 926 (of_foo Data (codes "__imp_baz" ∷ []) (Name (codes "baz") 0))
+      ∷ member (codes "foo.dll") 1018 (of_foo Code (codes "__imp_qux" ∷ codes "qux" ∷ []) (Ordinal 5)) ∷ []
+      )

@@ -12,9 +12,9 @@ ghost use Rattle.implib_read.specs.Objects.{relocations_of};
 ghost use Rattle.implib_read.specs.ObjectViews.{object_view, section_view};
 
 use crate::alias::{AliasFound, alias_of_object};
-use crate::ask::ImportFound;
 use crate::file::FileFound;
 use crate::follow::{Definers, section_named};
+use crate::import::ImportFound;
 use crate::imports::imported_by_object;
 use crate::object::{Object, Section};
 use crate::short_meaning::imported_by_short_import;

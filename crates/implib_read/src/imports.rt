@@ -13,12 +13,12 @@ ghost use Rattle.implib_read.specs.Classes.{imported_by_object, kind_of_code};
 ghost use Rattle.implib_read.specs.ClassViews.{imported_view};
 ghost use Rattle.implib_read.specs.ObjectViews.{entry_view, object_view, symbol_view};
 
-use crate::ask::{AskFound, DeclaredFound, ImportFound, ImportKind};
 use crate::fields::{before_nul, behind, bytes_at, u16_at};
 use crate::follow::{
     Definers, SpotFound, is_defined_external, pointed, pointed_by, relocation_of_field,
     section_named, section_numbered,
 };
+use crate::import::{AskFound, DeclaredFound, ImportFound, ImportKind};
 use crate::names::is_text;
 use crate::object::{Entry, Object, Symbol};
 use std::alloc::{AllocError, Global};

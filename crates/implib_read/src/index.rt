@@ -97,7 +97,13 @@ fn entries_behind<'a>(
 {
     let size = place_size(second) * count as usize;
     match bytes_at(contents, offset, size) {
-        Some(places) => entries_from(alloc, second, count as usize, places, behind(contents, offset + size)),
+        Some(places) => entries_from(
+            alloc,
+            second,
+            count as usize,
+            places,
+            behind(contents, offset + size),
+        ),
         None => Ok(None),
     }
 }
@@ -105,7 +111,10 @@ fn entries_behind<'a>(
 impl<'a> IndexEntry<'a> {
     /// The entries of a first linker member, or `None` where its counts lead out of it.
     #[tactic(auto, unfolding(crate::specs::Indexes::first_index_in))]
-    pub fn read_first(alloc: Global, contents: &'a [u8]) -> Result<Option<Vec<IndexEntry<'a>>>, AllocError>
+    pub fn read_first(
+        alloc: Global,
+        contents: &'a [u8],
+    ) -> Result<Option<Vec<IndexEntry<'a>>>, AllocError>
         ensures { IfOk result (λ found. option_map (λ v. map index_entry_view v.items) found ≡ first_index_in contents.now) }
     {
         match bytes_at(contents, 0, 4) {

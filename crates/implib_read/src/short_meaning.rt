@@ -8,8 +8,11 @@ ghost use Rattle.implib_read.specs.ClassViews.{imported_view};
 ghost use Rattle.implib_read.specs.ImportViews.{ask_view};
 ghost use Rattle.implib_read.specs.ShortImports.{ask_of_found, short_import_view};
 
-use crate::ask::{AskFound, DeclaredFound, ImportFound, ImportKind};
+use crate::import::{AskFound, DeclaredFound, ImportFound, ImportKind};
 use crate::short_import::ShortImport;
+
+/// The machine of code for ARM64 that calls code for AMD64. Its short imports declare symbols that are not read here.
+const ARM64EC: u16 = 0xA641;
 
 /// A symbol without its first byte, where that is `?`, `@` or `_`.
 fn without_prefix(symbol: &[u8]) -> &[u8]
@@ -58,7 +61,7 @@ fn asked_by_name_type(name_type: u16, symbol: &[u8]) -> &[u8]
 fn ask_of_found<'a>(import: &ShortImport<'a>) -> Option<AskFound<'a>>
     ensures { option_map ask_view result ≡ ask_of_found (short_import_view import.now) }
 {
-    if import.import_type > 2 {
+    if import.import_type > 2 || import.machine == ARM64EC {
         return None;
     }
     if let Some(name) = import.exported {

@@ -19,10 +19,11 @@ loop-left-preserved c =
     let l = c.loop-left in
     let some : 0 < l.left = c.loop-left-test.true in
     let found : text_in l.symbols.now ≡ Some (c.in-Some.symbol.now, c.in-Some.rest.now) = search rules in
-    let later = c.behind-places.ensures ∙ ap (λ k. drop k l.places.now) c.place_size-size.ensures.size in
-    (entry-read index_entry_view _ c.args.second l.left l.places.now c.behind-places.result.now l.symbols.now c.in-Some.symbol.now c.in-Some.rest.now c.place_in-place.result l.entries.items _ _
-    c.in_ok-push.ensures.items refl c.place_in-place.ensures later some found l.invariant.0,
-    places_left c.args.second l.left l.places.now c.behind-places.result.now some l.invariant.1 later)
+    let later = c.behind-places.ensures ∙ ap (λ k. drop k l.places.now) c.place_size-size.ensures.size in (
+      entry-read index_entry_view _ c.args.second l.left l.places.now c.behind-places.result.now l.symbols.now c.in-Some.symbol.now c.in-Some.rest.now c.place_in-place.result l.entries.items _ _
+          c.in_ok-push.ensures.items refl c.place_in-place.ensures later some found l.invariant.0,
+      places_left c.args.second l.left l.places.now c.behind-places.result.now some l.invariant.1 later,
+    )
 
 pub returns : goal.returns
 returns c =
