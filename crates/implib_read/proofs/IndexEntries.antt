@@ -3,8 +3,9 @@ use Rattle.std.proofs.Common.{◌≡◌, ℕ, zero, suc, ◌+◌, ◌*◌, ◌-�
 use Rattle.std.proofs.lemmas.Grind.{common_steps}
 use Rattle.std.proofs.lemmas.List.{map-append}
 use Rattle.std.specs.Option.{option_and_then, option_map}
+use Rattle.implib.specs.Formats.Object.{bytes_at, u32_at}
 use Rattle.implib.specs.Formats.ShortImport.{text_in}
-use Rattle.implib_read.specs.Indexes.{IndexEntry, entries_from, place_in, place_size}
+use Rattle.implib_read.specs.Indexes.{IndexEntry, entries_from, offset_numbered, place_in, place_size}
 use Rattle.implib_read.proofs.Gathering.{Gathers, gathers-more}
 
 pub entries_from-stop : (second : Bool) (n : ℕ) (places symbols : List ℕ) → 0 < n → text_in symbols ≡ None → entries_from second n places symbols ≡ None
@@ -54,3 +55,7 @@ places_left false n places later some long behind =
 pub enough_places : (second : Bool) (n : ℕ) (places : List ℕ) → 0 < n → length places ≡ place_size second * n → place_size second ≤ length places
 enough_places true n places some long = omega (arith, some, long)
 enough_places false n places some long = omega (arith, some, long)
+
+pub offset_numbered_at : (offsets : List ℕ) (number : ℕ) → 0 < number → offset_numbered offsets number ≡ option_map (λ offset. u32_at offset 0) (bytes_at offsets (4 * (number - 1)) 4)
+offset_numbered_at offsets zero some = absurd (omega (arith, some))
+offset_numbered_at offsets (suc n) some = ap (λ k. option_map (λ offset. u32_at offset 0) (bytes_at offsets (4 * k) 4)) (omega arith)

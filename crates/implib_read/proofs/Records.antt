@@ -135,3 +135,19 @@ pub is_empty-long : (bytes : List ℕ) → 10 ≤ length bytes → is_empty (rel
 is_empty-long bytes long = ap is_empty (relocations_of-cons bytes long)
 
 pub ruleset no_relocation = (is_empty-short, is_empty-long)
+
+pub record_at-some : (n i : ℕ) (bytes : List ℕ) → i < n → slice_get (records_in relocation_of 10 n bytes) i ≡ Some (relocation_of (take 10 (drop (10 * i) bytes)))
+unfolding records_in
+record_at-some zero i bytes within = absurd (omega (arith, within))
+record_at-some (suc n) zero bytes within = refl
+record_at-some (suc n) (suc i) bytes within =
+    let further : drop (10 * i) (drop 10 bytes) ≡ drop (10 * suc i) bytes = drop-drop (10 * i) 10 bytes ∙ ap (λ k. drop k bytes) (omega arith) in
+    record_at-some n i (drop 10 bytes) (omega (arith, within)) ∙ ap (λ t. Some (relocation_of (take 10 t))) further
+
+pub record_at-none : (n i : ℕ) (bytes : List ℕ) → n ≤ i → slice_get (records_in relocation_of 10 n bytes) i ≡ None
+unfolding records_in
+record_at-none zero i bytes beyond = refl
+record_at-none (suc n) zero bytes beyond = absurd (omega (arith, beyond))
+record_at-none (suc n) (suc i) bytes beyond = record_at-none n i (drop 10 bytes) (omega (arith, beyond))
+
+pub ruleset record_at = (record_at-some, record_at-none)

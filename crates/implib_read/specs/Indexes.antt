@@ -63,3 +63,8 @@ second_index_in contents = option_and_then
     (second_index_with contents (4 + 4 * u32_at members 0))
     (bytes_at contents 4 (4 * u32_at members 0)))
     (bytes_at contents 0 4)
+
+-- the offset of a number among the offsets of the second linker member; numbers count from 1
+abbrev pub offset_numbered : List ℕ → ℕ → Option ℕ
+offset_numbered offsets zero = None
+offset_numbered offsets (suc n) = option_map (λ offset. u32_at offset 0) (bytes_at offsets (4 * n) 4)

@@ -4,16 +4,16 @@ ghost use Rattle.std.specs.Prelude.{◌≡◌, ℕ, ◌+◌, ◌<◌, ◌==◌, 
 ghost use Rattle.std.specs.List.{find};
 ghost use Rattle.std.specs.Option.{option_and_then, option_map};
 ghost use Rattle.implib.specs.Formats.File.{is_defined_external};
-ghost use Rattle.implib.specs.Formats.Object.{before_nul, relocation_of, section_numbered};
+ghost use Rattle.implib.specs.Formats.Object.{section_numbered};
 ghost use Rattle.implib.specs.Members.GnuReader.{section_named, symbol_at, symbol_in};
 ghost use Rattle.implib_read.specs.Following.{begin_of, further, only_in, pointed, pointed_by, relocation_of_field, resolved, spot_of, text_at};
 ghost use Rattle.implib_read.specs.FollowingViews.{place_view, places_of, spot_view};
 ghost use Rattle.implib_read.specs.Objects.{relocations_of};
 ghost use Rattle.implib_read.specs.ObjectViews.{entry_view, object_view, section_view, symbol_view};
 
-use crate::fields::{before_nul, behind, bytes_at, u16_at, u32_at};
+use crate::fields::{behind, bytes_at, u32_at};
 use crate::names::is_text;
-use crate::object::{Entry, Object, Section, Symbol};
+use crate::object::{Entry, Object, Section, Symbol, relocation_of};
 use implib::coff::object::Relocation;
 use std::collections::HashMap;
 
@@ -93,19 +93,6 @@ pub(crate) fn symbol_at<'a>(object: &Object<'a>, index: u32) -> Option<Symbol<'a
     ensures { option_map symbol_view result ≡ symbol_at (object_view object.now) index }
 {
     symbol_of_index(&object.entries, index)
-}
-
-/// A relocation's record of 10 bytes.
-#[tactic(auto, unfolding(implib::specs::Formats::Object::relocation_of))]
-fn relocation_of(record_bytes: &[u8]) -> Relocation
-    requires { length record_bytes.now ≡ 10 }
-    ensures { result ≡ relocation_of record_bytes.now }
-{
-    Relocation {
-        offset: u32_at(record_bytes, 0),
-        symbol: u32_at(record_bytes, 4),
-        kind: u16_at(record_bytes, 8),
-    }
 }
 
 /// The relocation of the field at an offset, among records.
@@ -212,5 +199,14 @@ pub(crate) fn pointed<'o, 'a>(
     match relocation_of_field(at.offset, &at.section) {
         Some(relocation) => pointed_by(definers, at, relocation),
         None => None,
+    }
+}
+
+impl<'a> Object<'a> {
+    /// The symbol of an index, auxiliary records counted.
+    pub fn symbol(&self, index: u32) -> Option<Symbol<'a>>
+        ensures { option_map symbol_view result ≡ symbol_at (object_view self.now) index }
+    {
+        symbol_at(self, index)
     }
 }

@@ -4,7 +4,7 @@ ghost use Rattle.std.specs.Prelude.{◌≡◌, ℕ, ◌+◌, ◌*◌, ◌<◌, �
 ghost use Rattle.std.specs.Int.{from_be_bytes, w32};
 ghost use Rattle.std.specs.Option.{option_map};
 ghost use Rattle.implib_read.specs.Indexes.{entries_behind, entries_from, first_index_in, place_in, place_size};
-ghost use Rattle.implib_read.specs.Indexes.{second_index_in, second_index_with};
+ghost use Rattle.implib_read.specs.Indexes.{offset_numbered, second_index_in, second_index_with};
 ghost use Rattle.implib_read.specs.IndexViews.{index_entry_view, second_index_view};
 
 use crate::fields::{behind, bytes_at, text_in, u16_at, u32_at};
@@ -157,6 +157,20 @@ impl<'a> SecondIndex<'a> {
         match bytes_at(contents, 4, size) {
             Some(offsets) => second_index_with(alloc, contents, 4 + size, offsets),
             None => Ok(None),
+        }
+    }
+
+    /// The offset of a number, from 1.
+    #[tactic(auto, using(crate::proofs::IndexEntries::offset_numbered_at))]
+    pub fn offset(&self, number: u32) -> Option<u32>
+        ensures { result ≡ offset_numbered self.now.offsets.now number }
+    {
+        if number == 0 {
+            return None;
+        }
+        match bytes_at(self.offsets, 4 * (number as usize - 1), 4) {
+            Some(offset) => Some(u32_at(offset, 0)),
+            None => None,
         }
     }
 }

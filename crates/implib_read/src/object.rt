@@ -1,13 +1,14 @@
 //! Objects.
 
-ghost use Rattle.std.specs.Prelude.{◌≡◌, ℕ, ◌+◌, ◌<◌, ◌≤◌, ◌^◌, length, drop, map, IsSome, IfOk};
+ghost use Rattle.std.specs.Prelude.{◌≡◌, ℕ, ◌+◌, ◌<◌, ◌≤◌, ◌^◌, length, drop, map, slice_get, IsSome, IfOk};
 ghost use Rattle.std.specs.Option.{option_map};
-ghost use Rattle.implib.specs.Formats.Object.{before_nul, data_at, each_at, entries_at, name_of, relocation_at};
+ghost use Rattle.implib.specs.Formats.Object.{before_nul, data_at, each_at, entries_at, name_of, relocation_at, relocation_of};
 ghost use Rattle.implib.specs.Formats.Object.{section_at, section_of, strings_at, symbol_of};
 ghost use Rattle.implib_read.specs.Objects.{begins_with_zeros, entries_found, entry_at, object_found, object_of_found, relocations_of};
 ghost use Rattle.implib_read.specs.ObjectViews.{entry_view, object_view, section_view, symbol_view};
 
 use crate::fields::{before_nul, behind, bytes_at, u16_at, u32_at, up_to_nul};
+use implib::coff::object::Relocation;
 use std::alloc::{AllocError, Global};
 
 /// A section.
@@ -48,6 +49,33 @@ pub struct Object<'a> {
     pub characteristics: u16,
     pub sections: Vec<Section<'a>>,
     pub entries: Vec<Entry<'a>>,
+}
+
+/// A relocation's record of 10 bytes.
+#[tactic(auto, unfolding(implib::specs::Formats::Object::relocation_of))]
+pub(crate) fn relocation_of(record_bytes: &[u8]) -> Relocation
+    requires { length record_bytes.now ≡ 10 }
+    ensures { result ≡ relocation_of record_bytes.now }
+{
+    Relocation {
+        offset: u32_at(record_bytes, 0),
+        symbol: u32_at(record_bytes, 4),
+        kind: u16_at(record_bytes, 8),
+    }
+}
+
+impl Section<'_> {
+    /// The relocation of an index, from 0.
+    #[tactic(auto, using(crate::proofs::Records::record_at))]
+    pub fn relocation(&self, index: usize) -> Option<Relocation>
+        ensures { result ≡ slice_get (section_view self.now).relocations index }
+    {
+        if index < self.relocations.len() / 10 {
+            Some(relocation_of(&self.relocations[10 * index..10 * index + 10]))
+        } else {
+            None
+        }
+    }
 }
 
 /// A section's data. None is in the file where its offset is 0.
