@@ -1,4 +1,5 @@
 pub mod ArchiveParts
+pub mod Declarers
 pub mod Entries
 pub mod FieldNames
 pub mod FirstPlaces

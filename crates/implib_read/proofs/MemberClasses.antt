@@ -8,7 +8,7 @@ use Rattle.implib_read.specs.Following.{Place}
 use Rattle.std.specs.Prelude.{Option}
 
 -- the file of a member is beside it
-file_beside : {A B : Type 0} (view_member : A → StoredMember) (view_file : B → File) (members : List A) (files : List B) (i : ℕ) (m : A) (f : B) → i < length members
+pub file_beside : {A B : Type 0} (view_member : A → StoredMember) (view_file : B → File) (members : List A) (files : List B) (i : ℕ) (m : A) (f : B) → i < length members
     → map view_file files ≡ files_of (map view_member members) → view_file (get_or files i f) ≡ file_found (view_member (get_or members i m)).bytes
 file_beside view_member view_file [] files i m f within same = absurd (omega (arith, within))
 file_beside view_member view_file (x ∷ members) [] i m f within same = cc

@@ -12,6 +12,8 @@ pub mod Imports
 pub mod ImportViews
 pub mod Indexes
 pub mod IndexViews
+pub mod Leads
+pub mod LeadViews
 pub mod MemberNames
 pub mod NameViews
 pub mod Objects

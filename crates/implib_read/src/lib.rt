@@ -7,7 +7,7 @@
 //! that any member defines.
 //!
 //! Below that [`Archive::read`] finds the members of an archive, [`IndexEntry::read_first`] and [`SecondIndex::read`]
-//! the entries of its indexes, [`FileFound::read`] what a member is, [`Object::read`] the sections, symbols and
+//! the entries of its indexes, [`wrong_entries`] those that mislead a linker, [`FileFound::read`] what a member is, [`Object::read`] the sections, symbols and
 //! relocations of an object, and [`ShortImport::read`] the fields of a short import.
 //!
 //! Each of these equals a definition in `specs/` that goes by the bytes alone, so any bytes have an answer: `None`
@@ -27,6 +27,7 @@ mod import;
 mod imports;
 mod index;
 pub mod laws;
+mod leads;
 mod library;
 mod names;
 mod object;
@@ -39,6 +40,7 @@ pub use class::{MemberClass, MemberRead};
 pub use file::FileFound;
 pub use import::{AskFound, DeclaredFound, ImportFound, ImportKind};
 pub use index::{IndexEntry, SecondIndex};
+pub use leads::wrong_entries;
 pub use library::Library;
 pub use names::MemberName;
 pub use object::{Entry, Object, Section, Symbol};

@@ -24,7 +24,7 @@ pub struct Library<'a> {
 }
 
 /// The files of members.
-fn files_of<'a>(
+pub(crate) fn files_of<'a>(
     alloc: Global,
     members: &[StoredMember<'a>],
 ) -> Result<Vec<FileFound<'a>>, AllocError>
