@@ -1,6 +1,6 @@
 -- The indexes of an archive (PE/COFF specification, "First Linker Member" and "Second Linker Member"; the first is
 -- the index of the common archive format too). Counts are believed as far as there are bytes for them.
-use Rattle.std.specs.Prelude.{◌≡◌, ℕ, zero, suc, ◌+◌, ◌*◌, Bool, true, false, List, [], ◌∷◌, Option, None, Some, drop, take, map}
+use Rattle.std.specs.Prelude.{ℕ, zero, suc, ◌+◌, ◌*◌, Bool, true, false, List, [], ◌∷◌, Option, None, Some, drop, take}
 use Rattle.std.specs.Int.{from_be_bytes, w32}
 use Rattle.std.specs.Option.{option_and_then, option_map}
 use Rattle.implib.specs.Formats.Object.{bytes_at, u16_at, u32_at}

@@ -1,6 +1,6 @@
 -- Where the index of an archive ought to lead: each symbol to the first member that declares it, as a linker that
 -- goes by the index takes it.
-use Rattle.std.specs.Prelude.{ℕ, ◌==◌, Bool, false, List, [], ◌∷◌, Option, None, Some, bytes_eq, if◌then◌else◌}
+use Rattle.std.specs.Prelude.{ℕ, ◌==◌, List, [], ◌∷◌, Option, None, Some, bytes_eq, if◌then◌else◌}
 use Rattle.std.specs.List.{filter_map}
 use Rattle.std.specs.Option.{option_or}
 use Rattle.implib.specs.Formats.File.{declared_by_entry}

@@ -1,13 +1,13 @@
 -- Short imports and archives byte by byte, and bytes that are none; a library with changed bytes.
-use Rattle.std.specs.Prelude.{◌≡◌, ℕ, ◌+◌, List, [], ◌∷◌, ◌++◌, Option, None, Some, codes, drop, map, take}
+use Rattle.std.specs.Prelude.{◌≡◌, ℕ, ◌+◌, List, [], ◌∷◌, ◌++◌, Option, None, Some, codes, drop, take}
 use Rattle.std.specs.Option.{option_and_then, option_map}
-use Rattle.implib.specs.Import.{Ask, Ordinal, Name, Import}
+use Rattle.implib.specs.Import.{Name, Import}
 use Rattle.implib.specs.Worked.Digits.{hex}
-use Rattle.implib_read.specs.Archives.{Part, Archive, StoredMember, parts_in}
+use Rattle.implib_read.specs.Archives.{Part, parts_in}
 use Rattle.implib_read.specs.Classes.{Class, NotUnderstood, MemberRead, library_in}
 use Rattle.implib_read.specs.Indexes.{IndexEntry, first_index_in, second_index_in}
 use Rattle.implib_read.specs.MemberNames.{MemberName, Named, NameAt, LinkerMember, LongNamesMember, Special, long_name_of, member_name}
-use Rattle.implib_read.specs.ShortImports.{WithExported, import_of_found, short_import_found}
+use Rattle.implib_read.specs.ShortImports.{import_of_found, short_import_found}
 use Rattle.implib_read.specs.WorkedLibraries.{of_foo, worked_ld}
 use Rattle.implib_read.specs.declared.import.ImportKind.TheVariants.{CodeOrConst}
 

@@ -1,11 +1,11 @@
 -- Libraries of other makers, cut to a few members, with what they mean worked by hand: of GNU ld 2.40 and GNU
 -- dlltool 2.40 (binutils), and of llvm-dlltool 19. Beside them changed bytes, and what these mean.
-use Rattle.std.specs.Prelude.{◌≡◌, ℕ, List, [], ◌∷◌, ◌++◌, Option, None, Some, codes, drop, take}
-use Rattle.implib.specs.Import.{Ask, Ordinal, Name, Import}
+use Rattle.std.specs.Prelude.{◌≡◌, ℕ, List, [], ◌∷◌, ◌++◌, Some, codes}
+use Rattle.implib.specs.Import.{Ask, Ordinal, Name}
 use Rattle.implib.specs.Worked.Digits.{hex}
-use Rattle.implib_read.specs.Classes.{Class, AnImport, AnAlias, Descriptor, NullDescriptor, NullThunk, Head, Tail, DelayImport, Other, NotUnderstood, Imported, MemberRead, library_in}
+use Rattle.implib_read.specs.Classes.{Class, AnImport, Descriptor, NullDescriptor, NullThunk, Head, Tail, MemberRead, library_in}
 use Rattle.implib_read.specs.declared.import.ImportKind.{ImportKind}
-use Rattle.implib_read.specs.declared.import.ImportKind.TheVariants.{Code, CodeOrConst, Const, Data}
+use Rattle.implib_read.specs.declared.import.ImportKind.TheVariants.{Code, CodeOrConst, Data}
 
 -- a member
 abbrev pub member : List ℕ → ℕ → Class → MemberRead

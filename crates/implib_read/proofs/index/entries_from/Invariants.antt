@@ -1,4 +1,4 @@
-use Rattle.std.proofs.Common.{◌≡◌, ℕ, ◌*◌, length, map}
+use Rattle.std.proofs.Common.{◌≡◌, ◌*◌, length, map}
 use Rattle.implib_read.specs.Indexes.{entries_from, place_size}
 use Rattle.implib_read.specs.IndexViews.{index_entry_view}
 use Rattle.implib_read.proofs.Gathering.{Gathers}

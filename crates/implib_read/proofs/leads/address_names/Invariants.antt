@@ -1,4 +1,4 @@
-use Rattle.std.proofs.Common.{◌≡◌, ℕ, take, map}
+use Rattle.std.proofs.Common.{◌≡◌, take, map}
 use Rattle.implib_read.specs.FileViews.{file_view}
 use Rattle.implib_read.specs.Leads.{address_name}
 use Rattle.implib_read.proofs.leads.address_names.Given as goal

@@ -1,4 +1,4 @@
-use Rattle.std.proofs.Common.{◌≡◌, ◌∙◌, ◌<◌, ℕ, List, ap, length, map, sym, rules, arith}
+use Rattle.std.proofs.Common.{◌∙◌, ◌<◌, ap, length, sym, rules, arith}
 use Rattle.implib_read.specs.ArchiveViews.{member_view}
 use Rattle.implib_read.specs.FileViews.{file_view}
 use Rattle.implib_read.specs.Files.{file_found}

@@ -1,4 +1,4 @@
-use Rattle.std.proofs.Common.{◌≡◌, ℕ, take, map}
+use Rattle.std.proofs.Common.{◌≡◌, take, map}
 use Rattle.implib_read.specs.IndexViews.{index_entry_view}
 use Rattle.implib_read.specs.Leads.{wrong_entries}
 use Rattle.implib_read.specs.LeadViews.{offset_of}

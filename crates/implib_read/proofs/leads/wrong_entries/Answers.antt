@@ -1,11 +1,10 @@
-use Rattle.std.proofs.Common.{◌≡◌, ◌∙◌, ℕ, List, Option, ap, map, subst, sym, rules}
+use Rattle.std.proofs.Common.{◌≡◌, List, ap, map, subst}
 use Rattle.std.proofs.Math.Path.{fun_ext}
 use Rattle.std.specs.Result.{IfOk}
 use Rattle.implib_read.specs.ArchiveViews.{member_view}
-use Rattle.implib_read.specs.FileViews.{file_view}
 use Rattle.implib_read.specs.Indexes.{IndexEntry}
 use Rattle.implib_read.specs.IndexViews.{index_entry_view}
-use Rattle.implib_read.specs.Leads.{address_name, first_declarer, wrong_entries}
+use Rattle.implib_read.specs.Leads.{first_declarer, wrong_entries}
 use Rattle.implib_read.specs.LeadViews.{offset_of}
 use Rattle.implib_read.proofs.leads.wrong_entries.Goals as goal
 
