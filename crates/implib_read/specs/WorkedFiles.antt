@@ -3,8 +3,9 @@ use Rattle.std.specs.Prelude.{◌≡◌, ℕ, ◌+◌, List, [], ◌∷◌, ◌+
 use Rattle.std.specs.Option.{option_and_then, option_map}
 use Rattle.implib.specs.Import.{Name, Import}
 use Rattle.implib.specs.Worked.Digits.{hex}
-use Rattle.implib_read.specs.Archives.{Part, parts_in}
+use Rattle.implib_read.specs.Archives.{Part, archive_in, parts_in}
 use Rattle.implib_read.specs.Classes.{Class, NotUnderstood, MemberRead, library_in}
+use Rattle.implib_read.specs.Leads.{first_declarer, wrong_entries}
 use Rattle.implib_read.specs.Indexes.{IndexEntry, first_index_in, second_index_in}
 use Rattle.implib_read.specs.MemberNames.{MemberName, Named, NameAt, LinkerMember, LongNamesMember, Special, long_name_of, member_name}
 use Rattle.implib_read.specs.ShortImports.{import_of_found, short_import_found}
@@ -160,3 +161,56 @@ pub record WorkedIndexes : Type 0 where
   pub no_nul : first_index_in (hex "00 00 00 01 00 00 00 48 66") ≡ None
   pub no_count : first_index_in (hex "00 00 00") ≡ None
   pub none : first_index_in (hex "00 00 00 00") ≡ Some []
+
+-- what llvm-dlltool writes for the library worked_llvm, with its indexes: 1530 bytes
+unfoldable pub worked_indexed : List ℕ
+worked_indexed =
+    hex "21 3c 61 72 63 68 3e 0a 2f 20 20 20 20 20 20 20 20 20 20 20 20 20 20 20 30 20 20 20 20 20 20 20 20 20 20 20 30 20 20 20 20 20 30 20 20 20 20 20"
+    ++ hex "30 20 20 20 20 20 20 20 31 34 34 20 20 20 20 20 20 20 60 0a 00 00 00 08 00 00 01 ac 00 00 03 4e 00 00 04 0a 00 00 04 e6 00 00 04 e6 00 00 05 42"
+    ++ hex "00 00 05 9e 00 00 05 9e 5f 5f 49 4d 50 4f 52 54 5f 44 45 53 43 52 49 50 54 4f 52 5f 66 6f 6f 00 5f 5f 4e 55 4c 4c 5f 49 4d 50 4f 52 54 5f 44 45"
+    ++ hex "53 43 52 49 50 54 4f 52 00 7f 66 6f 6f 5f 4e 55 4c 4c 5f 54 48 55 4e 4b 5f 44 41 54 41 00 5f 5f 69 6d 70 5f 62 61 72 00 62 61 72 00 5f 5f 69 6d"
+    ++ hex "70 5f 62 61 7a 00 5f 5f 69 6d 70 5f 71 75 78 00 71 75 78 00 2f 20 20 20 20 20 20 20 20 20 20 20 20 20 20 20 30 20 20 20 20 20 20 20 20 20 20 20"
+    ++ hex "30 20 20 20 20 20 30 20 20 20 20 20 30 20 20 20 20 20 20 20 31 35 36 20 20 20 20 20 20 20 60 0a 06 00 00 00 ac 01 00 00 4e 03 00 00 0a 04 00 00"
+    ++ hex "e6 04 00 00 42 05 00 00 9e 05 00 00 08 00 00 00 01 00 02 00 04 00 05 00 06 00 04 00 06 00 03 00 5f 5f 49 4d 50 4f 52 54 5f 44 45 53 43 52 49 50"
+    ++ hex "54 4f 52 5f 66 6f 6f 00 5f 5f 4e 55 4c 4c 5f 49 4d 50 4f 52 54 5f 44 45 53 43 52 49 50 54 4f 52 00 5f 5f 69 6d 70 5f 62 61 72 00 5f 5f 69 6d 70"
+    ++ hex "5f 62 61 7a 00 5f 5f 69 6d 70 5f 71 75 78 00 62 61 72 00 71 75 78 00 7f 66 6f 6f 5f 4e 55 4c 4c 5f 54 48 55 4e 4b 5f 44 41 54 41 00 66 6f 6f 2e"
+    ++ hex "64 6c 6c 2f 20 20 20 20 20 20 20 20 30 20 20 20 20 20 20 20 20 20 20 20 30 20 20 20 20 20 30 20 20 20 20 20 36 34 34 20 20 20 20 20 33 35 38 20"
+    ++ hex "20 20 20 20 20 20 60 0a 64 86 02 00 00 00 00 00 9e 00 00 00 07 00 00 00 00 00 00 00 2e 69 64 61 74 61 24 32 00 00 00 00 00 00 00 00 14 00 00 00"
+    ++ hex "64 00 00 00 78 00 00 00 00 00 00 00 03 00 00 00 40 00 30 c0 2e 69 64 61 74 61 24 36 00 00 00 00 00 00 00 00 08 00 00 00 96 00 00 00 00 00 00 00"
+    ++ hex "00 00 00 00 00 00 00 00 40 00 20 c0 00 00 00 00 00 00 00 00 00 00 00 00 00 00 00 00 00 00 00 00 0c 00 00 00 02 00 00 00 03 00 00 00 00 00 03 00"
+    ++ hex "00 00 03 00 10 00 00 00 04 00 00 00 03 00 66 6f 6f 2e 64 6c 6c 00 00 00 00 00 04 00 00 00 00 00 00 00 01 00 00 00 02 00 2e 69 64 61 74 61 24 32"
+    ++ hex "00 00 00 00 01 00 00 00 68 00 2e 69 64 61 74 61 24 36 00 00 00 00 02 00 00 00 03 00 2e 69 64 61 74 61 24 34 00 00 00 00 00 00 00 00 68 00 2e 69"
+    ++ hex "64 61 74 61 24 35 00 00 00 00 00 00 00 00 68 00 00 00 00 00 1c 00 00 00 00 00 00 00 00 00 00 00 02 00 00 00 00 00 35 00 00 00 00 00 00 00 00 00"
+    ++ hex "00 00 02 00 4a 00 00 00 5f 5f 49 4d 50 4f 52 54 5f 44 45 53 43 52 49 50 54 4f 52 5f 66 6f 6f 00 5f 5f 4e 55 4c 4c 5f 49 4d 50 4f 52 54 5f 44 45"
+    ++ hex "53 43 52 49 50 54 4f 52 00 7f 66 6f 6f 5f 4e 55 4c 4c 5f 54 48 55 4e 4b 5f 44 41 54 41 00 66 6f 6f 2e 64 6c 6c 2f 20 20 20 20 20 20 20 20 30 20"
+    ++ hex "20 20 20 20 20 20 20 20 20 20 30 20 20 20 20 20 30 20 20 20 20 20 36 34 34 20 20 20 20 20 31 32 37 20 20 20 20 20 20 20 60 0a 64 86 01 00 00 00"
+    ++ hex "00 00 50 00 00 00 01 00 00 00 00 00 00 00 2e 69 64 61 74 61 24 33 00 00 00 00 00 00 00 00 14 00 00 00 3c 00 00 00 00 00 00 00 00 00 00 00 00 00"
+    ++ hex "00 00 40 00 30 c0 00 00 00 00 00 00 00 00 00 00 00 00 00 00 00 00 00 00 00 00 00 00 00 00 04 00 00 00 00 00 00 00 01 00 00 00 02 00 1d 00 00 00"
+    ++ hex "5f 5f 4e 55 4c 4c 5f 49 4d 50 4f 52 54 5f 44 45 53 43 52 49 50 54 4f 52 00 0a 66 6f 6f 2e 64 6c 6c 2f 20 20 20 20 20 20 20 20 30 20 20 20 20 20"
+    ++ hex "20 20 20 20 20 20 30 20 20 20 20 20 30 20 20 20 20 20 36 34 34 20 20 20 20 20 31 35 39 20 20 20 20 20 20 20 60 0a 64 86 02 00 00 00 00 00 74 00"
+    ++ hex "00 00 01 00 00 00 00 00 00 00 2e 69 64 61 74 61 24 35 00 00 00 00 00 00 00 00 08 00 00 00 64 00 00 00 00 00 00 00 00 00 00 00 00 00 00 00 40 00"
+    ++ hex "40 c0 2e 69 64 61 74 61 24 34 00 00 00 00 00 00 00 00 08 00 00 00 6c 00 00 00 00 00 00 00 00 00 00 00 00 00 00 00 40 00 40 c0 00 00 00 00 00 00"
+    ++ hex "00 00 00 00 00 00 00 00 00 00 00 00 00 00 04 00 00 00 00 00 00 00 01 00 00 00 02 00 19 00 00 00 7f 66 6f 6f 5f 4e 55 4c 4c 5f 54 48 55 4e 4b 5f"
+    ++ hex "44 41 54 41 00 0a 66 6f 6f 2e 64 6c 6c 2f 20 20 20 20 20 20 20 20 30 20 20 20 20 20 20 20 20 20 20 20 30 20 20 20 20 20 30 20 20 20 20 20 36 34"
+    ++ hex "34 20 20 20 20 20 33 32 20 20 20 20 20 20 20 20 60 0a 00 00 ff ff 00 00 64 86 00 00 00 00 0c 00 00 00 00 00 04 00 62 61 72 00 66 6f 6f 2e 64 6c"
+    ++ hex "6c 00 66 6f 6f 2e 64 6c 6c 2f 20 20 20 20 20 20 20 20 30 20 20 20 20 20 20 20 20 20 20 20 30 20 20 20 20 20 30 20 20 20 20 20 36 34 34 20 20 20"
+    ++ hex "20 20 33 32 20 20 20 20 20 20 20 20 60 0a 00 00 ff ff 00 00 64 86 00 00 00 00 0c 00 00 00 00 00 05 00 62 61 7a 00 66 6f 6f 2e 64 6c 6c 00 66 6f"
+    ++ hex "6f 2e 64 6c 6c 2f 20 20 20 20 20 20 20 20 30 20 20 20 20 20 20 20 20 20 20 20 30 20 20 20 20 20 30 20 20 20 20 20 36 34 34 20 20 20 20 20 33 32"
+    ++ hex "20 20 20 20 20 20 20 20 60 0a 00 00 ff ff 00 00 64 86 00 00 00 00 0c 00 00 00 05 00 00 00 71 75 78 00 66 6f 6f 2e 64 6c 6c 00"
+
+-- the data of the first part
+abbrev pub first_contents : List Part → List ℕ
+first_contents [] = []
+first_contents (p ∷ parts) = p.contents
+
+-- the wrong entries of an archive's first part
+abbrev pub wrong_in : List ℕ → Option (List IndexEntry)
+wrong_in bytes = option_and_then
+    (λ a. option_map (wrong_entries (first_declarer a.members)) (first_index_in (first_contents a.parts)))
+    (archive_in bytes)
+
+-- Where indexes lead, and ought to.
+pub record WorkedLeads : Type 0 where
+  pub right : wrong_in worked_indexed ≡ Some []
+  -- bar is led a byte further
+  pub misled : wrong_in (changed 91 0xe7 worked_indexed) ≡ Some (entry (codes "bar") 1255 ∷ [])

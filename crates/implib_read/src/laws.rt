@@ -3,7 +3,7 @@
 ghost use Rattle.implib_read.specs.Archives.{SameParts};
 ghost use Rattle.implib_read.specs.Objects.{SameObjects};
 ghost use Rattle.implib_read.specs.ShortImports.{SameShortImports};
-ghost use Rattle.implib_read.specs.WorkedFiles.{WorkedChanges, WorkedIndexes, WorkedNames, WorkedParts, WorkedShortImports};
+ghost use Rattle.implib_read.specs.WorkedFiles.{WorkedChanges, WorkedIndexes, WorkedLeads, WorkedNames, WorkedParts, WorkedShortImports};
 ghost use Rattle.implib_read.specs.WorkedLibraries.{WorkedLibraries};
 
 /// What the reader of `implib`'s definitions has of an object, [`crate::Object::read`] has.
@@ -50,4 +50,9 @@ pub fn worked_changes()
 /// What indexes say, byte by byte, and bytes that are none.
 pub fn worked_indexes()
     ensures { WorkedIndexes }
+{}
+
+/// Where the index of a library leads, and where it ought to.
+pub fn worked_leads()
+    ensures { WorkedLeads }
 {}
