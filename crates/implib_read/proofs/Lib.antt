@@ -1,0 +1,11 @@
+pub mod ArchiveParts
+pub mod Declarers
+pub mod Entries
+pub mod FieldNames
+pub mod FirstPlaces
+pub mod Gathering
+pub mod IndexEntries
+pub mod MemberClasses
+pub mod Records
+pub mod Texts
+pub mod WorkedBytes
