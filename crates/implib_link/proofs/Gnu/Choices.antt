@@ -16,9 +16,9 @@ use Rattle.implib.specs.Link.Placement.{Bases, Placed, placed_from}
 use Rattle.implib.specs.Link.Resolution.{is_undefined_external, symbol_address}
 use Rattle.implib.proofs.Link.LinkedMembers.{among_contains, among_map}
 use Rattle.implib.proofs.Link.Ranges.{Among, all_among, among_back, among_front, is_in_from, range_located}
-use Rattle.implib_link.specs.Gnu.Calls.{AreBeside, Defines, PlacedCode, Resolves, code_range, code_ranges}
+use Rattle.implib_link.specs.Gnu.Calls.{AreBeside, Defines, PlacedCode, Resolves, amd64_addr64, arm64_addr64, code_range, code_ranges}
 use Rattle.implib_link.specs.Gnu.Choices.{AreSections, ArePlacesApart, CanBeRebased, DefineOnce, plain_range}
-use Rattle.implib_link.specs.Gnu.Rebased.{CanMove, IsAtBase, IsRebased, Place, absolute_width, amd64_addr32, amd64_addr64, arm64_addr32, arm64_addr64, base_relocations, code_places, covers, moved_number, places_at, table_places}
+use Rattle.implib_link.specs.Gnu.Rebased.{CanMove, IsAtBase, IsRebased, Place, absolute_width, amd64_addr32, arm64_addr32, base_relocations, code_places, covers, moved_number, places_at, table_places}
 use Rattle.implib_link.proofs.Gnu.CallBytes.{length_within}
 use Rattle.implib_link.proofs.Gnu.Keeps.{Keeps, bytes_kept}
 use Rattle.implib_link.proofs.Gnu.Loaded.{kept_outside}
