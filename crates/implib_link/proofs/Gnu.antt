@@ -25,6 +25,10 @@ pub mod Steady
 pub mod Moved
 pub mod PlacedStubs
 pub mod MovedCode
+pub mod Fields
+pub mod FieldsInMemory
+pub mod Operands
+pub mod OperandsOfPrograms
 pub mod Rebased
 pub mod Pointers
 pub mod Pages

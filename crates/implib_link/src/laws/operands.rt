@@ -1,0 +1,178 @@
+//! Laws of the fields of code against a name, whatever instruction holds them.
+
+ghost use Rattle.implib.specs.Definition.{ExportView};
+ghost use Rattle.implib.specs.Link.Image.{Range, image_of};
+ghost use Rattle.implib.specs.Import.{Ask, expected_ask, imp_symbol};
+ghost use Rattle.implib.specs.Link.LinkedMembers.{IsMade, LinkInput, chosen_exports};
+ghost use Rattle.implib.specs.Members.ImportTables.{thunk_width};
+ghost use Rattle.implib.specs.Formats.Object.{Object, ObjectSymbol};
+ghost use Rattle.implib.specs.Link.Placement.{Bases, placed_from};
+ghost use Rattle.implib.specs.declared.machine.MachineType.{MachineType};
+ghost use Rattle.implib_link.specs.Flavors.Loaded.{AreLoaded};
+ghost use Rattle.implib_link.specs.Flavors.Program.{FlavorInput, IsFlavorProgram, IsMadeFor};
+ghost use Rattle.implib_link.specs.Flavors.Program.{ask_in, dll_of, exports_chosen, symbol_in};
+ghost use Rattle.implib_link.specs.Gnu.Calls.{CanBranch};
+ghost use Rattle.implib_link.specs.Gnu.Fields.{DefinesIn, LinkedCode};
+ghost use Rattle.implib_link.specs.Gnu.Loaded.{IsLoaded};
+ghost use Rattle.implib_link.specs.Gnu.Moves.{AreInMemory};
+ghost use Rattle.implib_link.specs.Gnu.Operands.{AllLead, BranchArrives, HasBranch};
+ghost use Rattle.implib_link.specs.Gnu.Program.{IsProgram};
+ghost use Rattle.implib_link.specs.Gnu.Reading.{ReadsAndWrites};
+ghost use Rattle.implib_link.specs.Stub.{CanJump};
+ghost use Rattle.implib_link.specs.Worked.Operands.{PassingFields, WorkedOperands};
+ghost use Rattle.implib_link.specs.Worked.RefusedFields.{RefusedBranches, RefusedCode};
+ghost use Rattle.implib_link.specs.Worked.RefusedFields.{RefusedInstructions, RefusedMoves};
+ghost use Rattle.implib_link.specs.Worked.RefusedFields.{RefusedOperands, RefusedPairs};
+ghost use Rattle.implib_link.specs.Worked.RefusedFields.{RefusedPointers};
+ghost use Rattle.std.specs.List.{AllByRecursion, Contains};
+ghost use Rattle.std.specs.Prelude.{◌≡◌, ◌+◌, ◌++◌, ◌<◌, ◌^◌, ℕ, List, Some, length, slice_get};
+
+/// A program is in memory at the base that it was linked for, or at another. A loader that reads
+/// it there loads its imports, and stops at the null descriptor. Every field of code against an
+/// export's `__imp_` symbol leads, by the processor's rule, to the export's own entry, where the
+/// loader wrote what the DLL gives for the export, whatever instruction holds the field; and a
+/// branch to a name leads to where code defines it.
+pub fn fields_lead_to_entries()
+    ensures loads { (machine : MachineType) (image_base : ℕ) (bases : Bases)
+        (inputs : List LinkInput) (objects : List Object)
+        (codes : List LinkedCode) (targets : LinkedCode → ℕ → ℕ) (memory : List Range)
+        (gives : List ℕ → Ask → List ℕ) →
+        AllByRecursion (IsMade machine) inputs →
+        IsProgram machine bases inputs objects →
+        AreInMemory machine image_base (image_of machine bases (placed_from bases objects))
+        (placed_from bases objects) codes targets memory →
+        (n : ℕ) (written : List Range) →
+        ((dll : List ℕ) (ask : Ask) → length (gives dll ask) ≡ thunk_width machine) →
+        ReadsAndWrites memory (thunk_width machine) gives n bases.descriptors written →
+        (n ≡ length inputs) × IsLoaded machine bases inputs objects gives written }
+    ensures ends { (machine : MachineType) (image_base : ℕ) (bases : Bases)
+        (inputs : List LinkInput) (objects : List Object)
+        (codes : List LinkedCode) (targets : LinkedCode → ℕ → ℕ) (memory : List Range)
+        (gives : List ℕ → Ask → List ℕ) →
+        AllByRecursion (IsMade machine) inputs →
+        IsProgram machine bases inputs objects →
+        AreInMemory machine image_base (image_of machine bases (placed_from bases objects))
+        (placed_from bases objects) codes targets memory →
+        (written : List Range) × ReadsAndWrites memory (thunk_width machine) gives (length inputs)
+        bases.descriptors written }
+    ensures leads { (machine : MachineType) (image_base : ℕ) (bases : Bases)
+        (inputs : List LinkInput) (objects : List Object)
+        (codes : List LinkedCode) (targets : LinkedCode → ℕ → ℕ) (memory : List Range)
+        (gives : List ℕ → Ask → List ℕ) →
+        AllByRecursion (IsMade machine) inputs →
+        IsProgram machine bases inputs objects →
+        AreInMemory machine image_base (image_of machine bases (placed_from bases objects))
+        (placed_from bases objects) codes targets memory →
+        (n : ℕ) (written : List Range) (i j : ℕ) (p : LinkInput) (e : ExportView) →
+        CanJump machine image_base bases →
+        ((dll : List ℕ) (ask : Ask) → length (gives dll ask) ≡ thunk_width machine) →
+        ReadsAndWrites memory (thunk_width machine) gives n bases.descriptors written →
+        slice_get inputs i ≡ Some p →
+        slice_get (chosen_exports p.definition p.chosen) j ≡ Some e →
+        AllLead machine image_base (placed_from bases objects) codes (written ++ memory)
+        (imp_symbol e.name) (gives p.definition.import_name (expected_ask machine e)) }
+    ensures branches { (machine : MachineType) (image_base : ℕ) (bases : Bases)
+        (inputs : List LinkInput) (objects : List Object)
+        (codes : List LinkedCode) (targets : LinkedCode → ℕ → ℕ) (memory : List Range)
+        (gives : List ℕ → Ask → List ℕ) →
+        AllByRecursion (IsMade machine) inputs →
+        IsProgram machine bases inputs objects →
+        AreInMemory machine image_base (image_of machine bases (placed_from bases objects))
+        (placed_from bases objects) codes targets memory →
+        (n : ℕ) (written : List Range)
+        (c d : LinkedCode) (offset after : ℕ) (name : List ℕ) (t : ObjectSymbol) →
+        ((dll : List ℕ) (ask : Ask) → length (gives dll ask) ≡ thunk_width machine) →
+        ReadsAndWrites memory (thunk_width machine) gives n bases.descriptors written →
+        Contains codes c →
+        HasBranch machine c offset after name →
+        Contains codes d →
+        DefinesIn d t →
+        t.name ≡ name →
+        d.position + t.value < 2 ^ 31 →
+        CanBranch machine (c.position + offset) (d.position + t.value) →
+        BranchArrives machine image_base (written ++ memory) (c.position + offset) after
+        (d.position + t.value) }
+{}
+
+/// The same of a program of both flavours.
+pub fn fields_of_flavors_lead_to_entries()
+    ensures loads { (machine : MachineType) (image_base : ℕ) (bases : Bases)
+        (inputs : List FlavorInput) (objects : List Object)
+        (codes : List LinkedCode) (targets : LinkedCode → ℕ → ℕ) (memory : List Range)
+        (gives : List ℕ → Ask → List ℕ) →
+        AllByRecursion (IsMadeFor machine) inputs →
+        IsFlavorProgram machine bases inputs objects →
+        AreInMemory machine image_base (image_of machine bases (placed_from bases objects))
+        (placed_from bases objects) codes targets memory →
+        (n : ℕ) (written : List Range) →
+        ((dll : List ℕ) (ask : Ask) → length (gives dll ask) ≡ thunk_width machine) →
+        ReadsAndWrites memory (thunk_width machine) gives n bases.descriptors written →
+        (n ≡ length inputs) × AreLoaded machine bases inputs objects gives written }
+    ensures ends { (machine : MachineType) (image_base : ℕ) (bases : Bases)
+        (inputs : List FlavorInput) (objects : List Object)
+        (codes : List LinkedCode) (targets : LinkedCode → ℕ → ℕ) (memory : List Range)
+        (gives : List ℕ → Ask → List ℕ) →
+        AllByRecursion (IsMadeFor machine) inputs →
+        IsFlavorProgram machine bases inputs objects →
+        AreInMemory machine image_base (image_of machine bases (placed_from bases objects))
+        (placed_from bases objects) codes targets memory →
+        (written : List Range) × ReadsAndWrites memory (thunk_width machine) gives (length inputs)
+        bases.descriptors written }
+    ensures leads { (machine : MachineType) (image_base : ℕ) (bases : Bases)
+        (inputs : List FlavorInput) (objects : List Object)
+        (codes : List LinkedCode) (targets : LinkedCode → ℕ → ℕ) (memory : List Range)
+        (gives : List ℕ → Ask → List ℕ) →
+        AllByRecursion (IsMadeFor machine) inputs →
+        IsFlavorProgram machine bases inputs objects →
+        AreInMemory machine image_base (image_of machine bases (placed_from bases objects))
+        (placed_from bases objects) codes targets memory →
+        (n : ℕ) (written : List Range) (i j : ℕ) (p : FlavorInput) (e : ExportView) →
+        CanJump machine image_base bases →
+        ((dll : List ℕ) (ask : Ask) → length (gives dll ask) ≡ thunk_width machine) →
+        ReadsAndWrites memory (thunk_width machine) gives n bases.descriptors written →
+        slice_get inputs i ≡ Some p →
+        slice_get (exports_chosen p) j ≡ Some e →
+        AllLead machine image_base (placed_from bases objects) codes (written ++ memory)
+        (imp_symbol (symbol_in p.flavor e)) (gives (dll_of p) (ask_in p.flavor machine e)) }
+    ensures branches { (machine : MachineType) (image_base : ℕ) (bases : Bases)
+        (inputs : List FlavorInput) (objects : List Object)
+        (codes : List LinkedCode) (targets : LinkedCode → ℕ → ℕ) (memory : List Range)
+        (gives : List ℕ → Ask → List ℕ) →
+        AllByRecursion (IsMadeFor machine) inputs →
+        IsFlavorProgram machine bases inputs objects →
+        AreInMemory machine image_base (image_of machine bases (placed_from bases objects))
+        (placed_from bases objects) codes targets memory →
+        (n : ℕ) (written : List Range)
+        (c d : LinkedCode) (offset after : ℕ) (name : List ℕ) (t : ObjectSymbol) →
+        ((dll : List ℕ) (ask : Ask) → length (gives dll ask) ≡ thunk_width machine) →
+        ReadsAndWrites memory (thunk_width machine) gives n bases.descriptors written →
+        Contains codes c →
+        HasBranch machine c offset after name →
+        Contains codes d →
+        DefinesIn d t →
+        t.name ≡ name →
+        d.position + t.value < 2 ^ 31 →
+        CanBranch machine (c.position + offset) (d.position + t.value) →
+        BranchArrives machine image_base (written ++ memory) (c.position + offset) after
+        (d.position + t.value) }
+{}
+
+/// Code as compilers write it, worked by hand on AMD64, I386 and ARM64: fields that follow one
+/// another without a gap, some of types of which nothing is said, are in memory at two bases, and
+/// lead to the entry.
+pub fn worked_operands()
+    ensures fields { PassingFields }
+    ensures programs { WorkedOperands }
+{}
+
+/// Near misses: bytes that no linker makes of the worked code, and memory in which no field leads to
+/// the entry, each with one thing wrong.
+pub fn refused_fields()
+    ensures code { RefusedCode }
+    ensures operands { RefusedOperands }
+    ensures instructions { RefusedInstructions }
+    ensures pointers { RefusedPointers }
+    ensures branches { RefusedBranches }
+    ensures pairs { RefusedPairs }
+    ensures moves { RefusedMoves }
+{}
