@@ -1,10 +1,11 @@
 -- Code as compilers write it, by computing and by the laws.
-use Rattle.std.proofs.Common.{◌≡◌, ℕ, zero, suc, ◌+◌, ◌^◌, ◌≤◌, true, false, List, [], ◌∷◌, ◌++◌, codes, length, map, Some, None, refl, ap, sym, ◌∙◌, subst, inl, inr, arith}
-use Rattle.std.specs.Prelude.{slice_get}
+use Rattle.std.proofs.Common.{◌≡◌, ℕ, zero, suc, ◌+◌, ◌^◌, ◌≤◌, ◌⊎◌, true, false, List, [], ◌∷◌, ◌++◌, codes, length, map, Some, None, refl, ap, sym, ◌∙◌, subst, inl, inr, arith}
+use Rattle.std.specs.Prelude.{drop, slice_get, take}
 use Rattle.std.specs.List.{flat_map}
 use Rattle.implib.specs.declared.coff.object.Relocation.{Relocation}
 use Rattle.implib.specs.declared.machine.MachineType.TheVariants.{I386, ARMNT, AMD64, ARM64}
-use Rattle.implib.specs.Formats.Constants.{amd64_rel32, arm64_pagebase_rel21, class_external, i386_dir32}
+use Rattle.implib.specs.Formats.Constants.{amd64_rel32, arm64_pagebase_rel21, arm64_pageoffset_12l, class_external, i386_dir32}
+use Rattle.implib.specs.Formats.Bytes.{u32_bytes}
 use Rattle.implib.specs.Import.{imp_symbol}
 use Rattle.implib.specs.Link.Image.{AllApart, Range, image_of}
 use Rattle.implib.specs.Link.Load.{NumberAt, number_in}
@@ -13,13 +14,14 @@ use Rattle.implib.specs.Members.Members.{refusal, renamed_refusal}
 use Rattle.implib.specs.Members.WeakExternal.{weak_object}
 use Rattle.implib.specs.Formats.Layout.{encoded_size}
 use Rattle.implib.proofs.Link.Ranges.{apart_as_they_rise, ends_below}
-use Rattle.implib_link.specs.Gnu.Calls.{amd64_addr64, arm64_addr64, arm64_branch26, field_width, i386_rel32}
-use Rattle.implib_link.specs.Gnu.Fields.{AreLinkedBeside}
+use Rattle.implib_link.specs.Gnu.Calls.{HasCall, HasDirectCall, amd64_addr64, arm64_addr64, arm64_branch26, field_width, i386_rel32}
+use Rattle.implib_link.specs.Gnu.Fields.{AreLinkedBeside, placed_code}
 use Rattle.implib_link.specs.Gnu.Moves.{AreInMemory, AreMoved}
 use Rattle.implib_link.specs.Gnu.Operands.{HasBranch, HasField, HasInstruction, HasOffsetField, HasOperand, HasPageField, HasPointer, IsOperand, Names}
+use Rattle.implib_link.specs.Gnu.Pages.{HasPage, HasPageOffset}
 use Rattle.implib_link.specs.Gnu.Program.{IsProgram, has_tables, linked_symbols}
 use Rattle.implib_link.specs.Gnu.Rebased.{IsRebased, table_places}
-use Rattle.implib_link.specs.Worked.Operands.{PassingFields, WorkedFields, WorkedOperands, amd64_rel32_1, field, imp_open, moved_memory, open_on, passing, passing_at, passing_codes, passing_image, passing_memory, passing_objects, passing_placed, passing_places, passing_targets, stub_of_open, x86_secrel}
+use Rattle.implib_link.specs.Worked.Operands.{AdjacentCalls, PassingFields, WorkedFields, WorkedOperands, amd64_rel32_1, field, imp_open, arm64_pageoffset_12a, arm64_secrel, moved_memory, open_on, passing, passing_at, passing_bytes, passing_codes, passing_image, passing_memory, passing_objects, passing_placed, passing_places, passing_targets, stub_of_open, x86_secrel}
 use Rattle.implib_link.specs.Worked.Calls.{given_on}
 use Rattle.implib_link.specs.Worked.Programs.{another, both_inputs, foo_input, symbol_of_class, symbol_on, touching_4, touching_8}
 use Rattle.implib_link.proofs.Gnu.Operands.{operand_width}
@@ -128,13 +130,13 @@ arm64_beside = record {
 -- Moved: base relocations where the code stores addresses whole.
 
 amd64_fronts : List Range
-amd64_fronts = record { start = 0x102F; bytes = 0x80 ∷ 0 ∷ 0x34 ∷ 0x12 ∷ 0xF6 ∷ 0x7F ∷ 0 ∷ 0 ∷ [] } ∷ []
+amd64_fronts = record { start = 0x1034; bytes = 0x80 ∷ 0 ∷ 0x34 ∷ 0x12 ∷ 0xF6 ∷ 0x7F ∷ 0 ∷ 0 ∷ [] } ∷ []
 
 amd64_rebased : IsRebased 0x1_4000_0000 0x7FF6_1234_0000 (passing_places AMD64) (passing_memory AMD64 touching_8) (moved_memory AMD64 touching_8)
 unfolding opened refusal renamed_refusal alias_specs encoded_size weak_object has_tables relocated_test amd64_fronts
 amd64_rebased =
     rebased_by 0x1_4000_0000 0x7FF6_1234_0000 amd64_fronts (passing_memory AMD64 touching_8) (apart_as_they_rise (2 ^ 31) amd64_fronts refl)
-    ((0x1_4000_0080, (number (passing_memory AMD64 touching_8) 8 0x102F 0x1_4000_0080 (0x80 ∷ 0 ∷ 0 ∷ 0x40 ∷ 1 ∷ 0 ∷ 0 ∷ 0 ∷ []) refl refl refl, refl)), tt)
+    ((0x1_4000_0080, (number (passing_memory AMD64 touching_8) 8 0x1034 0x1_4000_0080 (0x80 ∷ 0 ∷ 0 ∷ 0x40 ∷ 1 ∷ 0 ∷ 0 ∷ 0 ∷ []) refl refl refl, refl)), tt)
 
 amd64_moved : AreMoved AMD64 0x1_4000_0000 0x7FF6_1234_0000 (passing_image AMD64 touching_8) (passing_placed AMD64 touching_8) (passing_codes AMD64 touching_8) (passing_targets AMD64 touching_8) (passing_places AMD64) (moved_memory AMD64 touching_8)
 unfolding opened refusal renamed_refusal alias_specs encoded_size weak_object has_tables relocated_test
@@ -166,15 +168,15 @@ i386_moved = record {
 }
 
 arm64_fronts : List Range
-arm64_fronts = record { start = 0x1020; bytes = 0x80 ∷ 0 ∷ 0x34 ∷ 0x12 ∷ 0xF6 ∷ 0x7F ∷ 0 ∷ 0 ∷ [] } ∷ []
+arm64_fronts = record { start = 0x1020; bytes = 0x80 ∷ 0 ∷ 0 ∷ 0x40 ∷ 0 ∷ 0 ∷ 0 ∷ 0 ∷ [] } ∷ []
 
-arm64_rebased : IsRebased 0x1_4000_0000 0x7FF6_1234_0000 (passing_places ARM64) (passing_memory ARM64 touching_8) (moved_memory ARM64 touching_8)
+arm64_rebased : IsRebased 0x1_4000_0000 0x4000_0000 (passing_places ARM64) (passing_memory ARM64 touching_8) (moved_memory ARM64 touching_8)
 unfolding opened refusal renamed_refusal alias_specs encoded_size weak_object has_tables relocated_test arm64_fronts
 arm64_rebased =
-    rebased_by 0x1_4000_0000 0x7FF6_1234_0000 arm64_fronts (passing_memory ARM64 touching_8) (apart_as_they_rise (2 ^ 31) arm64_fronts refl)
+    rebased_by 0x1_4000_0000 0x4000_0000 arm64_fronts (passing_memory ARM64 touching_8) (apart_as_they_rise (2 ^ 31) arm64_fronts refl)
     ((0x1_4000_0080, (number (passing_memory ARM64 touching_8) 8 0x1020 0x1_4000_0080 (0x80 ∷ 0 ∷ 0 ∷ 0x40 ∷ 1 ∷ 0 ∷ 0 ∷ 0 ∷ []) refl refl refl, refl)), tt)
 
-arm64_moved : AreMoved ARM64 0x1_4000_0000 0x7FF6_1234_0000 (passing_image ARM64 touching_8) (passing_placed ARM64 touching_8) (passing_codes ARM64 touching_8) (passing_targets ARM64 touching_8) (passing_places ARM64) (moved_memory ARM64 touching_8)
+arm64_moved : AreMoved ARM64 0x1_4000_0000 0x4000_0000 (passing_image ARM64 touching_8) (passing_placed ARM64 touching_8) (passing_codes ARM64 touching_8) (passing_targets ARM64 touching_8) (passing_places ARM64) (moved_memory ARM64 touching_8)
 unfolding opened refusal renamed_refusal alias_specs encoded_size weak_object has_tables relocated_test
 arm64_moved = record {
   beside = arm64_beside;
@@ -337,7 +339,7 @@ arm64_branch = record {
   within = omega arith;
 }
 
-amd64_pointer : HasPointer AMD64 (passing_at AMD64) 47 (imp_open AMD64)
+amd64_pointer : HasPointer AMD64 (passing_at AMD64) 52 (imp_open AMD64)
 amd64_pointer = record {
   type = amd64_addr64;
   field = record { symbol = 1; alone = refl; inside = omega arith; names = amd64_names_1 };
@@ -413,6 +415,133 @@ passing_fields = record {
   none_follows = none_follows;
   of_a_section = of_a_section;
   of_16_bytes = of_16_bytes;
+}
+
+-- The calls of the laws over placed code.
+
+amd64_adjacent : HasCall AMD64 (placed_code (passing_at AMD64)) 11 (imp_open AMD64)
+amd64_adjacent = record {
+  front = take 11 (passing_bytes AMD64);
+  back = drop 17 (passing_bytes AMD64);
+  instructions = refl;
+  here = refl;
+  index = 1;
+  before = field 7 2 amd64_rel32 ∷ [];
+  behind = field 19 1 amd64_rel32_1 ∷ field 26 1 amd64_rel32 ∷ field 34 1 amd64_rel32 ∷ field 39 3 amd64_rel32 ∷ field 43 2 x86_secrel ∷ field 52 1 amd64_addr64 ∷ [];
+  relocated = refl;
+  aside_before = (inl (omega arith), tt);
+  aside_behind = (inr (omega arith), (inr (omega arith), (inr (omega arith), (inr (omega arith), (inr (omega arith), (inr (omega arith), tt))))));
+  symbol = symbol_of_class (imp_open AMD64) 0 class_external;
+  target = refl;
+  undefined = refl;
+  named = refl;
+}
+
+amd64_direct : HasDirectCall AMD64 (placed_code (passing_at AMD64)) 38 (open_on AMD64)
+amd64_direct = record {
+  front = take 38 (passing_bytes AMD64);
+  back = drop 43 (passing_bytes AMD64);
+  instructions = refl;
+  here = refl;
+  index = 3;
+  before = field 7 2 amd64_rel32 ∷ field 13 1 amd64_rel32 ∷ field 19 1 amd64_rel32_1 ∷ field 26 1 amd64_rel32 ∷ field 34 1 amd64_rel32 ∷ [];
+  behind = field 43 2 x86_secrel ∷ field 52 1 amd64_addr64 ∷ [];
+  relocated = refl;
+  aside_before = (inl (omega arith), (inl (omega arith), (inl (omega arith), (inl (omega arith), (inl (omega arith), tt)))));
+  aside_behind = (inr (omega arith), (inr (omega arith), tt));
+  symbol = symbol_of_class (open_on AMD64) 0 class_external;
+  target = refl;
+  undefined = refl;
+  named = refl;
+}
+
+i386_adjacent : HasCall I386 (placed_code (passing_at I386)) 9 (imp_open I386)
+i386_adjacent = record {
+  front = take 9 (passing_bytes I386);
+  back = drop 15 (passing_bytes I386);
+  instructions = refl;
+  here = refl;
+  index = 1;
+  before = field 5 2 i386_dir32 ∷ [];
+  behind = field 17 1 i386_dir32 ∷ field 24 1 i386_dir32 ∷ field 28 1 i386_dir32 ∷ field 32 2 x86_secrel ∷ field 37 3 i386_rel32 ∷ [];
+  relocated = refl;
+  aside_before = (inl (omega arith), tt);
+  aside_behind = (inr (omega arith), (inr (omega arith), (inr (omega arith), (inr (omega arith), (inr (omega arith), tt)))));
+  symbol = symbol_of_class (imp_open I386) 0 class_external;
+  target = refl;
+  undefined = refl;
+  named = refl;
+}
+
+arm64_paged : HasPage (placed_code (passing_at ARM64)) 12 8 (imp_open ARM64)
+unfolding u32_bytes
+arm64_paged = record {
+  front = take 12 (passing_bytes ARM64);
+  back = drop 16 (passing_bytes ARM64);
+  instructions = refl;
+  here = refl;
+  index = 1;
+  before = field 4 2 arm64_pagebase_rel21 ∷ field 8 2 arm64_pageoffset_12a ∷ [];
+  behind = field 16 1 arm64_pageoffset_12l ∷ field 24 2 arm64_pageoffset_12l ∷ field 28 3 arm64_branch26 ∷ field 32 1 arm64_addr64 ∷ field 40 2 arm64_secrel ∷ [];
+  relocated = refl;
+  aside_before = (inl (omega arith), (inl (omega arith), tt));
+  aside_behind = (inr (omega arith), (inr (omega arith), (inr (omega arith), (inr (omega arith), (inr (omega arith), tt)))));
+  symbol = symbol_of_class (imp_open ARM64) 0 class_external;
+  target = refl;
+  undefined = refl;
+  named = refl;
+}
+
+arm64_placed : HasPageOffset (placed_code (passing_at ARM64)) 16 8 8 (imp_open ARM64)
+unfolding u32_bytes
+arm64_placed = record {
+  front = take 16 (passing_bytes ARM64);
+  back = drop 20 (passing_bytes ARM64);
+  instructions = refl;
+  here = refl;
+  index = 1;
+  before = field 4 2 arm64_pagebase_rel21 ∷ field 8 2 arm64_pageoffset_12a ∷ field 12 1 arm64_pagebase_rel21 ∷ [];
+  behind = field 24 2 arm64_pageoffset_12l ∷ field 28 3 arm64_branch26 ∷ field 32 1 arm64_addr64 ∷ field 40 2 arm64_secrel ∷ [];
+  relocated = refl;
+  aside_before = (inl (omega arith), (inl (omega arith), (inl (omega arith), tt)));
+  aside_behind = (inr (omega arith), (inr (omega arith), (inr (omega arith), (inr (omega arith), tt))));
+  symbol = symbol_of_class (imp_open ARM64) 0 class_external;
+  target = refl;
+  undefined = refl;
+  named = refl;
+}
+
+arm64_direct : HasDirectCall ARM64 (placed_code (passing_at ARM64)) 28 (open_on ARM64)
+arm64_direct = record {
+  front = take 28 (passing_bytes ARM64);
+  back = drop 32 (passing_bytes ARM64);
+  instructions = refl;
+  here = refl;
+  index = 3;
+  before = field 4 2 arm64_pagebase_rel21 ∷ field 8 2 arm64_pageoffset_12a ∷ field 12 1 arm64_pagebase_rel21 ∷ field 16 1 arm64_pageoffset_12l ∷ field 24 2 arm64_pageoffset_12l ∷ [];
+  behind = field 32 1 arm64_addr64 ∷ field 40 2 arm64_secrel ∷ [];
+  relocated = refl;
+  aside_before = (inl (omega arith), (inl (omega arith), (inl (omega arith), (inl (omega arith), (inl (omega arith), tt)))));
+  aside_behind = (inr (omega arith), (inr (omega arith), tt));
+  symbol = symbol_of_class (open_on ARM64) 0 class_external;
+  target = refl;
+  undefined = refl;
+  named = refl;
+}
+
+neither : (a b : ℕ) → (a ≤ b → ⊥) → (c d : ℕ) → (c ≤ d → ⊥) → (a ≤ b) ⊎ (c ≤ d) → ⊥
+neither a b first c d second (inl is) = first is
+neither a b first c d second (inr is) = second is
+
+pub adjacent_calls : AdjacentCalls
+adjacent_calls = record {
+  amd64_call = amd64_adjacent;
+  amd64_direct = amd64_direct;
+  i386_call = i386_adjacent;
+  arm64_page = arm64_paged;
+  arm64_offset = arm64_placed;
+  arm64_direct = arm64_direct;
+  addr64 = neither 15 11 (λ is. omega arith) 17 7 (λ is. omega arith);
 }
 
 -- The programs, by the laws.
@@ -497,20 +626,20 @@ arm64_fields = record {
   ends = ends_in_memory ARM64 0x1_4000_0000 touching_8 (both_inputs ARM64) (passing_objects ARM64) (passing_codes ARM64 touching_8) (passing_targets ARM64 touching_8) (passing_memory ARM64 touching_8) (given_on ARM64) worked_programs.arm64.made arm64_program arm64_at;
 }
 
-arm64_moved_at : AreInMemory ARM64 0x7FF6_1234_0000 (passing_image ARM64 touching_8) (passing_placed ARM64 touching_8) (passing_codes ARM64 touching_8) (passing_targets ARM64 touching_8) (moved_memory ARM64 touching_8)
+arm64_moved_at : AreInMemory ARM64 0x4000_0000 (passing_image ARM64 touching_8) (passing_placed ARM64 touching_8) (passing_codes ARM64 touching_8) (passing_targets ARM64 touching_8) (moved_memory ARM64 touching_8)
 arm64_moved_at = inr (0x1_4000_0000, (passing_places ARM64, (refl, arm64_moved)))
 
-arm64_moved_fields : WorkedFields ARM64 0x7FF6_1234_0000 touching_8 (moved_memory ARM64 touching_8) 28 (0x40 ∷ 0 ∷ 0 ∷ 0x10 ∷ 0 ∷ 0 ∷ 0 ∷ 0 ∷ [])
+arm64_moved_fields : WorkedFields ARM64 0x4000_0000 touching_8 (moved_memory ARM64 touching_8) 28 (0x40 ∷ 0 ∷ 0 ∷ 0x10 ∷ 0 ∷ 0 ∷ 0 ∷ 0 ∷ [])
 unfolding opened refusal renamed_refusal alias_specs encoded_size weak_object has_tables
 arm64_moved_fields = record {
   program = arm64_program;
   at = arm64_moved_at;
   leads = λ n written reads.
-      leads_in_memory ARM64 0x7FF6_1234_0000 touching_8 (both_inputs ARM64) (passing_objects ARM64) (passing_codes ARM64 touching_8) (passing_targets ARM64 touching_8) (moved_memory ARM64 touching_8) (given_on ARM64) worked_programs.arm64.made arm64_program arm64_moved_at n written 0 1 (foo_input ARM64) (open_export ARM64) (refl, refl) (wide ARM64) reads refl refl;
+      leads_in_memory ARM64 0x4000_0000 touching_8 (both_inputs ARM64) (passing_objects ARM64) (passing_codes ARM64 touching_8) (passing_targets ARM64 touching_8) (moved_memory ARM64 touching_8) (given_on ARM64) worked_programs.arm64.made arm64_program arm64_moved_at n written 0 1 (foo_input ARM64) (open_export ARM64) (refl, refl) (wide ARM64) reads refl refl;
   branches = λ n written reads.
-      branches_in_memory ARM64 0x7FF6_1234_0000 touching_8 (both_inputs ARM64) (passing_objects ARM64) (passing_codes ARM64 touching_8) (passing_targets ARM64 touching_8) (moved_memory ARM64 touching_8) (given_on ARM64) worked_programs.arm64.made arm64_program arm64_moved_at n written (passing_at ARM64) (stub_of_open ARM64 touching_8) 28 0 (open_on ARM64) (symbol_of_class (open_on ARM64) 1 class_external) (wide ARM64) reads
+      branches_in_memory ARM64 0x4000_0000 touching_8 (both_inputs ARM64) (passing_objects ARM64) (passing_codes ARM64 touching_8) (passing_targets ARM64 touching_8) (moved_memory ARM64 touching_8) (given_on ARM64) worked_programs.arm64.made arm64_program arm64_moved_at n written (passing_at ARM64) (stub_of_open ARM64 touching_8) 28 0 (open_on ARM64) (symbol_of_class (open_on ARM64) 1 class_external) (wide ARM64) reads
       (0, omega arith, refl) arm64_branch (1, omega arith, refl) (record { held = (1, omega arith, refl); external = refl; here = refl }) refl (omega arith) (refl, refl, omega arith, omega arith);
-  ends = ends_in_memory ARM64 0x7FF6_1234_0000 touching_8 (both_inputs ARM64) (passing_objects ARM64) (passing_codes ARM64 touching_8) (passing_targets ARM64 touching_8) (moved_memory ARM64 touching_8) (given_on ARM64) worked_programs.arm64.made arm64_program arm64_moved_at;
+  ends = ends_in_memory ARM64 0x4000_0000 touching_8 (both_inputs ARM64) (passing_objects ARM64) (passing_codes ARM64 touching_8) (passing_targets ARM64 touching_8) (moved_memory ARM64 touching_8) (given_on ARM64) worked_programs.arm64.made arm64_program arm64_moved_at;
 }
 
 pub worked_operands : WorkedOperands

@@ -62,7 +62,7 @@ refused_code = record {
   kept = λ r. differ 0x48 0x49 (sym (value 0x49 0x48 (r.kept 0 refl))) (omega arith);
   from_field = λ r. let is : 0xFFFF_F073 ≡ 0xFFFF_F06F = (r.fields (field 13 1 amd64_rel32) refl (omega arith)).rel32 0 (omega arith) refl in differ 0xFFFF_F06F 0xFFFF_F073 (sym is) (omega arith);
   rel32_1 = λ r. let is : 0xFFFF_F069 ≡ 0xFFFF_F068 = (r.fields (field 19 1 amd64_rel32_1) refl (omega arith)).rel32 1 (omega arith) refl in differ 0xFFFF_F068 0xFFFF_F069 (sym is) (omega arith);
-  half = λ r. let is : 0x4000_0080 ≡ 0x1_4000_0080 = (r.fields (field 47 1 amd64_addr64) refl (omega arith)).addr64 refl in differ 0x4000_0080 0x1_4000_0080 is (omega arith);
+  half = λ r. let is : 0x4000_0080 ≡ 0x1_4000_0080 = (r.fields (field 52 1 amd64_addr64) refl (omega arith)).addr64 refl in differ 0x4000_0080 0x1_4000_0080 is (omega arith);
   any = relocated_by AMD64 0x1_4000_0000 (passing_targets AMD64 touching_8 (passing_at AMD64)) 0x1000 (passing_code AMD64) (with_byte (passing_linked AMD64) 43 0x55) refl;
 }
 
@@ -107,17 +107,17 @@ pub refused_pointers : RefusedPointers
 unfolding opened refusal renamed_refusal alias_specs encoded_size weak_object has_tables
 refused_pointers = record {
   arrives =
-      let memory : List Range = two_ranges 0x102F (0x80 ∷ 0 ∷ 0 ∷ 0x40 ∷ 1 ∷ 0 ∷ 0 ∷ 0 ∷ []) open_address in
-      record { entry = 0x80; own = refl; there = number memory 8 0x102F 0x1_4000_0080 (0x80 ∷ 0 ∷ 0 ∷ 0x40 ∷ 1 ∷ 0 ∷ 0 ∷ 0 ∷ []) refl refl refl; located = are_located memory open_address 0x80 refl };
+      let memory : List Range = two_ranges 0x1034 (0x80 ∷ 0 ∷ 0 ∷ 0x40 ∷ 1 ∷ 0 ∷ 0 ∷ 0 ∷ []) open_address in
+      record { entry = 0x80; own = refl; there = number memory 8 0x1034 0x1_4000_0080 (0x80 ∷ 0 ∷ 0 ∷ 0x40 ∷ 1 ∷ 0 ∷ 0 ∷ 0 ∷ []) refl refl refl; located = are_located memory open_address 0x80 refl };
   there = λ x.
-      let memory : List Range = two_ranges 0x102F (0x88 ∷ 0 ∷ 0 ∷ 0x40 ∷ 1 ∷ 0 ∷ 0 ∷ 0 ∷ []) open_address in
+      let memory : List Range = two_ranges 0x1034 (0x88 ∷ 0 ∷ 0 ∷ 0x40 ∷ 1 ∷ 0 ∷ 0 ∷ 0 ∷ []) open_address in
       let entry : x.entry ≡ 0x80 = same_address (imp_open AMD64) x.entry 0x80 (definitions_of (imp_open AMD64) linked_on_amd64) x.own refl in
-      let is : 0x1_4000_0080 ≡ 0x1_4000_0088 = number_once memory 8 0x102F 0x1_4000_0080 0x1_4000_0088 (subst (λ e. NumberAt memory 8 0x102F (0x1_4000_0000 + e)) entry x.there)
-      (number memory 8 0x102F 0x1_4000_0088 (0x88 ∷ 0 ∷ 0 ∷ 0x40 ∷ 1 ∷ 0 ∷ 0 ∷ 0 ∷ []) refl refl refl) in
+      let is : 0x1_4000_0080 ≡ 0x1_4000_0088 = number_once memory 8 0x1034 0x1_4000_0080 0x1_4000_0088 (subst (λ e. NumberAt memory 8 0x1034 (0x1_4000_0000 + e)) entry x.there)
+      (number memory 8 0x1034 0x1_4000_0088 (0x88 ∷ 0 ∷ 0 ∷ 0x40 ∷ 1 ∷ 0 ∷ 0 ∷ 0 ∷ []) refl refl refl) in
       differ 0x1_4000_0080 0x1_4000_0088 is (omega arith);
   own = λ x. let none : [] ≡ record { name = codes "hello"; address = Some x.entry } ∷ [] = x.own in cc;
   located = λ x.
-      let memory : List Range = two_ranges 0x102F (0x80 ∷ 0 ∷ 0 ∷ 0x40 ∷ 1 ∷ 0 ∷ 0 ∷ 0 ∷ []) (0x41 ∷ drop 1 open_address) in
+      let memory : List Range = two_ranges 0x1034 (0x80 ∷ 0 ∷ 0 ∷ 0x40 ∷ 1 ∷ 0 ∷ 0 ∷ 0 ∷ []) (0x41 ∷ drop 1 open_address) in
       let entry : x.entry ≡ 0x80 = same_address (imp_open AMD64) x.entry 0x80 (definitions_of (imp_open AMD64) linked_on_amd64) x.own refl in
       other_byte memory 0x80 0x40 0x41 (drop 1 open_address) refl (omega arith) (subst (λ e. BytesAt memory e open_address) entry x.located);
 }
@@ -185,8 +185,8 @@ unfolding opened refusal renamed_refusal alias_specs encoded_size weak_object ha
 refused_moves = record {
   unmoved = λ r.
       let memory : List Range = passing_memory AMD64 touching_8 in
-      let linked : NumberAt memory 8 0x102F 0x1_4000_0080 = number memory 8 0x102F 0x1_4000_0080 (0x80 ∷ 0 ∷ 0 ∷ 0x40 ∷ 1 ∷ 0 ∷ 0 ∷ 0 ∷ []) refl refl refl in
-      let is : 0x1_4000_0080 ≡ 0x7FF6_1234_0080 = number_once memory 8 0x102F 0x1_4000_0080 0x7FF6_1234_0080 linked (r.moved (record { address = 0x102F; width = 8 }) 0x1_4000_0080 (0, omega arith, refl) linked) in
+      let linked : NumberAt memory 8 0x1034 0x1_4000_0080 = number memory 8 0x1034 0x1_4000_0080 (0x80 ∷ 0 ∷ 0 ∷ 0x40 ∷ 1 ∷ 0 ∷ 0 ∷ 0 ∷ []) refl refl refl in
+      let is : 0x1_4000_0080 ≡ 0x7FF6_1234_0080 = number_once memory 8 0x1034 0x1_4000_0080 0x7FF6_1234_0080 linked (r.moved (record { address = 0x1034; width = 8 }) 0x1_4000_0080 (0, omega arith, refl) linked) in
       differ 0x1_4000_0080 0x7FF6_1234_0080 is (omega arith);
   kept = λ r. let is : Some 0 ≡ Some 0x40 = r.kept 0x1007 0x40 refl refl in differ 0 0x40 (value 0 0x40 is) (omega arith);
   half_page = λ is. differ 0 0x800 is (omega arith);

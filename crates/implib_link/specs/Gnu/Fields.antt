@@ -14,7 +14,7 @@ use Rattle.implib.specs.Link.Image.{AllApart, Range}
 use Rattle.implib.specs.Link.Load.{number_in}
 use Rattle.implib.specs.Link.Placement.{Placed}
 use Rattle.implib.specs.Link.Resolution.{is_undefined_external, symbol_address}
-use Rattle.implib_link.specs.Gnu.Calls.{amd64_addr64, arm64_addr64, arm64_branch26, field_width, i386_rel32}
+use Rattle.implib_link.specs.Gnu.Calls.{PlacedCode, amd64_addr64, arm64_addr64, arm64_branch26, field_width, i386_rel32}
 use Rattle.implib_link.specs.Stub.{adrp_immediate, bits_of, ldr_immediate, page, with_adrp, with_bits}
 
 -- whether the field of a relocation meets so many bytes from an offset on
@@ -129,3 +129,7 @@ pub record AreLinkedBeside (machine : MachineType) (image_base : ℕ) (image : L
   pub apart : AllApart (image ++ ranges_of_codes codes)
   pub relocated : AllByRecursion (λ c. IsRelocated machine image_base (targets c) c.position c.code c.bytes) codes
   pub resolved : TakesSymbols linked codes targets
+
+-- linked code without its linked bytes
+abbrev pub placed_code : LinkedCode → PlacedCode
+placed_code c = record { from = c.from; number = c.number; code = c.code; position = c.position }

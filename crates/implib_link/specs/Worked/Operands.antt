@@ -1,6 +1,6 @@
 -- Code as compilers write it, by hand, on three machines: fields that follow one another without a gap, among them some
 -- that no law reads; what it is linked to, and where it is in memory, at two bases.
-use Rattle.std.specs.Prelude.{◌≡◌, ℕ, ◌+◌, List, [], ◌∷◌, ◌++◌, bytes_eq, codes, slice_get, Option, None, Some, if◌then◌else◌}
+use Rattle.std.specs.Prelude.{◌≡◌, ℕ, ◌+◌, List, [], ◌∷◌, ◌++◌, bytes_eq, codes, length, map, slice_get, Option, None, Some, if◌then◌else◌}
 use Rattle.implib.specs.declared.coff.object.Relocation.{Relocation}
 use Rattle.implib.specs.declared.machine.MachineType.{MachineType}
 use Rattle.implib.specs.declared.machine.MachineType.TheVariants.{I386, ARMNT, AMD64, ARM64}
@@ -8,14 +8,15 @@ use Rattle.implib.specs.Formats.Constants.{align_16bytes, align_4bytes, amd64_re
 use Rattle.implib.specs.Formats.Object.{ASymbol, Auxiliary, Entry, Object, ObjectSection}
 use Rattle.implib.specs.Import.{imp_symbol}
 use Rattle.implib.specs.Link.Image.{Range, image_of}
-use Rattle.implib.specs.Link.Placement.{Bases, Placed, Unplaced, placed_from}
+use Rattle.implib.specs.Link.Placement.{Bases, Placed, SectionAddress, Unplaced, placed_from}
 use Rattle.implib.specs.Link.Resolution.{target_address}
 use Rattle.implib.specs.Members.Gnu.{section, stub_bytes, stub_relocations, text_name}
 use Rattle.implib.specs.Members.ImportTables.{thunk_width}
-use Rattle.implib_link.specs.Gnu.Calls.{amd64_addr64, arm64_addr64, arm64_branch26, i386_rel32}
-use Rattle.implib_link.specs.Gnu.Fields.{LinkedCode, ranges_of_codes}
+use Rattle.implib_link.specs.Gnu.Calls.{HasCall, HasDirectCall, IsAside, amd64_addr64, arm64_addr64, arm64_branch26, i386_rel32}
+use Rattle.implib_link.specs.Gnu.Fields.{LinkedCode, placed_code, ranges_of_codes}
 use Rattle.implib_link.specs.Gnu.Moves.{AreInMemory}
 use Rattle.implib_link.specs.Gnu.Operands.{AllLead, BranchArrives, HasBranch, HasInstruction, HasOffsetField, HasOperand, HasPageField, HasPointer, IsOperand, branch_leads, operand_leads}
+use Rattle.implib_link.specs.Gnu.Pages.{HasPage, HasPageOffset}
 use Rattle.implib_link.specs.Gnu.Program.{IsProgram, null_descriptor}
 use Rattle.implib_link.specs.Gnu.Reading.{ReadsAndWrites}
 use Rattle.implib_link.specs.Gnu.Rebased.{Place}
@@ -38,22 +39,22 @@ arm64_pageoffset_12a = 6
 
 -- Code that passes a text to `open`, in the object. I386:
 -- four `nop`; `push offset hello`; `call [__imp__open]`; `cmp dword [__imp__open], 1`; `mov ecx, [__imp__open]`; the
--- address of `__imp__open`; a field relative to a section; `call _open`; `ret`.
+-- address of `__imp__open`; a field relative to a section; `jmp _open`, which ends the section.
 -- AMD64: `sub rsp, 40`; `lea rcx, [rip + hello]`; `call [rip + __imp_open]`; `cmp dword [rip + __imp_open], 1` by
 -- REL32_1, and again by REL32 with -1 in the field; `mov r11, [rip + __imp_open]`; `call open`; a field relative to a
--- section; the address of `__imp_open`; `add rsp, 40`; `ret`.
+-- section; `add rsp, 40`; `ret`; the address of `__imp_open`, which ends the section.
 -- ARM64: `stp x29, x30, [sp, -16]!`; `adrp x0`, `add x0, x0` for `hello`; `adrp x8`, `ldr x8, [x8]`, `blr x8` for
 -- `__imp_open`; `ldr q0, [x0]` for `hello`, of 16 bytes; `bl open`; the address of `__imp_open`; a field relative to a
 -- section; `ldp x29, x30, [sp], 16`; `ret`.
 abbrev pub passing_bytes : MachineType → List ℕ
 passing_bytes I386 =
     0x90 ∷ 0x90 ∷ 0x90 ∷ 0x90 ∷ 0x68 ∷ 0 ∷ 0 ∷ 0 ∷ 0 ∷ 0xFF ∷ 0x15 ∷ 0 ∷ 0 ∷ 0 ∷ 0 ∷ 0x83 ∷ 0x3D ∷ 0 ∷ 0 ∷ 0 ∷ 0 ∷ 1
-    ∷ 0x8B ∷ 0x0D ∷ 0 ∷ 0 ∷ 0 ∷ 0 ∷ 0 ∷ 0 ∷ 0 ∷ 0 ∷ 0 ∷ 0 ∷ 0 ∷ 0 ∷ 0xE8 ∷ 0 ∷ 0 ∷ 0 ∷ 0 ∷ 0xC3 ∷ []
+    ∷ 0x8B ∷ 0x0D ∷ 0 ∷ 0 ∷ 0 ∷ 0 ∷ 0 ∷ 0 ∷ 0 ∷ 0 ∷ 0 ∷ 0 ∷ 0 ∷ 0 ∷ 0xE9 ∷ 0 ∷ 0 ∷ 0 ∷ 0 ∷ []
 passing_bytes ARMNT = []
 passing_bytes AMD64 =
     0x48 ∷ 0x83 ∷ 0xEC ∷ 0x28 ∷ 0x48 ∷ 0x8D ∷ 0x0D ∷ 0 ∷ 0 ∷ 0 ∷ 0 ∷ 0xFF ∷ 0x15 ∷ 0 ∷ 0 ∷ 0 ∷ 0
     ∷ 0x83 ∷ 0x3D ∷ 0 ∷ 0 ∷ 0 ∷ 0 ∷ 1 ∷ 0x83 ∷ 0x3D ∷ 0xFF ∷ 0xFF ∷ 0xFF ∷ 0xFF ∷ 1 ∷ 0x4C ∷ 0x8B ∷ 0x1D ∷ 0 ∷ 0 ∷ 0 ∷ 0
-    ∷ 0xE8 ∷ 0 ∷ 0 ∷ 0 ∷ 0 ∷ 0 ∷ 0 ∷ 0 ∷ 0 ∷ 0 ∷ 0 ∷ 0 ∷ 0 ∷ 0 ∷ 0 ∷ 0 ∷ 0 ∷ 0x48 ∷ 0x83 ∷ 0xC4 ∷ 0x28 ∷ 0xC3 ∷ []
+    ∷ 0xE8 ∷ 0 ∷ 0 ∷ 0 ∷ 0 ∷ 0 ∷ 0 ∷ 0 ∷ 0 ∷ 0x48 ∷ 0x83 ∷ 0xC4 ∷ 0x28 ∷ 0xC3 ∷ 0 ∷ 0 ∷ 0 ∷ 0 ∷ 0 ∷ 0 ∷ 0 ∷ 0 ∷ []
 passing_bytes ARM64 =
     0xFD ∷ 0x7B ∷ 0xBF ∷ 0xA9 ∷ 0 ∷ 0 ∷ 0 ∷ 0x90 ∷ 0 ∷ 0 ∷ 0 ∷ 0x91 ∷ 8 ∷ 0 ∷ 0 ∷ 0x90 ∷ 8 ∷ 1 ∷ 0x40 ∷ 0xF9
     ∷ 0 ∷ 1 ∷ 0x3F ∷ 0xD6 ∷ 0 ∷ 0 ∷ 0xC0 ∷ 0x3D ∷ 0 ∷ 0 ∷ 0 ∷ 0x94 ∷ 0 ∷ 0 ∷ 0 ∷ 0 ∷ 0 ∷ 0 ∷ 0 ∷ 0 ∷ 0 ∷ 0 ∷ 0 ∷ 0
@@ -70,7 +71,7 @@ passing_relocations I386 =
 passing_relocations ARMNT = []
 passing_relocations AMD64 =
     field 7 2 amd64_rel32 ∷ field 13 1 amd64_rel32 ∷ field 19 1 amd64_rel32_1 ∷ field 26 1 amd64_rel32
-    ∷ field 34 1 amd64_rel32 ∷ field 39 3 amd64_rel32 ∷ field 43 2 x86_secrel ∷ field 47 1 amd64_addr64 ∷ []
+    ∷ field 34 1 amd64_rel32 ∷ field 39 3 amd64_rel32 ∷ field 43 2 x86_secrel ∷ field 52 1 amd64_addr64 ∷ []
 passing_relocations ARM64 =
     field 4 2 arm64_pagebase_rel21 ∷ field 8 2 arm64_pageoffset_12a ∷ field 12 1 arm64_pagebase_rel21
     ∷ field 16 1 arm64_pageoffset_12l ∷ field 24 2 arm64_pageoffset_12l ∷ field 28 3 arm64_branch26
@@ -82,13 +83,13 @@ abbrev pub passing_linked : MachineType → List ℕ
 passing_linked I386 =
     0x90 ∷ 0x90 ∷ 0x90 ∷ 0x90 ∷ 0x68 ∷ 0x10 ∷ 0x20 ∷ 0x40 ∷ 0 ∷ 0xFF ∷ 0x15 ∷ 0x60 ∷ 0 ∷ 0x40 ∷ 0
     ∷ 0x83 ∷ 0x3D ∷ 0x60 ∷ 0 ∷ 0x40 ∷ 0 ∷ 1 ∷ 0x8B ∷ 0x0D ∷ 0x60 ∷ 0 ∷ 0x40 ∷ 0 ∷ 0x60 ∷ 0 ∷ 0x40 ∷ 0
-    ∷ 0x11 ∷ 0x22 ∷ 0x33 ∷ 0x44 ∷ 0xE8 ∷ 0x17 ∷ 0 ∷ 0 ∷ 0 ∷ 0xC3 ∷ []
+    ∷ 0x11 ∷ 0x22 ∷ 0x33 ∷ 0x44 ∷ 0xE9 ∷ 0x17 ∷ 0 ∷ 0 ∷ 0 ∷ []
 passing_linked ARMNT = []
 passing_linked AMD64 =
     0x48 ∷ 0x83 ∷ 0xEC ∷ 0x28 ∷ 0x48 ∷ 0x8D ∷ 0x0D ∷ 5 ∷ 0x10 ∷ 0 ∷ 0 ∷ 0xFF ∷ 0x15 ∷ 0x6F ∷ 0xF0 ∷ 0xFF ∷ 0xFF
     ∷ 0x83 ∷ 0x3D ∷ 0x68 ∷ 0xF0 ∷ 0xFF ∷ 0xFF ∷ 1 ∷ 0x83 ∷ 0x3D ∷ 0x61 ∷ 0xF0 ∷ 0xFF ∷ 0xFF ∷ 1
     ∷ 0x4C ∷ 0x8B ∷ 0x1D ∷ 0x5A ∷ 0xF0 ∷ 0xFF ∷ 0xFF ∷ 0xE8 ∷ 0x15 ∷ 0 ∷ 0 ∷ 0 ∷ 0x11 ∷ 0x22 ∷ 0x33 ∷ 0x44
-    ∷ 0x80 ∷ 0 ∷ 0 ∷ 0x40 ∷ 1 ∷ 0 ∷ 0 ∷ 0 ∷ 0x48 ∷ 0x83 ∷ 0xC4 ∷ 0x28 ∷ 0xC3 ∷ []
+    ∷ 0x48 ∷ 0x83 ∷ 0xC4 ∷ 0x28 ∷ 0xC3 ∷ 0x80 ∷ 0 ∷ 0 ∷ 0x40 ∷ 1 ∷ 0 ∷ 0 ∷ 0 ∷ []
 passing_linked ARM64 =
     0xFD ∷ 0x7B ∷ 0xBF ∷ 0xA9 ∷ 0 ∷ 0 ∷ 0 ∷ 0xB0 ∷ 0 ∷ 0x40 ∷ 0 ∷ 0x91 ∷ 0xE8 ∷ 0xFF ∷ 0xFF ∷ 0xF0 ∷ 8 ∷ 0x41 ∷ 0x40 ∷ 0xF9
     ∷ 0 ∷ 1 ∷ 0x3F ∷ 0xD6 ∷ 0 ∷ 4 ∷ 0xC0 ∷ 0x3D ∷ 9 ∷ 0 ∷ 0 ∷ 0x94 ∷ 0x80 ∷ 0 ∷ 0 ∷ 0x40 ∷ 1 ∷ 0 ∷ 0 ∷ 0
@@ -105,6 +106,20 @@ abbrev pub passing_code : MachineType → ObjectSection
 passing_code machine =
     section text_name (cnt_code + align_16bytes + mem_execute_read) (passing_bytes machine) (passing_relocations machine)
 
+-- the sections of the object: on ARM64 a section without bytes comes first
+abbrev pub passing_sections : MachineType → List ObjectSection
+passing_sections I386 = passing_code I386 ∷ []
+passing_sections ARMNT = []
+passing_sections AMD64 = passing_code AMD64 ∷ []
+passing_sections ARM64 = section (codes ".drectve") 0xA00 [] [] ∷ passing_code ARM64 ∷ []
+
+-- the code's number among them, and their addresses in the tables
+abbrev pub passing_number : MachineType → ℕ
+passing_number machine = length (passing_sections machine)
+
+abbrev pub passing_addresses : MachineType → List SectionAddress
+passing_addresses machine = map (λ s. Unplaced) (passing_sections machine)
+
 abbrev pub open_on : MachineType → List ℕ
 open_on machine = symbol_on machine (codes "open")
 
@@ -114,8 +129,8 @@ passing machine = record {
   time = 0;
   optional_header_size = 0;
   characteristics = 0;
-  sections = passing_code machine ∷ [];
-  entries = ASymbol (symbol_of_class (codes "main") 1 class_external)
+  sections = passing_sections machine;
+  entries = ASymbol (symbol_of_class (codes "main") (passing_number machine) class_external)
       ∷ ASymbol (symbol_of_class (imp_symbol (open_on machine)) 0 class_external)
       ∷ ASymbol (symbol_of_class (codes "hello") 0 class_external)
       ∷ ASymbol (symbol_of_class (open_on machine) 0 class_external)
@@ -137,8 +152,8 @@ passing_placed machine bases = placed_from bases (passing_objects machine)
 -- the code at 0x1000, and the stub of `open`, which is the fourth object's, at 0x1040
 abbrev pub passing_at : MachineType → LinkedCode
 passing_at machine = record {
-  from = record { object = passing machine; section_addresses = Unplaced ∷ [] };
-  number = 1;
+  from = record { object = passing machine; section_addresses = passing_addresses machine };
+  number = passing_number machine;
   code = passing_code machine;
   position = 0x1000;
   bytes = passing_linked machine;
@@ -188,7 +203,7 @@ passing_image machine bases = image_of machine bases (passing_placed machine bas
 abbrev pub passing_memory : MachineType → Bases → List Range
 passing_memory machine bases = passing_image machine bases ++ ranges_of_codes (passing_codes machine bases)
 
--- with its base relocations applied, for 0x10000000 on I386 and for 0x7FF612340000
+-- with its base relocations applied, for 0x10000000 on I386, 0x7FF612340000 on AMD64 and 0x40000000 on ARM64
 abbrev pub moved_memory : MachineType → Bases → List Range
 moved_memory I386 bases =
     record { start = 0x1005; bytes = 0x10 ∷ 0x20 ∷ 0 ∷ 0x10 ∷ [] }
@@ -200,9 +215,9 @@ moved_memory I386 bases =
     ∷ passing_memory I386 bases
 moved_memory ARMNT bases = []
 moved_memory AMD64 bases =
-    record { start = 0x102F; bytes = 0x80 ∷ 0 ∷ 0x34 ∷ 0x12 ∷ 0xF6 ∷ 0x7F ∷ 0 ∷ 0 ∷ [] } ∷ passing_memory AMD64 bases
+    record { start = 0x1034; bytes = 0x80 ∷ 0 ∷ 0x34 ∷ 0x12 ∷ 0xF6 ∷ 0x7F ∷ 0 ∷ 0 ∷ [] } ∷ passing_memory AMD64 bases
 moved_memory ARM64 bases =
-    record { start = 0x1020; bytes = 0x80 ∷ 0 ∷ 0x34 ∷ 0x12 ∷ 0xF6 ∷ 0x7F ∷ 0 ∷ 0 ∷ [] } ∷ passing_memory ARM64 bases
+    record { start = 0x1020; bytes = 0x80 ∷ 0 ∷ 0 ∷ 0x40 ∷ 0 ∷ 0 ∷ 0 ∷ 0 ∷ [] } ∷ passing_memory ARM64 bases
 
 abbrev pub passing_places : MachineType → List Place
 passing_places I386 =
@@ -214,7 +229,7 @@ passing_places I386 =
     ∷ record { address = 0x1042; width = 4 }
     ∷ []
 passing_places ARMNT = []
-passing_places AMD64 = record { address = 0x102F; width = 8 } ∷ []
+passing_places AMD64 = record { address = 0x1034; width = 8 } ∷ []
 passing_places ARM64 = record { address = 0x1020; width = 8 } ∷ []
 
 -- the name against which its fields are
@@ -230,7 +245,7 @@ pub record PassingFields : Type 0 where
   pub amd64_move : HasInstruction AMD64 (passing_at AMD64) 31 (0x4C ∷ 0x8B ∷ 0x1D ∷ []) [] (imp_open AMD64)
   pub amd64_operand : HasOperand AMD64 (passing_at AMD64) 19 1 (imp_open AMD64)
   pub amd64_branch : HasBranch AMD64 (passing_at AMD64) 39 0 (open_on AMD64)
-  pub amd64_pointer : HasPointer AMD64 (passing_at AMD64) 47 (imp_open AMD64)
+  pub amd64_pointer : HasPointer AMD64 (passing_at AMD64) 52 (imp_open AMD64)
   pub i386_call : HasInstruction I386 (passing_at I386) 9 (0xFF ∷ 0x15 ∷ []) [] (imp_open I386)
   pub i386_compare : HasInstruction I386 (passing_at I386) 15 (0x83 ∷ 0x3D ∷ []) (1 ∷ []) (imp_open I386)
   pub i386_move : HasInstruction I386 (passing_at I386) 22 (0x8B ∷ 0x0D ∷ []) [] (imp_open I386)
@@ -245,6 +260,19 @@ pub record PassingFields : Type 0 where
   pub none_follows : IsOperand AMD64 amd64_rel32_1 0 0 → ⊥
   pub of_a_section : HasOperand AMD64 (passing_at AMD64) 43 0 (codes "hello") → ⊥
   pub of_16_bytes : HasOffsetField (passing_at ARM64) 24 (codes "hello") → ⊥
+
+-- The calls of the laws over placed code, right after a field of 4 bytes: through the pointer, after `lea` or `push`; by
+-- the name, after `mov` and after an address or the field relative to a section; and ARM64's page and offset after `add`
+-- and after one another.
+pub record AdjacentCalls : Type 0 where
+  pub amd64_call : HasCall AMD64 (placed_code (passing_at AMD64)) 11 (imp_open AMD64)
+  pub amd64_direct : HasDirectCall AMD64 (placed_code (passing_at AMD64)) 38 (open_on AMD64)
+  pub i386_call : HasCall I386 (placed_code (passing_at I386)) 9 (imp_open I386)
+  pub arm64_page : HasPage (placed_code (passing_at ARM64)) 12 8 (imp_open ARM64)
+  pub arm64_offset : HasPageOffset (placed_code (passing_at ARM64)) 16 8 8 (imp_open ARM64)
+  pub arm64_direct : HasDirectCall ARM64 (placed_code (passing_at ARM64)) 28 (open_on ARM64)
+  -- 8 bytes of an address before them would be changed
+  pub addr64 : IsAside AMD64 11 6 (field 7 2 amd64_addr64) → ⊥
 
 -- The program is in memory at a base, by these numbers of relocated fields, and whatever a loader writes that reads it
 -- there, every field against `__imp_open` leads to what foo.dll gives for it, and the call of `open` to its stub.
@@ -274,7 +302,7 @@ pub record WorkedOperands : Type 0 where
       (0x40 ∷ 0 ∷ 0 ∷ 0x10 ∷ [])
   pub arm64 : WorkedFields ARM64 0x1_4000_0000 touching_8 (passing_memory ARM64 touching_8) 28
       (0x40 ∷ 0 ∷ 0 ∷ 0x10 ∷ 0 ∷ 0 ∷ 0 ∷ 0 ∷ [])
-  pub arm64_moved : WorkedFields ARM64 0x7FF6_1234_0000 touching_8 (moved_memory ARM64 touching_8) 28
+  pub arm64_moved : WorkedFields ARM64 0x4000_0000 touching_8 (moved_memory ARM64 touching_8) 28
       (0x40 ∷ 0 ∷ 0 ∷ 0x10 ∷ 0 ∷ 0 ∷ 0 ∷ 0 ∷ [])
   -- where the linked numbers lead: the call, the comparisons and the move, of AMD64 and of I386
   pub amd64_call : operand_leads AMD64 0x1_4000_100D 0 0xFFFF_F06F ≡ Some 0x1_4000_0080

@@ -27,7 +27,7 @@ pub record RefusedCode : Type 0 where
   pub kept : Relinked (with_byte (passing_linked AMD64) 0 0x49) → ⊥
   pub from_field : Relinked (with_byte (passing_linked AMD64) 13 0x73) → ⊥
   pub rel32_1 : Relinked (with_byte (passing_linked AMD64) 19 0x69) → ⊥
-  pub half : Relinked (with_byte (passing_linked AMD64) 51 0) → ⊥
+  pub half : Relinked (with_byte (passing_linked AMD64) 56 0) → ⊥
   pub any : Relinked (with_byte (passing_linked AMD64) 43 0x55)
 
 -- a memory of two ranges: a field at an address, and what is at the entry of `open`
@@ -67,16 +67,16 @@ pub record RefusedInstructions : Type 0 where
   pub located : CallInstruction (0xFF ∷ 0x15 ∷ 0x6F ∷ 0xF0 ∷ 0xFF ∷ 0xFF ∷ []) (0x41 ∷ drop 1 open_address) (imp_open AMD64)
       → ⊥
 
--- the address stored at 0x102F
+-- the address stored at 0x1034
 abbrev pub StoredAddress : ℕ → List ℕ → List ℕ → List ℕ → Type 0
 StoredAddress address field bytes name =
-    PointerArrives AMD64 0x1_4000_0000 linked_on_amd64 (two_ranges address field bytes) 0x102F name open_address
+    PointerArrives AMD64 0x1_4000_0000 linked_on_amd64 (two_ranges address field bytes) 0x1034 name open_address
 
 pub record RefusedPointers : Type 0 where
-  pub arrives : StoredAddress 0x102F (0x80 ∷ 0 ∷ 0 ∷ 0x40 ∷ 1 ∷ 0 ∷ 0 ∷ 0 ∷ []) open_address (imp_open AMD64)
-  pub there : StoredAddress 0x102F (0x88 ∷ 0 ∷ 0 ∷ 0x40 ∷ 1 ∷ 0 ∷ 0 ∷ 0 ∷ []) open_address (imp_open AMD64) → ⊥
-  pub own : StoredAddress 0x102F (0x80 ∷ 0 ∷ 0 ∷ 0x40 ∷ 1 ∷ 0 ∷ 0 ∷ 0 ∷ []) open_address (codes "hello") → ⊥
-  pub located : StoredAddress 0x102F (0x80 ∷ 0 ∷ 0 ∷ 0x40 ∷ 1 ∷ 0 ∷ 0 ∷ 0 ∷ []) (0x41 ∷ drop 1 open_address) (imp_open AMD64)
+  pub arrives : StoredAddress 0x1034 (0x80 ∷ 0 ∷ 0 ∷ 0x40 ∷ 1 ∷ 0 ∷ 0 ∷ 0 ∷ []) open_address (imp_open AMD64)
+  pub there : StoredAddress 0x1034 (0x88 ∷ 0 ∷ 0 ∷ 0x40 ∷ 1 ∷ 0 ∷ 0 ∷ 0 ∷ []) open_address (imp_open AMD64) → ⊥
+  pub own : StoredAddress 0x1034 (0x80 ∷ 0 ∷ 0 ∷ 0x40 ∷ 1 ∷ 0 ∷ 0 ∷ 0 ∷ []) open_address (codes "hello") → ⊥
+  pub located : StoredAddress 0x1034 (0x80 ∷ 0 ∷ 0 ∷ 0x40 ∷ 1 ∷ 0 ∷ 0 ∷ 0 ∷ []) (0x41 ∷ drop 1 open_address) (imp_open AMD64)
       → ⊥
 
 -- the call of `open` at 0x1027, whose stub is at 0x1040

@@ -19,7 +19,7 @@ ghost use Rattle.implib_link.specs.Gnu.Operands.{AllLead, BranchArrives, HasBran
 ghost use Rattle.implib_link.specs.Gnu.Program.{IsProgram};
 ghost use Rattle.implib_link.specs.Gnu.Reading.{ReadsAndWrites};
 ghost use Rattle.implib_link.specs.Stub.{CanJump};
-ghost use Rattle.implib_link.specs.Worked.Operands.{PassingFields, WorkedOperands};
+ghost use Rattle.implib_link.specs.Worked.Operands.{AdjacentCalls, PassingFields, WorkedOperands};
 ghost use Rattle.implib_link.specs.Worked.RefusedFields.{RefusedBranches, RefusedCode};
 ghost use Rattle.implib_link.specs.Worked.RefusedFields.{RefusedInstructions, RefusedMoves};
 ghost use Rattle.implib_link.specs.Worked.RefusedFields.{RefusedOperands, RefusedPairs};
@@ -162,6 +162,7 @@ pub fn fields_of_flavors_lead_to_entries()
 /// lead to the entry.
 pub fn worked_operands()
     ensures fields { PassingFields }
+    ensures calls { AdjacentCalls }
     ensures programs { WorkedOperands }
 {}
 
