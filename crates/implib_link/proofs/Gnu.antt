@@ -28,6 +28,7 @@ pub mod MovedCode
 pub mod Fields
 pub mod FieldsInMemory
 pub mod Operands
+pub mod OperandStubs
 pub mod OperandsOfPrograms
 pub mod Rebased
 pub mod Pointers

@@ -13,17 +13,19 @@ use Rattle.implib.specs.Link.Placement.{Bases, placed_from}
 use Rattle.implib.specs.Link.Resolution.{definitions_of}
 use Rattle.implib.specs.Members.ImportTables.{thunk_width}
 use Rattle.implib_link.specs.Flavors.Loaded.{AreLoaded}
-use Rattle.implib_link.specs.Flavors.Program.{FlavorInput, IsFlavorProgram, IsMadeFor, ask_in, dll_of, exports_chosen, imported_in, symbol_in, thunks_of}
+use Rattle.implib_link.specs.Flavors.Program.{FlavorInput, IsCode, IsFlavorProgram, IsMadeFor, ask_in, dll_of, exports_chosen, imported_in, symbol_in, thunks_of}
 use Rattle.implib_link.specs.Gnu.Calls.{CanBranch}
-use Rattle.implib_link.specs.Gnu.Fields.{DefinesIn, LinkedCode}
+use Rattle.implib_link.specs.Gnu.Fields.{DefinesIn, LinkedCode, placed_code}
 use Rattle.implib_link.specs.Gnu.Loaded.{Writes}
 use Rattle.implib_link.specs.Gnu.Moves.{AreInMemory}
-use Rattle.implib_link.specs.Gnu.Operands.{AllLead, BranchArrives, HasBranch}
+use Rattle.implib_link.specs.Gnu.Operands.{AllLead, AreKept, BranchArrives, HasBranch}
 use Rattle.implib_link.specs.Gnu.Reading.{ReadsAndWrites}
+use Rattle.implib_link.specs.Gnu.Rebased.{StubArrives}
+use Rattle.implib_link.proofs.Flavors.PlacedStubs.{flavors_stub_at}
 use Rattle.implib_link.specs.Stub.{CanJump}
 use Rattle.implib_link.proofs.Gnu.CallReads.{can_reach}
 use Rattle.implib_link.proofs.Gnu.FieldsInMemory.{Rests, rests}
-use Rattle.implib_link.proofs.Gnu.OperandsOfPrograms.{branches_lead, can_be_read, entries_lead, read_in_memory}
+use Rattle.implib_link.proofs.Gnu.OperandsOfPrograms.{all_kept, branches_lead, can_be_read, code_from, code_section, entries_lead, read_in_memory, stubs_lead}
 use Rattle.implib_link.proofs.Gnu.Stubs.{same_address}
 use Rattle.implib_link.proofs.Flavors.Program.{flavors_link}
 use Rattle.implib_link.proofs.Flavors.Steady.{flavors_tables_none}
@@ -74,3 +76,29 @@ module _ (machine : MachineType) (image_base : ℕ) (bases : Bases) (inputs : Li
   flavors_branch_in_memory n written c d offset after name t wide reads =
       branches_lead machine image_base bases objects codes targets memory resting (map (imported_in machine) inputs) (flavors_link machine bases inputs objects made program).directory gives wide written
       (program_read n written reads).1 c d offset after name t
+
+  pub flavors_keep_in_memory : (n : ℕ) (written : List Range) → ((dll : List ℕ) (ask : Ask) → length (gives dll ask) ≡ thunk_width machine) →
+      ReadsAndWrites memory (thunk_width machine) gives n bases.descriptors written → AreKept machine codes (written ++ memory)
+  flavors_keep_in_memory n written wide reads =
+      all_kept machine image_base bases objects codes targets memory resting (map (imported_in machine) inputs) (flavors_link machine bases inputs objects made program).directory gives wide written (program_read n written reads).1
+
+  pub flavors_stubs_in_memory : (n : ℕ) (written : List Range) (i j : ℕ) (p : FlavorInput) (e : ExportView) (d : LinkedCode) (t : ObjectSymbol) → CanJump machine image_base bases →
+      ((dll : List ℕ) (ask : Ask) → length (gives dll ask) ≡ thunk_width machine) → ReadsAndWrites memory (thunk_width machine) gives n bases.descriptors written → slice_get inputs i ≡ Some p →
+      slice_get (exports_chosen p) j ≡ Some e → IsCode p.flavor e → Contains codes d → DefinesIn d t → t.name ≡ symbol_in p.flavor e →
+      (t.value ≡ 0) × StubArrives machine image_base (written ++ memory) d.position (gives (dll_of p) (ask_in p.flavor machine e))
+  flavors_stubs_in_memory n written i j p e d t can wide reads input chosen is held defines named =
+      let read = program_read n written reads in
+      let name : List ℕ = imp_symbol (symbol_in p.flavor e) in
+      let entry : ℕ = bases.addresses + thunk_width machine * thunks_of i inputs + thunk_width machine * j in
+      let given : List ℕ = gives (dll_of p) (ask_in p.flavor machine e) in
+      let links = flavors_link machine bases inputs objects made program in
+      let once = entry_of machine bases inputs objects i j p e links input chosen in
+      let holds = (flavors_load machine bases inputs objects gives written made program wide read.1).entries i j p e input chosen in
+      let same : holds.address ≡ entry = same_address name holds.address entry (definitions_of name (placed_from bases objects)) holds.once once in
+      stubs_lead machine image_base bases objects codes targets memory resting (map (imported_in machine) inputs) links.directory gives program.admissible wide written read.1
+      name entry (dll_of p) (ask_in p.flavor machine e) once (can_reach machine image_base bases (thunks_of i inputs) j can)
+      (subst (λ n. BytesAt (written ++ image_of machine bases (placed_from bases objects)) n given) same holds.located) d t held
+      (flavors_stub_at machine bases inputs objects i j p e (placed_code d) t made program input chosen is
+      (code_from machine image_base bases objects codes targets memory resting (map (imported_in machine) inputs) links.directory gives d held)
+      (code_section machine image_base bases objects codes targets memory resting (map (imported_in machine) inputs) links.directory gives d held)
+      (record { held = defines.held; external = defines.external; here = defines.here }) named)

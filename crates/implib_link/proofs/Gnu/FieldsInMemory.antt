@@ -3,7 +3,7 @@ use Rattle.std.proofs.Common.{◌≡◌, ℕ, ◌+◌, ◌^◌, ◌<◌, ◌≤�
 use Rattle.std.specs.Prelude.{slice_get}
 use Rattle.std.specs.List.{AllByRecursion, Contains, list_any}
 use Rattle.std.proofs.lemmas.Bool.{cases_Bool, false_from_ne_true}
-use Rattle.std.proofs.lemmas.List.{length-drop, length-take-le}
+use Rattle.std.proofs.lemmas.List.{length-drop, length-take, length-take-le}
 use Rattle.std.proofs.lemmas.Option.{slice_get_within}
 use Rattle.implib.specs.declared.coff.object.Relocation.{Relocation}
 use Rattle.implib.specs.declared.machine.MachineType.{MachineType}
@@ -113,14 +113,14 @@ pub rests : (machine : MachineType) (image_base : ℕ) (image : List Range) (lin
 rests machine image_base image linked codes targets memory (inl at) none = subst (Rests machine image_base image linked codes targets) (sym at.1) (linked_rests machine image_base image linked codes targets at.0)
 rests machine image_base image linked codes targets memory (inr (from, (places, (paged, moved)))) none = moved_rests machine image_base image linked codes targets from places memory moved none paged
 
-any_meets : (machine : MachineType) (k : ℕ) (rs : List Relocation) (s : Relocation) → Among s rs → meets machine k 1 s ≡ true → list_any (meets machine k 1) rs ≡ true
+any_meets : (machine : MachineType) (k count : ℕ) (rs : List Relocation) (s : Relocation) → Among s rs → meets machine k count s ≡ true → list_any (meets machine k count) rs ≡ true
 unfolding Among
-any_meets machine k [] s m is = absurd m
-any_meets machine k (r ∷ rs) s (inl same) is = rw (subst (λ (x : Relocation). meets machine k 1 x ≡ true) same is) refl
-any_meets machine k (r ∷ rs) s (inr m) is =
-    elim (cases_Bool (meets machine k 1 r)) [
+any_meets machine k count [] s m is = absurd m
+any_meets machine k count (r ∷ rs) s (inl same) is = rw (subst (λ (x : Relocation). meets machine k count x ≡ true) same is) refl
+any_meets machine k count (r ∷ rs) s (inr m) is =
+    elim (cases_Bool (meets machine k count r)) [
       | inl here ↦ rw here refl
-      | inr none ↦ rw none (any_meets machine k rs s m is)
+      | inr none ↦ rw none (any_meets machine k count rs s m is)
     ]
 
 not_some : (n : ℕ) → None ≡ Some n → ⊥
@@ -169,9 +169,24 @@ module _ (machine : MachineType) (image_base : ℕ) (image : List Range) (linked
       let clear : list_any (covers (c.position + (offset + i))) (places_of_code machine c) ≡ false =
       false_from_ne_true (list_any (covers (c.position + (offset + i))) (places_of_code machine c)) (λ covered.
       let found = covering_one machine c.position (offset + i) c.code.relocations covered in
-      true≢false (sym (any_meets machine (offset + i) c.code.relocations found.0 found.1.0 found.1.1.0) ∙ both.1)) in
+      true≢false (sym (any_meets machine (offset + i) 1 c.code.relocations found.0 found.1.0 found.1.1.0) ∙ both.1)) in
       subst (λ a. byte_at (written ++ memory) a ≡ Some b) (sym place)
       (unwritten (offset + i) b small (at.code_kept c (offset + i) b m (own.kept (offset + i) both.1 ∙ both.0) clear)))
+
+  -- bytes that no relocation meets are in memory as they were
+  pub part_there : (offset count : ℕ) → list_any (meets machine offset count) c.code.relocations ≡ false → BytesAt (written ++ memory) (c.position + offset) (take count (drop offset c.code.bytes))
+  part_there offset count none =
+      bytes_there offset (take count (drop offset c.code.bytes)) (λ i b got.
+      let small : i < length (take count (drop offset c.code.bytes)) = slice_get_within (take count (drop offset c.code.bytes)) i b got in
+      let within : i < count = omega (arith, length-take count (drop offset c.code.bytes)) in (
+        sym (get_drop offset c.code.bytes i) ∙ get_take count (drop offset c.code.bytes) i b got,
+        false_from_ne_true (list_any (meets machine (offset + i) 1) c.code.relocations) (λ met.
+            let s = meeting machine (offset + i) c.code.relocations met in
+            let bounds = meets_bounds machine (offset + i) 1 s.0 s.1.1 in
+            let low : s.0.offset < offset + i + 1 = bounds.0 in
+            let high : offset + i < s.0.offset + field_width machine s.0.kind = bounds.1 in
+            true≢false (sym (any_meets machine offset count c.code.relocations s.0 s.1.0 (meets_from machine offset count s.0 (omega arith) (omega arith))) ∙ none)),
+      ))
 
   -- A field that no other relocation meets.
   module _ (offset type symbol : ℕ) (alone : MeetsAlone machine c.code.relocations offset (field_width machine type) (record { offset = offset; symbol = symbol; kind = type }))

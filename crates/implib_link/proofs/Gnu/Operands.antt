@@ -9,11 +9,11 @@ use Rattle.implib.specs.declared.coff.object.Relocation.{Relocation}
 use Rattle.implib.specs.declared.machine.MachineType.{MachineType}
 use Rattle.implib.specs.declared.machine.MachineType.TheVariants.{I386, ARMNT, AMD64, ARM64}
 use Rattle.implib.specs.Formats.Constants.{amd64_rel32, arm64_pagebase_rel21, arm64_pageoffset_12l, i386_dir32}
-use Rattle.implib.specs.Formats.Object.{ASymbol, ObjectSymbol}
+use Rattle.implib.specs.Formats.Object.{ASymbol, Entry, ObjectSymbol}
 use Rattle.implib.specs.Link.Image.{Range}
 use Rattle.implib.specs.Link.Load.{BytesAt, NumberAt, number_in}
 use Rattle.implib.specs.Link.Placement.{Placed}
-use Rattle.implib.specs.Link.Resolution.{definitions_of}
+use Rattle.implib.specs.Link.Resolution.{definitions_of, symbol_address}
 use Rattle.implib.specs.Members.ImportTables.{thunk_width}
 use Rattle.implib.proofs.Link.LinkedMembers.{among_contains}
 use Rattle.implib.proofs.Link.Ranges.{Among, all_among}
@@ -194,13 +194,19 @@ module _ (machine : MachineType) (image_base : ℕ) (image : List Range) (linked
         (new : ℕ → ℕ) × (NumberAt (written ++ memory) (field_width machine type) (c.position + offset) (new (field_width machine type))
         × FieldHolds machine type image_base (c.position + offset) entry (field_at c.code.bytes offset) new)
 
+    found_at : (c : LinkedCode) (offset type symbol : ℕ) → Contains codes c → MeetsAlone machine c.code.relocations offset (field_width machine type) (record { offset = offset; symbol = symbol; kind = type }) →
+        offset + field_width machine type ≤ length c.code.bytes → (x : Entry) → slice_get c.from.object.entries symbol ≡ Some x → symbol_address linked c.from x ≡ Some entry → Found c offset type
+    found_at c offset type symbol held alone inside x got placed =
+        field_there machine image_base image linked codes targets memory at written covers_it c (contains_among c codes held) offset type symbol alone inside entry x got placed
+
+    placed_by : (c : LinkedCode) (symbol : ℕ) → Contains codes c → (names : Names c.from symbol name) → symbol_address linked c.from (ASymbol names.symbol) ≡ Some entry
+    placed_by c symbol held names =
+        gets_address linked name entry once c.from names.symbol (all_among (λ (x : LinkedCode). Contains linked x.from) c codes (contains_among c codes held) at.beside.held)
+        (among_contains (ASymbol names.symbol) c.from.object.entries (among_at (ASymbol names.symbol) c.from.object.entries symbol names.target)) names.undefined names.named
+
     found_by : (c : LinkedCode) (offset type symbol : ℕ) → Contains codes c → MeetsAlone machine c.code.relocations offset (field_width machine type) (record { offset = offset; symbol = symbol; kind = type }) →
         offset + field_width machine type ≤ length c.code.bytes → Names c.from symbol name → Found c offset type
-    found_by c offset type symbol held alone inside names =
-        let m : Among c codes = contains_among c codes held in
-        field_there machine image_base image linked codes targets memory at written covers_it c m offset type symbol alone inside entry (ASymbol names.symbol) names.target
-        (gets_address linked name entry once c.from names.symbol (all_among (λ (x : LinkedCode). Contains linked x.from) c codes m at.beside.held)
-        (among_contains (ASymbol names.symbol) c.from.object.entries (among_at (ASymbol names.symbol) c.from.object.entries symbol names.target)) names.undefined names.named)
+    found_by c offset type symbol held alone inside names = found_at c offset type symbol held alone inside (ASymbol names.symbol) names.target (placed_by c symbol held names)
 
     end_of : (c : LinkedCode) → Contains codes c → c.position + length c.code.bytes + 16 ≤ 2 ^ 31
     end_of c held = own_end machine image_base image linked codes targets memory at written covers_it c (contains_among c codes held)
@@ -232,38 +238,41 @@ module _ (machine : MachineType) (image_base : ℕ) (image : List Range) (linked
           located = located;
         }
 
-    instruction_arrives : (c : LinkedCode) (offset : ℕ) (head tail : List ℕ) → Contains codes c → HasInstruction machine c offset head tail name →
+    -- an instruction with an operand against a symbol that has the entry's address
+    pub instruction_at : (c : LinkedCode) (offset : ℕ) (head field tail : List ℕ) (type symbol : ℕ) → Contains codes c →
+        MeetsAlone machine c.code.relocations offset (length head + (4 + length tail)) (record { offset = offset + length head; symbol = symbol; kind = type }) → length field ≡ 4 →
+        take (length head + (4 + length tail)) (drop offset c.code.bytes) ≡ head ++ (field ++ tail) → IsOperand machine type (length tail) (number_in field) →
+        (x : Entry) → slice_get c.from.object.entries symbol ≡ Some x → symbol_address linked c.from x ≡ Some entry →
         InstructionArrives machine image_base linked (written ++ memory) (c.position + offset) head tail name bytes
-    instruction_arrives c offset head tail held has =
+    instruction_at c offset head field tail type symbol held alone_in four code counts x got placed =
         let m : Among c codes = contains_among c codes held in
         let inner : ℕ = offset + length head in
         let last : ℕ = inner + 4 in
         let count : ℕ = length head + (4 + length tail) in
-        let r : Relocation = record { offset = inner; symbol = has.symbol; kind = has.type } in
-        let wide : field_width machine has.type ≡ 4 = operand_width machine has.type (length tail) (number_in has.field) has.counts in
-        let four : length has.field ≡ 4 = has.four in
-        let parts : Parts c offset head has.field tail = parts_of c offset count head has.field tail has.code in
-        let size : length c.code.bytes - offset ≡ length head + (length has.field + (length tail + length parts.back)) =
+        let r : Relocation = record { offset = inner; symbol = symbol; kind = type } in
+        let wide : field_width machine type ≡ 4 = operand_width machine type (length tail) (number_in field) counts in
+        let parts : Parts c offset head field tail = parts_of c offset count head field tail code in
+        let size : length c.code.bytes - offset ≡ length head + (length field + (length tail + length parts.back)) =
         sym (length-drop offset c.code.bytes) ∙ ap length parts.whole
-        ∙ (let sum : length (head ++ (has.field ++ (tail ++ parts.back))) ≡ length head + (length has.field + (length tail + length parts.back)) =
-        omega (arith, length-append head (has.field ++ (tail ++ parts.back)), length-append has.field (tail ++ parts.back), length-append tail parts.back) in sum) in
+        ∙ (let sum : length (head ++ (field ++ (tail ++ parts.back))) ≡ length head + (length field + (length tail + length parts.back)) =
+        omega (arith, length-append head (field ++ (tail ++ parts.back)), length-append field (tail ++ parts.back), length-append tail parts.back) in sum) in
         let within : offset + count ≤ length c.code.bytes = omega arith in
-        let inside : inner + field_width machine has.type ≤ length c.code.bytes = omega arith in
-        let alone : MeetsAlone machine c.code.relocations inner (field_width machine has.type) r =
-        alone_within machine c.code.relocations offset count inner (field_width machine has.type) r has.alone (omega arith) (omega arith) (meets_from machine inner (field_width machine has.type) r (omega arith) (omega arith)) in
-        let found : Found c inner has.type = found_by c inner has.type has.symbol held alone inside has.names in
+        let inside : inner + field_width machine type ≤ length c.code.bytes = omega arith in
+        let alone : MeetsAlone machine c.code.relocations inner (field_width machine type) r =
+        alone_within machine c.code.relocations offset count inner (field_width machine type) r alone_in (omega arith) (omega arith) (meets_from machine inner (field_width machine type) r (omega arith) (omega arith)) in
+        let found : Found c inner type = found_at c inner type symbol held alone inside x got placed in
         let end : c.position + length c.code.bytes + 16 ≤ 2 ^ 31 = end_of c held in
-        let at_field : drop inner c.code.bytes ≡ has.field ++ (tail ++ parts.back) =
-        sym (drop-drop (length head) offset c.code.bytes) ∙ ap (drop (length head)) parts.whole ∙ drop_at head (has.field ++ (tail ++ parts.back)) (length head) refl in
-        let at_tail : drop last c.code.bytes ≡ tail ++ parts.back = sym (drop-drop 4 inner c.code.bytes) ∙ ap (drop 4) at_field ∙ drop_at has.field (tail ++ parts.back) 4 four in
-        let old : field_at c.code.bytes inner 4 ≡ number_in has.field = ap (λ xs. number_in (take 4 xs)) at_field ∙ ap number_in (take_at has.field (tail ++ parts.back) 4 four) in
+        let at_field : drop inner c.code.bytes ≡ field ++ (tail ++ parts.back) =
+        sym (drop-drop (length head) offset c.code.bytes) ∙ ap (drop (length head)) parts.whole ∙ drop_at head (field ++ (tail ++ parts.back)) (length head) refl in
+        let at_tail : drop last c.code.bytes ≡ tail ++ parts.back = sym (drop-drop 4 inner c.code.bytes) ∙ ap (drop 4) at_field ∙ drop_at field (tail ++ parts.back) 4 four in
+        let old : field_at c.code.bytes inner 4 ≡ number_in field = ap (λ xs. number_in (take 4 xs)) at_field ∙ ap number_in (take_at field (tail ++ parts.back) 4 four) in
         let clear : (k : ℕ) → offset ≤ k → k < offset + count → (k < inner) ⊎ (last ≤ k) → list_any (meets machine k 1) c.code.relocations ≡ false = λ k low high beside.
         false_from_ne_true (list_any (meets machine k 1) c.code.relocations) (λ met.
         let s = meeting machine k c.code.relocations met in
         let bounds = meets_bounds machine k 1 s.0 s.1.1 in
         let from : s.0.offset < k + 1 = bounds.0 in
         let to : k < s.0.offset + field_width machine s.0.kind = bounds.1 in
-        let same : s.0 ≡ r = alone_same machine c.code.relocations offset count r has.alone s.0 s.1.0 (meets_from machine offset count s.0 (omega arith) (omega arith)) in
+        let same : s.0 ≡ r = alone_same machine c.code.relocations offset count r alone_in s.0 s.1.0 (meets_from machine offset count s.0 (omega arith) (omega arith)) in
         let place : s.0.offset ≡ inner = ap (λ (x : Relocation). x.offset) same in
         let kind : field_width machine s.0.kind ≡ 4 = ap (λ (x : Relocation). field_width machine x.kind) same ∙ wide in
         elim beside [ inl before ↦ omega arith | inr after ↦ omega arith ]) in
@@ -271,7 +280,7 @@ module _ (machine : MachineType) (image_base : ℕ) (image : List Range) (linked
         let head_there : BytesAt (written ++ memory) (c.position + offset) head =
         bytes_there machine image_base image linked codes targets memory at written covers_it c m offset head (λ i b is.
         let below : i < length head = slice_get_within head i b is in (
-          sym (get_drop offset c.code.bytes i) ∙ ap (λ xs. slice_get xs i) parts.whole ∙ get_front head (has.field ++ (tail ++ parts.back)) i b is,
+          sym (get_drop offset c.code.bytes i) ∙ ap (λ xs. slice_get xs i) parts.whole ∙ get_front head (field ++ (tail ++ parts.back)) i b is,
           clear (offset + i) (omega arith) (omega arith) (inl (omega arith)),
         )) in
         let tail_there : BytesAt (written ++ memory) (c.position + last) tail =
@@ -293,25 +302,33 @@ module _ (machine : MachineType) (image_base : ℕ) (image : List Range) (linked
           own = once;
           leads = ap (λ n. operand_leads machine (image_base + n) (length tail) (number_in number.bytes)) (sym field_place)
               ∙ ap (operand_leads machine (image_base + (c.position + inner)) (length tail)) number.value
-              ∙ operand_by machine has.type image_base (c.position + inner) entry (length tail) (field_at c.code.bytes inner) found.0
-              (subst (IsOperand machine has.type (length tail)) (sym old) has.counts) found.1.1 can (omega arith) small;
+              ∙ operand_by machine type image_base (c.position + inner) entry (length tail) (field_at c.code.bytes inner) found.0
+              (subst (IsOperand machine type (length tail)) (sym old) counts) found.1.1 can (omega arith) small;
           located = located;
         }
 
--- ARM64's two instructions.
-pair_arrives : (image_base : ℕ) (image : List Range) (linked : List Placed) (codes : List LinkedCode) (targets : LinkedCode → ℕ → ℕ) (memory : List Range) (at : Rests ARM64 image_base image linked codes targets memory)
+    instruction_arrives : (c : LinkedCode) (offset : ℕ) (head tail : List ℕ) → Contains codes c → HasInstruction machine c offset head tail name →
+        InstructionArrives machine image_base linked (written ++ memory) (c.position + offset) head tail name bytes
+    instruction_arrives c offset head tail held has =
+        instruction_at c offset head has.field tail has.type has.symbol held has.alone has.four has.code has.counts (ASymbol has.names.symbol) has.names.target (placed_by c has.symbol held has.names)
+
+-- ARM64's two instructions, of fields against symbols that have the entry's address.
+pub pair_at : (image_base : ℕ) (image : List Range) (linked : List Placed) (codes : List LinkedCode) (targets : LinkedCode → ℕ → ℕ) (memory : List Range) (at : Rests ARM64 image_base image linked codes targets memory)
     (written : List Range) (covers_it : AllByRecursion (Covers image) written) (name bytes : List ℕ) (entry : ℕ) → definitions_of name linked ≡ record { name = name; address = Some entry } ∷ [] → entry < 2 ^ 31 →
-    CanReach ARM64 image_base entry → BytesAt (written ++ memory) entry bytes → (c d : LinkedCode) (first second : ℕ) → Contains codes c → Contains codes d → HasPageField c first name → HasOffsetField d second name →
+    CanReach ARM64 image_base entry → BytesAt (written ++ memory) entry bytes → (c d : LinkedCode) (first second page_symbol offset_symbol : ℕ) → Contains codes c → Contains codes d →
+    MeetsAlone ARM64 c.code.relocations first 4 (record { offset = first; symbol = page_symbol; kind = arm64_pagebase_rel21 }) → first + 4 ≤ length c.code.bytes →
+    MeetsAlone ARM64 d.code.relocations second 4 (record { offset = second; symbol = offset_symbol; kind = arm64_pageoffset_12l }) → second + 4 ≤ length d.code.bytes →
+    adrp_immediate (field_at c.code.bytes first 4) ≡ 0 → bits_of 30 2 (field_at d.code.bytes second 4) ≡ 3 → ldr_immediate (field_at d.code.bytes second 4) ≡ 0 →
+    (x : Entry) → slice_get c.from.object.entries page_symbol ≡ Some x → symbol_address linked c.from x ≡ Some entry →
+    (y : Entry) → slice_get d.from.object.entries offset_symbol ≡ Some y → symbol_address linked d.from y ≡ Some entry →
     PairArrives image_base linked (written ++ memory) (c.position + first) (d.position + second) (field_at c.code.bytes first 4) (field_at d.code.bytes second 4) name bytes
-pair_arrives image_base image linked codes targets memory at written covers_it name bytes entry once small can located c d first second c_held d_held page_field offset_field =
-    let paged = found_by ARM64 image_base image linked codes targets memory at written covers_it name bytes entry once small can located c first arm64_pagebase_rel21 page_field.field.symbol c_held
-    page_field.field.alone page_field.field.inside page_field.field.names in
-    let placed = found_by ARM64 image_base image linked codes targets memory at written covers_it name bytes entry once small can located d second arm64_pageoffset_12l offset_field.field.symbol d_held
-    offset_field.field.alone offset_field.field.inside offset_field.field.names in
-    let inside : first + 4 ≤ length c.code.bytes = page_field.field.inside in
+pair_at image_base image linked codes targets memory at written covers_it name bytes entry once small can located c d first second page_symbol offset_symbol c_held d_held page_alone page_inside offset_alone offset_inside
+    page_empty eight offset_empty x x_got x_placed y y_got y_placed =
+    let paged = found_at ARM64 image_base image linked codes targets memory at written covers_it name bytes entry once small can located c first arm64_pagebase_rel21 page_symbol c_held page_alone page_inside x x_got x_placed in
+    let placed = found_at ARM64 image_base image linked codes targets memory at written covers_it name bytes entry once small can located d second arm64_pageoffset_12l offset_symbol d_held offset_alone offset_inside y y_got y_placed in
     let end : c.position + length c.code.bytes + 16 ≤ 2 ^ 31 = end_of ARM64 image_base image linked codes targets memory at written covers_it name bytes entry once small can located c c_held in
     let page_holds = paged.1.1.page_of refl in
-    let offset_holds = placed.1.1.offset_of refl offset_field.eight in
+    let offset_holds = placed.1.1.offset_of refl eight in
     record {
       adrp = paged.0 4;
       adrp_there = paged.1.0;
@@ -322,8 +339,8 @@ pair_arrives image_base image linked codes targets memory at written covers_it n
       entry = entry;
       own = once;
       leads = pair_leads (paged.0 4) (placed.0 4) (plus_signed 21 4096 (adrp_immediate (paged.0 4)) (page (image_base + (c.position + first)) * 4096)) (ldr_immediate (placed.0 4)) (image_base + entry)
-          (page_leads (paged.0 4) (field_at c.code.bytes first 4) image_base (c.position + first) entry page_holds.1 page_field.empty (omega arith) small)
-          (offset_leads (placed.0 4) (field_at d.code.bytes second 4) image_base entry offset_holds.0 offset_field.eight offset_holds.1 offset_field.empty (sum_of_eights image_base entry can.0 can.1));
+          (page_leads (paged.0 4) (field_at c.code.bytes first 4) image_base (c.position + first) entry page_holds.1 page_empty (omega arith) small)
+          (offset_leads (placed.0 4) (field_at d.code.bytes second 4) image_base entry offset_holds.0 eight offset_holds.1 offset_empty (sum_of_eights image_base entry can.0 can.1));
       located = located;
     }
 
@@ -335,7 +352,12 @@ pairs_arrive I386 image_base image linked codes targets memory at written covers
 pairs_arrive ARMNT image_base image linked codes targets memory at written covers_it name bytes entry once small can located c d first second is c_held d_held page_field offset_field = absurd can
 pairs_arrive AMD64 image_base image linked codes targets memory at written covers_it name bytes entry once small can located c d first second is c_held d_held page_field offset_field = cc
 pairs_arrive ARM64 image_base image linked codes targets memory at written covers_it name bytes entry once small can located c d first second is c_held d_held page_field offset_field =
-    pair_arrives image_base image linked codes targets memory at written covers_it name bytes entry once small can located c d first second c_held d_held page_field offset_field
+    let x = page_field.field.names in
+    let y = offset_field.field.names in
+    pair_at image_base image linked codes targets memory at written covers_it name bytes entry once small can located c d first second page_field.field.symbol offset_field.field.symbol c_held d_held
+    page_field.field.alone page_field.field.inside offset_field.field.alone offset_field.field.inside page_field.empty offset_field.eight offset_field.empty
+    (ASymbol x.symbol) x.target (placed_by ARM64 image_base image linked codes targets memory at written covers_it name bytes entry once small can located c page_field.field.symbol c_held x)
+    (ASymbol y.symbol) y.target (placed_by ARM64 image_base image linked codes targets memory at written covers_it name bytes entry once small can located d offset_field.field.symbol d_held y)
 
 pub all_lead : (machine : MachineType) (image_base : ℕ) (image : List Range) (linked : List Placed) (codes : List LinkedCode) (targets : LinkedCode → ℕ → ℕ) (memory : List Range) → Rests machine image_base image linked codes targets memory →
     (written : List Range) → AllByRecursion (Covers image) written → (name bytes : List ℕ) (entry : ℕ) → definitions_of name linked ≡ record { name = name; address = Some entry } ∷ [] → entry < 2 ^ 31 →

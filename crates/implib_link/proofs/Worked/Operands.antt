@@ -25,7 +25,7 @@ use Rattle.implib_link.specs.Worked.Operands.{AdjacentCalls, PassingFields, Work
 use Rattle.implib_link.specs.Worked.Calls.{given_on}
 use Rattle.implib_link.specs.Worked.Programs.{another, both_inputs, foo_input, symbol_of_class, symbol_on, touching_4, touching_8}
 use Rattle.implib_link.proofs.Gnu.Operands.{operand_width}
-use Rattle.implib_link.proofs.Gnu.OperandsOfPrograms.{branches_in_memory, ends_in_memory, leads_in_memory}
+use Rattle.implib_link.proofs.Gnu.OperandsOfPrograms.{branches_in_memory, ends_in_memory, kept_in_memory, leads_in_memory, stubs_in_memory}
 use Rattle.implib_link.proofs.Worked.Calls.{open_export, wide}
 use Rattle.implib_link.proofs.Worked.LinkedCode.{all_needed, only_absolute, rebased_by, relocated_by, relocated_test, takes_by}
 use Rattle.implib_link.proofs.Worked.Programs.{claims_none_by, distinct_by, opened, worked_programs}
@@ -559,6 +559,10 @@ amd64_fields = record {
   branches = λ n written reads.
       branches_in_memory AMD64 0x1_4000_0000 touching_8 (both_inputs AMD64) (passing_objects AMD64) (passing_codes AMD64 touching_8) (passing_targets AMD64 touching_8) (passing_memory AMD64 touching_8) (given_on AMD64) worked_programs.amd64.made amd64_program amd64_at n written (passing_at AMD64) (stub_of_open AMD64 touching_8) 39 0 (open_on AMD64) (symbol_of_class (open_on AMD64) 1 class_external) (wide AMD64) reads
       (0, omega arith, refl) amd64_branch (1, omega arith, refl) (record { held = (1, omega arith, refl); external = refl; here = refl }) refl (omega arith) tt;
+  stub = λ n written reads.
+      (stubs_in_memory AMD64 0x1_4000_0000 touching_8 (both_inputs AMD64) (passing_objects AMD64) (passing_codes AMD64 touching_8) (passing_targets AMD64 touching_8) (passing_memory AMD64 touching_8) (given_on AMD64) worked_programs.amd64.made amd64_program amd64_at n written 0 1 (foo_input AMD64) (open_export AMD64) (stub_of_open AMD64 touching_8) (symbol_of_class (open_on AMD64) 1 class_external) tt (wide AMD64) reads refl refl refl
+      (1, omega arith, refl) (record { held = (1, omega arith, refl); external = refl; here = refl }) refl).1;
+  kept = λ n written reads. kept_in_memory AMD64 0x1_4000_0000 touching_8 (both_inputs AMD64) (passing_objects AMD64) (passing_codes AMD64 touching_8) (passing_targets AMD64 touching_8) (passing_memory AMD64 touching_8) (given_on AMD64) worked_programs.amd64.made amd64_program amd64_at n written (wide AMD64) reads;
   ends = ends_in_memory AMD64 0x1_4000_0000 touching_8 (both_inputs AMD64) (passing_objects AMD64) (passing_codes AMD64 touching_8) (passing_targets AMD64 touching_8) (passing_memory AMD64 touching_8) (given_on AMD64) worked_programs.amd64.made amd64_program amd64_at;
 }
 
@@ -575,6 +579,10 @@ amd64_moved_fields = record {
   branches = λ n written reads.
       branches_in_memory AMD64 0x7FF6_1234_0000 touching_8 (both_inputs AMD64) (passing_objects AMD64) (passing_codes AMD64 touching_8) (passing_targets AMD64 touching_8) (moved_memory AMD64 touching_8) (given_on AMD64) worked_programs.amd64.made amd64_program amd64_moved_at n written (passing_at AMD64) (stub_of_open AMD64 touching_8) 39 0 (open_on AMD64) (symbol_of_class (open_on AMD64) 1 class_external) (wide AMD64) reads
       (0, omega arith, refl) amd64_branch (1, omega arith, refl) (record { held = (1, omega arith, refl); external = refl; here = refl }) refl (omega arith) tt;
+  stub = λ n written reads.
+      (stubs_in_memory AMD64 0x7FF6_1234_0000 touching_8 (both_inputs AMD64) (passing_objects AMD64) (passing_codes AMD64 touching_8) (passing_targets AMD64 touching_8) (moved_memory AMD64 touching_8) (given_on AMD64) worked_programs.amd64.made amd64_program amd64_moved_at n written 0 1 (foo_input AMD64) (open_export AMD64) (stub_of_open AMD64 touching_8) (symbol_of_class (open_on AMD64) 1 class_external) tt (wide AMD64) reads refl refl refl
+      (1, omega arith, refl) (record { held = (1, omega arith, refl); external = refl; here = refl }) refl).1;
+  kept = λ n written reads. kept_in_memory AMD64 0x7FF6_1234_0000 touching_8 (both_inputs AMD64) (passing_objects AMD64) (passing_codes AMD64 touching_8) (passing_targets AMD64 touching_8) (moved_memory AMD64 touching_8) (given_on AMD64) worked_programs.amd64.made amd64_program amd64_moved_at n written (wide AMD64) reads;
   ends = ends_in_memory AMD64 0x7FF6_1234_0000 touching_8 (both_inputs AMD64) (passing_objects AMD64) (passing_codes AMD64 touching_8) (passing_targets AMD64 touching_8) (moved_memory AMD64 touching_8) (given_on AMD64) worked_programs.amd64.made amd64_program amd64_moved_at;
 }
 
@@ -591,6 +599,10 @@ i386_fields = record {
   branches = λ n written reads.
       branches_in_memory I386 0x40_0000 touching_4 (both_inputs I386) (passing_objects I386) (passing_codes I386 touching_4) (passing_targets I386 touching_4) (passing_memory I386 touching_4) (given_on I386) worked_programs.i386.made i386_program i386_at n written (passing_at I386) (stub_of_open I386 touching_4) 37 0 (open_on I386) (symbol_of_class (open_on I386) 1 class_external) (wide I386) reads
       (0, omega arith, refl) i386_branch (1, omega arith, refl) (record { held = (1, omega arith, refl); external = refl; here = refl }) refl (omega arith) tt;
+  stub = λ n written reads.
+      (stubs_in_memory I386 0x40_0000 touching_4 (both_inputs I386) (passing_objects I386) (passing_codes I386 touching_4) (passing_targets I386 touching_4) (passing_memory I386 touching_4) (given_on I386) worked_programs.i386.made i386_program i386_at n written 0 1 (foo_input I386) (open_export I386) (stub_of_open I386 touching_4) (symbol_of_class (open_on I386) 1 class_external) (omega arith) (wide I386) reads refl refl refl
+      (1, omega arith, refl) (record { held = (1, omega arith, refl); external = refl; here = refl }) refl).1;
+  kept = λ n written reads. kept_in_memory I386 0x40_0000 touching_4 (both_inputs I386) (passing_objects I386) (passing_codes I386 touching_4) (passing_targets I386 touching_4) (passing_memory I386 touching_4) (given_on I386) worked_programs.i386.made i386_program i386_at n written (wide I386) reads;
   ends = ends_in_memory I386 0x40_0000 touching_4 (both_inputs I386) (passing_objects I386) (passing_codes I386 touching_4) (passing_targets I386 touching_4) (passing_memory I386 touching_4) (given_on I386) worked_programs.i386.made i386_program i386_at;
 }
 
@@ -607,6 +619,10 @@ i386_moved_fields = record {
   branches = λ n written reads.
       branches_in_memory I386 0x1000_0000 touching_4 (both_inputs I386) (passing_objects I386) (passing_codes I386 touching_4) (passing_targets I386 touching_4) (moved_memory I386 touching_4) (given_on I386) worked_programs.i386.made i386_program i386_moved_at n written (passing_at I386) (stub_of_open I386 touching_4) 37 0 (open_on I386) (symbol_of_class (open_on I386) 1 class_external) (wide I386) reads
       (0, omega arith, refl) i386_branch (1, omega arith, refl) (record { held = (1, omega arith, refl); external = refl; here = refl }) refl (omega arith) tt;
+  stub = λ n written reads.
+      (stubs_in_memory I386 0x1000_0000 touching_4 (both_inputs I386) (passing_objects I386) (passing_codes I386 touching_4) (passing_targets I386 touching_4) (moved_memory I386 touching_4) (given_on I386) worked_programs.i386.made i386_program i386_moved_at n written 0 1 (foo_input I386) (open_export I386) (stub_of_open I386 touching_4) (symbol_of_class (open_on I386) 1 class_external) (omega arith) (wide I386) reads refl refl refl
+      (1, omega arith, refl) (record { held = (1, omega arith, refl); external = refl; here = refl }) refl).1;
+  kept = λ n written reads. kept_in_memory I386 0x1000_0000 touching_4 (both_inputs I386) (passing_objects I386) (passing_codes I386 touching_4) (passing_targets I386 touching_4) (moved_memory I386 touching_4) (given_on I386) worked_programs.i386.made i386_program i386_moved_at n written (wide I386) reads;
   ends = ends_in_memory I386 0x1000_0000 touching_4 (both_inputs I386) (passing_objects I386) (passing_codes I386 touching_4) (passing_targets I386 touching_4) (moved_memory I386 touching_4) (given_on I386) worked_programs.i386.made i386_program i386_moved_at;
 }
 
@@ -623,6 +639,10 @@ arm64_fields = record {
   branches = λ n written reads.
       branches_in_memory ARM64 0x1_4000_0000 touching_8 (both_inputs ARM64) (passing_objects ARM64) (passing_codes ARM64 touching_8) (passing_targets ARM64 touching_8) (passing_memory ARM64 touching_8) (given_on ARM64) worked_programs.arm64.made arm64_program arm64_at n written (passing_at ARM64) (stub_of_open ARM64 touching_8) 28 0 (open_on ARM64) (symbol_of_class (open_on ARM64) 1 class_external) (wide ARM64) reads
       (0, omega arith, refl) arm64_branch (1, omega arith, refl) (record { held = (1, omega arith, refl); external = refl; here = refl }) refl (omega arith) (refl, refl, omega arith, omega arith);
+  stub = λ n written reads.
+      (stubs_in_memory ARM64 0x1_4000_0000 touching_8 (both_inputs ARM64) (passing_objects ARM64) (passing_codes ARM64 touching_8) (passing_targets ARM64 touching_8) (passing_memory ARM64 touching_8) (given_on ARM64) worked_programs.arm64.made arm64_program arm64_at n written 0 1 (foo_input ARM64) (open_export ARM64) (stub_of_open ARM64 touching_8) (symbol_of_class (open_on ARM64) 1 class_external) (refl, refl) (wide ARM64) reads refl refl refl
+      (1, omega arith, refl) (record { held = (1, omega arith, refl); external = refl; here = refl }) refl).1;
+  kept = λ n written reads. kept_in_memory ARM64 0x1_4000_0000 touching_8 (both_inputs ARM64) (passing_objects ARM64) (passing_codes ARM64 touching_8) (passing_targets ARM64 touching_8) (passing_memory ARM64 touching_8) (given_on ARM64) worked_programs.arm64.made arm64_program arm64_at n written (wide ARM64) reads;
   ends = ends_in_memory ARM64 0x1_4000_0000 touching_8 (both_inputs ARM64) (passing_objects ARM64) (passing_codes ARM64 touching_8) (passing_targets ARM64 touching_8) (passing_memory ARM64 touching_8) (given_on ARM64) worked_programs.arm64.made arm64_program arm64_at;
 }
 
@@ -639,6 +659,10 @@ arm64_moved_fields = record {
   branches = λ n written reads.
       branches_in_memory ARM64 0x4000_0000 touching_8 (both_inputs ARM64) (passing_objects ARM64) (passing_codes ARM64 touching_8) (passing_targets ARM64 touching_8) (moved_memory ARM64 touching_8) (given_on ARM64) worked_programs.arm64.made arm64_program arm64_moved_at n written (passing_at ARM64) (stub_of_open ARM64 touching_8) 28 0 (open_on ARM64) (symbol_of_class (open_on ARM64) 1 class_external) (wide ARM64) reads
       (0, omega arith, refl) arm64_branch (1, omega arith, refl) (record { held = (1, omega arith, refl); external = refl; here = refl }) refl (omega arith) (refl, refl, omega arith, omega arith);
+  stub = λ n written reads.
+      (stubs_in_memory ARM64 0x4000_0000 touching_8 (both_inputs ARM64) (passing_objects ARM64) (passing_codes ARM64 touching_8) (passing_targets ARM64 touching_8) (moved_memory ARM64 touching_8) (given_on ARM64) worked_programs.arm64.made arm64_program arm64_moved_at n written 0 1 (foo_input ARM64) (open_export ARM64) (stub_of_open ARM64 touching_8) (symbol_of_class (open_on ARM64) 1 class_external) (refl, refl) (wide ARM64) reads refl refl refl
+      (1, omega arith, refl) (record { held = (1, omega arith, refl); external = refl; here = refl }) refl).1;
+  kept = λ n written reads. kept_in_memory ARM64 0x4000_0000 touching_8 (both_inputs ARM64) (passing_objects ARM64) (passing_codes ARM64 touching_8) (passing_targets ARM64 touching_8) (moved_memory ARM64 touching_8) (given_on ARM64) worked_programs.arm64.made arm64_program arm64_moved_at n written (wide ARM64) reads;
   ends = ends_in_memory ARM64 0x4000_0000 touching_8 (both_inputs ARM64) (passing_objects ARM64) (passing_codes ARM64 touching_8) (passing_targets ARM64 touching_8) (moved_memory ARM64 touching_8) (given_on ARM64) worked_programs.arm64.made arm64_program arm64_moved_at;
 }
 

@@ -1,7 +1,7 @@
 -- Fields of code against a name, whatever instruction holds them: where they lead by the processor's rule, and what is
 -- there. Addresses of code count from the image's base.
-use Rattle.std.specs.Prelude.{◌≡◌, ℕ, ◌+◌, ◌*◌, ◌%◌, ◌^◌, ◌≤◌, true, List, [], ◌∷◌, ◌++◌, drop, length, slice_get, take, Option, Some, None}
-use Rattle.std.specs.List.{Contains}
+use Rattle.std.specs.Prelude.{◌≡◌, ℕ, ◌+◌, ◌*◌, ◌%◌, ◌^◌, ◌≤◌, true, false, List, [], ◌∷◌, ◌++◌, drop, length, slice_get, take, Option, Some, None}
+use Rattle.std.specs.List.{Contains, list_any}
 use Rattle.implib.specs.declared.coff.object.Relocation.{Relocation}
 use Rattle.implib.specs.declared.machine.MachineType.{MachineType}
 use Rattle.implib.specs.declared.machine.MachineType.TheVariants.{I386, ARMNT, AMD64, ARM64}
@@ -13,7 +13,7 @@ use Rattle.implib.specs.Link.Placement.{Placed}
 use Rattle.implib.specs.Link.Resolution.{definitions_of, is_undefined_external}
 use Rattle.implib.specs.Members.ImportTables.{thunk_width}
 use Rattle.implib_link.specs.Gnu.Calls.{amd64_addr64, arm64_addr64, arm64_branch26, field_width, i386_rel32}
-use Rattle.implib_link.specs.Gnu.Fields.{LinkedCode, MeetsAlone, field_at}
+use Rattle.implib_link.specs.Gnu.Fields.{LinkedCode, MeetsAlone, field_at, meets}
 use Rattle.implib_link.specs.Stub.{adrp_immediate, bits_of, ldr_immediate, page, plus_signed, with_adrp, with_bits}
 
 -- the symbol of an index is an undefined one of this name
@@ -163,6 +163,13 @@ pub record AllLead (machine : MachineType) (image_base : ℕ) (linked : List Pla
   pub pointers : (c : LinkedCode) (offset : ℕ) → image_base + 2 ^ 31 ≤ 2 ^ 64 → Contains codes c →
       HasPointer machine c offset name →
       PointerArrives machine image_base linked memory (c.position + offset) name bytes
+
+-- bytes of linked code that no relocation meets are in memory as they were in the object
+abbrev pub AreKept : MachineType → List LinkedCode → List Range → Type 0
+AreKept machine codes memory =
+    (c : LinkedCode) (offset count : ℕ) → Contains codes c →
+    list_any (meets machine offset count) c.code.relocations ≡ false →
+    BytesAt memory (c.position + offset) (take count (drop offset c.code.bytes))
 
 -- A field of a type, with a number in the object, is that of a branch that ends so many bytes after it: I386's and
 -- AMD64's `call` and `jmp` relative to their end, whose number and type count up to it; ARM64's `bl` and `b`, empty.

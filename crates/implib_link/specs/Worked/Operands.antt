@@ -15,11 +15,11 @@ use Rattle.implib.specs.Members.ImportTables.{thunk_width}
 use Rattle.implib_link.specs.Gnu.Calls.{HasCall, HasDirectCall, IsAside, amd64_addr64, arm64_addr64, arm64_branch26, i386_rel32}
 use Rattle.implib_link.specs.Gnu.Fields.{LinkedCode, placed_code, ranges_of_codes}
 use Rattle.implib_link.specs.Gnu.Moves.{AreInMemory}
-use Rattle.implib_link.specs.Gnu.Operands.{AllLead, BranchArrives, HasBranch, HasInstruction, HasOffsetField, HasOperand, HasPageField, HasPointer, IsOperand, branch_leads, operand_leads}
+use Rattle.implib_link.specs.Gnu.Operands.{AllLead, AreKept, BranchArrives, HasBranch, HasInstruction, HasOffsetField, HasOperand, HasPageField, HasPointer, IsOperand, branch_leads, operand_leads}
 use Rattle.implib_link.specs.Gnu.Pages.{HasPage, HasPageOffset}
 use Rattle.implib_link.specs.Gnu.Program.{IsProgram, null_descriptor}
 use Rattle.implib_link.specs.Gnu.Reading.{ReadsAndWrites}
-use Rattle.implib_link.specs.Gnu.Rebased.{Place}
+use Rattle.implib_link.specs.Gnu.Rebased.{Place, StubArrives}
 use Rattle.implib_link.specs.Worked.Calls.{given_on}
 use Rattle.implib_link.specs.Worked.Programs.{another, both_inputs, foo_input, input_objects, symbol_of_class, symbol_on, touching_4, touching_8, zed_input}
 
@@ -275,7 +275,8 @@ pub record AdjacentCalls : Type 0 where
   pub addr64 : IsAside AMD64 11 6 (field 7 2 amd64_addr64) → ⊥
 
 -- The program is in memory at a base, by these numbers of relocated fields, and whatever a loader writes that reads it
--- there, every field against `__imp_open` leads to what foo.dll gives for it, and the call of `open` to its stub.
+-- there, every field against `__imp_open` leads to what foo.dll gives for it, and the call of `open` to its stub, which
+-- arrives there, too.
 pub record WorkedFields (machine : MachineType) (image_base : ℕ) (bases : Bases) (memory : List Range) (call : ℕ)
     (address : List ℕ) : Type 0 where
   pub program : IsProgram machine bases (both_inputs machine) (passing_objects machine)
@@ -288,6 +289,12 @@ pub record WorkedFields (machine : MachineType) (image_base : ℕ) (bases : Base
   pub branches : (n : ℕ) (written : List Range) →
       ReadsAndWrites memory (thunk_width machine) (given_on machine) n bases.descriptors written →
       BranchArrives machine image_base (written ++ memory) (0x1000 + call) 0 0x1040
+  pub stub : (n : ℕ) (written : List Range) →
+      ReadsAndWrites memory (thunk_width machine) (given_on machine) n bases.descriptors written →
+      StubArrives machine image_base (written ++ memory) 0x1040 address
+  pub kept : (n : ℕ) (written : List Range) →
+      ReadsAndWrites memory (thunk_width machine) (given_on machine) n bases.descriptors written →
+      AreKept machine (passing_codes machine bases) (written ++ memory)
   pub ends : (written : List Range)
       × ReadsAndWrites memory (thunk_width machine) (given_on machine) 2 bases.descriptors written
 

@@ -9,15 +9,18 @@ ghost use Rattle.implib.specs.Formats.Object.{Object, ObjectSymbol};
 ghost use Rattle.implib.specs.Link.Placement.{Bases, placed_from};
 ghost use Rattle.implib.specs.declared.machine.MachineType.{MachineType};
 ghost use Rattle.implib_link.specs.Flavors.Loaded.{AreLoaded};
-ghost use Rattle.implib_link.specs.Flavors.Program.{FlavorInput, IsFlavorProgram, IsMadeFor};
+ghost use Rattle.implib_link.specs.Flavors.Program.{FlavorInput, IsCode, IsFlavorProgram};
+ghost use Rattle.implib_link.specs.Flavors.Program.{IsMadeFor};
 ghost use Rattle.implib_link.specs.Flavors.Program.{ask_in, dll_of, exports_chosen, symbol_in};
 ghost use Rattle.implib_link.specs.Gnu.Calls.{CanBranch};
 ghost use Rattle.implib_link.specs.Gnu.Fields.{DefinesIn, LinkedCode};
 ghost use Rattle.implib_link.specs.Gnu.Loaded.{IsLoaded};
 ghost use Rattle.implib_link.specs.Gnu.Moves.{AreInMemory};
-ghost use Rattle.implib_link.specs.Gnu.Operands.{AllLead, BranchArrives, HasBranch};
+ghost use Rattle.implib_link.specs.Gnu.Operands.{AllLead, AreKept, BranchArrives};
+ghost use Rattle.implib_link.specs.Gnu.Operands.{HasBranch};
 ghost use Rattle.implib_link.specs.Gnu.Program.{IsProgram};
 ghost use Rattle.implib_link.specs.Gnu.Reading.{ReadsAndWrites};
+ghost use Rattle.implib_link.specs.Gnu.Rebased.{StubArrives};
 ghost use Rattle.implib_link.specs.Stub.{CanJump};
 ghost use Rattle.implib_link.specs.Worked.Operands.{AdjacentCalls, PassingFields, WorkedOperands};
 ghost use Rattle.implib_link.specs.Worked.RefusedFields.{RefusedBranches, RefusedCode};
@@ -25,13 +28,16 @@ ghost use Rattle.implib_link.specs.Worked.RefusedFields.{RefusedInstructions, Re
 ghost use Rattle.implib_link.specs.Worked.RefusedFields.{RefusedOperands, RefusedPairs};
 ghost use Rattle.implib_link.specs.Worked.RefusedFields.{RefusedPointers};
 ghost use Rattle.std.specs.List.{AllByRecursion, Contains};
-ghost use Rattle.std.specs.Prelude.{◌≡◌, ◌+◌, ◌++◌, ◌<◌, ◌^◌, ℕ, List, Some, length, slice_get};
+ghost use Rattle.std.specs.Prelude.{◌≡◌, ◌+◌, ◌++◌, ◌<◌, ◌^◌, ℕ, List, Some, false, length};
+ghost use Rattle.std.specs.Prelude.{slice_get};
 
 /// A program is in memory at the base that it was linked for, or at another. A loader that reads
 /// it there loads its imports, and stops at the null descriptor. Every field of code against an
 /// export's `__imp_` symbol leads, by the processor's rule, to the export's own entry, where the
-/// loader wrote what the DLL gives for the export, whatever instruction holds the field; and a
-/// branch to a name leads to where code defines it.
+/// loader wrote what the DLL gives for the export, whatever instruction holds the field; a branch
+/// to a name leads to where code defines it; other bytes of code are as they were; and code that
+/// defines the name of an export that is code is its stub, from its first byte on, which reads the
+/// address that the DLL gives.
 pub fn fields_lead_to_entries()
     ensures loads { (machine : MachineType) (image_base : ℕ) (bases : Bases)
         (inputs : List LinkInput) (objects : List Object)
@@ -92,6 +98,39 @@ pub fn fields_lead_to_entries()
         CanBranch machine (c.position + offset) (d.position + t.value) →
         BranchArrives machine image_base (written ++ memory) (c.position + offset) after
         (d.position + t.value) }
+    ensures kept { (machine : MachineType) (image_base : ℕ) (bases : Bases)
+        (inputs : List LinkInput) (objects : List Object)
+        (codes : List LinkedCode) (targets : LinkedCode → ℕ → ℕ) (memory : List Range)
+        (gives : List ℕ → Ask → List ℕ) →
+        AllByRecursion (IsMade machine) inputs →
+        IsProgram machine bases inputs objects →
+        AreInMemory machine image_base (image_of machine bases (placed_from bases objects))
+        (placed_from bases objects) codes targets memory →
+        (n : ℕ) (written : List Range) →
+        ((dll : List ℕ) (ask : Ask) → length (gives dll ask) ≡ thunk_width machine) →
+        ReadsAndWrites memory (thunk_width machine) gives n bases.descriptors written →
+        AreKept machine codes (written ++ memory) }
+    ensures stubs { (machine : MachineType) (image_base : ℕ) (bases : Bases)
+        (inputs : List LinkInput) (objects : List Object)
+        (codes : List LinkedCode) (targets : LinkedCode → ℕ → ℕ) (memory : List Range)
+        (gives : List ℕ → Ask → List ℕ) →
+        AllByRecursion (IsMade machine) inputs →
+        IsProgram machine bases inputs objects →
+        AreInMemory machine image_base (image_of machine bases (placed_from bases objects))
+        (placed_from bases objects) codes targets memory →
+        (n : ℕ) (written : List Range) (i j : ℕ) (p : LinkInput) (e : ExportView)
+        (d : LinkedCode) (t : ObjectSymbol) →
+        CanJump machine image_base bases →
+        ((dll : List ℕ) (ask : Ask) → length (gives dll ask) ≡ thunk_width machine) →
+        ReadsAndWrites memory (thunk_width machine) gives n bases.descriptors written →
+        slice_get inputs i ≡ Some p →
+        slice_get (chosen_exports p.definition p.chosen) j ≡ Some e →
+        e.is_data ≡ false →
+        Contains codes d →
+        DefinesIn d t →
+        t.name ≡ e.name →
+        (t.value ≡ 0) × StubArrives machine image_base (written ++ memory) d.position
+        (gives p.definition.import_name (expected_ask machine e)) }
 {}
 
 /// The same of a program of both flavours.
@@ -155,6 +194,39 @@ pub fn fields_of_flavors_lead_to_entries()
         CanBranch machine (c.position + offset) (d.position + t.value) →
         BranchArrives machine image_base (written ++ memory) (c.position + offset) after
         (d.position + t.value) }
+    ensures kept { (machine : MachineType) (image_base : ℕ) (bases : Bases)
+        (inputs : List FlavorInput) (objects : List Object)
+        (codes : List LinkedCode) (targets : LinkedCode → ℕ → ℕ) (memory : List Range)
+        (gives : List ℕ → Ask → List ℕ) →
+        AllByRecursion (IsMadeFor machine) inputs →
+        IsFlavorProgram machine bases inputs objects →
+        AreInMemory machine image_base (image_of machine bases (placed_from bases objects))
+        (placed_from bases objects) codes targets memory →
+        (n : ℕ) (written : List Range) →
+        ((dll : List ℕ) (ask : Ask) → length (gives dll ask) ≡ thunk_width machine) →
+        ReadsAndWrites memory (thunk_width machine) gives n bases.descriptors written →
+        AreKept machine codes (written ++ memory) }
+    ensures stubs { (machine : MachineType) (image_base : ℕ) (bases : Bases)
+        (inputs : List FlavorInput) (objects : List Object)
+        (codes : List LinkedCode) (targets : LinkedCode → ℕ → ℕ) (memory : List Range)
+        (gives : List ℕ → Ask → List ℕ) →
+        AllByRecursion (IsMadeFor machine) inputs →
+        IsFlavorProgram machine bases inputs objects →
+        AreInMemory machine image_base (image_of machine bases (placed_from bases objects))
+        (placed_from bases objects) codes targets memory →
+        (n : ℕ) (written : List Range) (i j : ℕ) (p : FlavorInput) (e : ExportView)
+        (d : LinkedCode) (t : ObjectSymbol) →
+        CanJump machine image_base bases →
+        ((dll : List ℕ) (ask : Ask) → length (gives dll ask) ≡ thunk_width machine) →
+        ReadsAndWrites memory (thunk_width machine) gives n bases.descriptors written →
+        slice_get inputs i ≡ Some p →
+        slice_get (exports_chosen p) j ≡ Some e →
+        IsCode p.flavor e →
+        Contains codes d →
+        DefinesIn d t →
+        t.name ≡ symbol_in p.flavor e →
+        (t.value ≡ 0) × StubArrives machine image_base (written ++ memory) d.position
+        (gives (dll_of p) (ask_in p.flavor machine e)) }
 {}
 
 /// Code as compilers write it, worked by hand on AMD64, I386 and ARM64: fields that follow one
