@@ -33,6 +33,7 @@ pub mod Choices
 pub mod Instructions
 pub mod Operands
 pub mod RefusedFields
+pub mod Rules
 pub mod Lld
 pub mod MsvcExists
 pub mod NamedApart

@@ -25,7 +25,7 @@ use Rattle.implib_link.proofs.Worked.LinkedCode.{relocated_by, relocated_test}
 use Rattle.implib_link.proofs.Worked.Programs.{opened}
 use Rattle.implib_link.proofs.Worked.RefusedLinks.{are_located, differ, number}
 
-value : (a b : ℕ) → Some a ≡ Some b → a ≡ b
+pub value : (a b : ℕ) → Some a ≡ Some b → a ≡ b
 value a b is = ap (λ o. or_else o 0) is
 
 absent : (memory : List Range) (a width n : ℕ) → byte_at memory a ≡ None → 0 < width → NumberAt memory width a n → ⊥
@@ -47,7 +47,7 @@ no_fourth memory a (b ∷ c ∷ d ∷ e ∷ rest) none four located = let is : N
 past_end : (memory : List Range) (a n : ℕ) → byte_at memory (a + 1 + 1 + 1) ≡ None → NumberAt memory 4 a n → ⊥
 past_end memory a n none there = no_fourth memory a there.bytes none there.count there.located
 
-other_byte : (memory : List Range) (a byte other : ℕ) (bytes : List ℕ) → byte_at memory a ≡ Some other → byte < other → BytesAt memory a (byte ∷ bytes) → ⊥
+pub other_byte : (memory : List Range) (a byte other : ℕ) (bytes : List ℕ) → byte_at memory a ≡ Some other → byte < other → BytesAt memory a (byte ∷ bytes) → ⊥
 unfolding BytesAt
 other_byte memory a byte other bytes is less located = differ byte other (value byte other (sym located.0 ∙ is)) less
 
