@@ -29,6 +29,7 @@ pub mod Fields
 pub mod FieldsInMemory
 pub mod Operands
 pub mod OperandStubs
+pub mod UsualCode
 pub mod OperandsOfPrograms
 pub mod Rebased
 pub mod Pointers

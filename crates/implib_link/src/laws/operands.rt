@@ -6,18 +6,21 @@ ghost use Rattle.implib.specs.Import.{Ask, expected_ask, imp_symbol};
 ghost use Rattle.implib.specs.Link.LinkedMembers.{IsMade, LinkInput, chosen_exports};
 ghost use Rattle.implib.specs.Members.ImportTables.{thunk_width};
 ghost use Rattle.implib.specs.Formats.Object.{Object, ObjectSymbol};
-ghost use Rattle.implib.specs.Link.Placement.{Bases, placed_from};
+ghost use Rattle.implib.specs.Link.Placement.{Bases, Placed, placed_from};
 ghost use Rattle.implib.specs.declared.machine.MachineType.{MachineType};
+ghost use Rattle.implib.specs.declared.machine.MachineType.TheVariants.{ARM64, ARMNT};
 ghost use Rattle.implib_link.specs.Flavors.Loaded.{AreLoaded};
 ghost use Rattle.implib_link.specs.Flavors.Program.{FlavorInput, IsCode, IsFlavorProgram};
 ghost use Rattle.implib_link.specs.Flavors.Program.{IsMadeFor};
 ghost use Rattle.implib_link.specs.Flavors.Program.{ask_in, dll_of, exports_chosen, symbol_in};
-ghost use Rattle.implib_link.specs.Gnu.Calls.{CanBranch};
-ghost use Rattle.implib_link.specs.Gnu.Fields.{DefinesIn, LinkedCode};
+ghost use Rattle.implib_link.specs.Gnu.Calls.{CallArrives, CanBranch, HasCall};
+ghost use Rattle.implib_link.specs.Gnu.Fields.{DefinesIn, LinkedCode, placed_code};
 ghost use Rattle.implib_link.specs.Gnu.Loaded.{IsLoaded};
 ghost use Rattle.implib_link.specs.Gnu.Moves.{AreInMemory};
 ghost use Rattle.implib_link.specs.Gnu.Operands.{AllLead, AreKept, BranchArrives};
 ghost use Rattle.implib_link.specs.Gnu.Operands.{HasBranch};
+ghost use Rattle.implib_link.specs.Gnu.Pages.{HasPage, HasPageOffset, PageArrives};
+ghost use Rattle.implib_link.specs.Gnu.Pointers.{HasLoad, LoadArrives};
 ghost use Rattle.implib_link.specs.Gnu.Program.{IsProgram};
 ghost use Rattle.implib_link.specs.Gnu.Reading.{ReadsAndWrites};
 ghost use Rattle.implib_link.specs.Gnu.Rebased.{StubArrives};
@@ -227,6 +230,41 @@ pub fn fields_of_flavors_lead_to_entries()
         t.name ≡ symbol_in p.flavor e →
         (t.value ≡ 0) × StubArrives machine image_base (written ++ memory) d.position
         (gives (dll_of p) (ask_in p.flavor machine e)) }
+{}
+
+/// What the usual instructions are in these terms. Where every field against a name leads to its
+/// only definition, and bytes that no relocation meets are as they were: a call and a load through
+/// the name's pointer, and on ARM64 an `adrp` and a load of any registers, arrive there, at any
+/// place of the linked code. Not on ARMNT.
+pub fn usual_instructions_lead()
+    ensures calls { (machine : MachineType) (image_base : ℕ) (linked : List Placed)
+        (codes : List LinkedCode) (memory : List Range) (name bytes : List ℕ)
+        (c : LinkedCode) (offset : ℕ) →
+        (machine ≡ ARMNT → ⊥) →
+        AllLead machine image_base linked codes memory name bytes →
+        AreKept machine codes memory →
+        Contains codes c →
+        HasCall machine (placed_code c) offset name →
+        CallArrives machine image_base memory (c.position + offset) bytes }
+    ensures loads { (machine : MachineType) (image_base : ℕ) (linked : List Placed)
+        (codes : List LinkedCode) (memory : List Range) (name bytes : List ℕ)
+        (c : LinkedCode) (offset : ℕ) →
+        (machine ≡ ARMNT → ⊥) →
+        AllLead machine image_base linked codes memory name bytes →
+        Contains codes c →
+        HasLoad machine (placed_code c) offset name →
+        LoadArrives machine image_base memory (c.position + offset) bytes }
+    ensures pages { (image_base : ℕ) (linked : List Placed) (codes : List LinkedCode)
+        (memory : List Range) (name bytes : List ℕ)
+        (c : LinkedCode) (first second paged loaded : ℕ) →
+        AllLead ARM64 image_base linked codes memory name bytes →
+        Contains codes c →
+        paged < 32 →
+        loaded < 32 →
+        HasPage (placed_code c) first paged name →
+        HasPageOffset (placed_code c) second paged loaded name →
+        PageArrives image_base memory (c.position + first) (c.position + second) paged loaded
+        bytes }
 {}
 
 /// Code as compilers write it, worked by hand on AMD64, I386 and ARM64: fields that follow one
