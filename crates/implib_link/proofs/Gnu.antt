@@ -30,6 +30,7 @@ pub mod FieldsInMemory
 pub mod Operands
 pub mod OperandStubs
 pub mod UsualCode
+pub mod LinkedBytes
 pub mod OperandsOfPrograms
 pub mod Rebased
 pub mod Pointers

@@ -5,7 +5,7 @@ ghost use Rattle.implib.specs.Link.Image.{Range, image_of};
 ghost use Rattle.implib.specs.Import.{Ask, expected_ask, imp_symbol};
 ghost use Rattle.implib.specs.Link.LinkedMembers.{IsMade, LinkInput, chosen_exports};
 ghost use Rattle.implib.specs.Members.ImportTables.{thunk_width};
-ghost use Rattle.implib.specs.Formats.Object.{Object, ObjectSymbol};
+ghost use Rattle.implib.specs.Formats.Object.{Object, ObjectSection, ObjectSymbol};
 ghost use Rattle.implib.specs.Link.Placement.{Bases, Placed, placed_from};
 ghost use Rattle.implib.specs.declared.machine.MachineType.{MachineType};
 ghost use Rattle.implib.specs.declared.machine.MachineType.TheVariants.{ARM64, ARMNT};
@@ -14,7 +14,7 @@ ghost use Rattle.implib_link.specs.Flavors.Program.{FlavorInput, IsCode, IsFlavo
 ghost use Rattle.implib_link.specs.Flavors.Program.{IsMadeFor};
 ghost use Rattle.implib_link.specs.Flavors.Program.{ask_in, dll_of, exports_chosen, symbol_in};
 ghost use Rattle.implib_link.specs.Gnu.Calls.{CallArrives, CanBranch, HasCall};
-ghost use Rattle.implib_link.specs.Gnu.Fields.{DefinesIn, LinkedCode, placed_code};
+ghost use Rattle.implib_link.specs.Gnu.Fields.{DefinesIn, IsRelocated, LinkedCode, placed_code};
 ghost use Rattle.implib_link.specs.Gnu.Loaded.{IsLoaded};
 ghost use Rattle.implib_link.specs.Gnu.Moves.{AreInMemory};
 ghost use Rattle.implib_link.specs.Gnu.Operands.{AllLead, AreKept, BranchArrives};
@@ -265,6 +265,15 @@ pub fn usual_instructions_lead()
         HasPageOffset (placed_code c) second paged loaded name →
         PageArrives image_base memory (c.position + first) (c.position + second) paged loaded
         bytes }
+{}
+
+/// There are linked bytes for any code: any section of bytes, at any address, with any addresses
+/// of its symbols.
+pub fn linked_bytes_exist()
+    ensures exist { (machine : MachineType) (image_base : ℕ) (targets : ℕ → ℕ) (position : ℕ)
+        (code : ObjectSection) →
+        AllByRecursion (λ b. b < 256) code.bytes →
+        (bytes : List ℕ) × IsRelocated machine image_base targets position code bytes }
 {}
 
 /// Code as compilers write it, worked by hand on AMD64, I386 and ARM64: fields that follow one
