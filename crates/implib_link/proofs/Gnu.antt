@@ -45,4 +45,5 @@ pub mod Whole
 pub mod OtherLibraries
 pub mod MovedWriting
 pub mod Choices
+pub mod MovedPrograms
 pub mod Aliases

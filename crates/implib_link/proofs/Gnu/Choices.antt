@@ -341,7 +341,7 @@ four_or_eight ARM64 type width is =
     choice_width (type == arm64_addr64) 8 width (if type == arm64_addr32 then Some 4 else None) is (inr refl)
     (λ later. choice_width (type == arm64_addr32) 4 width None later (inl refl) (none_width width))
 
-places_widths : (machine : MachineType) (position : ℕ) (rs : List Relocation) → AllByRecursion (λ (p : Place). (p.width ≡ 4) ⊎ (p.width ≡ 8)) (places_at machine position rs)
+pub places_widths : (machine : MachineType) (position : ℕ) (rs : List Relocation) → AllByRecursion (λ (p : Place). (p.width ≡ 4) ⊎ (p.width ≡ 8)) (places_at machine position rs)
 places_widths machine position [] = tt
 places_widths machine position (r ∷ rs) =
     elim (absolute_width machine r.kind) as (λ o. absolute_width machine r.kind ≡ o → AllByRecursion (λ (p : Place). (p.width ≡ 4) ⊎ (p.width ≡ 8)) (places_at machine position (r ∷ rs))) [
@@ -353,10 +353,10 @@ places_joined : (P : Place → Type 0) (xs ys : List Place) → AllByRecursion P
 places_joined P [] ys first second = second
 places_joined P (x ∷ xs) ys first second = (first.0, places_joined P xs ys first.1 second)
 
-all_widths : (machine : MachineType) (codes : List PlacedCode) → AllByRecursion (λ (p : Place). (p.width ≡ 4) ⊎ (p.width ≡ 8)) (flat_map (code_places machine) codes)
-all_widths machine [] = tt
-all_widths machine (c ∷ codes) =
-    places_joined (λ (p : Place). (p.width ≡ 4) ⊎ (p.width ≡ 8)) (code_places machine c) (flat_map (code_places machine) codes) (places_widths machine c.position c.code.relocations) (all_widths machine codes)
+pub all_widths : {X : Type 0} (places : X → List Place) → ((x : X) → AllByRecursion (λ (p : Place). (p.width ≡ 4) ⊎ (p.width ≡ 8)) (places x)) → (codes : List X) →
+    AllByRecursion (λ (p : Place). (p.width ≡ 4) ⊎ (p.width ≡ 8)) (flat_map places codes)
+all_widths places each [] = tt
+all_widths places each (c ∷ codes) = places_joined (λ (p : Place). (p.width ≡ 4) ⊎ (p.width ≡ 8)) (places c) (flat_map places codes) (each c) (all_widths places each codes)
 
 apart_joined : (xs ys : List Place) → ArePlacesApart xs → ArePlacesApart ys → AllByRecursion (λ (p : Place). AllByRecursion (λ (q : Place). (a : ℕ) → covers a p ≡ true → covers a q ≡ true → ⊥) ys) xs → ArePlacesApart (xs ++ ys)
 apart_joined [] ys first second cross = second
@@ -364,10 +364,10 @@ apart_joined (x ∷ xs) ys first second cross =
     (places_joined (λ (q : Place). (a : ℕ) → covers a x ≡ true → covers a q ≡ true → ⊥) xs ys first.0 cross.0, apart_joined xs ys first.1 second cross.1)
 
 -- a place of code is in the code's range
-record PlaceIn (r : Range) (p : Place) : Type 0 where
-  in_range : (a : ℕ) → covers a p ≡ true → is_in a r ≡ true
+pub record PlaceIn (r : Range) (p : Place) : Type 0 where
+  pub in_range : (a : ℕ) → covers a p ≡ true → is_in a r ≡ true
 
-places_in : (r : Range) (ps : List Place) → AllByRecursion (λ (p : Place). r.start ≤ p.address) ps → AllByRecursion (λ (p : Place). p.address + p.width ≤ range_end r) ps → AllByRecursion (PlaceIn r) ps
+pub places_in : (r : Range) (ps : List Place) → AllByRecursion (λ (p : Place). r.start ≤ p.address) ps → AllByRecursion (λ (p : Place). p.address + p.width ≤ range_end r) ps → AllByRecursion (PlaceIn r) ps
 places_in r [] above below = tt
 places_in r (p ∷ ps) above below = (
   record {
@@ -402,6 +402,20 @@ none_crossed : (ps : List Place) → AllByRecursion (λ (p : Place). AllByRecurs
 none_crossed [] = tt
 none_crossed (p ∷ ps) = (tt, none_crossed ps)
 
+-- Places of codes whose ranges are apart.
+module _ {X : Type 0} (range : X → Range) (places : X → List Place) where
+  cross_codes : (c : X) (codes : List X) → AllByRecursion (PlaceIn (range c)) (places c) → AllByRecursion (λ d. AllByRecursion (PlaceIn (range d)) (places d)) codes → AllByRecursion (AreApart (range c)) (map range codes) →
+      AllByRecursion (λ (p : Place). AllByRecursion (λ (q : Place). (a : ℕ) → covers a p ≡ true → covers a q ≡ true → ⊥) (flat_map places codes)) (places c)
+  cross_codes c [] own within apart = none_crossed (places c)
+  cross_codes c (d ∷ codes) own within apart =
+      cross_join (places c) (places d) (flat_map places codes) (cross_all (range c) (range d) apart.0 (places c) (places d) own within.0) (cross_codes c codes own within.1 apart.1)
+
+  pub places_apart : (codes : List X) → AllByRecursion (λ d. AllByRecursion (PlaceIn (range d)) (places d)) codes → AllByRecursion (λ d. ArePlacesApart (places d)) codes → AllApart (map range codes) →
+      ArePlacesApart (flat_map places codes)
+  places_apart [] within own apart = tt
+  places_apart (c ∷ codes) within own apart =
+      apart_joined (places c) (flat_map places codes) own.0 (places_apart codes within.1 own.1 apart.1) (cross_codes c codes within.0 within.1 apart.0)
+
 module _ (machine : MachineType) (image_base : ℕ) (targets : PlacedCode → ℕ → ℕ) where
   below_end : (c : PlacedCode) (ps : List Place) → AllByRecursion (λ (p : Place). p.address + p.width ≤ c.position + length c.code.bytes) ps →
       AllByRecursion (λ (p : Place). p.address + p.width ≤ range_end (code_range machine image_base targets c)) ps
@@ -416,21 +430,10 @@ module _ (machine : MachineType) (image_base : ℕ) (targets : PlacedCode → �
   in_code c within =
       places_in (code_range machine image_base targets c) (code_places machine c) (places_from machine c.position c.code.relocations) (below_end c (code_places machine c) within)
 
-  cross_codes : (c : PlacedCode) (codes : List PlacedCode) → AllByRecursion (λ (p : Place). p.address + p.width ≤ c.position + length c.code.bytes) (code_places machine c) →
-      AllByRecursion (λ (d : PlacedCode). AllByRecursion (λ (p : Place). p.address + p.width ≤ d.position + length d.code.bytes) (code_places machine d)) codes →
-      AllByRecursion (AreApart (code_range machine image_base targets c)) (code_ranges machine image_base targets codes) →
-      AllByRecursion (λ (p : Place). AllByRecursion (λ (q : Place). (a : ℕ) → covers a p ≡ true → covers a q ≡ true → ⊥) (flat_map (code_places machine) codes)) (code_places machine c)
-  cross_codes c [] own within apart = none_crossed (code_places machine c)
-  cross_codes c (d ∷ codes) own within apart =
-      cross_join (code_places machine c) (code_places machine d) (flat_map (code_places machine) codes)
-      (cross_all (code_range machine image_base targets c) (code_range machine image_base targets d) apart.0 (code_places machine c) (code_places machine d) (in_code c own) (in_code d within.0))
-      (cross_codes c codes own within.1 apart.1)
-
-  places_apart : (codes : List PlacedCode) → AllByRecursion (λ (d : PlacedCode). AllByRecursion (λ (p : Place). p.address + p.width ≤ d.position + length d.code.bytes) (code_places machine d)) codes →
-      AllByRecursion (λ (d : PlacedCode). ArePlacesApart (code_places machine d)) codes → AllApart (code_ranges machine image_base targets codes) → ArePlacesApart (flat_map (code_places machine) codes)
-  places_apart [] within own apart = tt
-  places_apart (c ∷ codes) within own apart =
-      apart_joined (code_places machine c) (flat_map (code_places machine) codes) own.0 (places_apart codes within.1 own.1 apart.1) (cross_codes c codes within.0 within.1 apart.0)
+  all_in_code : (codes : List PlacedCode) → AllByRecursion (λ (d : PlacedCode). AllByRecursion (λ (p : Place). p.address + p.width ≤ d.position + length d.code.bytes) (code_places machine d)) codes →
+      AllByRecursion (λ (d : PlacedCode). AllByRecursion (PlaceIn (code_range machine image_base targets d)) (code_places machine d)) codes
+  all_in_code [] within = tt
+  all_in_code (c ∷ codes) within = (in_code c within.0, all_in_code codes within.1)
 
 -- So there is memory at another base, where the import tables have no base relocation.
 pub memory_exists : (machine : MachineType) (from to : ℕ) (bases : Bases) (objects : List Object) (codes : List PlacedCode) (targets : PlacedCode → ℕ → ℕ) → table_places machine (placed_from bases objects) ≡ [] →
@@ -441,7 +444,7 @@ memory_exists machine from to bases objects codes targets none beside rebases ca
     let places : List Place = flat_map (code_places machine) codes in
     let are : base_relocations machine (placed_from bases objects) codes ≡ places = ap (λ ps. ps ++ places) none in
     let rebased = can_rebase from to (image ++ ranges) places
-    (places_apart machine from targets codes rebases.within rebases.apart (apart_back image ranges beside.apart)) (all_widths machine codes) in (
+    (places_apart (code_range machine from targets) (code_places machine) codes (all_in_code machine from targets codes rebases.within) rebases.apart (apart_back image ranges beside.apart)) (all_widths (code_places machine) (λ c. places_widths machine c.position c.code.relocations) codes) in (
       rebased.0,
       record {
         beside = beside;

@@ -14,9 +14,10 @@ ghost use Rattle.implib_link.specs.Flavors.Program.{FlavorInput, IsCode, IsFlavo
 ghost use Rattle.implib_link.specs.Flavors.Program.{IsMadeFor};
 ghost use Rattle.implib_link.specs.Flavors.Program.{ask_in, dll_of, exports_chosen, symbol_in};
 ghost use Rattle.implib_link.specs.Gnu.Calls.{CallArrives, CanBranch, HasCall};
-ghost use Rattle.implib_link.specs.Gnu.Fields.{DefinesIn, IsRelocated, LinkedCode, placed_code};
+ghost use Rattle.implib_link.specs.Gnu.Fields.{AreLinkedBeside, DefinesIn, IsRelocated, LinkedCode};
+ghost use Rattle.implib_link.specs.Gnu.Fields.{placed_code};
 ghost use Rattle.implib_link.specs.Gnu.Loaded.{IsLoaded};
-ghost use Rattle.implib_link.specs.Gnu.Moves.{AreInMemory};
+ghost use Rattle.implib_link.specs.Gnu.Moves.{AreInMemory, ArePaged, CanBeMoved};
 ghost use Rattle.implib_link.specs.Gnu.Operands.{AllLead, AreKept, BranchArrives};
 ghost use Rattle.implib_link.specs.Gnu.Operands.{HasBranch};
 ghost use Rattle.implib_link.specs.Gnu.Pages.{HasPage, HasPageOffset, PageArrives};
@@ -274,6 +275,36 @@ pub fn linked_bytes_exist()
         (code : ObjectSection) →
         AllByRecursion (λ b. b < 256) code.bytes →
         (bytes : List ℕ) × IsRelocated machine image_base targets position code bytes }
+{}
+
+/// A program with linked code can be in memory at any base that its machine can move it to, if in
+/// each section the fields that store addresses whole are within it, and no two of them have an
+/// address in common. In programs of both flavours too.
+pub fn linked_programs_can_be_moved()
+    ensures moved { (machine : MachineType) (from to : ℕ) (bases : Bases)
+        (inputs : List LinkInput) (objects : List Object)
+        (codes : List LinkedCode) (targets : LinkedCode → ℕ → ℕ) →
+        AllByRecursion (IsMade machine) inputs →
+        IsProgram machine bases inputs objects →
+        AreLinkedBeside machine from (image_of machine bases (placed_from bases objects))
+        (placed_from bases objects) codes targets →
+        CanBeMoved machine codes →
+        ArePaged machine from to →
+        (memory : List Range) ×
+        AreInMemory machine to (image_of machine bases (placed_from bases objects))
+        (placed_from bases objects) codes targets memory }
+    ensures of_flavors { (machine : MachineType) (from to : ℕ) (bases : Bases)
+        (inputs : List FlavorInput) (objects : List Object)
+        (codes : List LinkedCode) (targets : LinkedCode → ℕ → ℕ) →
+        AllByRecursion (IsMadeFor machine) inputs →
+        IsFlavorProgram machine bases inputs objects →
+        AreLinkedBeside machine from (image_of machine bases (placed_from bases objects))
+        (placed_from bases objects) codes targets →
+        CanBeMoved machine codes →
+        ArePaged machine from to →
+        (memory : List Range) ×
+        AreInMemory machine to (image_of machine bases (placed_from bases objects))
+        (placed_from bases objects) codes targets memory }
 {}
 
 /// Code as compilers write it, worked by hand on AMD64, I386 and ARM64: fields that follow one
