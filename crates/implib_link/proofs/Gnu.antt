@@ -46,4 +46,5 @@ pub mod OtherLibraries
 pub mod MovedWriting
 pub mod Choices
 pub mod MovedPrograms
+pub mod LinkedCodes
 pub mod Aliases

@@ -131,19 +131,19 @@ defined_found name (c ∷ codes) d t (inr m) defines named =
 
 -- The choice: what the tables say, or where code defines the name.
 
-abbrev by_name : List PlacedCode → Entry → ℕ
+abbrev pub by_name : List PlacedCode → Entry → ℕ
 by_name codes (Auxiliary bytes) = 0
 by_name codes (ASymbol s) = first_or_zero (found s.name codes)
 
-abbrev in_tables_or : Option ℕ → ℕ → ℕ
+abbrev pub in_tables_or : Option ℕ → ℕ → ℕ
 in_tables_or None other = other
 in_tables_or (Some address) other = address
 
-abbrev of_entry : List Placed → List PlacedCode → PlacedCode → Option Entry → ℕ
+abbrev pub of_entry : List Placed → List PlacedCode → PlacedCode → Option Entry → ℕ
 of_entry linked codes c None = 0
 of_entry linked codes c (Some entry) = in_tables_or (symbol_address linked c.from entry) (by_name codes entry)
 
-abbrev choice : List Placed → List PlacedCode → PlacedCode → ℕ → ℕ
+abbrev pub choice : List Placed → List PlacedCode → PlacedCode → ℕ → ℕ
 choice linked codes c index = of_entry linked codes c (slice_get c.from.object.entries index)
 
 chosen_by : (linked : List Placed) (codes : List PlacedCode) (once : DefineOnce linked codes) (c d : PlacedCode) (s t : ObjectSymbol) → Contains codes c → Contains codes d →
@@ -156,7 +156,7 @@ chosen_by linked codes once c d s t c_held d_held m undefined defines named None
     let one = found_defined s.name codes (first_or_zero (found s.name codes)) (first_among (d.position + t.value) (found s.name codes) there) in
     one.is ∙ once.once one.code d one.symbol t (among_contains one.code codes one.among) d_held one.defines defines (one.named ∙ sym named)
 
-choice_resolves : (linked : List Placed) (codes : List PlacedCode) → DefineOnce linked codes → Resolves linked codes (choice linked codes)
+pub choice_resolves : (linked : List Placed) (codes : List PlacedCode) → DefineOnce linked codes → Resolves linked codes (choice linked codes)
 choice_resolves linked codes once = record {
   tables = λ c index address entry held at is. rw (at, is) refl;
   code = λ c d index s t c_held d_held at undefined defines named.
@@ -166,23 +166,23 @@ choice_resolves linked codes once = record {
 
 -- Code is as long as before it was relocated.
 
-is_in_same : (a : ℕ) (r s : Range) → r.start ≡ s.start → length r.bytes ≡ length s.bytes → is_in a r ≡ true → is_in a s ≡ true
+pub is_in_same : (a : ℕ) (r s : Range) → r.start ≡ s.start → length r.bytes ≡ length s.bytes → is_in a r ≡ true → is_in a s ≡ true
 is_in_same a r s start long within =
     let parts = and_parts (nat_le r.start a) (nat_lt a (range_end r)) within in
     let end : range_end r ≡ range_end s = ap (λ n. n + length r.bytes) start ∙ ap (λ n. s.start + n) long in
     and_from (nat_le s.start a) (nat_lt a (range_end s)) (subst (λ n. nat_le n a ≡ true) start parts.0) (subst (λ n. nat_lt a n ≡ true) end parts.1)
 
 -- ranges of the same addresses
-abbrev AlikeFor : (PlacedCode → Range) → (PlacedCode → Range) → PlacedCode → Type 0
+abbrev pub AlikeFor : {X : Type 0} → (X → Range) → (X → Range) → X → Type 0
 AlikeFor f g c = (a : ℕ) → is_in a (g c) ≡ true → is_in a (f c) ≡ true
 
-apart_from_all : (f g : PlacedCode → Range) (x y : Range) → ((a : ℕ) → is_in a y ≡ true → is_in a x ≡ true) → (codes : List PlacedCode) → AllByRecursion (AlikeFor f g) codes →
+apart_from_all : {X : Type 0} (f g : X → Range) (x y : Range) → ((a : ℕ) → is_in a y ≡ true → is_in a x ≡ true) → (codes : List X) → AllByRecursion (AlikeFor f g) codes →
     AllByRecursion (AreApart x) (map f codes) → AllByRecursion (AreApart y) (map g codes)
 apart_from_all f g x y within [] alike apart = tt
 apart_from_all f g x y within (c ∷ codes) alike apart =
     (λ a first second. apart.0 a (within a first) (alike.0 a second), apart_from_all f g x y within codes alike.1 apart.1)
 
-codes_apart : (f g : PlacedCode → Range) (codes : List PlacedCode) → AllByRecursion (AlikeFor f g) codes → AllApart (map f codes) → AllApart (map g codes)
+codes_apart : {X : Type 0} (f g : X → Range) (codes : List X) → AllByRecursion (AlikeFor f g) codes → AllApart (map f codes) → AllApart (map g codes)
 codes_apart f g [] alike apart = tt
 codes_apart f g (c ∷ codes) alike apart = (apart_from_all f g (f c) (g c) alike.0 codes alike.1 apart.0, codes_apart f g codes alike.1 apart.1)
 
@@ -194,7 +194,7 @@ all_joined : (P : Range → Type 0) (xs ys : List Range) → AllByRecursion P xs
 all_joined P [] ys first second = second
 all_joined P (x ∷ xs) ys first second = (first.0, all_joined P xs ys first.1 second)
 
-memory_apart : (f g : PlacedCode → Range) (codes : List PlacedCode) → AllByRecursion (AlikeFor f g) codes → (image : List Range) → AllApart (image ++ map f codes) → AllApart (image ++ map g codes)
+pub memory_apart : {X : Type 0} (f g : X → Range) (codes : List X) → AllByRecursion (AlikeFor f g) codes → (image : List Range) → AllApart (image ++ map f codes) → AllApart (image ++ map g codes)
 memory_apart f g codes alike [] apart = codes_apart f g codes alike apart
 memory_apart f g codes alike (r ∷ image) apart =
     let parts = all_split (AreApart r) image (map f codes) apart.0 in

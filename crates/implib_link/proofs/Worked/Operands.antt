@@ -1,7 +1,8 @@
 -- Code as compilers write it, by computing and by the laws.
-use Rattle.std.proofs.Common.{◌≡◌, ℕ, zero, suc, ◌+◌, ◌^◌, ◌≤◌, ◌⊎◌, true, false, List, [], ◌∷◌, ◌++◌, codes, length, map, Some, None, refl, ap, sym, ◌∙◌, subst, inl, inr, arith}
-use Rattle.std.specs.Prelude.{drop, slice_get, take}
-use Rattle.std.specs.List.{flat_map}
+use Rattle.std.proofs.Common.{◌≡◌, ℕ, zero, suc, ◌+◌, ◌^◌, ◌<◌, ◌≤◌, ◌⊎◌, true, false, List, [], ◌∷◌, ◌++◌, codes, length, map, Some, None, refl, ap, sym, ◌∙◌, subst, inl, inr, arith}
+use Rattle.std.specs.Prelude.{Bool, drop, nat_le, slice_get, take, ◌&&◌}
+use Rattle.std.specs.List.{AllByRecursion}
+use Rattle.std.proofs.lemmas.Bool.{and_parts, leb-true}
 use Rattle.implib.specs.declared.coff.object.Relocation.{Relocation}
 use Rattle.implib.specs.declared.machine.MachineType.TheVariants.{I386, ARMNT, AMD64, ARM64}
 use Rattle.implib.specs.Formats.Constants.{amd64_rel32, arm64_pagebase_rel21, arm64_pageoffset_12l, class_external, i386_dir32}
@@ -16,15 +17,19 @@ use Rattle.implib.specs.Formats.Layout.{encoded_size}
 use Rattle.implib.proofs.Link.Ranges.{apart_as_they_rise, ends_below}
 use Rattle.implib_link.specs.Gnu.Calls.{HasCall, HasDirectCall, amd64_addr64, arm64_addr64, arm64_branch26, field_width, i386_rel32}
 use Rattle.implib_link.specs.Gnu.Fields.{AreLinkedBeside, placed_code}
-use Rattle.implib_link.specs.Gnu.Moves.{AreInMemory, AreMoved}
+use Rattle.implib_link.specs.Gnu.Moves.{AreInMemory, AreMoved, CanBeMoved, places_of_code}
 use Rattle.implib_link.specs.Gnu.Operands.{HasBranch, HasField, HasInstruction, HasOffsetField, HasOperand, HasPageField, HasPointer, IsOperand, Names}
 use Rattle.implib_link.specs.Gnu.Pages.{HasPage, HasPageOffset}
 use Rattle.implib_link.specs.Gnu.Program.{IsProgram, has_tables, linked_symbols}
-use Rattle.implib_link.specs.Gnu.Rebased.{IsRebased, table_places}
-use Rattle.implib_link.specs.Worked.Operands.{AdjacentCalls, PassingFields, WorkedFields, WorkedOperands, amd64_rel32_1, field, imp_open, arm64_pageoffset_12a, arm64_secrel, moved_memory, open_on, passing, passing_at, passing_bytes, passing_codes, passing_image, passing_memory, passing_objects, passing_placed, passing_places, passing_targets, stub_of_open, x86_secrel}
+use Rattle.implib_link.specs.Gnu.Choices.{ArePlacesApart}
+use Rattle.implib_link.specs.Gnu.Rebased.{IsRebased, Place, covers, table_places}
+use Rattle.implib_link.specs.Worked.Operands.{AdjacentCalls, MovableCode, PassingFields, WorkedFields, WorkedOperands, amd64_rel32_1, field, imp_open, arm64_pageoffset_12a, arm64_secrel, moved_memory, open_on, passing, passing_at, passing_bytes, passing_codes, passing_image, passing_memory, passing_objects, passing_placed, passing_places, passing_targets, stub_of_open, x86_secrel}
 use Rattle.implib_link.specs.Worked.Calls.{given_on}
 use Rattle.implib_link.specs.Worked.Programs.{another, both_inputs, foo_input, symbol_of_class, symbol_on, touching_4, touching_8}
+use Rattle.implib_link.proofs.Gnu.Moved.{covered_bounds}
+use Rattle.implib_link.proofs.Gnu.MovedPrograms.{moved_memory_exists}
 use Rattle.implib_link.proofs.Gnu.Operands.{operand_width}
+use Rattle.implib_link.proofs.Gnu.Steady.{program_tables_none}
 use Rattle.implib_link.proofs.Gnu.OperandsOfPrograms.{branches_in_memory, ends_in_memory, kept_in_memory, leads_in_memory, stubs_in_memory}
 use Rattle.implib_link.proofs.Worked.Calls.{open_export, wide}
 use Rattle.implib_link.proofs.Worked.LinkedCode.{all_needed, only_absolute, rebased_by, relocated_by, relocated_test, takes_by}
@@ -682,4 +687,56 @@ worked_operands = record {
   amd64_branch = refl;
   i386_branch = refl;
   arm64_branch = refl;
+}
+
+-- What can be moved.
+
+-- whether places follow one another from an address on
+rising : ℕ → List Place → Bool
+rising low [] = true
+rising low (p ∷ places) = nat_le low p.address && rising (p.address + p.width) places
+
+later_apart : (p : Place) (low : ℕ) (places : List Place) → p.address + p.width ≤ low → rising low places ≡ true → AllByRecursion (λ (q : Place). (a : ℕ) → covers a p ≡ true → covers a q ≡ true → ⊥) places
+unfolding rising
+later_apart p low [] before test = tt
+later_apart p low (q ∷ places) before test =
+    let parts = and_parts (nat_le low q.address) (rising (q.address + q.width) places) test in
+    let from = leb-true low q.address parts.0 in (
+      λ a first second.
+          let one = covered_bounds a p first in
+          let two = covered_bounds a q second in
+          let high : a < p.address + p.width = one.1 in
+          let least : q.address ≤ a = two.0 in
+          omega arith,
+      later_apart p (q.address + q.width) places (omega arith) parts.1,
+    )
+
+rising_apart : (low : ℕ) (places : List Place) → rising low places ≡ true → ArePlacesApart places
+unfolding rising
+rising_apart low [] test = tt
+rising_apart low (p ∷ places) test =
+    let parts = and_parts (nat_le low p.address) (rising (p.address + p.width) places) test in
+    (later_apart p (p.address + p.width) places (omega arith) parts.1, rising_apart (p.address + p.width) places parts.1)
+
+amd64_movable : CanBeMoved AMD64 (passing_codes AMD64 touching_8)
+unfolding rising
+amd64_movable = record { within = ((omega arith, tt), (tt, tt)); apart = (rising_apart 0 (places_of_code AMD64 (passing_at AMD64)) refl, (tt, tt)) }
+
+i386_movable : CanBeMoved I386 (passing_codes I386 touching_4)
+unfolding rising
+i386_movable = record {
+  within = ((omega arith, (omega arith, (omega arith, (omega arith, (omega arith, tt))))), ((omega arith, tt), tt));
+  apart = (rising_apart 0 (places_of_code I386 (passing_at I386)) refl, (rising_apart 0 (places_of_code I386 (stub_of_open I386 touching_4)) refl, tt));
+}
+
+pub movable_code : MovableCode
+unfolding opened refusal renamed_refusal alias_specs encoded_size weak_object has_tables
+movable_code = record {
+  amd64 = amd64_movable;
+  i386 = i386_movable;
+  overlapping = λ can. can.apart.0.0.0 0x1007 refl refl;
+  beyond = λ can. let end : 0x102A ≤ 0x1029 = can.within.0.0 in omega arith;
+  somewhere =
+      moved_memory_exists AMD64 0x1_4000_0000 0x2_0000_0000 (passing_image AMD64 touching_8) (passing_placed AMD64 touching_8) (passing_codes AMD64 touching_8) (passing_targets AMD64 touching_8)
+      (program_tables_none AMD64 touching_8 (both_inputs AMD64) (passing_objects AMD64) worked_programs.amd64.made amd64_program) amd64_beside amd64_movable tt;
 }

@@ -14,7 +14,7 @@ use Rattle.implib.specs.Members.Gnu.{section, stub_bytes, stub_relocations, text
 use Rattle.implib.specs.Members.ImportTables.{thunk_width}
 use Rattle.implib_link.specs.Gnu.Calls.{HasCall, HasDirectCall, IsAside, amd64_addr64, arm64_addr64, arm64_branch26, i386_rel32}
 use Rattle.implib_link.specs.Gnu.Fields.{LinkedCode, placed_code, ranges_of_codes}
-use Rattle.implib_link.specs.Gnu.Moves.{AreInMemory}
+use Rattle.implib_link.specs.Gnu.Moves.{AreInMemory, CanBeMoved}
 use Rattle.implib_link.specs.Gnu.Operands.{AllLead, AreKept, BranchArrives, HasBranch, HasInstruction, HasOffsetField, HasOperand, HasPageField, HasPointer, IsOperand, branch_leads, operand_leads}
 use Rattle.implib_link.specs.Gnu.Pages.{HasPage, HasPageOffset}
 use Rattle.implib_link.specs.Gnu.Program.{IsProgram, null_descriptor}
@@ -321,3 +321,20 @@ pub record WorkedOperands : Type 0 where
   pub amd64_branch : branch_leads AMD64 0x1_4000_1027 0 0x15 ≡ Some 0x1_4000_1040
   pub i386_branch : branch_leads I386 0x40_1025 0 0x17 ≡ Some 0x40_1040
   pub arm64_branch : branch_leads ARM64 0x1_4000_101C 0 0x9400_0009 ≡ Some 0x1_4000_1040
+
+-- I386's code with two fields for addresses that lie on one another
+abbrev pub overlapping_at : LinkedCode
+overlapping_at = record (passing_at I386) {
+  code = record (passing_code I386) { relocations = field 5 2 i386_dir32 ∷ field 7 2 i386_dir32 ∷ [] };
+}
+
+-- The codes can be moved; not with fields that lie on one another, nor with one that leads out of its section.
+pub record MovableCode : Type 0 where
+  pub amd64 : CanBeMoved AMD64 (passing_codes AMD64 touching_8)
+  pub i386 : CanBeMoved I386 (passing_codes I386 touching_4)
+  pub overlapping : CanBeMoved I386 (overlapping_at ∷ []) → ⊥
+  pub beyond : CanBeMoved I386
+      (record (passing_at I386) { code = record (passing_code I386) { relocations = field 38 2 i386_dir32 ∷ [] } } ∷ []) → ⊥
+  -- so there is memory of AMD64's program at any other base, say at 0x200000000
+  pub somewhere : (memory : List Range) × AreInMemory AMD64 0x2_0000_0000 (passing_image AMD64 touching_8)
+      (passing_placed AMD64 touching_8) (passing_codes AMD64 touching_8) (passing_targets AMD64 touching_8) memory

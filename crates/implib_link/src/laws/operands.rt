@@ -13,7 +13,8 @@ ghost use Rattle.implib_link.specs.Flavors.Loaded.{AreLoaded};
 ghost use Rattle.implib_link.specs.Flavors.Program.{FlavorInput, IsCode, IsFlavorProgram};
 ghost use Rattle.implib_link.specs.Flavors.Program.{IsMadeFor};
 ghost use Rattle.implib_link.specs.Flavors.Program.{ask_in, dll_of, exports_chosen, symbol_in};
-ghost use Rattle.implib_link.specs.Gnu.Calls.{CallArrives, CanBranch, HasCall};
+ghost use Rattle.implib_link.specs.Gnu.Calls.{CallArrives, CanBranch, HasCall, PlacedCode};
+ghost use Rattle.implib_link.specs.Gnu.Choices.{AreSections, DefineOnce};
 ghost use Rattle.implib_link.specs.Gnu.Fields.{AreLinkedBeside, DefinesIn, IsRelocated, LinkedCode};
 ghost use Rattle.implib_link.specs.Gnu.Fields.{placed_code};
 ghost use Rattle.implib_link.specs.Gnu.Loaded.{IsLoaded};
@@ -26,13 +27,14 @@ ghost use Rattle.implib_link.specs.Gnu.Program.{IsProgram};
 ghost use Rattle.implib_link.specs.Gnu.Reading.{ReadsAndWrites};
 ghost use Rattle.implib_link.specs.Gnu.Rebased.{StubArrives};
 ghost use Rattle.implib_link.specs.Stub.{CanJump};
-ghost use Rattle.implib_link.specs.Worked.Operands.{AdjacentCalls, PassingFields, WorkedOperands};
+ghost use Rattle.implib_link.specs.Worked.Operands.{AdjacentCalls, MovableCode, PassingFields};
+ghost use Rattle.implib_link.specs.Worked.Operands.{WorkedOperands};
 ghost use Rattle.implib_link.specs.Worked.RefusedFields.{RefusedBranches, RefusedCode};
 ghost use Rattle.implib_link.specs.Worked.RefusedFields.{RefusedInstructions, RefusedMoves};
 ghost use Rattle.implib_link.specs.Worked.RefusedFields.{RefusedOperands, RefusedPairs};
 ghost use Rattle.implib_link.specs.Worked.RefusedFields.{RefusedPointers};
 ghost use Rattle.std.specs.List.{AllByRecursion, Contains};
-ghost use Rattle.std.specs.Prelude.{◌≡◌, ◌+◌, ◌++◌, ◌<◌, ◌^◌, ℕ, List, Some, false, length};
+ghost use Rattle.std.specs.Prelude.{◌≡◌, ◌+◌, ◌++◌, ◌<◌, ◌^◌, ℕ, List, Some, false, length, map};
 ghost use Rattle.std.specs.Prelude.{slice_get};
 
 /// A program is in memory at the base that it was linked for, or at another. A loader that reads
@@ -269,12 +271,23 @@ pub fn usual_instructions_lead()
 {}
 
 /// There are linked bytes for any code: any section of bytes, at any address, with any addresses
-/// of its symbols.
+/// of its symbols. So sections that are placed apart from one another and from the import tables
+/// can be linked beside them, if they define each name at one address, and none that their
+/// undefined symbols find in the tables.
 pub fn linked_bytes_exist()
     ensures exist { (machine : MachineType) (image_base : ℕ) (targets : ℕ → ℕ) (position : ℕ)
         (code : ObjectSection) →
         AllByRecursion (λ b. b < 256) code.bytes →
         (bytes : List ℕ) × IsRelocated machine image_base targets position code bytes }
+    ensures beside { (machine : MachineType) (image_base : ℕ) (bases : Bases)
+        (objects : List Object) (placed : List PlacedCode) →
+        AreSections machine bases objects placed →
+        DefineOnce (placed_from bases objects) placed →
+        AllByRecursion (λ c. AllByRecursion (λ b. b < 256) c.code.bytes) placed →
+        (codes : List LinkedCode) × ((targets : LinkedCode → ℕ → ℕ) ×
+        ((map placed_code codes ≡ placed) ×
+        AreLinkedBeside machine image_base (image_of machine bases (placed_from bases objects))
+        (placed_from bases objects) codes targets)) }
 {}
 
 /// A program with linked code can be in memory at any base that its machine can move it to, if in
@@ -314,6 +327,7 @@ pub fn worked_operands()
     ensures fields { PassingFields }
     ensures calls { AdjacentCalls }
     ensures programs { WorkedOperands }
+    ensures moving { MovableCode }
 {}
 
 /// Near misses: bytes that no linker makes of the worked code, and memory in which no field leads to
