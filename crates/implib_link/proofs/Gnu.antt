@@ -25,6 +25,13 @@ pub mod Steady
 pub mod Moved
 pub mod PlacedStubs
 pub mod MovedCode
+pub mod Fields
+pub mod FieldsInMemory
+pub mod Operands
+pub mod OperandStubs
+pub mod UsualCode
+pub mod LinkedBytes
+pub mod OperandsOfPrograms
 pub mod Rebased
 pub mod Pointers
 pub mod Pages
@@ -38,4 +45,6 @@ pub mod Whole
 pub mod OtherLibraries
 pub mod MovedWriting
 pub mod Choices
+pub mod MovedPrograms
+pub mod LinkedCodes
 pub mod Aliases

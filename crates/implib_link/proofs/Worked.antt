@@ -31,6 +31,10 @@ pub mod MsvcClosed
 pub mod RebasedPointers
 pub mod Choices
 pub mod Instructions
+pub mod LinkedCode
+pub mod Operands
+pub mod RefusedFields
+pub mod Rules
 pub mod Lld
 pub mod MsvcExists
 pub mod NamedApart

@@ -4,9 +4,12 @@ pub mod Texts
 pub mod Loaded
 pub mod Reading
 pub mod Calls
+pub mod Fields
+pub mod Operands
 pub mod Packed
 pub mod Bounds
 pub mod Rebased
+pub mod Moves
 pub mod Pointers
 pub mod Pages
 pub mod Writing

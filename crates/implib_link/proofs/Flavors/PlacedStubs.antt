@@ -19,17 +19,16 @@ use Rattle.implib_link.proofs.Flavors.Inputs.{block_in}
 use Rattle.implib_link.proofs.Flavors.Program.{placed_among, thunks_are, wide}
 use Rattle.implib_link.proofs.Flavors.Stubs.{all_placed, code_in, name_once, placed_in}
 use Rattle.implib_link.proofs.Gnu.Definers.{one_definer}
-use Rattle.implib_link.proofs.Gnu.PlacedStubs.{PlacedStub, found_entry, same_section, symbol_of_entry}
+use Rattle.implib_link.proofs.Gnu.PlacedStubs.{PlacedStub, StubAt, found_entry, placed_stub, same_section, symbol_of_entry}
 use Rattle.implib_link.proofs.Gnu.Stubs.{among_filter}
 use Rattle.implib_link.proofs.Search.Lists.{contains_among}
 use Rattle.implib_link.specs.Flavors.Program.{dll_names_in}
 
-pub flavors_stub : (machine : MachineType) (image_base : ℕ) (bases : Bases) (inputs : List FlavorInput) (objects : List Object) (codes : List PlacedCode) (targets : PlacedCode → ℕ → ℕ)
-    (i j : ℕ) (p : FlavorInput) (e : ExportView) (d : PlacedCode) (t : ObjectSymbol) →
-    AllByRecursion (IsMadeFor machine) inputs → IsFlavorProgram machine bases inputs objects → AreBeside machine image_base bases objects codes targets →
-    slice_get inputs i ≡ Some p → slice_get (exports_chosen p) j ≡ Some e → IsCode p.flavor e → Contains codes d → Defines d t → t.name ≡ symbol_in p.flavor e →
-    PlacedStub machine (placed_from bases objects) targets d t (bases.addresses + thunk_width machine * thunks_of i inputs + thunk_width machine * j)
-flavors_stub machine image_base bases inputs objects codes targets i j p e d t made program beside input chosen is d_held defines named =
+pub flavors_stub_at : (machine : MachineType) (bases : Bases) (inputs : List FlavorInput) (objects : List Object) (i j : ℕ) (p : FlavorInput) (e : ExportView) (d : PlacedCode) (t : ObjectSymbol) →
+    AllByRecursion (IsMadeFor machine) inputs → IsFlavorProgram machine bases inputs objects → slice_get inputs i ≡ Some p → slice_get (exports_chosen p) j ≡ Some e → IsCode p.flavor e →
+    Contains (placed_from bases objects) d.from → section_numbered d.from.object.sections d.number ≡ Some d.code → Defines d t → t.name ≡ symbol_in p.flavor e →
+    StubAt machine (placed_from bases objects) d t (bases.addresses + thunk_width machine * thunks_of i inputs + thunk_width machine * j)
+flavors_stub_at machine bases inputs objects i j p e d t made program input chosen is d_from d_section defines named =
     let linked : List Placed = placed_from bases objects in
     let symbol : List ℕ = symbol_in p.flavor e in
     let entry : ℕ = bases.addresses + thunk_width machine * thunks_of i inputs + thunk_width machine * j in
@@ -41,13 +40,12 @@ flavors_stub machine image_base bases inputs objects codes targets i j p e d t m
     let code = code_in machine p.flavor (dll_names_in p) linked found.0 e entry is entry_is in
     let once = name_once machine bases inputs objects i j p e made program input chosen is in
     let most : length (definitions_of symbol linked) ≤ 1 = rw once.1 (omega arith) in
-    let d_linked : Among d.from linked = contains_among d.from linked (all_among (λ (x : PlacedCode). Contains linked x.from) d codes (contains_among d codes d_held) beside.held) in
+    let d_linked : Among d.from linked = contains_among d.from linked d_from in
     let one = one_definer symbol linked d.from own t own_symbol most d_linked (contains_among (ASymbol t) d.from.object.entries defines.held) defines.external named own_held code.defined refl refl in
     let t_is : t ≡ own_symbol = symbol_of_entry t own_symbol one.1 in
     let first : d.number ≡ 1 = sym defines.here ∙ ap (λ (x : ObjectSymbol). x.section) t_is in
     let numbered : section_numbered own.object.sections d.number ≡ Some d.code =
-    subst (λ (x : Placed). section_numbered x.object.sections d.number ≡ Some d.code) one.0
-    (all_among (λ (x : PlacedCode). section_numbered x.from.object.sections x.number ≡ Some x.code) d codes (contains_among d codes d_held) beside.sections) in
+    subst (λ (x : Placed). section_numbered x.object.sections d.number ≡ Some d.code) one.0 d_section in
     let code_is = same_section own.object.sections d.number d.code (section text_name (cnt_code + align_4bytes + mem_execute_read) (stub_bytes machine) (stub_relocations machine 2)) first numbered code.here in
     let at = found_entry (symbol_address linked own) (slice_get own.object.entries 2) entry code.found in
     record {
@@ -56,6 +54,18 @@ flavors_stub machine image_base bases inputs objects codes targets i j p e d t m
       relocations = ap (λ (x : ObjectSection). x.relocations) code_is;
       begins = ap (λ (x : ObjectSymbol). x.value) t_is;
       target = code.target;
-      resolved = beside.resolved.tables d 2 entry at.0 d_held (subst (λ (x : Placed). slice_get x.object.entries 2 ≡ Some at.0) (sym one.0) at.1.0)
-          (subst (λ (x : Placed). symbol_address linked x at.0 ≡ Some entry) (sym one.0) at.1.1);
+      symbol = at.0;
+      held = subst (λ (x : Placed). slice_get x.object.entries 2 ≡ Some at.0) (sym one.0) at.1.0;
+      placed = subst (λ (x : Placed). symbol_address linked x at.0 ≡ Some entry) (sym one.0) at.1.1;
     }
+
+pub flavors_stub : (machine : MachineType) (image_base : ℕ) (bases : Bases) (inputs : List FlavorInput) (objects : List Object) (codes : List PlacedCode) (targets : PlacedCode → ℕ → ℕ)
+    (i j : ℕ) (p : FlavorInput) (e : ExportView) (d : PlacedCode) (t : ObjectSymbol) →
+    AllByRecursion (IsMadeFor machine) inputs → IsFlavorProgram machine bases inputs objects → AreBeside machine image_base bases objects codes targets →
+    slice_get inputs i ≡ Some p → slice_get (exports_chosen p) j ≡ Some e → IsCode p.flavor e → Contains codes d → Defines d t → t.name ≡ symbol_in p.flavor e →
+    PlacedStub machine (placed_from bases objects) targets d t (bases.addresses + thunk_width machine * thunks_of i inputs + thunk_width machine * j)
+flavors_stub machine image_base bases inputs objects codes targets i j p e d t made program beside input chosen is d_held defines named =
+    placed_stub machine image_base bases objects codes targets beside d t (bases.addresses + thunk_width machine * thunks_of i inputs + thunk_width machine * j) d_held
+    (flavors_stub_at machine bases inputs objects i j p e d t made program input chosen is
+    (all_among (λ (x : PlacedCode). Contains (placed_from bases objects) x.from) d codes (contains_among d codes d_held) beside.held)
+    (all_among (λ (x : PlacedCode). section_numbered x.from.object.sections x.number ≡ Some x.code) d codes (contains_among d codes d_held) beside.sections) defines named)

@@ -52,7 +52,7 @@ module _ (machine : MachineType) (image_base : ℕ) (bases : Bases) (objects : L
     (can : CanReach machine image_base entry) (once : definitions_of target (placed_from bases objects) ≡ record { name = target; address = Some entry } ∷ []) (long : 0 < length bytes)
     (located : BytesAt (written ++ image_of machine bases (placed_from bases objects)) entry bytes) where
   -- the symbol has the address of the target's only definition
-  alias_target : (instructions : List ℕ) (relocations : ℕ → List Relocation) → (has : HasInstructions c offset alias instructions relocations) → targets c has.index ≡ entry
+  alias_target : (instructions : List ℕ) (relocations : ℕ → List Relocation) → (has : HasInstructions machine c offset alias instructions relocations) → targets c has.index ≡ entry
   alias_target instructions relocations has =
       resolves c has.index entry has.symbol target held has.target has.undefined
       (subst (λ name. definitions_of name (placed_from bases objects) ≡ []) (sym has.named) none)
@@ -74,7 +74,7 @@ module _ (machine : MachineType) (image_base : ℕ) (bases : Bases) (objects : L
     here = instructions_there machine image_base bases objects codes targets beside c held offset alias (call_bytes machine) (call_relocations machine) has (call_within machine has.index) written covers;
     whole = length_within machine image_base (targets c) (c.position + offset) (call_relocations machine has.index) (call_bytes machine) (call_within machine has.index);
     entry = entry;
-    reads = call_by machine image_base (c.position + offset) entry has.index (targets c) can (near_in c offset alias (call_bytes machine) (call_relocations machine) has end) small
+    reads = call_by machine image_base (c.position + offset) entry has.index (targets c) can (near_in machine c offset alias (call_bytes machine) (call_relocations machine) has end) small
         (alias_target (call_bytes machine) (call_relocations machine) has);
     located = located_in_memory written (image_of machine bases (placed_from bases objects)) (code_ranges machine image_base targets codes) bytes entry located;
   }
@@ -86,7 +86,7 @@ module _ (machine : MachineType) (image_base : ℕ) (bases : Bases) (objects : L
     here = instructions_there machine image_base bases objects codes targets beside c held offset alias (load_bytes machine) (load_relocations machine) has (load_within machine has.index) written covers;
     whole = length_within machine image_base (targets c) (c.position + offset) (load_relocations machine has.index) (load_bytes machine) (load_within machine has.index);
     entry = entry;
-    reads = load_by machine image_base (c.position + offset) entry has.index (targets c) can (near_in c offset alias (load_bytes machine) (load_relocations machine) has end) small
+    reads = load_by machine image_base (c.position + offset) entry has.index (targets c) can (near_in machine c offset alias (load_bytes machine) (load_relocations machine) has end) small
         (alias_target (load_bytes machine) (load_relocations machine) has);
     located = located_in_memory written (image_of machine bases (placed_from bases objects)) (code_ranges machine image_base targets codes) bytes entry located;
   }

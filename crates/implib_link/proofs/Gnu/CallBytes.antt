@@ -1,14 +1,16 @@
 -- Instructions in relocated code: relocations beside them leave them, their own act on them as on code of their own.
-use Rattle.std.proofs.Common.{◌≡◌, ℕ, ◌+◌, ◌-◌, ◌≤◌, ◌⊎◌, List, [], ◌∷◌, ◌++◌, length, map, take, drop, refl, ap, sym, ◌∙◌, subst, inl, inr, arith}
+use Rattle.std.proofs.Common.{◌≡◌, ℕ, ◌+◌, ◌-◌, ◌≤◌, ◌⊎◌, Bool, true, false, List, [], ◌∷◌, ◌++◌, length, map, take, drop, refl, ap, sym, ◌∙◌, subst, inl, inr, arith}
+use Rattle.std.specs.Prelude.{◌==◌, if◌then◌else◌}
 use Rattle.std.specs.List.{AllByRecursion}
 use Rattle.std.proofs.Math.Seq.{drop-append-add, take-append-add}
 use Rattle.std.proofs.lemmas.List.{append_assoc, drop-append-le, length-append, length-drop, length-take-le, take-append-le}
 use Rattle.implib.specs.declared.coff.object.Relocation.{Relocation}
 use Rattle.implib.specs.declared.machine.MachineType.{MachineType}
+use Rattle.implib.specs.declared.machine.MachineType.TheVariants.{I386, ARMNT, AMD64, ARM64}
 use Rattle.implib.specs.Formats.Bytes.{u32_bytes}
 use Rattle.implib.specs.Link.Load.{number_in}
 use Rattle.implib.proofs.Formats.Bytes.{length-u32_bytes}
-use Rattle.implib_link.specs.Gnu.Calls.{IsAside, code_relocated_by, moved_by, word_in_code}
+use Rattle.implib_link.specs.Gnu.Calls.{IsAside, amd64_addr64, arm64_addr64, code_relocated_by, field_width, moved_by, word_in_code}
 use Rattle.implib_link.specs.Stub.{with_word, word_at}
 
 -- bytes hold a window at an offset
@@ -36,7 +38,7 @@ length_word bytes k w within =
 
 -- A word beside a window, and in it.
 
-kept : (bytes : List ℕ) (offset : ℕ) (window : List ℕ) (k w : ℕ) → (k + 8 ≤ offset) ⊎ (offset + length window ≤ k) → Split bytes offset window → Split (with_word bytes k w) offset window
+kept : (bytes : List ℕ) (offset : ℕ) (window : List ℕ) (k w : ℕ) → (k + 4 ≤ offset) ⊎ (offset + length window ≤ k) → Split bytes offset window → Split (with_word bytes k w) offset window
 kept bytes offset window k w (inl before) split =
     let long : length split.front ≡ offset = split.long in
     record {
@@ -78,6 +80,22 @@ read bytes offset window k within split =
     ∙ ap (λ xs. number_in (take 4 xs)) (drop-append-le k window split.back (omega arith))
     ∙ ap number_in (take-append-le 4 (drop k window) split.back enough)
 
+choice_wide : (b : Bool) → 4 ≤ (if b then 8 else 4)
+choice_wide true = omega arith
+choice_wide false = omega arith
+
+-- a field has 4 bytes at least
+pub width_wide : (machine : MachineType) (type : ℕ) → 4 ≤ field_width machine type
+width_wide I386 type = omega arith
+width_wide ARMNT type = omega arith
+width_wide AMD64 type = choice_wide (type == amd64_addr64)
+width_wide ARM64 type = choice_wide (type == arm64_addr64)
+
+aside_four : (machine : MachineType) (offset count : ℕ) (r : Relocation) → IsAside machine offset count r → (r.offset + 4 ≤ offset) ⊎ (offset + count ≤ r.offset)
+aside_four machine offset count r aside =
+    let wide : 4 ≤ field_width machine r.kind = width_wide machine r.kind in
+    elim aside [ inl before ↦ inl (omega arith) | inr after ↦ inr after ]
+
 module _ (machine : MachineType) (image_base : ℕ) (targets : ℕ → ℕ) where
   pub code_appended : (position : ℕ) (xs ys : List Relocation) (bytes : List ℕ) →
       code_relocated_by machine image_base targets position (xs ++ ys) bytes
@@ -86,12 +104,12 @@ module _ (machine : MachineType) (image_base : ℕ) (targets : ℕ → ℕ) wher
   code_appended position (r ∷ xs) ys bytes =
       code_appended position xs ys (with_word bytes r.offset (word_in_code machine r.kind image_base (position + r.offset) (targets r.symbol) (word_at bytes r.offset)))
 
-  pub all_aside : (position : ℕ) (rs : List Relocation) (bytes : List ℕ) (offset : ℕ) (window : List ℕ) → AllByRecursion (IsAside offset (length window)) rs → Split bytes offset window →
+  pub all_aside : (position : ℕ) (rs : List Relocation) (bytes : List ℕ) (offset : ℕ) (window : List ℕ) → AllByRecursion (IsAside machine offset (length window)) rs → Split bytes offset window →
       Split (code_relocated_by machine image_base targets position rs bytes) offset window
   all_aside position [] bytes offset window aside split = split
   all_aside position (r ∷ rs) bytes offset window aside split =
       let word : ℕ = word_in_code machine r.kind image_base (position + r.offset) (targets r.symbol) (word_at bytes r.offset) in
-      all_aside position rs (with_word bytes r.offset word) offset window aside.1 (kept bytes offset window r.offset word aside.0 split)
+      all_aside position rs (with_word bytes r.offset word) offset window aside.1 (kept bytes offset window r.offset word (aside_four machine offset (length window) r aside.0) split)
 
   pub all_within : (position : ℕ) (rs : List Relocation) (bytes : List ℕ) (offset : ℕ) (window : List ℕ) → AllByRecursion (λ r. r.offset + 4 ≤ length window) rs → Split bytes offset window →
       Split (code_relocated_by machine image_base targets position (map (moved_by offset) rs) bytes) offset (code_relocated_by machine image_base targets (position + offset) rs window)

@@ -33,7 +33,7 @@ use Rattle.implib_link.proofs.Search.Lists.{among_at, contains_among}
 
 module _ (machine : MachineType) (image_base : ℕ) (bases : Bases) (objects : List Object) (codes : List PlacedCode) (targets : PlacedCode → ℕ → ℕ)
     (beside : AreBeside machine image_base bases objects codes targets) (c : PlacedCode) (held : Contains codes c) (offset : ℕ) (name bytes : List ℕ) (relocations : ℕ → List Relocation)
-    (has : HasInstructions c offset name bytes relocations) where
+    (has : HasInstructions machine c offset name bytes relocations) where
   -- the symbol has the address of its only definition
   pub instructions_target : (entry : ℕ) → definitions_of name (placed_from bases objects) ≡ record { name = name; address = Some entry } ∷ [] → targets c has.index ≡ entry
   instructions_target entry once =
@@ -53,7 +53,7 @@ module _ (machine : MachineType) (image_base : ℕ) (bases : Bases) (objects : L
       let second = all_within machine image_base (targets c) c.position (relocations has.index) first offset bytes within
       (all_aside machine image_base (targets c) c.position has.before c.code.bytes offset bytes has.aside_before start) in
       let third = all_aside machine image_base (targets c) c.position has.behind (code_relocated_by machine image_base (targets c) c.position (map (moved_by offset) (relocations has.index)) first) offset window
-      (subst (λ n. AllByRecursion (IsAside offset n) has.behind) (sym long) has.aside_behind) second in
+      (subst (λ n. AllByRecursion (IsAside machine offset n) has.behind) (sym long) has.aside_behind) second in
       let whole : (code_range machine image_base targets c).bytes
       ≡ code_relocated_by machine image_base (targets c) c.position has.behind (code_relocated_by machine image_base (targets c) c.position (map (moved_by offset) (relocations has.index)) first) =
       ap (λ rs. code_relocated_by machine image_base (targets c) c.position rs c.code.bytes) has.relocated

@@ -16,9 +16,9 @@ use Rattle.implib.specs.Link.Placement.{Bases, Placed, placed_from}
 use Rattle.implib.specs.Link.Resolution.{is_undefined_external, symbol_address}
 use Rattle.implib.proofs.Link.LinkedMembers.{among_contains, among_map}
 use Rattle.implib.proofs.Link.Ranges.{Among, all_among, among_back, among_front, is_in_from, range_located}
-use Rattle.implib_link.specs.Gnu.Calls.{AreBeside, Defines, PlacedCode, Resolves, code_range, code_ranges}
+use Rattle.implib_link.specs.Gnu.Calls.{AreBeside, Defines, PlacedCode, Resolves, amd64_addr64, arm64_addr64, code_range, code_ranges}
 use Rattle.implib_link.specs.Gnu.Choices.{AreSections, ArePlacesApart, CanBeRebased, DefineOnce, plain_range}
-use Rattle.implib_link.specs.Gnu.Rebased.{CanMove, IsAtBase, IsRebased, Place, absolute_width, amd64_addr32, amd64_addr64, arm64_addr32, arm64_addr64, base_relocations, code_places, covers, moved_number, places_at, table_places}
+use Rattle.implib_link.specs.Gnu.Rebased.{CanMove, IsAtBase, IsRebased, Place, absolute_width, amd64_addr32, arm64_addr32, base_relocations, code_places, covers, moved_number, places_at, table_places}
 use Rattle.implib_link.proofs.Gnu.CallBytes.{length_within}
 use Rattle.implib_link.proofs.Gnu.Keeps.{Keeps, bytes_kept}
 use Rattle.implib_link.proofs.Gnu.Loaded.{kept_outside}
@@ -131,19 +131,19 @@ defined_found name (c ∷ codes) d t (inr m) defines named =
 
 -- The choice: what the tables say, or where code defines the name.
 
-abbrev by_name : List PlacedCode → Entry → ℕ
+abbrev pub by_name : List PlacedCode → Entry → ℕ
 by_name codes (Auxiliary bytes) = 0
 by_name codes (ASymbol s) = first_or_zero (found s.name codes)
 
-abbrev in_tables_or : Option ℕ → ℕ → ℕ
+abbrev pub in_tables_or : Option ℕ → ℕ → ℕ
 in_tables_or None other = other
 in_tables_or (Some address) other = address
 
-abbrev of_entry : List Placed → List PlacedCode → PlacedCode → Option Entry → ℕ
+abbrev pub of_entry : List Placed → List PlacedCode → PlacedCode → Option Entry → ℕ
 of_entry linked codes c None = 0
 of_entry linked codes c (Some entry) = in_tables_or (symbol_address linked c.from entry) (by_name codes entry)
 
-abbrev choice : List Placed → List PlacedCode → PlacedCode → ℕ → ℕ
+abbrev pub choice : List Placed → List PlacedCode → PlacedCode → ℕ → ℕ
 choice linked codes c index = of_entry linked codes c (slice_get c.from.object.entries index)
 
 chosen_by : (linked : List Placed) (codes : List PlacedCode) (once : DefineOnce linked codes) (c d : PlacedCode) (s t : ObjectSymbol) → Contains codes c → Contains codes d →
@@ -156,7 +156,7 @@ chosen_by linked codes once c d s t c_held d_held m undefined defines named None
     let one = found_defined s.name codes (first_or_zero (found s.name codes)) (first_among (d.position + t.value) (found s.name codes) there) in
     one.is ∙ once.once one.code d one.symbol t (among_contains one.code codes one.among) d_held one.defines defines (one.named ∙ sym named)
 
-choice_resolves : (linked : List Placed) (codes : List PlacedCode) → DefineOnce linked codes → Resolves linked codes (choice linked codes)
+pub choice_resolves : (linked : List Placed) (codes : List PlacedCode) → DefineOnce linked codes → Resolves linked codes (choice linked codes)
 choice_resolves linked codes once = record {
   tables = λ c index address entry held at is. rw (at, is) refl;
   code = λ c d index s t c_held d_held at undefined defines named.
@@ -166,23 +166,23 @@ choice_resolves linked codes once = record {
 
 -- Code is as long as before it was relocated.
 
-is_in_same : (a : ℕ) (r s : Range) → r.start ≡ s.start → length r.bytes ≡ length s.bytes → is_in a r ≡ true → is_in a s ≡ true
+pub is_in_same : (a : ℕ) (r s : Range) → r.start ≡ s.start → length r.bytes ≡ length s.bytes → is_in a r ≡ true → is_in a s ≡ true
 is_in_same a r s start long within =
     let parts = and_parts (nat_le r.start a) (nat_lt a (range_end r)) within in
     let end : range_end r ≡ range_end s = ap (λ n. n + length r.bytes) start ∙ ap (λ n. s.start + n) long in
     and_from (nat_le s.start a) (nat_lt a (range_end s)) (subst (λ n. nat_le n a ≡ true) start parts.0) (subst (λ n. nat_lt a n ≡ true) end parts.1)
 
 -- ranges of the same addresses
-abbrev AlikeFor : (PlacedCode → Range) → (PlacedCode → Range) → PlacedCode → Type 0
+abbrev pub AlikeFor : {X : Type 0} → (X → Range) → (X → Range) → X → Type 0
 AlikeFor f g c = (a : ℕ) → is_in a (g c) ≡ true → is_in a (f c) ≡ true
 
-apart_from_all : (f g : PlacedCode → Range) (x y : Range) → ((a : ℕ) → is_in a y ≡ true → is_in a x ≡ true) → (codes : List PlacedCode) → AllByRecursion (AlikeFor f g) codes →
+apart_from_all : {X : Type 0} (f g : X → Range) (x y : Range) → ((a : ℕ) → is_in a y ≡ true → is_in a x ≡ true) → (codes : List X) → AllByRecursion (AlikeFor f g) codes →
     AllByRecursion (AreApart x) (map f codes) → AllByRecursion (AreApart y) (map g codes)
 apart_from_all f g x y within [] alike apart = tt
 apart_from_all f g x y within (c ∷ codes) alike apart =
     (λ a first second. apart.0 a (within a first) (alike.0 a second), apart_from_all f g x y within codes alike.1 apart.1)
 
-codes_apart : (f g : PlacedCode → Range) (codes : List PlacedCode) → AllByRecursion (AlikeFor f g) codes → AllApart (map f codes) → AllApart (map g codes)
+codes_apart : {X : Type 0} (f g : X → Range) (codes : List X) → AllByRecursion (AlikeFor f g) codes → AllApart (map f codes) → AllApart (map g codes)
 codes_apart f g [] alike apart = tt
 codes_apart f g (c ∷ codes) alike apart = (apart_from_all f g (f c) (g c) alike.0 codes alike.1 apart.0, codes_apart f g codes alike.1 apart.1)
 
@@ -194,7 +194,7 @@ all_joined : (P : Range → Type 0) (xs ys : List Range) → AllByRecursion P xs
 all_joined P [] ys first second = second
 all_joined P (x ∷ xs) ys first second = (first.0, all_joined P xs ys first.1 second)
 
-memory_apart : (f g : PlacedCode → Range) (codes : List PlacedCode) → AllByRecursion (AlikeFor f g) codes → (image : List Range) → AllApart (image ++ map f codes) → AllApart (image ++ map g codes)
+pub memory_apart : {X : Type 0} (f g : X → Range) (codes : List X) → AllByRecursion (AlikeFor f g) codes → (image : List Range) → AllApart (image ++ map f codes) → AllApart (image ++ map g codes)
 memory_apart f g codes alike [] apart = codes_apart f g codes alike apart
 memory_apart f g codes alike (r ∷ image) apart =
     let parts = all_split (AreApart r) image (map f codes) apart.0 in
@@ -341,7 +341,7 @@ four_or_eight ARM64 type width is =
     choice_width (type == arm64_addr64) 8 width (if type == arm64_addr32 then Some 4 else None) is (inr refl)
     (λ later. choice_width (type == arm64_addr32) 4 width None later (inl refl) (none_width width))
 
-places_widths : (machine : MachineType) (position : ℕ) (rs : List Relocation) → AllByRecursion (λ (p : Place). (p.width ≡ 4) ⊎ (p.width ≡ 8)) (places_at machine position rs)
+pub places_widths : (machine : MachineType) (position : ℕ) (rs : List Relocation) → AllByRecursion (λ (p : Place). (p.width ≡ 4) ⊎ (p.width ≡ 8)) (places_at machine position rs)
 places_widths machine position [] = tt
 places_widths machine position (r ∷ rs) =
     elim (absolute_width machine r.kind) as (λ o. absolute_width machine r.kind ≡ o → AllByRecursion (λ (p : Place). (p.width ≡ 4) ⊎ (p.width ≡ 8)) (places_at machine position (r ∷ rs))) [
@@ -353,10 +353,10 @@ places_joined : (P : Place → Type 0) (xs ys : List Place) → AllByRecursion P
 places_joined P [] ys first second = second
 places_joined P (x ∷ xs) ys first second = (first.0, places_joined P xs ys first.1 second)
 
-all_widths : (machine : MachineType) (codes : List PlacedCode) → AllByRecursion (λ (p : Place). (p.width ≡ 4) ⊎ (p.width ≡ 8)) (flat_map (code_places machine) codes)
-all_widths machine [] = tt
-all_widths machine (c ∷ codes) =
-    places_joined (λ (p : Place). (p.width ≡ 4) ⊎ (p.width ≡ 8)) (code_places machine c) (flat_map (code_places machine) codes) (places_widths machine c.position c.code.relocations) (all_widths machine codes)
+pub all_widths : {X : Type 0} (places : X → List Place) → ((x : X) → AllByRecursion (λ (p : Place). (p.width ≡ 4) ⊎ (p.width ≡ 8)) (places x)) → (codes : List X) →
+    AllByRecursion (λ (p : Place). (p.width ≡ 4) ⊎ (p.width ≡ 8)) (flat_map places codes)
+all_widths places each [] = tt
+all_widths places each (c ∷ codes) = places_joined (λ (p : Place). (p.width ≡ 4) ⊎ (p.width ≡ 8)) (places c) (flat_map places codes) (each c) (all_widths places each codes)
 
 apart_joined : (xs ys : List Place) → ArePlacesApart xs → ArePlacesApart ys → AllByRecursion (λ (p : Place). AllByRecursion (λ (q : Place). (a : ℕ) → covers a p ≡ true → covers a q ≡ true → ⊥) ys) xs → ArePlacesApart (xs ++ ys)
 apart_joined [] ys first second cross = second
@@ -364,10 +364,10 @@ apart_joined (x ∷ xs) ys first second cross =
     (places_joined (λ (q : Place). (a : ℕ) → covers a x ≡ true → covers a q ≡ true → ⊥) xs ys first.0 cross.0, apart_joined xs ys first.1 second cross.1)
 
 -- a place of code is in the code's range
-record PlaceIn (r : Range) (p : Place) : Type 0 where
-  in_range : (a : ℕ) → covers a p ≡ true → is_in a r ≡ true
+pub record PlaceIn (r : Range) (p : Place) : Type 0 where
+  pub in_range : (a : ℕ) → covers a p ≡ true → is_in a r ≡ true
 
-places_in : (r : Range) (ps : List Place) → AllByRecursion (λ (p : Place). r.start ≤ p.address) ps → AllByRecursion (λ (p : Place). p.address + p.width ≤ range_end r) ps → AllByRecursion (PlaceIn r) ps
+pub places_in : (r : Range) (ps : List Place) → AllByRecursion (λ (p : Place). r.start ≤ p.address) ps → AllByRecursion (λ (p : Place). p.address + p.width ≤ range_end r) ps → AllByRecursion (PlaceIn r) ps
 places_in r [] above below = tt
 places_in r (p ∷ ps) above below = (
   record {
@@ -402,6 +402,20 @@ none_crossed : (ps : List Place) → AllByRecursion (λ (p : Place). AllByRecurs
 none_crossed [] = tt
 none_crossed (p ∷ ps) = (tt, none_crossed ps)
 
+-- Places of codes whose ranges are apart.
+module _ {X : Type 0} (range : X → Range) (places : X → List Place) where
+  cross_codes : (c : X) (codes : List X) → AllByRecursion (PlaceIn (range c)) (places c) → AllByRecursion (λ d. AllByRecursion (PlaceIn (range d)) (places d)) codes → AllByRecursion (AreApart (range c)) (map range codes) →
+      AllByRecursion (λ (p : Place). AllByRecursion (λ (q : Place). (a : ℕ) → covers a p ≡ true → covers a q ≡ true → ⊥) (flat_map places codes)) (places c)
+  cross_codes c [] own within apart = none_crossed (places c)
+  cross_codes c (d ∷ codes) own within apart =
+      cross_join (places c) (places d) (flat_map places codes) (cross_all (range c) (range d) apart.0 (places c) (places d) own within.0) (cross_codes c codes own within.1 apart.1)
+
+  pub places_apart : (codes : List X) → AllByRecursion (λ d. AllByRecursion (PlaceIn (range d)) (places d)) codes → AllByRecursion (λ d. ArePlacesApart (places d)) codes → AllApart (map range codes) →
+      ArePlacesApart (flat_map places codes)
+  places_apart [] within own apart = tt
+  places_apart (c ∷ codes) within own apart =
+      apart_joined (places c) (flat_map places codes) own.0 (places_apart codes within.1 own.1 apart.1) (cross_codes c codes within.0 within.1 apart.0)
+
 module _ (machine : MachineType) (image_base : ℕ) (targets : PlacedCode → ℕ → ℕ) where
   below_end : (c : PlacedCode) (ps : List Place) → AllByRecursion (λ (p : Place). p.address + p.width ≤ c.position + length c.code.bytes) ps →
       AllByRecursion (λ (p : Place). p.address + p.width ≤ range_end (code_range machine image_base targets c)) ps
@@ -416,21 +430,10 @@ module _ (machine : MachineType) (image_base : ℕ) (targets : PlacedCode → �
   in_code c within =
       places_in (code_range machine image_base targets c) (code_places machine c) (places_from machine c.position c.code.relocations) (below_end c (code_places machine c) within)
 
-  cross_codes : (c : PlacedCode) (codes : List PlacedCode) → AllByRecursion (λ (p : Place). p.address + p.width ≤ c.position + length c.code.bytes) (code_places machine c) →
-      AllByRecursion (λ (d : PlacedCode). AllByRecursion (λ (p : Place). p.address + p.width ≤ d.position + length d.code.bytes) (code_places machine d)) codes →
-      AllByRecursion (AreApart (code_range machine image_base targets c)) (code_ranges machine image_base targets codes) →
-      AllByRecursion (λ (p : Place). AllByRecursion (λ (q : Place). (a : ℕ) → covers a p ≡ true → covers a q ≡ true → ⊥) (flat_map (code_places machine) codes)) (code_places machine c)
-  cross_codes c [] own within apart = none_crossed (code_places machine c)
-  cross_codes c (d ∷ codes) own within apart =
-      cross_join (code_places machine c) (code_places machine d) (flat_map (code_places machine) codes)
-      (cross_all (code_range machine image_base targets c) (code_range machine image_base targets d) apart.0 (code_places machine c) (code_places machine d) (in_code c own) (in_code d within.0))
-      (cross_codes c codes own within.1 apart.1)
-
-  places_apart : (codes : List PlacedCode) → AllByRecursion (λ (d : PlacedCode). AllByRecursion (λ (p : Place). p.address + p.width ≤ d.position + length d.code.bytes) (code_places machine d)) codes →
-      AllByRecursion (λ (d : PlacedCode). ArePlacesApart (code_places machine d)) codes → AllApart (code_ranges machine image_base targets codes) → ArePlacesApart (flat_map (code_places machine) codes)
-  places_apart [] within own apart = tt
-  places_apart (c ∷ codes) within own apart =
-      apart_joined (code_places machine c) (flat_map (code_places machine) codes) own.0 (places_apart codes within.1 own.1 apart.1) (cross_codes c codes within.0 within.1 apart.0)
+  all_in_code : (codes : List PlacedCode) → AllByRecursion (λ (d : PlacedCode). AllByRecursion (λ (p : Place). p.address + p.width ≤ d.position + length d.code.bytes) (code_places machine d)) codes →
+      AllByRecursion (λ (d : PlacedCode). AllByRecursion (PlaceIn (code_range machine image_base targets d)) (code_places machine d)) codes
+  all_in_code [] within = tt
+  all_in_code (c ∷ codes) within = (in_code c within.0, all_in_code codes within.1)
 
 -- So there is memory at another base, where the import tables have no base relocation.
 pub memory_exists : (machine : MachineType) (from to : ℕ) (bases : Bases) (objects : List Object) (codes : List PlacedCode) (targets : PlacedCode → ℕ → ℕ) → table_places machine (placed_from bases objects) ≡ [] →
@@ -441,7 +444,7 @@ memory_exists machine from to bases objects codes targets none beside rebases ca
     let places : List Place = flat_map (code_places machine) codes in
     let are : base_relocations machine (placed_from bases objects) codes ≡ places = ap (λ ps. ps ++ places) none in
     let rebased = can_rebase from to (image ++ ranges) places
-    (places_apart machine from targets codes rebases.within rebases.apart (apart_back image ranges beside.apart)) (all_widths machine codes) in (
+    (places_apart (code_range machine from targets) (code_places machine) codes (all_in_code machine from targets codes rebases.within) rebases.apart (apart_back image ranges beside.apart)) (all_widths (code_places machine) (λ c. places_widths machine c.position c.code.relocations) codes) in (
       rebased.0,
       record {
         beside = beside;

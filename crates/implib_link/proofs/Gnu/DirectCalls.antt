@@ -71,9 +71,9 @@ branch_word image_base position target index targets is =
     let sum : targets index + (2 ^ 28 - (position + 0) % 2 ^ 28) ≡ target + (2 ^ 28 - position % 2 ^ 28) = omega arith in
     ap u32_bytes (branch_bits ((targets index + (2 ^ 28 - (position + 0) % 2 ^ 28)) / 4) ∙ ap (λ n. 0x9400_0000 + n / 4 % 2 ^ 26) sum)
 
-branch_leads : (address position target : ℕ) → position % 4 ≡ 0 → target % 4 ≡ 0 → position ≤ target + 2 ^ 27 → target < position + 2 ^ 27 → (n : ℕ) → n ≡ (target + (2 ^ 28 - position % 2 ^ 28)) / 4 % 2 ^ 26 →
+pub words_lead : (address position target : ℕ) → position % 4 ≡ 0 → target % 4 ≡ 0 → position ≤ target + 2 ^ 27 → target < position + 2 ^ 27 → (n : ℕ) → n ≡ (target + (2 ^ 28 - position % 2 ^ 28)) / 4 % 2 ^ 26 →
     plus_signed 26 4 n (address + position) ≡ address + target
-branch_leads address position target first second far near n is =
+words_lead address position target first second far near n is =
     elim (cases_Bool (nat_lt n (2 ^ 25))) [
       | inl below ↦ let low = ltb-true n (2 ^ 25) below in rw below (omega arith)
       | inr above ↦ let high = ltb-false n (2 ^ 25) above in rw above (omega arith)
@@ -91,7 +91,7 @@ leads_by ARM64 image_base position target index targets can near small is =
     let n : ℕ = (target + (2 ^ 28 - position % 2 ^ 28)) / 4 % 2 ^ 26 in
     ap (direct_leads ARM64 (image_base + position)) (branch_word image_base position target index targets is)
     ∙ branch_read (image_base + position) n (omega arith)
-    ∙ ap Some (branch_leads image_base position target can.0 can.1 can.2 can.3 n refl)
+    ∙ ap Some (words_lead image_base position target can.0 can.1 can.2 can.3 n refl)
 
 pub direct_within : (machine : MachineType) (index : ℕ) → AllByRecursion (λ (r : Relocation). r.offset + 4 ≤ length (direct_bytes machine)) (direct_relocations machine index)
 direct_within I386 index = (omega arith, tt)

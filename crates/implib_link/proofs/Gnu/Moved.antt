@@ -18,8 +18,8 @@ use Rattle.implib.specs.Link.Placement.{Bases, placed_from}
 use Rattle.implib.proofs.Formats.Bytes.{length-u32_bytes}
 use Rattle.implib.proofs.Link.LinkedMembers.{among_contains, among_map}
 use Rattle.implib.proofs.Link.Ranges.{Among, all_among, among_back, among_flat, is_in_from}
-use Rattle.implib_link.specs.Gnu.Calls.{IsAside, PlacedCode, code_range, code_ranges, code_relocated_by, word_in_code}
-use Rattle.implib_link.specs.Gnu.Rebased.{IsAtBase, Place, absolute_width, amd64_addr32, amd64_addr64, arm64_addr32, arm64_addr64, base_relocations, code_places, covers, moved_number, place_of, places_at, table_places}
+use Rattle.implib_link.specs.Gnu.Calls.{IsAside, PlacedCode, amd64_addr64, arm64_addr64, field_width, code_range, code_ranges, code_relocated_by, word_in_code}
+use Rattle.implib_link.specs.Gnu.Rebased.{IsAtBase, Place, absolute_width, amd64_addr32, arm64_addr32, base_relocations, code_places, covers, moved_number, place_of, places_at, table_places}
 use Rattle.implib_link.specs.Stub.{with_word, word_at}
 use Rattle.implib_link.proofs.Gnu.Keeps.{Keeps}
 use Rattle.implib_link.proofs.Gnu.Loaded.{kept_outside}
@@ -40,7 +40,7 @@ covered_bounds a p covered =
     let parts = and_parts (nat_le p.address a) (nat_lt a (p.address + p.width)) covered in
     (leb-true p.address a parts.0, ltb-true a (p.address + p.width) parts.1)
 
-covering : (a low high : ℕ) (ps : List Place) → AllByRecursion (λ (p : Place). low ≤ p.address) ps → AllByRecursion (λ (p : Place). p.address + p.width ≤ high) ps → list_any (covers a) ps ≡ true →
+pub covering : (a low high : ℕ) (ps : List Place) → AllByRecursion (λ (p : Place). low ≤ p.address) ps → AllByRecursion (λ (p : Place). p.address + p.width ≤ high) ps → list_any (covers a) ps ≡ true →
     (low ≤ a) × (a < high)
 covering a low high [] from below covered = cc
 covering a low high (p ∷ ps) from below covered =
@@ -70,33 +70,34 @@ grows machine image_base targets position (r ∷ rs) bytes =
 
 -- Which places cover an address.
 
-none_covers : (machine : MachineType) (a : ℕ) (xs : List PlacedCode) → ((d : PlacedCode) → Among d xs → list_any (covers a) (code_places machine d) ≡ false) →
-    list_any (covers a) (flat_map (code_places machine) xs) ≡ false
+pub none_covers : {X : Type 0} (f : X → List Place) (a : ℕ) (xs : List X) → ((d : X) → Among d xs → list_any (covers a) (f d) ≡ false) → list_any (covers a) (flat_map f xs) ≡ false
 unfolding Among
-none_covers machine a [] each = refl
-none_covers machine a (d ∷ xs) each =
-    list_any-append (covers a) (code_places machine d) (flat_map (code_places machine) xs)
-    ∙ rw (each d (inl refl), none_covers machine a xs (λ x m. each x (inr m))) refl
+none_covers f a [] each = refl
+none_covers f a (d ∷ xs) each =
+    list_any-append (covers a) (f d) (flat_map f xs)
+    ∙ rw (each d (inl refl), none_covers f a xs (λ x m. each x (inr m))) refl
 
-choice_narrow : (b : Bool) (w width : ℕ) (o : Option ℕ) → (if b then Some w else o) ≡ Some width → w ≤ 8 → (o ≡ Some width → width ≤ 8) → width ≤ 8
-choice_narrow true w width o is small other = let same : w ≡ width = cc in omega arith
-choice_narrow false w width o is small other = other is
+none_narrow : (width most : ℕ) → None ≡ Some width → width ≤ most
+none_narrow width most is = cc
 
-none_narrow : (width : ℕ) → None ≡ Some width → width ≤ 8
-none_narrow width is = cc
+choice_narrow : (b whole : Bool) (width : ℕ) → (if b then Some 8 else if whole then Some 4 else None) ≡ Some width → width ≤ (if b then 8 else 4)
+choice_narrow true whole width is = let same : 8 ≡ width = cc in omega arith
+choice_narrow false true width is = let same : 4 ≡ width = cc in omega arith
+choice_narrow false false width is = none_narrow width 4 is
 
-narrow : (machine : MachineType) (type width : ℕ) → absolute_width machine type ≡ Some width → width ≤ 8
-narrow I386 type width is = choice_narrow (type == i386_dir32) 4 width None is (omega arith) (none_narrow width)
-narrow ARMNT type width is = none_narrow width is
-narrow AMD64 type width is =
-    choice_narrow (type == amd64_addr64) 8 width (if type == amd64_addr32 then Some 4 else None) is (omega arith)
-    (λ later. choice_narrow (type == amd64_addr32) 4 width None later (omega arith) (none_narrow width))
-narrow ARM64 type width is =
-    choice_narrow (type == arm64_addr64) 8 width (if type == arm64_addr32 then Some 4 else None) is (omega arith)
-    (λ later. choice_narrow (type == arm64_addr32) 4 width None later (omega arith) (none_narrow width))
+i386_narrow : (b : Bool) (width : ℕ) → (if b then Some 4 else None) ≡ Some width → width ≤ 4
+i386_narrow true width is = let same : 4 ≡ width = cc in omega arith
+i386_narrow false width is = none_narrow width 4 is
+
+-- what a base relocation changes is in the field
+pub narrow : (machine : MachineType) (type width : ℕ) → absolute_width machine type ≡ Some width → width ≤ field_width machine type
+narrow I386 type width is = i386_narrow (type == i386_dir32) width is
+narrow ARMNT type width is = none_narrow width 8 is
+narrow AMD64 type width is = choice_narrow (type == amd64_addr64) (type == amd64_addr32) width is
+narrow ARM64 type width is = choice_narrow (type == arm64_addr64) (type == arm64_addr32) width is
 
 -- relocations aside cover nothing of a window
-aside_clear : (machine : MachineType) (position offset count a : ℕ) (rs : List Relocation) → AllByRecursion (IsAside offset count) rs → position + offset ≤ a → a < position + offset + count →
+aside_clear : (machine : MachineType) (position offset count a : ℕ) (rs : List Relocation) → AllByRecursion (IsAside machine offset count) rs → position + offset ≤ a → a < position + offset + count →
     list_any (covers a) (places_at machine position rs) ≡ false
 aside_clear machine position offset count a [] aside from below = refl
 aside_clear machine position offset count a (r ∷ rs) aside from below =
@@ -104,8 +105,8 @@ aside_clear machine position offset count a (r ∷ rs) aside from below =
     elim (absolute_width machine r.kind) as (λ o. absolute_width machine r.kind ≡ o → list_any (covers a) (places_at machine position (r ∷ rs)) ≡ false) [
       | None ↦ λ is. rw is rest
       | Some width ↦ λ is.
-          let small : width ≤ 8 = narrow machine r.kind width is in
-          let beside : (r.offset + 8 ≤ offset) ⊎ (offset + count ≤ r.offset) = aside.0 in
+          let small : width ≤ field_width machine r.kind = narrow machine r.kind width is in
+          let beside : (r.offset + field_width machine r.kind ≤ offset) ⊎ (offset + count ≤ r.offset) = aside.0 in
           let clear : covers a (record { address = position + r.offset; width = width }) ≡ false =
           false_from_ne_true (covers a (record { address = position + r.offset; width = width })) (λ covered.
           let bounds = covered_bounds a (record { address = position + r.offset; width = width }) covered in
@@ -116,14 +117,14 @@ aside_clear machine position offset count a (r ∷ rs) aside from below =
     ] refl
 
 -- Which relocations of code are about a window of its bytes: these, and no other is at it.
-pub record Window (c : PlacedCode) (offset count : ℕ) (own : List Relocation) : Type 0 where
+pub record Window (machine : MachineType) (c : PlacedCode) (offset count : ℕ) (own : List Relocation) : Type 0 where
   pub before : List Relocation
   pub behind : List Relocation
   pub relocated : c.code.relocations ≡ before ++ (own ++ behind)
-  pub aside_before : AllByRecursion (IsAside offset count) before
-  pub aside_behind : AllByRecursion (IsAside offset count) behind
+  pub aside_before : AllByRecursion (IsAside machine offset count) before
+  pub aside_behind : AllByRecursion (IsAside machine offset count) behind
 
-pub window_clear : (machine : MachineType) (c : PlacedCode) (offset count a : ℕ) (own : List Relocation) → (w : Window c offset count own) → c.position + offset ≤ a → a < c.position + offset + count →
+pub window_clear : (machine : MachineType) (c : PlacedCode) (offset count a : ℕ) (own : List Relocation) → (w : Window machine c offset count own) → c.position + offset ≤ a → a < c.position + offset + count →
     list_any (covers a) (places_at machine c.position own) ≡ false → list_any (covers a) (code_places machine c) ≡ false
 window_clear machine c offset count a own w from below clear =
     let places : List Relocation → List Place = λ rs. places_at machine c.position rs in
@@ -137,7 +138,7 @@ window_clear machine c offset count a own w from below clear =
     ∙ aside_clear machine c.position offset count a w.behind w.aside_behind from below
 
 -- a relocation that stores an address whole has its place
-among_place : (machine : MachineType) (position : ℕ) (r : Relocation) (width : ℕ) (rs : List Relocation) → absolute_width machine r.kind ≡ Some width → Among r rs →
+pub among_place : (machine : MachineType) (position : ℕ) (r : Relocation) (width : ℕ) (rs : List Relocation) → absolute_width machine r.kind ≡ Some width → Among r rs →
     Among (record { address = position + r.offset; width = width }) (places_at machine position rs)
 unfolding Among
 among_place machine position r width [] is m = absurd m
@@ -156,14 +157,14 @@ pub apart_back : (xs ys : List Range) → AllApart (xs ++ ys) → AllApart ys
 apart_back [] ys apart = apart
 apart_back (x ∷ xs) ys apart = apart_back xs ys apart.1
 
-one_code : (f : PlacedCode → Range) (a : ℕ) (c d : PlacedCode) (xs : List PlacedCode) → AllApart (map f xs) → Among c xs → Among d xs → is_in a (f c) ≡ true → is_in a (f d) ≡ true → c ≡ d
+pub one_code : {X : Type 0} (f : X → Range) (a : ℕ) (c d : X) (xs : List X) → AllApart (map f xs) → Among c xs → Among d xs → is_in a (f c) ≡ true → is_in a (f d) ≡ true → c ≡ d
 unfolding Among
 one_code f a c d [] apart m n first second = absurd m
 one_code f a c d (x ∷ xs) apart (inl same) (inl other) first second = same ∙ sym other
 one_code f a c d (x ∷ xs) apart (inl same) (inr n) first second =
-    absurd (all_among (AreApart (f x)) (f d) (map f xs) (among_map f d xs n) apart.0 a (subst (λ (y : PlacedCode). is_in a (f y) ≡ true) same first) second)
+    absurd (all_among (AreApart (f x)) (f d) (map f xs) (among_map f d xs n) apart.0 a (subst (λ y. is_in a (f y) ≡ true) same first) second)
 one_code f a c d (x ∷ xs) apart (inr m) (inl other) first second =
-    absurd (all_among (AreApart (f x)) (f c) (map f xs) (among_map f c xs m) apart.0 a (subst (λ (y : PlacedCode). is_in a (f y) ≡ true) other second) first)
+    absurd (all_among (AreApart (f x)) (f c) (map f xs) (among_map f c xs m) apart.0 a (subst (λ y. is_in a (f y) ≡ true) other second) first)
 one_code f a c d (x ∷ xs) apart (inr m) (inr n) first second = one_code f a c d xs apart.1 m n first second
 
 module _ (machine : MachineType) (from to : ℕ) (bases : Bases) (objects : List Object) (codes : List PlacedCode) (targets : PlacedCode → ℕ → ℕ) (memory : List Range)
@@ -186,7 +187,7 @@ module _ (machine : MachineType) (from to : ℕ) (bases : Bases) (objects : List
   uncovered : (a : ℕ) → ((d : PlacedCode) → Among d codes → is_in a (code_range machine from targets d) ≡ true → list_any (covers a) (code_places machine d) ≡ false) →
       list_any (covers a) (base_relocations machine (placed_from bases objects) codes) ≡ false
   uncovered a each =
-      rw none (none_covers machine a codes (λ d m.
+      rw none (none_covers (code_places machine) a codes (λ d m.
       false_from_ne_true (list_any (covers a) (code_places machine d)) (λ covered.
       true≢false (sym covered ∙ each d m (range_covers a d m covered)))))
 

@@ -120,7 +120,7 @@ can_jump ARM64 from to bases can = can.0
 module _ (machine : MachineType) (from to : ℕ) (bases : Bases) (objects : List Object) (codes : List PlacedCode) (targets : PlacedCode → ℕ → ℕ) (memory : List Range)
     (at : IsAtBase machine from to bases objects codes targets memory) (none : table_places machine (placed_from bases objects) ≡ []) (c : PlacedCode) (m : Among c codes) where
   -- instructions without a base relocation stay as they are
-  pub window_kept : (offset : ℕ) (bytes : List ℕ) (own : List Relocation) → Window c offset (length bytes) own → places_at machine c.position own ≡ [] →
+  pub window_kept : (offset : ℕ) (bytes : List ℕ) (own : List Relocation) → Window machine c offset (length bytes) own → places_at machine c.position own ≡ [] →
       c.position + offset + length bytes ≤ range_end (code_range machine from targets c) →
       BytesAt (image_of machine bases (placed_from bases objects) ++ code_ranges machine from targets codes) (c.position + offset) bytes → BytesAt memory (c.position + offset) bytes
   window_kept offset bytes own w own_none end located =
@@ -147,7 +147,7 @@ record FieldMoved (memory : List Range) (address from to number : ℕ) (first se
 
 i386_window : (from to : ℕ) (bases : Bases) (objects : List Object) (codes : List PlacedCode) (targets : PlacedCode → ℕ → ℕ) (memory : List Range)
     (at : IsAtBase I386 from to bases objects codes targets memory) (none : table_places I386 (placed_from bases objects) ≡ []) (c : PlacedCode) (m : Among c codes)
-    (offset first second number index : ℕ) (tail : List ℕ) → Window c offset (6 + length tail) (record { offset = offset + 2; symbol = index; kind = i386_dir32 } ∷ []) →
+    (offset first second number index : ℕ) (tail : List ℕ) → Window I386 c offset (6 + length tail) (record { offset = offset + 2; symbol = index; kind = i386_dir32 } ∷ []) →
     c.position + offset + (6 + length tail) ≤ range_end (code_range I386 from targets c) →
     BytesAt (image_of I386 bases (placed_from bases objects) ++ code_ranges I386 from targets codes) (c.position + offset) (first ∷ second ∷ (u32_bytes number ++ tail)) →
     FieldMoved memory (c.position + offset) from to number first second tail
@@ -180,9 +180,9 @@ i386_window from to bases objects codes targets memory at none c m offset first 
 -- Calls.
 
 -- the relocations of a call's code, as those about a window
-pub call_window : (c : PlacedCode) (offset : ℕ) (name bytes : List ℕ) (relocations : ℕ → List Relocation) → (has : HasInstructions c offset name bytes relocations) →
-    Window c offset (length bytes) (map (moved_by offset) (relocations has.index))
-call_window c offset name bytes relocations has = record {
+pub call_window : (machine : MachineType) (c : PlacedCode) (offset : ℕ) (name bytes : List ℕ) (relocations : ℕ → List Relocation) → (has : HasInstructions machine c offset name bytes relocations) →
+    Window machine c offset (length bytes) (map (moved_by offset) (relocations has.index))
+call_window machine c offset name bytes relocations has = record {
   before = has.before;
   behind = has.behind;
   relocated = has.relocated;
@@ -200,7 +200,7 @@ call_lies I386 from to bases objects codes targets memory at none c held offset 
     let long = length_within I386 from (targets c) (c.position + offset) (call_relocations I386 has.index) (call_bytes I386) within in
     let end = instructions_end I386 from bases objects codes targets at.beside c held offset name (call_bytes I386) (call_relocations I386) has within in
     let number : ℕ = (0 + (from + targets c has.index)) % 2 ^ 32 in
-    let moved = i386_window from to bases objects codes targets memory at none c m offset 0xFF 0x15 number has.index [] (call_window c offset name (call_bytes I386) (call_relocations I386) has) (omega arith)
+    let moved = i386_window from to bases objects codes targets memory at none c m offset 0xFF 0x15 number has.index [] (call_window I386 c offset name (call_bytes I386) (call_relocations I386) has) (omega arith)
     (instructions_linked I386 from bases objects codes targets at.beside c held offset name (call_bytes I386) (call_relocations I386) has within) in
     let four : length moved.field ≡ 4 = moved.four in
     record {
@@ -217,8 +217,8 @@ call_lies AMD64 from to bases objects codes targets memory at none c held offset
     let code : List ℕ = code_relocated_by AMD64 to (targets c) (c.position + offset) (call_relocations AMD64 has.index) (call_bytes AMD64) in
     let long = length_within AMD64 from (targets c) (c.position + offset) (call_relocations AMD64 has.index) (call_bytes AMD64) within in
     let end = instructions_end AMD64 from bases objects codes targets at.beside c held offset name (call_bytes AMD64) (call_relocations AMD64) has within in
-    let own : Window c offset (length code) (map (moved_by offset) (call_relocations AMD64 has.index)) =
-    subst (λ n. Window c offset n (map (moved_by offset) (call_relocations AMD64 has.index))) (sym long) (call_window c offset name (call_bytes AMD64) (call_relocations AMD64) has) in
+    let own : Window AMD64 c offset (length code) (map (moved_by offset) (call_relocations AMD64 has.index)) =
+    subst (λ n. Window AMD64 c offset n (map (moved_by offset) (call_relocations AMD64 has.index))) (sym long) (call_window AMD64 c offset name (call_bytes AMD64) (call_relocations AMD64) has) in
     record {
       code = code;
       there = window_kept AMD64 from to bases objects codes targets memory at none c m offset code (map (moved_by offset) (call_relocations AMD64 has.index)) own refl end
@@ -234,8 +234,8 @@ call_lies ARM64 from to bases objects codes targets memory at none c held offset
     let same : old ≡ code = arm64_same from to (c.position + offset) entry has.index (0 ∷ 2 ∷ 0x3F ∷ 0xD6 ∷ []) (targets c) at.can.1 is in
     let long = length_within ARM64 from (targets c) (c.position + offset) (call_relocations ARM64 has.index) (call_bytes ARM64) within in
     let end = instructions_end ARM64 from bases objects codes targets at.beside c held offset name (call_bytes ARM64) (call_relocations ARM64) has within in
-    let own : Window c offset (length old) (map (moved_by offset) (call_relocations ARM64 has.index)) =
-    subst (λ n. Window c offset n (map (moved_by offset) (call_relocations ARM64 has.index))) (sym long) (call_window c offset name (call_bytes ARM64) (call_relocations ARM64) has) in
+    let own : Window ARM64 c offset (length old) (map (moved_by offset) (call_relocations ARM64 has.index)) =
+    subst (λ n. Window ARM64 c offset n (map (moved_by offset) (call_relocations ARM64 has.index))) (sym long) (call_window ARM64 c offset name (call_bytes ARM64) (call_relocations ARM64) has) in
     record {
       code = code;
       there = subst (BytesAt memory (c.position + offset)) same
@@ -248,7 +248,7 @@ call_lies ARM64 from to bases objects codes targets memory at none c held offset
 -- Stubs.
 
 -- a stub's relocations, as those about a window
-stub_window : (machine : MachineType) (d : PlacedCode) (size : ℕ) → d.code.relocations ≡ stub_relocations machine 2 → Window d 0 size (map (moved_by 0) (stub_relocations machine 2))
+stub_window : (machine : MachineType) (d : PlacedCode) (size : ℕ) → d.code.relocations ≡ stub_relocations machine 2 → Window machine d 0 size (map (moved_by 0) (stub_relocations machine 2))
 stub_window I386 d size is = record { before = []; behind = []; relocated = is; aside_before = tt; aside_behind = tt }
 stub_window ARMNT d size is = record { before = []; behind = []; relocated = is; aside_before = tt; aside_behind = tt }
 stub_window AMD64 d size is = record { before = []; behind = []; relocated = is; aside_before = tt; aside_behind = tt }

@@ -65,7 +65,7 @@ record MovMoved (memory : List Range) (address from to number : ℕ) : Type 0 wh
 
 i386_mov : (from to : ℕ) (bases : Bases) (objects : List Object) (codes : List PlacedCode) (targets : PlacedCode → ℕ → ℕ) (memory : List Range)
     (at : IsAtBase I386 from to bases objects codes targets memory) (none : table_places I386 (placed_from bases objects) ≡ []) (c : PlacedCode) (m : Among c codes)
-    (offset number index : ℕ) → Window c offset 5 (record { offset = offset + 1; symbol = index; kind = i386_dir32 } ∷ []) →
+    (offset number index : ℕ) → Window I386 c offset 5 (record { offset = offset + 1; symbol = index; kind = i386_dir32 } ∷ []) →
     c.position + offset + 5 ≤ range_end (code_range I386 from targets c) →
     BytesAt (image_of I386 bases (placed_from bases objects) ++ code_ranges I386 from targets codes) (c.position + offset) (0xA1 ∷ (u32_bytes number ++ [])) →
     MovMoved memory (c.position + offset) from to number
@@ -117,7 +117,7 @@ load_lies I386 from to bases objects codes targets memory at none c held offset 
     let long = length_within I386 from (targets c) (c.position + offset) (load_relocations I386 has.index) (load_bytes I386) within in
     let end = instructions_end I386 from bases objects codes targets at.beside c held offset name (load_bytes I386) (load_relocations I386) has within in
     let number : ℕ = (0 + (from + targets c has.index)) % 2 ^ 32 in
-    let moved = i386_mov from to bases objects codes targets memory at none c m offset number has.index (call_window c offset name (load_bytes I386) (load_relocations I386) has) (omega arith)
+    let moved = i386_mov from to bases objects codes targets memory at none c m offset number has.index (call_window I386 c offset name (load_bytes I386) (load_relocations I386) has) (omega arith)
     (instructions_linked I386 from bases objects codes targets at.beside c held offset name (load_bytes I386) (load_relocations I386) has within) in
     let four : length moved.field ≡ 4 = moved.four in
     record {
@@ -134,8 +134,8 @@ load_lies AMD64 from to bases objects codes targets memory at none c held offset
     let code : List ℕ = code_relocated_by AMD64 to (targets c) (c.position + offset) (load_relocations AMD64 has.index) (load_bytes AMD64) in
     let long = length_within AMD64 from (targets c) (c.position + offset) (load_relocations AMD64 has.index) (load_bytes AMD64) within in
     let end = instructions_end AMD64 from bases objects codes targets at.beside c held offset name (load_bytes AMD64) (load_relocations AMD64) has within in
-    let own : Window c offset (length code) (map (moved_by offset) (load_relocations AMD64 has.index)) =
-    subst (λ n. Window c offset n (map (moved_by offset) (load_relocations AMD64 has.index))) (sym long) (call_window c offset name (load_bytes AMD64) (load_relocations AMD64) has) in
+    let own : Window AMD64 c offset (length code) (map (moved_by offset) (load_relocations AMD64 has.index)) =
+    subst (λ n. Window AMD64 c offset n (map (moved_by offset) (load_relocations AMD64 has.index))) (sym long) (call_window AMD64 c offset name (load_bytes AMD64) (load_relocations AMD64) has) in
     record {
       code = code;
       there = window_kept AMD64 from to bases objects codes targets memory at none c m offset code (map (moved_by offset) (load_relocations AMD64 has.index)) own refl end
@@ -151,8 +151,8 @@ load_lies ARM64 from to bases objects codes targets memory at none c held offset
     let same : old ≡ code = arm64_same from to (c.position + offset) entry has.index (targets c) at.can.1 is in
     let long = length_within ARM64 from (targets c) (c.position + offset) (load_relocations ARM64 has.index) (load_bytes ARM64) within in
     let end = instructions_end ARM64 from bases objects codes targets at.beside c held offset name (load_bytes ARM64) (load_relocations ARM64) has within in
-    let own : Window c offset (length old) (map (moved_by offset) (load_relocations ARM64 has.index)) =
-    subst (λ n. Window c offset n (map (moved_by offset) (load_relocations ARM64 has.index))) (sym long) (call_window c offset name (load_bytes ARM64) (load_relocations ARM64) has) in
+    let own : Window ARM64 c offset (length old) (map (moved_by offset) (load_relocations ARM64 has.index)) =
+    subst (λ n. Window ARM64 c offset n (map (moved_by offset) (load_relocations ARM64 has.index))) (sym long) (call_window ARM64 c offset name (load_bytes ARM64) (load_relocations ARM64) has) in
     record {
       code = code;
       there = subst (BytesAt memory (c.position + offset)) same
@@ -211,7 +211,7 @@ module _ (machine : MachineType) (from to : ℕ) (bases : Bases) (objects : List
       let within = load_within machine has.index in
       let linked_size = length_within machine from (targets c) (c.position + offset) (load_relocations machine has.index) (load_bytes machine) within in
       let inside = instructions_end machine from bases objects codes targets at.beside c held offset name (load_bytes machine) (load_relocations machine) has within in
-      let near = near_in c offset name (load_bytes machine) (load_relocations machine) has end in
+      let near = near_in machine c offset name (load_bytes machine) (load_relocations machine) has end in
       let lies = load_lies machine from to bases objects codes targets memory at none c held offset name has entry
       (instructions_target machine from bases objects codes targets at.beside c held offset name (load_bytes machine) (load_relocations machine) has entry once) can entry_small near in
       let whole : length lies.code ≡ length (load_bytes machine) = lies.whole in
@@ -228,7 +228,7 @@ module _ (from to : ℕ) (bases : Bases) (objects : List Object) (codes : List P
     (at : IsAtBase ARM64 from to bases objects codes targets memory) (none : table_places ARM64 (placed_from bases objects) ≡ []) (c : PlacedCode) (held : Contains codes c)
     (written : List Range) (covers : AllByRecursion (Covers (image_of ARM64 bases (placed_from bases objects))) written) where
   -- an instruction of ARM64 with one relocation, which is the same at both bases
-  one_moves : (offset n type : ℕ) (name : List ℕ) (has : HasInstructions c offset name (u32_bytes n) (λ index. record { offset = 0; symbol = index; kind = type } ∷ [])) → type ≡ arm64_pagebase_rel21 ⊎ type ≡ arm64_pageoffset_12l →
+  one_moves : (offset n type : ℕ) (name : List ℕ) (has : HasInstructions ARM64 c offset name (u32_bytes n) (λ index. record { offset = 0; symbol = index; kind = type } ∷ [])) → type ≡ arm64_pagebase_rel21 ⊎ type ≡ arm64_pageoffset_12l →
       code_relocated_by ARM64 from (targets c) (c.position + offset) (record { offset = 0; symbol = has.index; kind = type } ∷ []) (u32_bytes n)
       ≡ code_relocated_by ARM64 to (targets c) (c.position + offset) (record { offset = 0; symbol = has.index; kind = type } ∷ []) (u32_bytes n) →
       BytesAt (written ++ memory) (c.position + offset) (code_relocated_by ARM64 to (targets c) (c.position + offset) (record { offset = 0; symbol = has.index; kind = type } ∷ []) (u32_bytes n))
@@ -239,8 +239,8 @@ module _ (from to : ℕ) (bases : Bases) (objects : List Object) (codes : List P
       let old : List ℕ = code_relocated_by ARM64 from (targets c) (c.position + offset) (relocations has.index) (u32_bytes n) in
       let size : length old ≡ length (u32_bytes n) = length_within ARM64 from (targets c) (c.position + offset) (relocations has.index) (u32_bytes n) within in
       let end = instructions_end ARM64 from bases objects codes targets at.beside c held offset name (u32_bytes n) relocations has within in
-      let own : Window c offset (length old) (map (moved_by offset) (relocations has.index)) =
-      subst (λ k. Window c offset k (map (moved_by offset) (relocations has.index))) (sym size) (call_window c offset name (u32_bytes n) relocations has) in
+      let own : Window ARM64 c offset (length old) (map (moved_by offset) (relocations has.index)) =
+      subst (λ k. Window ARM64 c offset k (map (moved_by offset) (relocations has.index))) (sym size) (call_window ARM64 c offset name (u32_bytes n) relocations has) in
       let steady : places_at ARM64 c.position (map (moved_by offset) (relocations has.index)) ≡ [] =
       elim kinds [ inl is ↦ rw is refl | inr is ↦ rw is refl ] in
       let there = window_kept ARM64 from to bases objects codes targets memory at none c m offset old (map (moved_by offset) (relocations has.index)) own steady end
@@ -270,7 +270,7 @@ page_moves from to bases objects codes targets memory at none admissible written
     let offset_target = instructions_target ARM64 from bases objects codes targets at.beside c held second name offset_bytes offsets also entry once in
     let adrp : List ℕ = code_relocated_by ARM64 to (targets c) (c.position + first) (pages has.index) page_bytes in
     let ldr : List ℕ = code_relocated_by ARM64 to (targets c) (c.position + second) (offsets also.index) offset_bytes in
-    let one = adrp_by to (c.position + first) entry has.index paged (targets c) small_paged (near_in c first name page_bytes pages has end) low page_target in
+    let one = adrp_by to (c.position + first) entry has.index paged (targets c) small_paged (near_in ARM64 c first name page_bytes pages has end) low page_target in
     let two = ldr_by to (c.position + second) entry also.index (paged * 32 + loaded) (targets c) registers (sum_of_eights to entry can.0 can.1) offset_target in
     let page_long : length page_bytes ≡ 4 = length-u32_bytes (page_word paged) in
     let offset_long : length offset_bytes ≡ 4 = length-u32_bytes (offset_word paged loaded) in

@@ -4,6 +4,7 @@ use Rattle.std.specs.Prelude.{slice_get}
 use Rattle.std.specs.List.{AllByRecursion, Contains}
 use Rattle.std.proofs.lemmas.List.{length-append}
 use Rattle.implib.specs.declared.coff.object.Relocation.{Relocation}
+use Rattle.implib.specs.declared.machine.MachineType.{MachineType}
 use Rattle.implib.specs.declared.machine.MachineType.TheVariants.{ARM64}
 use Rattle.implib.specs.Definition.{ExportView}
 use Rattle.implib.specs.Formats.Bytes.{u32_bytes}
@@ -172,9 +173,9 @@ ldr_by image_base position entry index k targets small even is =
 pub one_within : (n index type : ℕ) → AllByRecursion (λ (r : Relocation). r.offset + 4 ≤ length (u32_bytes n)) (record { offset = 0; symbol = index; kind = type } ∷ [])
 one_within n index type = let long : length (u32_bytes n) ≡ 4 = length-u32_bytes n in (omega arith, tt)
 
-pub near_in : (c : PlacedCode) (offset : ℕ) (name bytes : List ℕ) (relocations : ℕ → List Relocation) → HasInstructions c offset name bytes relocations → c.position + length c.code.bytes + 16 ≤ 2 ^ 31 →
+pub near_in : (machine : MachineType) (c : PlacedCode) (offset : ℕ) (name bytes : List ℕ) (relocations : ℕ → List Relocation) → HasInstructions machine c offset name bytes relocations → c.position + length c.code.bytes + 16 ≤ 2 ^ 31 →
     c.position + offset + 16 ≤ 2 ^ 31
-near_in c offset name bytes relocations has end =
+near_in machine c offset name bytes relocations has end =
     let here : length has.front ≡ offset = has.here in
     let size : length c.code.bytes ≡ length has.front + length (bytes ++ has.back) = ap length has.instructions ∙ length-append has.front (bytes ++ has.back) in
     omega arith
@@ -198,7 +199,7 @@ page_arrives image_base bases objects codes targets beside c held first second p
     let registers : paged * 32 + loaded < 1024 = omega arith in
     let page_in = one_within (page_word paged) has.index arm64_pagebase_rel21 in
     let offset_in = one_within (offset_word paged loaded) also.index arm64_pageoffset_12l in
-    let one = adrp_by image_base (c.position + first) entry has.index paged (targets c) small_paged (near_in c first name page_bytes pages has end) low
+    let one = adrp_by image_base (c.position + first) entry has.index paged (targets c) small_paged (near_in ARM64 c first name page_bytes pages has end) low
     (instructions_target ARM64 image_base bases objects codes targets beside c held first name page_bytes pages has entry once) in
     let two = ldr_by image_base (c.position + second) entry also.index (paged * 32 + loaded) (targets c) registers (sum_of_eights image_base entry can.0 can.1)
     (instructions_target ARM64 image_base bases objects codes targets beside c held second name offset_bytes offsets also entry once) in

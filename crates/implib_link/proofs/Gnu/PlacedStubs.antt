@@ -30,7 +30,18 @@ use Rattle.implib_link.proofs.Search.Lists.{contains_among}
 use Rattle.implib.specs.LibraryName.{NamesOfDll, names_for}
 use Rattle.implib.specs.declared.flavor.Flavor.TheVariants.{Gnu}
 
--- Code is a stub, under the symbol at its beginning, which names the entry at an address.
+-- Code is a stub, under the symbol at its beginning; its own symbol 2 is the entry at an address.
+pub record StubAt (machine : MachineType) (linked : List Placed) (d : PlacedCode) (t : ObjectSymbol) (entry : ℕ) : Type 0 where
+  pub own : Placed
+  pub bytes : d.code.bytes ≡ stub_bytes machine
+  pub relocations : d.code.relocations ≡ stub_relocations machine 2
+  pub begins : t.value ≡ 0
+  pub target : target_address linked own 2 ≡ entry
+  pub symbol : Entry
+  pub held : slice_get d.from.object.entries 2 ≡ Some symbol
+  pub placed : symbol_address linked d.from symbol ≡ Some entry
+
+-- the same with the address that a linker takes for its symbol
 pub record PlacedStub (machine : MachineType) (linked : List Placed) (targets : PlacedCode → ℕ → ℕ) (d : PlacedCode) (t : ObjectSymbol) (entry : ℕ) : Type 0 where
   pub own : Placed
   pub bytes : d.code.bytes ≡ stub_bytes machine
@@ -81,12 +92,11 @@ same_section sections n first second one numbered at =
 pub symbol_of_entry : (t u : ObjectSymbol) → ASymbol t ≡ ASymbol u → t ≡ u
 symbol_of_entry t u same = cc
 
-pub gnu_stub : (machine : MachineType) (image_base : ℕ) (bases : Bases) (inputs : List LinkInput) (objects : List Object) (codes : List PlacedCode) (targets : PlacedCode → ℕ → ℕ)
-    (i j : ℕ) (p : LinkInput) (e : ExportView) (d : PlacedCode) (t : ObjectSymbol) →
-    AllByRecursion (IsMade machine) inputs → IsProgram machine bases inputs objects → AreBeside machine image_base bases objects codes targets →
-    slice_get inputs i ≡ Some p → slice_get (chosen_exports p.definition p.chosen) j ≡ Some e → e.is_data ≡ false → Contains codes d → Defines d t → t.name ≡ e.name →
-    PlacedStub machine (placed_from bases objects) targets d t (bases.addresses + thunk_width machine * thunks_before i inputs + thunk_width machine * j)
-gnu_stub machine image_base bases inputs objects codes targets i j p e d t made program beside input chosen is d_held defines named =
+pub gnu_stub_at : (machine : MachineType) (bases : Bases) (inputs : List LinkInput) (objects : List Object) (i j : ℕ) (p : LinkInput) (e : ExportView) (d : PlacedCode) (t : ObjectSymbol) →
+    AllByRecursion (IsMade machine) inputs → IsProgram machine bases inputs objects → slice_get inputs i ≡ Some p → slice_get (chosen_exports p.definition p.chosen) j ≡ Some e → e.is_data ≡ false →
+    Contains (placed_from bases objects) d.from → section_numbered d.from.object.sections d.number ≡ Some d.code → Defines d t → t.name ≡ e.name →
+    StubAt machine (placed_from bases objects) d t (bases.addresses + thunk_width machine * thunks_before i inputs + thunk_width machine * j)
+gnu_stub_at machine bases inputs objects i j p e d t made program input chosen is d_from d_section defines named =
     let linked : List Placed = placed_from bases objects in
     let dll : NamesOfDll = names_for Gnu p.definition in
     let entry : ℕ = bases.addresses + thunk_width machine * thunks_before i inputs + thunk_width machine * j in
@@ -97,14 +107,13 @@ gnu_stub machine image_base bases inputs objects codes targets i j p e d t made 
     let own_held : Among own linked = among_filter (λ (q : Placed). has_tables q.object) own linked kept in
     let once = name_once machine bases inputs objects i j p e made program input chosen is in
     let most : length (definitions_of e.name linked) ≤ 1 = rw once.1 (omega arith) in
-    let d_linked : Among d.from linked = contains_among d.from linked (all_among (λ (x : PlacedCode). Contains linked x.from) d codes (contains_among d codes d_held) beside.held) in
+    let d_linked : Among d.from linked = contains_among d.from linked d_from in
     let one = one_definer e.name linked d.from own t own_symbol most d_linked (contains_among (ASymbol t) d.from.object.entries defines.held) defines.external named own_held
     (code_defined machine dll found.0 e is) refl refl in
     let t_is : t ≡ own_symbol = symbol_of_entry t own_symbol one.1 in
     let first : d.number ≡ 1 = sym defines.here ∙ ap (λ (x : ObjectSymbol). x.section) t_is in
     let numbered : section_numbered own.object.sections d.number ≡ Some d.code =
-    subst (λ (x : Placed). section_numbered x.object.sections d.number ≡ Some d.code) one.0
-    (all_among (λ (x : PlacedCode). section_numbered x.from.object.sections x.number ≡ Some x.code) d codes (contains_among d codes d_held) beside.sections) in
+    subst (λ (x : Placed). section_numbered x.object.sections d.number ≡ Some d.code) one.0 d_section in
     let code_is = same_section own.object.sections d.number d.code (section text_name (cnt_code + align_4bytes + mem_execute_read) (stub machine e) (relocations_of_stub machine e)) first numbered (code_here machine dll found.0 e) in
     let plain : found.0.addresses + 0 ≡ entry = (let sum : found.0.addresses + 0 ≡ found.0.addresses = omega arith in sum ∙ found.1.1) in
     let symbol = found_entry (symbol_address linked own) (slice_get own.object.entries 2) (found.0.addresses + 0) (address_found machine dll linked found.0 e is) in
@@ -114,6 +123,30 @@ gnu_stub machine image_base bases inputs objects codes targets i j p e d t made 
       relocations = ap (λ (x : ObjectSection). x.relocations) code_is ∙ code_relocations machine e is;
       begins = ap (λ (x : ObjectSymbol). x.value) t_is;
       target = target_is machine dll linked found.0 e entry is found.1.1;
-      resolved = beside.resolved.tables d 2 (found.0.addresses + 0) symbol.0 d_held (subst (λ (x : Placed). slice_get x.object.entries 2 ≡ Some symbol.0) (sym one.0) symbol.1.0)
-          (subst (λ (x : Placed). symbol_address linked x symbol.0 ≡ Some (found.0.addresses + 0)) (sym one.0) symbol.1.1) ∙ plain;
+      symbol = symbol.0;
+      held = subst (λ (x : Placed). slice_get x.object.entries 2 ≡ Some symbol.0) (sym one.0) symbol.1.0;
+      placed = subst (λ (x : Placed). symbol_address linked x symbol.0 ≡ Some (found.0.addresses + 0)) (sym one.0) symbol.1.1 ∙ ap Some plain;
     }
+
+-- beside the tables, a linker takes its symbol to be the entry
+pub placed_stub : (machine : MachineType) (image_base : ℕ) (bases : Bases) (objects : List Object) (codes : List PlacedCode) (targets : PlacedCode → ℕ → ℕ) → AreBeside machine image_base bases objects codes targets →
+    (d : PlacedCode) (t : ObjectSymbol) (entry : ℕ) → Contains codes d → StubAt machine (placed_from bases objects) d t entry → PlacedStub machine (placed_from bases objects) targets d t entry
+placed_stub machine image_base bases objects codes targets beside d t entry held stub = record {
+  own = stub.own;
+  bytes = stub.bytes;
+  relocations = stub.relocations;
+  begins = stub.begins;
+  target = stub.target;
+  resolved = beside.resolved.tables d 2 entry stub.symbol held stub.held stub.placed;
+}
+
+pub gnu_stub : (machine : MachineType) (image_base : ℕ) (bases : Bases) (inputs : List LinkInput) (objects : List Object) (codes : List PlacedCode) (targets : PlacedCode → ℕ → ℕ)
+    (i j : ℕ) (p : LinkInput) (e : ExportView) (d : PlacedCode) (t : ObjectSymbol) →
+    AllByRecursion (IsMade machine) inputs → IsProgram machine bases inputs objects → AreBeside machine image_base bases objects codes targets →
+    slice_get inputs i ≡ Some p → slice_get (chosen_exports p.definition p.chosen) j ≡ Some e → e.is_data ≡ false → Contains codes d → Defines d t → t.name ≡ e.name →
+    PlacedStub machine (placed_from bases objects) targets d t (bases.addresses + thunk_width machine * thunks_before i inputs + thunk_width machine * j)
+gnu_stub machine image_base bases inputs objects codes targets i j p e d t made program beside input chosen is d_held defines named =
+    placed_stub machine image_base bases objects codes targets beside d t (bases.addresses + thunk_width machine * thunks_before i inputs + thunk_width machine * j) d_held
+    (gnu_stub_at machine bases inputs objects i j p e d t made program input chosen is
+    (all_among (λ (x : PlacedCode). Contains (placed_from bases objects) x.from) d codes (contains_among d codes d_held) beside.held)
+    (all_among (λ (x : PlacedCode). section_numbered x.from.object.sections x.number ≡ Some x.code) d codes (contains_among d codes d_held) beside.sections) defines named)

@@ -136,7 +136,7 @@ module _ (machine : MachineType) (from to : ℕ) (bases : Bases) (objects : List
       let long : length code ≡ length (direct_bytes machine) = length_within machine from (targets c) (c.position + offset) (direct_relocations machine has.index) (direct_bytes machine) within in
       let inside = instructions_end machine from bases objects codes targets at.beside c held offset name (direct_bytes machine) (direct_relocations machine) has within in
       let kept = window_kept machine from to bases objects codes targets memory at none c (contains_among c codes held) offset code own
-      (subst (λ n. Window c offset n own) (sym long) (call_window c offset name (direct_bytes machine) (direct_relocations machine) has)) (direct_steady machine c.position offset has.index) inside
+      (subst (λ n. Window machine c offset n own) (sym long) (call_window machine c offset name (direct_bytes machine) (direct_relocations machine) has)) (direct_steady machine c.position offset has.index) inside
       (instructions_linked machine from bases objects codes targets at.beside c held offset name (direct_bytes machine) (direct_relocations machine) has within) in
       let moved = stub_moves d d_held t stub in
       record {

@@ -100,14 +100,28 @@ pub record AreBeside (machine : MachineType) (image_base : ℕ) (bases : Bases) 
 abbrev pub moved_by : ℕ → Relocation → Relocation
 moved_by offset r = record { offset = offset + r.offset; symbol = r.symbol; kind = r.kind }
 
--- a relocation changes nothing in so many bytes from an offset on: its field, of at most 8 bytes, is before or
--- behind them
-abbrev pub IsAside : ℕ → ℕ → Relocation → Type 0
-IsAside offset count r = (r.offset + 8 ≤ offset) ⊎ (offset + count ≤ r.offset)
+-- AMD64's and ARM64's relocations by 64 bits, which store an address whole ("Type Indicators")
+abbrev pub amd64_addr64 : ℕ
+amd64_addr64 = 1
+
+abbrev pub arm64_addr64 : ℕ
+arm64_addr64 = 0xE
+
+-- How many bytes a relocation of a type changes at most: 8 if it is by 64 bits, or else 4 ("Type Indicators"). Of
+-- ARMNT's, some of which have fields in two instructions, nothing less than 8 is claimed.
+abbrev pub field_width : MachineType → ℕ → ℕ
+field_width I386 type = 4
+field_width ARMNT type = 8
+field_width AMD64 type = if type == amd64_addr64 then 8 else 4
+field_width ARM64 type = if type == arm64_addr64 then 8 else 4
+
+-- a relocation changes nothing in so many bytes from an offset on: its field is before or after them
+abbrev pub IsAside : MachineType → ℕ → ℕ → Relocation → Type 0
+IsAside machine offset count r = (r.offset + field_width machine r.kind ≤ offset) ⊎ (offset + count ≤ r.offset)
 
 -- Code has instructions at an offset, with these relocations against the symbol of an index: the symbol is an
 -- undefined one of this name, and no other relocation changes the instructions.
-pub record HasInstructions (c : PlacedCode) (offset : ℕ) (name bytes : List ℕ)
+pub record HasInstructions (machine : MachineType) (c : PlacedCode) (offset : ℕ) (name bytes : List ℕ)
     (relocations : ℕ → List Relocation) : Type 0 where
   pub front : List ℕ
   pub back : List ℕ
@@ -117,8 +131,8 @@ pub record HasInstructions (c : PlacedCode) (offset : ℕ) (name bytes : List �
   pub before : List Relocation
   pub behind : List Relocation
   pub relocated : c.code.relocations ≡ before ++ (map (moved_by offset) (relocations index) ++ behind)
-  pub aside_before : AllByRecursion (IsAside offset (length bytes)) before
-  pub aside_behind : AllByRecursion (IsAside offset (length bytes)) behind
+  pub aside_before : AllByRecursion (IsAside machine offset (length bytes)) before
+  pub aside_behind : AllByRecursion (IsAside machine offset (length bytes)) behind
   pub symbol : ObjectSymbol
   pub target : slice_get c.from.object.entries index ≡ Some (ASymbol symbol)
   pub undefined : is_undefined_external symbol ≡ true
@@ -144,7 +158,7 @@ call_relocations ARM64 index =
 
 -- code has such a call of a name at an offset
 abbrev pub HasCall : MachineType → PlacedCode → ℕ → List ℕ → Type 0
-HasCall machine c offset name = HasInstructions c offset name (call_bytes machine) (call_relocations machine)
+HasCall machine c offset name = HasInstructions machine c offset name (call_bytes machine) (call_relocations machine)
 
 -- Where a call through a pointer at an address reads its target, by the rule of its instructions: I386 at the
 -- displacement; AMD64 that far behind the call; ARM64 at the offset in the page.
@@ -191,7 +205,7 @@ direct_relocations ARM64 index = record { offset = 0; symbol = index; kind = arm
 -- code has such a call of a name at an offset
 abbrev pub HasDirectCall : MachineType → PlacedCode → ℕ → List ℕ → Type 0
 HasDirectCall machine c offset name =
-    HasInstructions c offset name (direct_bytes machine) (direct_relocations machine)
+    HasInstructions machine c offset name (direct_bytes machine) (direct_relocations machine)
 
 -- A call at an address can reach code at another: on ARM64, both are at multiples of 4, and at most 2^27 bytes
 -- apart, as the branch's field has room for. Of ARMNT nothing is claimed.

@@ -1,6 +1,7 @@
 -- ARM64's two instructions that read a pointer by its page and its offset in the page, apart from one another and
 -- with any registers. Addresses of code count from the image's base.
 use Rattle.std.specs.Prelude.{◌≡◌, ℕ, ◌+◌, ◌*◌, List, [], ◌∷◌, length}
+use Rattle.implib.specs.declared.machine.MachineType.TheVariants.{ARM64}
 use Rattle.implib.specs.Formats.Bytes.{u32_bytes}
 use Rattle.implib.specs.Formats.Constants.{arm64_pagebase_rel21, arm64_pageoffset_12l}
 use Rattle.implib.specs.Link.Image.{Range}
@@ -19,13 +20,13 @@ offset_word paged loaded = 0xF940_0000 + (paged * 32 + loaded)
 -- code has, at an offset, an `adrp` into a register of the page of a name
 abbrev pub HasPage : PlacedCode → ℕ → ℕ → List ℕ → Type 0
 HasPage c offset paged name =
-    HasInstructions c offset name (u32_bytes (page_word paged))
+    HasInstructions ARM64 c offset name (u32_bytes (page_word paged))
     (λ index. record { offset = 0; symbol = index; kind = arm64_pagebase_rel21 } ∷ [])
 
 -- code has, at an offset, an `ldr` by the offset of a name in the page that a register has, into another register
 abbrev pub HasPageOffset : PlacedCode → ℕ → ℕ → ℕ → List ℕ → Type 0
 HasPageOffset c offset paged loaded name =
-    HasInstructions c offset name (u32_bytes (offset_word paged loaded))
+    HasInstructions ARM64 c offset name (u32_bytes (offset_word paged loaded))
     (λ index. record { offset = 0; symbol = index; kind = arm64_pageoffset_12l } ∷ [])
 
 -- At two addresses of memory are an `adrp` and an `ldr` of these registers, by the bytes that are there; the page of

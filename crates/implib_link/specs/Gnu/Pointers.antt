@@ -30,7 +30,7 @@ load_relocations ARM64 index =
 
 -- code reads a pointer under a name at an offset
 abbrev pub HasLoad : MachineType → PlacedCode → ℕ → List ℕ → Type 0
-HasLoad machine c offset name = HasInstructions c offset name (load_bytes machine) (load_relocations machine)
+HasLoad machine c offset name = HasInstructions machine c offset name (load_bytes machine) (load_relocations machine)
 
 -- Where such instructions at an address read the pointer, by their rule: I386 at the displacement; AMD64 that far
 -- behind the instruction; ARM64 at the offset in the page.

@@ -12,18 +12,12 @@ use Rattle.implib.specs.Link.Image.{Range, byte_at, image_of}
 use Rattle.implib.specs.Link.Load.{BytesAt, NumberAt}
 use Rattle.implib.specs.Link.Placement.{At, Bases, Placed, SectionAddress, Unplaced, placed_from}
 use Rattle.implib.specs.Members.Gnu.{stub_bytes}
-use Rattle.implib_link.specs.Gnu.Calls.{AreBeside, PlacedCode, code_ranges}
+use Rattle.implib_link.specs.Gnu.Calls.{AreBeside, PlacedCode, amd64_addr64, arm64_addr64, code_ranges}
 use Rattle.implib_link.specs.Stub.{CanJump, jump_reads}
 
--- The relocations that store an address whole ("Type Indicators"): AMD64's by 64 and by 32 bits, and ARM64's.
-abbrev pub amd64_addr64 : ℕ
-amd64_addr64 = 1
-
+-- AMD64's and ARM64's relocations by 32 bits that store an address whole ("Type Indicators")
 abbrev pub amd64_addr32 : ℕ
 amd64_addr32 = 2
-
-abbrev pub arm64_addr64 : ℕ
-arm64_addr64 = 0xE
 
 abbrev pub arm64_addr32 : ℕ
 arm64_addr32 = 1

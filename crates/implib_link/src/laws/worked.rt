@@ -13,6 +13,8 @@ ghost use Rattle.implib_link.specs.Worked.Packed.{WorkedPackings};
 ghost use Rattle.implib_link.specs.Worked.Programs.{WorkedPrograms, WorkedStubs};
 ghost use Rattle.implib_link.specs.Worked.Readings.{WorkedReadings};
 ghost use Rattle.implib_link.specs.Worked.RefusedTexts.{RefusedTexts};
+ghost use Rattle.implib_link.specs.Worked.Rules.{ArrivalRules, LldRules, MovingRules};
+ghost use Rattle.implib_link.specs.Worked.Rules.{SymbolRules};
 ghost use Rattle.implib_link.specs.Worked.Searched.{WorkedLibraries, WorkedSearched};
 ghost use Rattle.implib_link.specs.Worked.Sources.{WorkedSources};
 ghost use Rattle.implib_link.specs.Worked.Walks.{WorkedWalks};
@@ -114,4 +116,13 @@ pub fn worked_sources()
 pub fn worked_claims()
     ensures claims { WorkedClaims }
     ensures calls { WorkedDirectCalls }
+{}
+
+/// Single rules: how lld compares names and where its tables begin, which fields need base
+/// relocations, where a symbol is in code, and that what arrives does so at the bytes that are said.
+pub fn worked_rules()
+    ensures lld { LldRules }
+    ensures moving { MovingRules }
+    ensures symbols { SymbolRules }
+    ensures arrivals { ArrivalRules }
 {}

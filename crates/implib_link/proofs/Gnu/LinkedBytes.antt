@@ -1,0 +1,379 @@
+-- There are linked bytes for any code: what each relocation asks can be written into its field.
+use Rattle.std.proofs.Common.{◌≡◌, ℕ, zero, suc, ◌+◌, ◌-◌, ◌*◌, ◌/◌, ◌%◌, ◌^◌, ◌<◌, ◌≤◌, ◌⊎◌, Bool, true, false, List, [], ◌∷◌, ◌++◌, length, take, drop, Option, None, Some, refl, ap, sym, ◌∙◌, subst, inl, inr, arith, true≢false}
+use Rattle.std.specs.Prelude.{◌==◌, ◌&&◌, ◌||◌, if◌then◌else◌, cond, nat_le, nat_lt, slice_get}
+use Rattle.std.specs.List.{AllByRecursion, filter, list_any}
+use Rattle.std.proofs.lemmas.Bool.{and_from, and_parts, cases_Bool, eq-eqb, eqb-true, false_from_ne_true, leb-true, le-leb, ltb-false, ltb-true, ne_eqb, or_parts}
+use Rattle.std.proofs.lemmas.List.{append-nil, length-append, length-drop, length-take-le, take_at}
+use Rattle.std.proofs.lemmas.Option.{slice_get_within}
+use Rattle.implib.specs.declared.coff.object.Relocation.{Relocation}
+use Rattle.implib.specs.declared.machine.MachineType.{MachineType}
+use Rattle.implib.specs.declared.machine.MachineType.TheVariants.{I386, ARMNT, AMD64, ARM64}
+use Rattle.implib.specs.Formats.Bytes.{u32_bytes}
+use Rattle.implib.specs.Formats.Constants.{amd64_rel32, arm64_pagebase_rel21, arm64_pageoffset_12l, i386_dir32}
+use Rattle.implib.specs.Formats.Object.{ObjectSection}
+use Rattle.implib.specs.Link.Load.{number_in}
+use Rattle.implib.proofs.Formats.Bytes.{length-u32_bytes}
+use Rattle.implib.proofs.Link.Ranges.{Among}
+use Rattle.implib_link.specs.Gnu.Calls.{amd64_addr64, arm64_addr64, arm64_branch26, field_width, i386_rel32}
+use Rattle.implib_link.specs.Gnu.Fields.{FieldHolds, IsRelocated, MeetsAlone, field_at, meets}
+use Rattle.implib_link.specs.Stub.{adrp_immediate, bits_of, ldr_immediate, page, with_adrp, with_bits}
+use Rattle.implib_link.proofs.Gnu.Fields.{get_drop, get_take, meets_bounds, meets_from}
+use Rattle.implib_link.proofs.Gnu.Jumps.{number-u32}
+
+-- Lists by their places.
+
+prefix_is : (xs value : List ℕ) → ((i b : ℕ) → slice_get value i ≡ Some b → slice_get xs i ≡ Some b) → take (length value) xs ≡ value
+prefix_is xs [] each = refl
+prefix_is [] (v ∷ value) each = let is : None ≡ Some v = each 0 v refl in cc
+prefix_is (x ∷ xs) (v ∷ value) each =
+    let is : Some x ≡ Some v = each 0 v refl in
+    let same : x ≡ v = cc in
+    rw (same, prefix_is xs value (λ i b got. each (suc i) b got)) refl
+
+window_is : (offset : ℕ) (bytes value : List ℕ) → ((i b : ℕ) → slice_get value i ≡ Some b → slice_get bytes (offset + i) ≡ Some b) → take (length value) (drop offset bytes) ≡ value
+window_is offset bytes value each = prefix_is (drop offset bytes) value (λ i b got. get_drop offset bytes i ∙ each i b got)
+
+-- a value in the place of as many bytes
+write : List ℕ → ℕ → List ℕ → List ℕ
+write bytes zero value = value ++ drop (length value) bytes
+write [] (suc offset) value = []
+write (x ∷ bytes) (suc offset) value = x ∷ write bytes offset value
+
+write_size : (bytes : List ℕ) (offset : ℕ) (value : List ℕ) → offset + length value ≤ length bytes → length (write bytes offset value) ≡ length bytes
+unfolding write
+write_size bytes zero value within = omega (arith, length-append value (drop (length value) bytes), length-drop (length value) bytes)
+write_size [] (suc offset) value within = refl
+write_size (x ∷ bytes) (suc offset) value within = let later = write_size bytes offset value (omega arith) in omega arith
+
+get_front : (xs ys : List ℕ) (i b : ℕ) → slice_get xs i ≡ Some b → slice_get (xs ++ ys) i ≡ Some b
+get_front [] ys i b is = cc
+get_front (x ∷ xs) ys zero b is = is
+get_front (x ∷ xs) ys (suc i) b is = get_front xs ys i b is
+
+get_behind : (xs ys : List ℕ) (i : ℕ) → length xs ≤ i → slice_get (xs ++ ys) i ≡ slice_get ys (i - length xs)
+get_behind [] ys i past = let same : i ≡ i - 0 = omega arith in ap (slice_get ys) same
+get_behind (x ∷ xs) ys zero past = absurd (omega arith)
+get_behind (x ∷ xs) ys (suc i) past = let same : i - length xs ≡ suc i - suc (length xs) = omega arith in get_behind xs ys i (omega arith) ∙ ap (slice_get ys) same
+
+written_there : (bytes : List ℕ) (offset : ℕ) (value : List ℕ) (i b : ℕ) → offset + length value ≤ length bytes → slice_get value i ≡ Some b → slice_get (write bytes offset value) (offset + i) ≡ Some b
+unfolding write
+written_there bytes zero value i b within is = let same : i ≡ 0 + i = omega arith in sym (ap (slice_get (value ++ drop (length value) bytes)) same) ∙ get_front value (drop (length value) bytes) i b is
+written_there [] (suc offset) value i b within is = absurd (omega arith)
+written_there (x ∷ bytes) (suc offset) value i b within is =
+    let same : suc (offset + i) ≡ suc offset + i = omega arith in
+    sym (ap (slice_get (x ∷ write bytes offset value)) same) ∙ written_there bytes offset value i b (omega arith) is
+
+written_aside : (bytes : List ℕ) (offset : ℕ) (value : List ℕ) (k : ℕ) → offset + length value ≤ length bytes → (k < offset) ⊎ (offset + length value ≤ k) → slice_get (write bytes offset value) k ≡ slice_get bytes k
+unfolding write
+written_aside bytes zero value k within (inl before) = absurd (omega arith)
+written_aside bytes zero value k within (inr after) =
+    let same : length value + (k - length value) ≡ k = omega arith in
+    get_behind value (drop (length value) bytes) k (omega arith) ∙ get_drop (length value) bytes (k - length value) ∙ ap (slice_get bytes) same
+written_aside [] (suc offset) value k within aside = refl
+written_aside (x ∷ bytes) (suc offset) value zero within aside = refl
+written_aside (x ∷ bytes) (suc offset) value (suc k) within aside =
+    let nearer : (k < offset) ⊎ (offset + length value ≤ k) = elim aside [ inl before ↦ inl (omega arith) | inr after ↦ inr (omega arith) ] in
+    written_aside bytes offset value k (omega arith) nearer
+
+one_left : (x r : Relocation) (xs : List Relocation) → x ∷ xs ≡ r ∷ [] → (x ≡ r) × (xs ≡ [])
+one_left x r xs is = (let same : x ≡ r = cc in same, let none : xs ≡ [] = cc in none)
+
+take_all : (xs : List ℕ) (n : ℕ) → length xs ≡ n → take n xs ≡ xs
+take_all xs n is = sym (ap (λ ys. take n ys) (append-nil xs)) ∙ take_at xs [] n is
+
+-- Values for each relocation, written where the field is within the bytes.
+module _ (machine : MachineType) (value : Relocation → List ℕ) (wide : (r : Relocation) → length (value r) ≡ field_width machine r.kind) where
+  write_field : Relocation → List ℕ → List ℕ
+  write_field r bytes = if nat_le (r.offset + field_width machine r.kind) (length bytes) then write bytes r.offset (value r) else bytes
+
+  write_all : List Relocation → List ℕ → List ℕ
+  unfolding write_field
+  write_all [] bytes = bytes
+  write_all (r ∷ rs) bytes = write_all rs (write_field r bytes)
+
+  aside_of : (k : ℕ) (r : Relocation) → meets machine k 1 r ≡ false → (k < r.offset) ⊎ (r.offset + length (value r) ≤ k)
+  aside_of k r misses =
+      let long : length (value r) ≡ field_width machine r.kind = wide r in
+      elim (cases_Bool (nat_lt k r.offset)) [
+        | inl is ↦ inl (ltb-true k r.offset is)
+        | inr is ↦ let from = ltb-false k r.offset is in
+            elim (cases_Bool (nat_lt k (r.offset + field_width machine r.kind))) [
+              | inl below ↦ let to = ltb-true k (r.offset + field_width machine r.kind) below in absurd (true≢false (sym (meets_from machine k 1 r (omega arith) (omega arith)) ∙ misses))
+              | inr beyond ↦ let past = ltb-false k (r.offset + field_width machine r.kind) beyond in inr (omega arith)
+            ]
+      ]
+
+  field_size : (r : Relocation) (bytes : List ℕ) → length (write_field r bytes) ≡ length bytes
+  unfolding write_field
+  field_size r bytes =
+      let long : length (value r) ≡ field_width machine r.kind = wide r in
+      elim (cases_Bool (nat_le (r.offset + field_width machine r.kind) (length bytes))) [
+        | inl is ↦ let within = leb-true (r.offset + field_width machine r.kind) (length bytes) is in rw is (write_size bytes r.offset (value r) (omega arith))
+        | inr is ↦ rw is refl
+      ]
+
+  field_aside : (r : Relocation) (bytes : List ℕ) (k : ℕ) → meets machine k 1 r ≡ false → slice_get (write_field r bytes) k ≡ slice_get bytes k
+  unfolding write_field
+  field_aside r bytes k misses =
+      let long : length (value r) ≡ field_width machine r.kind = wide r in
+      elim (cases_Bool (nat_le (r.offset + field_width machine r.kind) (length bytes))) [
+        | inl is ↦ let within = leb-true (r.offset + field_width machine r.kind) (length bytes) is in
+            rw is (written_aside bytes r.offset (value r) k (omega arith) (aside_of k r misses))
+        | inr is ↦ rw is refl
+      ]
+
+  all_size : (rs : List Relocation) (bytes : List ℕ) → length (write_all rs bytes) ≡ length bytes
+  unfolding write_all
+  all_size [] bytes = refl
+  all_size (r ∷ rs) bytes = all_size rs (write_field r bytes) ∙ field_size r bytes
+
+  all_aside : (rs : List Relocation) (bytes : List ℕ) (k : ℕ) → list_any (meets machine k 1) rs ≡ false → slice_get (write_all rs bytes) k ≡ slice_get bytes k
+  unfolding write_all
+  all_aside [] bytes k none = refl
+  all_aside (r ∷ rs) bytes k none =
+      let parts = or_parts (meets machine k 1 r) (list_any (meets machine k 1) rs) none in
+      all_aside rs (write_field r bytes) k parts.1 ∙ field_aside r bytes k parts.0
+
+  field_written : (r : Relocation) (bytes : List ℕ) (i b : ℕ) → r.offset + field_width machine r.kind ≤ length bytes → slice_get (value r) i ≡ Some b → slice_get (write_field r bytes) (r.offset + i) ≡ Some b
+  unfolding write_field
+  field_written r bytes i b within is =
+      let long : length (value r) ≡ field_width machine r.kind = wide r in
+      rw (le-leb (r.offset + field_width machine r.kind) (length bytes) within) (written_there bytes r.offset (value r) i b (omega arith) is)
+
+  none_met : (rs : List Relocation) (offset count k : ℕ) → filter (meets machine offset count) rs ≡ [] → offset ≤ k → k < offset + count → list_any (meets machine k 1) rs ≡ false
+  none_met [] offset count k none from to = refl
+  none_met (s ∷ rs) offset count k none from to =
+      elim (cases_Bool (meets machine offset count s)) [
+        | inl met ↦ let is : s ∷ filter (meets machine offset count) rs ≡ [] = rw met at none in cc
+        | inr misses ↦
+            let out : meets machine k 1 s ≡ false = false_from_ne_true (meets machine k 1 s) (λ here.
+            let bounds = meets_bounds machine k 1 s here in
+            let low : s.offset < k + 1 = bounds.0 in
+            let high : k < s.offset + field_width machine s.kind = bounds.1 in
+            true≢false (sym (meets_from machine offset count s (omega arith) (omega arith)) ∙ misses)) in
+            rw (out, none_met rs offset count k (rw misses at none) from to) refl
+      ]
+
+  all_there : (rs : List Relocation) (bytes : List ℕ) (r : Relocation) → MeetsAlone machine rs r.offset (field_width machine r.kind) r → r.offset + field_width machine r.kind ≤ length bytes →
+      (i b : ℕ) → slice_get (value r) i ≡ Some b → slice_get (write_all rs bytes) (r.offset + i) ≡ Some b
+  unfolding write_all
+  all_there [] bytes r alone inside i b is = cc
+  all_there (x ∷ rs) bytes r alone inside i b is =
+      let p : Relocation → Bool = meets machine r.offset (field_width machine r.kind) in
+      let long : length (value r) ≡ field_width machine r.kind = wide r in
+      let small : i < length (value r) = slice_get_within (value r) i b is in
+      let size : length (write_field x bytes) ≡ length bytes = field_size x bytes in
+      elim (cases_Bool (meets machine r.offset (field_width machine r.kind) x)) [
+        | inl met ↦
+            let parts = one_left x r (filter p rs) (rw met at alone) in
+            all_aside rs (write_field x bytes) (r.offset + i) (none_met rs r.offset (field_width machine r.kind) (r.offset + i) parts.1 (omega arith) (omega arith))
+            ∙ ap (λ (y : Relocation). slice_get (write_field y bytes) (r.offset + i)) parts.0 ∙ field_written r bytes i b inside is
+        | inr misses ↦ all_there rs (write_field x bytes) r (rw misses at alone) (omega arith) i b is
+      ]
+
+  window_written : (rs : List Relocation) (bytes : List ℕ) (r : Relocation) → MeetsAlone machine rs r.offset (field_width machine r.kind) r → r.offset + field_width machine r.kind ≤ length bytes →
+      field_at (write_all rs bytes) r.offset (field_width machine r.kind) ≡ number_in (value r)
+  window_written rs bytes r alone inside =
+      ap (λ w. number_in (take w (drop r.offset (write_all rs bytes)))) (sym (wide r)) ∙ ap number_in (window_is r.offset (write_all rs bytes) (value r) (all_there rs bytes r alone inside))
+
+-- Numbers in 4 and in 8 bytes.
+
+bytes_in : ℕ → ℕ → List ℕ
+bytes_in width n = take width (u32_bytes n ++ u32_bytes (n / 2 ^ 32))
+
+bytes_long : (width n : ℕ) → width ≤ 8 → length (bytes_in width n) ≡ width
+unfolding bytes_in
+bytes_long width n small =
+    length-take-le width (u32_bytes n ++ u32_bytes (n / 2 ^ 32))
+    (omega (arith, length-append (u32_bytes n) (u32_bytes (n / 2 ^ 32)), length-u32_bytes n, length-u32_bytes (n / 2 ^ 32)))
+
+four_bytes : (n : ℕ) → number_in (bytes_in 4 n) ≡ n % 2 ^ 32
+unfolding bytes_in
+four_bytes n = ap number_in (take_at (u32_bytes n) (u32_bytes (n / 2 ^ 32)) 4 (length-u32_bytes n)) ∙ number-u32 n
+
+eight_joined : (xs ys : List ℕ) → length xs ≡ 4 → number_in (xs ++ ys) ≡ number_in xs + 2 ^ 32 * number_in ys
+eight_joined [] ys four = absurd (omega arith)
+eight_joined (a ∷ []) ys four = absurd (omega arith)
+eight_joined (a ∷ b ∷ []) ys four = absurd (omega arith)
+eight_joined (a ∷ b ∷ c ∷ []) ys four = absurd (omega arith)
+eight_joined (a ∷ b ∷ c ∷ d ∷ []) ys four = omega arith
+eight_joined (a ∷ b ∷ c ∷ d ∷ e ∷ rest) ys four = absurd (omega arith)
+
+two_words : (n : ℕ) → n % 2 ^ 32 + 2 ^ 32 * (n / 2 ^ 32 % 2 ^ 32) ≡ n % 2 ^ 64
+two_words n = omega arith
+
+eight_bytes : (n : ℕ) → number_in (bytes_in 8 n) ≡ n % 2 ^ 64
+unfolding bytes_in
+eight_bytes n =
+    ap number_in (take_all (u32_bytes n ++ u32_bytes (n / 2 ^ 32)) 8 (omega (arith, length-append (u32_bytes n) (u32_bytes (n / 2 ^ 32)), length-u32_bytes n, length-u32_bytes (n / 2 ^ 32))))
+    ∙ eight_joined (u32_bytes n) (u32_bytes (n / 2 ^ 32)) (length-u32_bytes n)
+    ∙ ap (λ k. k + 2 ^ 32 * number_in (u32_bytes (n / 2 ^ 32))) (number-u32 n) ∙ ap (λ k. n % 2 ^ 32 + 2 ^ 32 * k) (number-u32 (n / 2 ^ 32)) ∙ two_words n
+
+width_most : (b : Bool) → (if b then 8 else 4) ≤ 8
+width_most true = omega arith
+width_most false = omega arith
+
+width_small : (machine : MachineType) (type : ℕ) → field_width machine type ≤ 8
+width_small I386 type = omega arith
+width_small ARMNT type = omega arith
+width_small AMD64 type = width_most (type == amd64_addr64)
+width_small ARM64 type = width_most (type == arm64_addr64)
+
+-- ARM64's words with other fields.
+
+branch_kept : (k w : ℕ) → with_bits 0 26 0 (with_bits 0 26 k w) ≡ with_bits 0 26 0 w
+branch_kept k w = omega arith
+
+branch_has : (k w : ℕ) → bits_of 0 26 (with_bits 0 26 k w) ≡ k % 2 ^ 26
+branch_has k w = omega arith
+
+branch_word : (k w : ℕ) → w < 2 ^ 32 → with_bits 0 26 k w < 2 ^ 32
+branch_word k w small = omega arith
+
+load_kept : (k w : ℕ) → with_bits 10 12 0 (with_bits 10 12 k w) ≡ with_bits 10 12 0 w
+load_kept k w = omega arith
+
+load_has : (k w : ℕ) → k < 4096 → bits_of 10 12 (with_bits 10 12 k w) ≡ k
+load_has k w small = omega arith
+
+load_word : (k w : ℕ) → w < 2 ^ 32 → with_bits 10 12 k w < 2 ^ 32
+load_word k w small = omega arith
+
+-- an `adrp` by its parts
+abbrev adrp_of : ℕ → ℕ → ℕ → ℕ → ℕ → ℕ
+adrp_of low high middle immlo top = low + high * 32 + middle * 2 ^ 24 + immlo * 2 ^ 29 + top * 2 ^ 31
+
+adrp_parts : (w : ℕ) → w ≡ adrp_of (w % 32) (w / 32 % 2 ^ 19) (w / 2 ^ 24 % 32) (w / 2 ^ 29 % 4) (w / 2 ^ 31)
+adrp_parts w = omega arith
+
+adrp_with : (k low high middle immlo top : ℕ) → low < 32 → high < 2 ^ 19 → middle < 32 → immlo < 4 → with_adrp k (adrp_of low high middle immlo top) ≡ adrp_of low (k / 4 % 2 ^ 19) middle (k % 4) top
+adrp_with k low high middle immlo top a b c d = omega arith
+
+adrp_reads : (low high middle immlo top : ℕ) → low < 32 → high < 2 ^ 19 → middle < 32 → immlo < 4 → adrp_immediate (adrp_of low high middle immlo top) ≡ high * 4 + immlo
+adrp_reads low high middle immlo top a b c d = omega arith
+
+adrp_kept : (k w : ℕ) → with_adrp 0 (with_adrp k w) ≡ with_adrp 0 w
+adrp_kept k w =
+    let low : ℕ = w % 32 in
+    let high : ℕ = w / 32 % 2 ^ 19 in
+    let middle : ℕ = w / 2 ^ 24 % 32 in
+    let immlo : ℕ = w / 2 ^ 29 % 4 in
+    let top : ℕ = w / 2 ^ 31 in
+    let changed : with_adrp k w ≡ adrp_of low (k / 4 % 2 ^ 19) middle (k % 4) top = ap (with_adrp k) (adrp_parts w) ∙ adrp_with k low high middle immlo top (omega arith) (omega arith) (omega arith) (omega arith) in
+    ap (with_adrp 0) changed ∙ adrp_with 0 low (k / 4 % 2 ^ 19) middle (k % 4) top (omega arith) (omega arith) (omega arith) (omega arith)
+    ∙ sym (ap (with_adrp 0) (adrp_parts w) ∙ adrp_with 0 low high middle immlo top (omega arith) (omega arith) (omega arith) (omega arith))
+
+adrp_has : (k w : ℕ) → adrp_immediate (with_adrp k w) ≡ k % 2 ^ 21
+adrp_has k w =
+    let low : ℕ = w % 32 in
+    let high : ℕ = w / 32 % 2 ^ 19 in
+    let middle : ℕ = w / 2 ^ 24 % 32 in
+    let immlo : ℕ = w / 2 ^ 29 % 4 in
+    let top : ℕ = w / 2 ^ 31 in
+    let changed : with_adrp k w ≡ adrp_of low (k / 4 % 2 ^ 19) middle (k % 4) top = ap (with_adrp k) (adrp_parts w) ∙ adrp_with k low high middle immlo top (omega arith) (omega arith) (omega arith) (omega arith) in
+    let halves : k / 4 % 2 ^ 19 * 4 + k % 4 ≡ k % 2 ^ 21 = omega arith in
+    ap adrp_immediate changed ∙ adrp_reads low (k / 4 % 2 ^ 19) middle (k % 4) top (omega arith) (omega arith) (omega arith) (omega arith) ∙ halves
+
+adrp_word : (k w : ℕ) → w < 2 ^ 32 → with_adrp k w < 2 ^ 32
+adrp_word k w small =
+    let low : ℕ = w % 32 in
+    let high : ℕ = w / 32 % 2 ^ 19 in
+    let middle : ℕ = w / 2 ^ 24 % 32 in
+    let immlo : ℕ = w / 2 ^ 29 % 4 in
+    let top : ℕ = w / 2 ^ 31 in
+    let changed : with_adrp k w ≡ adrp_of low (k / 4 % 2 ^ 19) middle (k % 4) top = ap (with_adrp k) (adrp_parts w) ∙ adrp_with k low high middle immlo top (omega arith) (omega arith) (omega arith) (omega arith) in
+    let most : top < 2 = omega arith in
+    let below : adrp_of low (k / 4 % 2 ^ 19) middle (k % 4) top < 2 ^ 32 = omega arith in
+    subst (λ n. n < 2 ^ 32) (sym changed) below
+
+-- The number of a field, by its type.
+
+number_for : MachineType → ℕ → ℕ → ℕ → ℕ → (ℕ → ℕ) → ℕ
+number_for I386 type image_base position target old =
+    if type == i386_dir32 then old 4 + (image_base + target) else old 4 + target + (2 ^ 32 - (position + 4) % 2 ^ 32)
+number_for ARMNT type image_base position target old = 0
+number_for AMD64 type image_base position target old =
+    if type == amd64_addr64 then old 8 + (image_base + target) else old 4 + target + (2 ^ 32 - (position + 4 + (type - amd64_rel32)) % 2 ^ 32)
+number_for ARM64 type image_base position target old =
+    if type == arm64_addr64 then old 8 + (image_base + target)
+    else if type == arm64_branch26 then with_bits 0 26 (bits_of 0 26 (old 4) + (target + (2 ^ 28 - position % 2 ^ 28)) / 4) (old 4)
+    else if type == arm64_pagebase_rel21
+    then with_adrp (page (image_base + target + adrp_immediate (old 4)) + (2 ^ 21 - page (image_base + position) % 2 ^ 21)) (old 4)
+    else with_bits 10 12 ((image_base + target + ldr_immediate (old 4)) % 4096 / 8) (old 4)
+
+four_word : (n m : ℕ) → n < 2 ^ 32 → m ≡ number_in (bytes_in 4 n) → m ≡ n
+four_word n m small is = let same : n % 2 ^ 32 ≡ n = omega arith in is ∙ four_bytes n ∙ same
+
+number_holds : (machine : MachineType) (type image_base position target : ℕ) (old new : ℕ → ℕ) → old 4 < 2 ^ 32 →
+    new (field_width machine type) ≡ number_in (bytes_in (field_width machine type) (number_for machine type image_base position target old)) → FieldHolds machine type image_base position target old new
+unfolding number_for
+number_holds I386 type image_base position target old new small is = record {
+  dir32 = λ dir. let here : (type == i386_dir32) ≡ true = eq-eqb type i386_dir32 dir in (rw here at is) ∙ four_bytes (old 4 + (image_base + target));
+  rel32 = λ rel.
+      let other : (type == i386_dir32) ≡ false = ne_eqb type i386_dir32 (λ same. omega arith) in
+      (rw other at is) ∙ four_bytes (old 4 + target + (2 ^ 32 - (position + 4) % 2 ^ 32));
+}
+number_holds ARMNT type image_base position target old new small is = tt
+number_holds AMD64 type image_base position target old new small is = record {
+  addr64 = λ addr. let here : (type == amd64_addr64) ≡ true = eq-eqb type amd64_addr64 addr in (rw here at is) ∙ eight_bytes (old 8 + (image_base + target));
+  rel32 = λ further few rel.
+      let other : (type == amd64_addr64) ≡ false = ne_eqb type amd64_addr64 (λ same. omega arith) in
+      let more : type - amd64_rel32 ≡ further = omega arith in
+      subst (λ k. new 4 ≡ (old 4 + target + (2 ^ 32 - (position + 4 + k) % 2 ^ 32)) % 2 ^ 32) more
+      ((rw other at is) ∙ four_bytes (old 4 + target + (2 ^ 32 - (position + 4 + (type - amd64_rel32)) % 2 ^ 32)));
+}
+number_holds ARM64 type image_base position target old new small is = record {
+  addr64 = λ addr. let here : (type == arm64_addr64) ≡ true = eq-eqb type arm64_addr64 addr in (rw here at is) ∙ eight_bytes (old 8 + (image_base + target));
+  branch = λ own near far.
+      let one : (type == arm64_addr64) ≡ false = ne_eqb type arm64_addr64 (λ same. omega arith) in
+      let here : (type == arm64_branch26) ≡ true = eq-eqb type arm64_branch26 own in
+      let k : ℕ = bits_of 0 26 (old 4) + (target + (2 ^ 28 - position % 2 ^ 28)) / 4 in
+      let word : new 4 ≡ with_bits 0 26 k (old 4) = four_word (with_bits 0 26 k (old 4)) (new 4) (branch_word k (old 4) small) (rw (one, here) at is) in
+      (ap (with_bits 0 26 0) word ∙ branch_kept k (old 4), ap (bits_of 0 26) word ∙ branch_has k (old 4));
+  page_of = λ own.
+      let one : (type == arm64_addr64) ≡ false = ne_eqb type arm64_addr64 (λ same. omega arith) in
+      let two : (type == arm64_branch26) ≡ false = ne_eqb type arm64_branch26 (λ same. omega arith) in
+      let here : (type == arm64_pagebase_rel21) ≡ true = eq-eqb type arm64_pagebase_rel21 own in
+      let k : ℕ = page (image_base + target + adrp_immediate (old 4)) + (2 ^ 21 - page (image_base + position) % 2 ^ 21) in
+      let word : new 4 ≡ with_adrp k (old 4) = four_word (with_adrp k (old 4)) (new 4) (adrp_word k (old 4) small) (rw (one, two, here) at is) in
+      (ap (with_adrp 0) word ∙ adrp_kept k (old 4), ap adrp_immediate word ∙ adrp_has k (old 4));
+  offset_of = λ own eight.
+      let one : (type == arm64_addr64) ≡ false = ne_eqb type arm64_addr64 (λ same. omega arith) in
+      let two : (type == arm64_branch26) ≡ false = ne_eqb type arm64_branch26 (λ same. omega arith) in
+      let three : (type == arm64_pagebase_rel21) ≡ false = ne_eqb type arm64_pagebase_rel21 (λ same. omega arith) in
+      let k : ℕ = (image_base + target + ldr_immediate (old 4)) % 4096 / 8 in
+      let word : new 4 ≡ with_bits 10 12 k (old 4) = four_word (with_bits 10 12 k (old 4)) (new 4) (load_word k (old 4) small) (rw (one, two, three) at is) in
+      (ap (with_bits 10 12 0) word ∙ load_kept k (old 4), ap (bits_of 10 12) word ∙ load_has k (old 4) (omega arith));
+}
+
+-- Words of bytes.
+
+all_dropped : (n : ℕ) (xs : List ℕ) → AllByRecursion (λ b. b < 256) xs → AllByRecursion (λ b. b < 256) (drop n xs)
+all_dropped zero xs all = all
+all_dropped (suc n) [] all = tt
+all_dropped (suc n) (x ∷ xs) all = all_dropped n xs all.1
+
+word_small : (xs : List ℕ) → AllByRecursion (λ b. b < 256) xs → number_in (take 4 xs) < 2 ^ 32
+word_small [] all = omega arith
+word_small (a ∷ []) all = let one : a < 256 = all.0 in omega arith
+word_small (a ∷ b ∷ []) all = let one : a < 256 = all.0 in let two : b < 256 = all.1.0 in omega arith
+word_small (a ∷ b ∷ c ∷ []) all = let one : a < 256 = all.0 in let two : b < 256 = all.1.0 in let three : c < 256 = all.1.1.0 in omega arith
+word_small (a ∷ b ∷ c ∷ d ∷ rest) all =
+    let one : a < 256 = all.0 in let two : b < 256 = all.1.0 in let three : c < 256 = all.1.1.0 in let four : d < 256 = all.1.1.1.0 in omega arith
+
+pub linked_bytes : (machine : MachineType) (image_base : ℕ) (targets : ℕ → ℕ) (position : ℕ) (code : ObjectSection) → AllByRecursion (λ b. b < 256) code.bytes →
+    (bytes : List ℕ) × IsRelocated machine image_base targets position code bytes
+linked_bytes machine image_base targets position code all =
+    let value : Relocation → List ℕ = λ r. bytes_in (field_width machine r.kind) (number_for machine r.kind image_base (position + r.offset) (targets r.symbol) (field_at code.bytes r.offset)) in
+    let wide : (r : Relocation) → length (value r) ≡ field_width machine r.kind = λ r.
+    bytes_long (field_width machine r.kind) (number_for machine r.kind image_base (position + r.offset) (targets r.symbol) (field_at code.bytes r.offset)) (width_small machine r.kind) in
+    let bytes : List ℕ = write_all machine value wide code.relocations code.bytes in (
+      bytes,
+      record {
+        size = all_size machine value wide code.relocations code.bytes;
+        kept = λ offset none. all_aside machine value wide code.relocations code.bytes offset none;
+        fields = λ r alone inside.
+            number_holds machine r.kind image_base (position + r.offset) (targets r.symbol) (field_at code.bytes r.offset) (field_at bytes r.offset)
+            (word_small (drop r.offset code.bytes) (all_dropped r.offset code.bytes all)) (window_written machine value wide code.relocations code.bytes r alone inside);
+      },
+    )

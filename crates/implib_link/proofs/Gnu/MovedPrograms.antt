@@ -1,0 +1,61 @@
+-- There is memory of a linked program at any base that it can be moved to.
+use Rattle.std.proofs.Common.{◌≡◌, ℕ, ◌+◌, ◌≤◌, ◌⊎◌, List, [], ◌∷◌, ◌++◌, length, map, Some, refl, ap, sym, ◌∙◌, subst, inr, arith}
+use Rattle.std.specs.Prelude.{slice_get}
+use Rattle.std.specs.List.{AllByRecursion, Contains, flat_map, list_any}
+use Rattle.implib.specs.declared.machine.MachineType.{MachineType}
+use Rattle.implib.specs.Formats.Object.{Entry}
+use Rattle.implib.specs.Link.Image.{Range, range_end}
+use Rattle.implib.specs.Link.Placement.{Placed}
+use Rattle.implib.proofs.Link.LinkedMembers.{among_contains}
+use Rattle.implib.proofs.Link.Ranges.{Among, among_flat, all_among}
+use Rattle.implib_link.specs.Gnu.Fields.{AreLinkedBeside, IsRelocated, LinkedCode, range_of_code, ranges_of_codes}
+use Rattle.implib_link.specs.Gnu.Moves.{AreInMemory, AreMoved, ArePaged, CanBeMoved, absolute_places, places_of_code}
+use Rattle.implib_link.specs.Gnu.Rebased.{IsRebased, Place, absolute_width, covers, table_places}
+use Rattle.implib_link.proofs.Gnu.Choices.{PlaceIn, all_widths, can_rebase, places_apart, places_in, places_widths}
+use Rattle.implib_link.proofs.Gnu.Moved.{among_place, apart_back, places_from}
+use Rattle.implib_link.proofs.Search.Lists.{contains_among}
+
+module _ (machine : MachineType) (image_base : ℕ) (targets : LinkedCode → ℕ → ℕ) where
+  below_end : (c : LinkedCode) → length c.bytes ≡ length c.code.bytes → (ps : List Place) → AllByRecursion (λ (p : Place). p.address + p.width ≤ c.position + length c.code.bytes) ps →
+      AllByRecursion (λ (p : Place). p.address + p.width ≤ range_end (range_of_code c)) ps
+  below_end c size [] below = tt
+  below_end c size (p ∷ ps) below = let end : p.address + p.width ≤ c.position + length c.code.bytes = below.0 in (omega arith, below_end c size ps below.1)
+
+  all_in_code : (codes : List LinkedCode) → AllByRecursion (λ (c : LinkedCode). IsRelocated machine image_base (targets c) c.position c.code c.bytes) codes →
+      AllByRecursion (λ (c : LinkedCode). AllByRecursion (λ (p : Place). p.address + p.width ≤ c.position + length c.code.bytes) (places_of_code machine c)) codes →
+      AllByRecursion (λ (c : LinkedCode). AllByRecursion (PlaceIn (range_of_code c)) (places_of_code machine c)) codes
+  all_in_code [] relocated within = tt
+  all_in_code (c ∷ codes) relocated within = (
+    places_in (range_of_code c) (places_of_code machine c) (places_from machine c.position c.code.relocations) (below_end c relocated.0.size (places_of_code machine c) within.0),
+    all_in_code codes relocated.1 within.1,
+  )
+
+pub moved_memory_exists : (machine : MachineType) (from to : ℕ) (image : List Range) (linked : List Placed) (codes : List LinkedCode) (targets : LinkedCode → ℕ → ℕ) → table_places machine linked ≡ [] →
+    AreLinkedBeside machine from image linked codes targets → CanBeMoved machine codes → ArePaged machine from to → (memory : List Range) × AreInMemory machine to image linked codes targets memory
+moved_memory_exists machine from to image linked codes targets none beside can paged =
+    let ranges : List Range = ranges_of_codes codes in
+    let places : List Place = flat_map (places_of_code machine) codes in
+    let rebased = can_rebase from to (image ++ ranges) places
+    (places_apart range_of_code (places_of_code machine) codes (all_in_code machine from targets codes beside.relocated can.within) can.apart (apart_back image ranges beside.apart))
+    (all_widths (places_of_code machine) (λ c. places_widths machine c.position c.code.relocations) codes) in (
+      rebased.0,
+      inr (
+        from,
+        (
+          places,
+          (
+            paged,
+            record {
+              beside = beside;
+              within = can.within;
+              needed = λ c r width address entry held m is symbol own.
+                  among_contains (record { address = c.position + r.offset; width = width }) (flat_map (places_of_code machine) codes)
+                  (among_flat (places_of_code machine) c codes (record { address = c.position + r.offset; width = width }) (contains_among c codes held)
+                  (among_place machine c.position r width c.code.relocations is (contains_among r c.code.relocations m)));
+              only = λ a byte is covered. ap (λ ps. list_any (covers a) (ps ++ flat_map (places_of_code machine) codes)) none ∙ covered;
+              rebased = rebased.1;
+            },
+          ),
+        ),
+      ),
+    )

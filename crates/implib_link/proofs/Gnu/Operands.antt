@@ -1,0 +1,370 @@
+-- Fields against a name lead to its entry, whatever instruction holds them.
+use Rattle.std.proofs.Common.{◌≡◌, ℕ, zero, suc, ◌+◌, ◌-◌, ◌*◌, ◌/◌, ◌%◌, ◌^◌, ◌<◌, ◌≤◌, ◌⊎◌, true, false, List, [], ◌∷◌, ◌++◌, length, map, take, drop, Option, None, Some, refl, ap, sym, ◌∙◌, subst, inl, inr, arith, true≢false}
+use Rattle.std.specs.Prelude.{◌==◌, if◌then◌else◌, nat_lt, slice_get}
+use Rattle.std.specs.List.{AllByRecursion, Contains, list_any}
+use Rattle.std.proofs.lemmas.Bool.{cases_Bool, false_from_ne_true, ltb-false, ltb-true, ne_eqb}
+use Rattle.std.proofs.lemmas.List.{append_assoc, drop-drop, drop_at, length-append, length-drop, take-append-drop, take_at}
+use Rattle.std.proofs.lemmas.Option.{slice_get_within}
+use Rattle.implib.specs.declared.coff.object.Relocation.{Relocation}
+use Rattle.implib.specs.declared.machine.MachineType.{MachineType}
+use Rattle.implib.specs.declared.machine.MachineType.TheVariants.{I386, ARMNT, AMD64, ARM64}
+use Rattle.implib.specs.Formats.Constants.{amd64_rel32, arm64_pagebase_rel21, arm64_pageoffset_12l, i386_dir32}
+use Rattle.implib.specs.Formats.Object.{ASymbol, Entry, ObjectSymbol}
+use Rattle.implib.specs.Link.Image.{Range}
+use Rattle.implib.specs.Link.Load.{BytesAt, NumberAt, number_in}
+use Rattle.implib.specs.Link.Placement.{Placed}
+use Rattle.implib.specs.Link.Resolution.{definitions_of, symbol_address}
+use Rattle.implib.specs.Members.ImportTables.{thunk_width}
+use Rattle.implib.proofs.Link.LinkedMembers.{among_contains}
+use Rattle.implib.proofs.Link.Ranges.{Among, all_among}
+use Rattle.implib_link.specs.Gnu.Calls.{CanBranch, amd64_addr64, arm64_addr64, arm64_branch26, field_width, i386_rel32}
+use Rattle.implib_link.specs.Gnu.Fields.{DefinesIn, FieldHolds, LinkedCode, MeetsAlone, field_at, meets}
+use Rattle.implib_link.specs.Gnu.Operands.{AllLead, BranchArrives, HasBranch, HasField, HasInstruction, HasOffsetField, HasOperand, HasPageField, HasPointer, InstructionArrives, IsBranch, IsOperand, IsPointer, Names, OperandArrives, PairArrives, PointerArrives, branch_leads, operand_leads}
+use Rattle.implib_link.specs.Gnu.Rebased.{absolute_width, amd64_addr32}
+use Rattle.implib_link.specs.Stub.{adrp_immediate, bits_of, ldr_immediate, page, plus_signed, with_adrp, with_bits}
+use Rattle.implib_link.proofs.Gnu.CallReads.{CanReach}
+use Rattle.implib_link.proofs.Gnu.DirectCalls.{words_lead}
+use Rattle.implib_link.proofs.Gnu.Fields.{alone_same, alone_within, get_drop, meets_bounds, meets_from, meeting}
+use Rattle.implib_link.proofs.Gnu.FieldsInMemory.{Rests, bytes_there, field_there, own_end, steady_there}
+use Rattle.implib_link.proofs.Gnu.Jumps.{near_pages, page_and_offset, pages_add, sum_of_eights, whole_eights}
+use Rattle.implib_link.proofs.Gnu.Memory.{Covers}
+use Rattle.implib_link.proofs.Gnu.MovedCode.{joined}
+use Rattle.implib_link.proofs.Gnu.Program.{gets_address}
+use Rattle.implib_link.proofs.Search.Lists.{among_at, contains_among}
+
+-- Numbers relative to the end of an instruction.
+
+relative : (n old position target after further : ℕ) → n ≡ (old + target + (2 ^ 32 - (position + 4 + further) % 2 ^ 32)) % 2 ^ 32 → (old + after) % 2 ^ 32 ≡ further → (n + (position + 4 + after)) % 2 ^ 32 ≡ target % 2 ^ 32
+relative n old position target after further is counts = omega arith
+
+signed_leads : (n base behind target : ℕ) → n < 2 ^ 32 → (n + behind) % 2 ^ 32 ≡ target % 2 ^ 32 → behind ≤ 2 ^ 31 → target < 2 ^ 31 → plus_signed 32 1 n (base + behind) ≡ base + target
+signed_leads n base behind target small same near low =
+    elim (cases_Bool (nat_lt n (2 ^ 31))) [
+      | inl is ↦ let below = ltb-true n (2 ^ 31) is in rw is (omega arith)
+      | inr is ↦ let above = ltb-false n (2 ^ 31) is in rw is (omega arith)
+    ]
+
+rel32_leads : (n old base position target after further : ℕ) → n ≡ (old + target + (2 ^ 32 - (position + 4 + further) % 2 ^ 32)) % 2 ^ 32 → (old + after) % 2 ^ 32 ≡ further →
+    position + (4 + after) ≤ 2 ^ 31 → target < 2 ^ 31 → plus_signed 32 1 n (base + position + 4 + after) ≡ base + target
+rel32_leads n old base position target after further is counts near small =
+    let place : base + position + 4 + after ≡ base + (position + 4 + after) = omega arith in
+    ap (plus_signed 32 1 n) place ∙ signed_leads n base (position + 4 + after) target (omega arith) (relative n old position target after further is counts) (omega arith) small
+
+dir32_is : (n old base target : ℕ) → n ≡ (old + (base + target)) % 2 ^ 32 → old ≡ 0 → base + 2 ^ 31 ≤ 2 ^ 32 → target < 2 ^ 31 → n ≡ base + target
+dir32_is n old base target is empty fits small = omega arith
+
+addr64_is : (n old base target : ℕ) → n ≡ (old + (base + target)) % 2 ^ 64 → old ≡ 0 → base + 2 ^ 31 ≤ 2 ^ 64 → target < 2 ^ 31 → n ≡ base + target
+addr64_is n old base target is empty fits small = omega arith
+
+-- Types of relative fields.
+
+not_addr64 : (type further : ℕ) → type ≡ amd64_rel32 + further → (type == amd64_addr64) ≡ false
+not_addr64 type further is = ne_eqb type amd64_addr64 (λ same. omega arith)
+
+not_addr32 : (type further : ℕ) → type ≡ amd64_rel32 + further → (type == amd64_addr32) ≡ false
+not_addr32 type further is = ne_eqb type amd64_addr32 (λ same. omega arith)
+
+pub operand_width : (machine : MachineType) (type after number : ℕ) → IsOperand machine type after number → field_width machine type ≡ 4
+operand_width I386 type after number counts = refl
+operand_width ARMNT type after number counts = absurd counts
+operand_width AMD64 type after number counts = rw (not_addr64 type counts.0 counts.1.1.0) refl
+operand_width ARM64 type after number counts = absurd counts
+
+branch_width : (machine : MachineType) (type after number : ℕ) → IsBranch machine type after number → field_width machine type ≡ 4
+branch_width I386 type after number counts = refl
+branch_width ARMNT type after number counts = absurd counts
+branch_width AMD64 type after number counts = operand_width AMD64 type after number counts
+branch_width ARM64 type after number counts = subst (λ t. field_width ARM64 t ≡ 4) (sym counts.0) refl
+
+branch_steady : (machine : MachineType) (type after number : ℕ) → IsBranch machine type after number → absolute_width machine type ≡ None
+branch_steady I386 type after number counts = subst (λ t. absolute_width I386 t ≡ None) (sym counts.0) refl
+branch_steady ARMNT type after number counts = absurd counts
+branch_steady AMD64 type after number counts = rw (not_addr64 type counts.0 counts.1.1.0, not_addr32 type counts.0 counts.1.1.0) refl
+branch_steady ARM64 type after number counts = subst (λ t. absolute_width ARM64 t ≡ None) (sym counts.0) refl
+
+pointer_width : (machine : MachineType) (type : ℕ) → IsPointer machine type → field_width machine type ≡ thunk_width machine
+pointer_width I386 type stores = refl
+pointer_width ARMNT type stores = absurd stores
+pointer_width AMD64 type stores = subst (λ t. field_width AMD64 t ≡ 8) (sym stores) refl
+pointer_width ARM64 type stores = subst (λ t. field_width ARM64 t ≡ 8) (sym stores) refl
+
+-- Where they lead, by the machines.
+
+operand_by : (machine : MachineType) (type base position target after : ℕ) (old new : ℕ → ℕ) → IsOperand machine type after (old 4) → FieldHolds machine type base position target old new →
+    CanReach machine base target → position + (4 + after) ≤ 2 ^ 31 → target < 2 ^ 31 → operand_leads machine (base + position) after (new 4) ≡ Some (base + target)
+operand_by I386 type base position target after old new counts holds can near small = ap Some (dir32_is (new 4) (old 4) base target (holds.dir32 counts.0) counts.1 can small)
+operand_by ARMNT type base position target after old new counts holds can near small = absurd counts
+operand_by AMD64 type base position target after old new (further, (few, (is, ends))) holds can near small =
+    ap Some (rel32_leads (new 4) (old 4) base position target after further (holds.rel32 further few is) ends near small)
+operand_by ARM64 type base position target after old new counts holds can near small = absurd counts
+
+branch_by : (machine : MachineType) (type base position target after : ℕ) (old new : ℕ → ℕ) → IsBranch machine type after (old 4) → FieldHolds machine type base position target old new →
+    CanBranch machine position target → position + (4 + after) ≤ 2 ^ 31 → target < 2 ^ 31 → branch_leads machine (base + position) after (new 4) ≡ Some (base + target)
+branch_by I386 type base position target after old new counts holds can near small =
+    let same : position + 4 + 0 ≡ position + 4 = omega arith in
+    ap Some (rel32_leads (new 4) (old 4) base position target after 0 (subst (λ k. new 4 ≡ (old 4 + target + (2 ^ 32 - k % 2 ^ 32)) % 2 ^ 32) (sym same) (holds.rel32 counts.0)) counts.1 near small)
+branch_by ARMNT type base position target after old new counts holds can near small = absurd counts
+branch_by AMD64 type base position target after old new (further, (few, (is, ends))) holds can near small =
+    ap Some (rel32_leads (new 4) (old 4) base position target after further (holds.rel32 further few is) ends near small)
+branch_by ARM64 type base position target after old new counts holds can near small =
+    let word = (holds.branch counts.0 can.2 can.3).1 in
+    let words : ℕ = (target + (2 ^ 28 - position % 2 ^ 28)) / 4 in
+    let plain : 0 + words ≡ words = omega arith in
+    let field : bits_of 0 26 (new 4) ≡ words % 2 ^ 26 = word ∙ ap (λ n. (n + words) % 2 ^ 26) counts.1 ∙ ap (λ n. n % 2 ^ 26) plain in
+    ap Some (words_lead base position target can.0 can.1 can.2 can.3 (bits_of 0 26 (new 4)) field)
+
+pointer_by : (machine : MachineType) (type base position target : ℕ) (old new : ℕ → ℕ) → IsPointer machine type → old (thunk_width machine) ≡ 0 → FieldHolds machine type base position target old new →
+    CanReach machine base target → base + 2 ^ 31 ≤ 2 ^ 64 → target < 2 ^ 31 → new (thunk_width machine) ≡ base + target
+pointer_by I386 type base position target old new stores empty holds can fits small = dir32_is (new 4) (old 4) base target (holds.dir32 stores) empty can small
+pointer_by ARMNT type base position target old new stores empty holds can fits small = absurd stores
+pointer_by AMD64 type base position target old new stores empty holds can fits small = addr64_is (new 8) (old 8) base target (holds.addr64 stores) empty fits small
+pointer_by ARM64 type base position target old new stores empty holds can fits small = addr64_is (new 8) (old 8) base target (holds.addr64 stores) empty fits small
+
+-- ARM64's page and offset.
+
+page_leads : (new old base first target : ℕ) → adrp_immediate new ≡ (page (base + target + adrp_immediate old) + (2 ^ 21 - page (base + first) % 2 ^ 21)) % 2 ^ 21 → adrp_immediate old ≡ 0 →
+    first + 16 ≤ 2 ^ 31 → target < 2 ^ 31 → plus_signed 21 4096 (adrp_immediate new) (page (base + first) * 4096) ≡ page (base + target) * 4096
+page_leads new old base first target is empty near small =
+    let pages = near_pages base first target near small in
+    let plain : base + target + 0 ≡ base + target = omega arith in
+    ap (λ n. plus_signed 21 4096 n (page (base + first) * 4096))
+    (is ∙ ap (λ n. (page (base + target + n) + (2 ^ 21 - page (base + first) % 2 ^ 21)) % 2 ^ 21) empty ∙ ap (λ n. (page n + (2 ^ 21 - page (base + first) % 2 ^ 21)) % 2 ^ 21) plain)
+    ∙ pages_add (page (base + first)) (page (base + target)) pages.0 pages.1
+
+same_size : (new old : ℕ) → with_bits 10 12 0 new ≡ with_bits 10 12 0 old → bits_of 30 2 new ≡ bits_of 30 2 old
+same_size new old same = omega arith
+
+offset_leads : (new old base target : ℕ) → with_bits 10 12 0 new ≡ with_bits 10 12 0 old → bits_of 30 2 old ≡ 3 → bits_of 10 12 new ≡ (base + target + ldr_immediate old) % 4096 / 8 → ldr_immediate old ≡ 0 →
+    (base + target) % 8 ≡ 0 → ldr_immediate new ≡ (base + target) % 4096
+offset_leads new old base target same eight is empty even =
+    let plain : base + target + 0 ≡ base + target = omega arith in
+    ap (λ k. bits_of 10 12 new * 2 ^ k) (same_size new old same ∙ eight)
+    ∙ ap (λ n. n * 8) (is ∙ ap (λ n. (base + target + n) % 4096 / 8) empty ∙ ap (λ n. n % 4096 / 8) plain)
+    ∙ whole_eights (base + target) even
+
+pair_leads : (adrp load paged offset target : ℕ) → paged ≡ page target * 4096 → offset ≡ target % 4096 → paged + offset ≡ target
+pair_leads adrp load paged offset target first second = rw (first, second) (page_and_offset target)
+
+-- An instruction in code.
+
+record Parts (c : LinkedCode) (offset : ℕ) (head field tail : List ℕ) : Type 0 where
+  back : List ℕ
+  whole : drop offset c.code.bytes ≡ head ++ (field ++ (tail ++ back))
+
+parts_of : (c : LinkedCode) (offset count : ℕ) (head field tail : List ℕ) → take count (drop offset c.code.bytes) ≡ head ++ (field ++ tail) → Parts c offset head field tail
+parts_of c offset count head field tail is =
+    let back : List ℕ = drop count (drop offset c.code.bytes) in
+    record {
+      back = back;
+      whole = sym (take-append-drop count (drop offset c.code.bytes)) ∙ ap (λ xs. xs ++ back) is ∙ append_assoc head (field ++ tail) back ∙ ap (λ xs. head ++ xs) (append_assoc field tail back);
+    }
+
+get_front : (xs ys : List ℕ) (i b : ℕ) → slice_get xs i ≡ Some b → slice_get (xs ++ ys) i ≡ Some b
+get_front [] ys i b is = cc
+get_front (x ∷ xs) ys zero b is = is
+get_front (x ∷ xs) ys (suc i) b is = get_front xs ys i b is
+
+module _ (machine : MachineType) (image_base : ℕ) (image : List Range) (linked : List Placed) (codes : List LinkedCode) (targets : LinkedCode → ℕ → ℕ) (memory : List Range)
+    (at : Rests machine image_base image linked codes targets memory) (written : List Range) (covers_it : AllByRecursion (Covers image) written) where
+  -- a branch leads to where linked code defines its name
+  pub branch_arrives : (c d : LinkedCode) (offset after : ℕ) (name : List ℕ) (t : ObjectSymbol) → Contains codes c → HasBranch machine c offset after name → Contains codes d → DefinesIn d t → t.name ≡ name →
+      d.position + t.value < 2 ^ 31 → CanBranch machine (c.position + offset) (d.position + t.value) →
+      BranchArrives machine image_base (written ++ memory) (c.position + offset) after (d.position + t.value)
+  branch_arrives c d offset after name t held has d_held defines named small can =
+      let m : Among c codes = contains_among c codes held in
+      let names = has.field.names in
+      let wide : field_width machine has.type ≡ 4 = branch_width machine has.type after (field_at c.code.bytes offset 4) has.counts in
+      let target : targets c has.field.symbol ≡ d.position + t.value = at.beside.resolved.code c d has.field.symbol names.symbol t held d_held names.target names.undefined defines (named ∙ sym names.named) in
+      let found = steady_there machine image_base image linked codes targets memory at written covers_it c m offset has.type has.field.symbol has.field.alone has.field.inside
+      (branch_steady machine has.type after (field_at c.code.bytes offset 4) has.counts) in
+      let end : c.position + length c.code.bytes + 16 ≤ 2 ^ 31 = own_end machine image_base image linked codes targets memory at written covers_it c m in
+      let within : offset + (4 + after) ≤ length c.code.bytes = has.within in
+      record {
+        number = found.0 4;
+        there = subst (λ w. NumberAt (written ++ memory) w (c.position + offset) (found.0 w)) wide found.1.0;
+        leads = branch_by machine has.type image_base (c.position + offset) (d.position + t.value) after (field_at c.code.bytes offset) found.0 has.counts
+            (subst (λ n. FieldHolds machine has.type image_base (c.position + offset) n (field_at c.code.bytes offset) found.0) target found.1.1) can (omega arith) small;
+      }
+
+  -- what leads to the only definition of a name, where these bytes are
+  module _ (name bytes : List ℕ) (entry : ℕ) (once : definitions_of name linked ≡ record { name = name; address = Some entry } ∷ []) (small : entry < 2 ^ 31) (can : CanReach machine image_base entry)
+      (located : BytesAt (written ++ memory) entry bytes) where
+    abbrev Found : LinkedCode → ℕ → ℕ → Type 0
+    Found c offset type =
+        (new : ℕ → ℕ) × (NumberAt (written ++ memory) (field_width machine type) (c.position + offset) (new (field_width machine type))
+        × FieldHolds machine type image_base (c.position + offset) entry (field_at c.code.bytes offset) new)
+
+    found_at : (c : LinkedCode) (offset type symbol : ℕ) → Contains codes c → MeetsAlone machine c.code.relocations offset (field_width machine type) (record { offset = offset; symbol = symbol; kind = type }) →
+        offset + field_width machine type ≤ length c.code.bytes → (x : Entry) → slice_get c.from.object.entries symbol ≡ Some x → symbol_address linked c.from x ≡ Some entry → Found c offset type
+    found_at c offset type symbol held alone inside x got placed =
+        field_there machine image_base image linked codes targets memory at written covers_it c (contains_among c codes held) offset type symbol alone inside entry x got placed
+
+    placed_by : (c : LinkedCode) (symbol : ℕ) → Contains codes c → (names : Names c.from symbol name) → symbol_address linked c.from (ASymbol names.symbol) ≡ Some entry
+    placed_by c symbol held names =
+        gets_address linked name entry once c.from names.symbol (all_among (λ (x : LinkedCode). Contains linked x.from) c codes (contains_among c codes held) at.beside.held)
+        (among_contains (ASymbol names.symbol) c.from.object.entries (among_at (ASymbol names.symbol) c.from.object.entries symbol names.target)) names.undefined names.named
+
+    found_by : (c : LinkedCode) (offset type symbol : ℕ) → Contains codes c → MeetsAlone machine c.code.relocations offset (field_width machine type) (record { offset = offset; symbol = symbol; kind = type }) →
+        offset + field_width machine type ≤ length c.code.bytes → Names c.from symbol name → Found c offset type
+    found_by c offset type symbol held alone inside names = found_at c offset type symbol held alone inside (ASymbol names.symbol) names.target (placed_by c symbol held names)
+
+    end_of : (c : LinkedCode) → Contains codes c → c.position + length c.code.bytes + 16 ≤ 2 ^ 31
+    end_of c held = own_end machine image_base image linked codes targets memory at written covers_it c (contains_among c codes held)
+
+    operand_arrives : (c : LinkedCode) (offset after : ℕ) → Contains codes c → HasOperand machine c offset after name → OperandArrives machine image_base linked (written ++ memory) (c.position + offset) after name bytes
+    operand_arrives c offset after held has =
+        let wide : field_width machine has.type ≡ 4 = operand_width machine has.type after (field_at c.code.bytes offset 4) has.counts in
+        let found : Found c offset has.type = found_by c offset has.type has.field.symbol held has.field.alone has.field.inside has.field.names in
+        let end : c.position + length c.code.bytes + 16 ≤ 2 ^ 31 = end_of c held in
+        let within : offset + (4 + after) ≤ length c.code.bytes = has.within in
+        record {
+          number = found.0 4;
+          there = subst (λ w. NumberAt (written ++ memory) w (c.position + offset) (found.0 w)) wide found.1.0;
+          entry = entry;
+          own = once;
+          leads = operand_by machine has.type image_base (c.position + offset) entry after (field_at c.code.bytes offset) found.0 has.counts found.1.1 can (omega arith) small;
+          located = located;
+        }
+
+    pointer_arrives : (c : LinkedCode) (offset : ℕ) → image_base + 2 ^ 31 ≤ 2 ^ 64 → Contains codes c → HasPointer machine c offset name → PointerArrives machine image_base linked (written ++ memory) (c.position + offset) name bytes
+    pointer_arrives c offset fits held has =
+        let found : Found c offset has.type = found_by c offset has.type has.field.symbol held has.field.alone has.field.inside has.field.names in
+        record {
+          entry = entry;
+          own = once;
+          there = subst (λ n. NumberAt (written ++ memory) (thunk_width machine) (c.position + offset) n)
+              (pointer_by machine has.type image_base (c.position + offset) entry (field_at c.code.bytes offset) found.0 has.stores has.empty found.1.1 can fits small)
+              (subst (λ w. NumberAt (written ++ memory) w (c.position + offset) (found.0 w)) (pointer_width machine has.type has.stores) found.1.0);
+          located = located;
+        }
+
+    -- an instruction with an operand against a symbol that has the entry's address
+    pub instruction_at : (c : LinkedCode) (offset : ℕ) (head field tail : List ℕ) (type symbol : ℕ) → Contains codes c →
+        MeetsAlone machine c.code.relocations offset (length head + (4 + length tail)) (record { offset = offset + length head; symbol = symbol; kind = type }) → length field ≡ 4 →
+        take (length head + (4 + length tail)) (drop offset c.code.bytes) ≡ head ++ (field ++ tail) → IsOperand machine type (length tail) (number_in field) →
+        (x : Entry) → slice_get c.from.object.entries symbol ≡ Some x → symbol_address linked c.from x ≡ Some entry →
+        InstructionArrives machine image_base linked (written ++ memory) (c.position + offset) head tail name bytes
+    instruction_at c offset head field tail type symbol held alone_in four code counts x got placed =
+        let m : Among c codes = contains_among c codes held in
+        let inner : ℕ = offset + length head in
+        let last : ℕ = inner + 4 in
+        let count : ℕ = length head + (4 + length tail) in
+        let r : Relocation = record { offset = inner; symbol = symbol; kind = type } in
+        let wide : field_width machine type ≡ 4 = operand_width machine type (length tail) (number_in field) counts in
+        let parts : Parts c offset head field tail = parts_of c offset count head field tail code in
+        let size : length c.code.bytes - offset ≡ length head + (length field + (length tail + length parts.back)) =
+        sym (length-drop offset c.code.bytes) ∙ ap length parts.whole
+        ∙ (let sum : length (head ++ (field ++ (tail ++ parts.back))) ≡ length head + (length field + (length tail + length parts.back)) =
+        omega (arith, length-append head (field ++ (tail ++ parts.back)), length-append field (tail ++ parts.back), length-append tail parts.back) in sum) in
+        let within : offset + count ≤ length c.code.bytes = omega arith in
+        let inside : inner + field_width machine type ≤ length c.code.bytes = omega arith in
+        let alone : MeetsAlone machine c.code.relocations inner (field_width machine type) r =
+        alone_within machine c.code.relocations offset count inner (field_width machine type) r alone_in (omega arith) (omega arith) (meets_from machine inner (field_width machine type) r (omega arith) (omega arith)) in
+        let found : Found c inner type = found_at c inner type symbol held alone inside x got placed in
+        let end : c.position + length c.code.bytes + 16 ≤ 2 ^ 31 = end_of c held in
+        let at_field : drop inner c.code.bytes ≡ field ++ (tail ++ parts.back) =
+        sym (drop-drop (length head) offset c.code.bytes) ∙ ap (drop (length head)) parts.whole ∙ drop_at head (field ++ (tail ++ parts.back)) (length head) refl in
+        let at_tail : drop last c.code.bytes ≡ tail ++ parts.back = sym (drop-drop 4 inner c.code.bytes) ∙ ap (drop 4) at_field ∙ drop_at field (tail ++ parts.back) 4 four in
+        let old : field_at c.code.bytes inner 4 ≡ number_in field = ap (λ xs. number_in (take 4 xs)) at_field ∙ ap number_in (take_at field (tail ++ parts.back) 4 four) in
+        let clear : (k : ℕ) → offset ≤ k → k < offset + count → (k < inner) ⊎ (last ≤ k) → list_any (meets machine k 1) c.code.relocations ≡ false = λ k low high beside.
+        false_from_ne_true (list_any (meets machine k 1) c.code.relocations) (λ met.
+        let s = meeting machine k c.code.relocations met in
+        let bounds = meets_bounds machine k 1 s.0 s.1.1 in
+        let from : s.0.offset < k + 1 = bounds.0 in
+        let to : k < s.0.offset + field_width machine s.0.kind = bounds.1 in
+        let same : s.0 ≡ r = alone_same machine c.code.relocations offset count r alone_in s.0 s.1.0 (meets_from machine offset count s.0 (omega arith) (omega arith)) in
+        let place : s.0.offset ≡ inner = ap (λ (x : Relocation). x.offset) same in
+        let kind : field_width machine s.0.kind ≡ 4 = ap (λ (x : Relocation). field_width machine x.kind) same ∙ wide in
+        elim beside [ inl before ↦ omega arith | inr after ↦ omega arith ]) in
+        let number : NumberAt (written ++ memory) 4 (c.position + inner) (found.0 4) = subst (λ w. NumberAt (written ++ memory) w (c.position + inner) (found.0 w)) wide found.1.0 in
+        let head_there : BytesAt (written ++ memory) (c.position + offset) head =
+        bytes_there machine image_base image linked codes targets memory at written covers_it c m offset head (λ i b is.
+        let below : i < length head = slice_get_within head i b is in (
+          sym (get_drop offset c.code.bytes i) ∙ ap (λ xs. slice_get xs i) parts.whole ∙ get_front head (field ++ (tail ++ parts.back)) i b is,
+          clear (offset + i) (omega arith) (omega arith) (inl (omega arith)),
+        )) in
+        let tail_there : BytesAt (written ++ memory) (c.position + last) tail =
+        bytes_there machine image_base image linked codes targets memory at written covers_it c m last tail (λ i b is.
+        let below : i < length tail = slice_get_within tail i b is in (
+          sym (get_drop last c.code.bytes i) ∙ ap (λ xs. slice_get xs i) at_tail ∙ get_front tail parts.back i b is,
+          clear (last + i) (omega arith) (omega arith) (inr (omega arith)),
+        )) in
+        let counted : length number.bytes ≡ 4 = number.count in
+        let field_place : c.position + inner ≡ c.position + offset + length head = omega arith in
+        let tail_place : c.position + last ≡ c.position + inner + length number.bytes = omega arith in
+        record {
+          field = number.bytes;
+          four = number.count;
+          there = joined (written ++ memory) head (number.bytes ++ tail) (c.position + offset) head_there
+              (subst (λ n. BytesAt (written ++ memory) n (number.bytes ++ tail)) field_place
+              (joined (written ++ memory) number.bytes tail (c.position + inner) number.located (subst (λ n. BytesAt (written ++ memory) n tail) tail_place tail_there)));
+          entry = entry;
+          own = once;
+          leads = ap (λ n. operand_leads machine (image_base + n) (length tail) (number_in number.bytes)) (sym field_place)
+              ∙ ap (operand_leads machine (image_base + (c.position + inner)) (length tail)) number.value
+              ∙ operand_by machine type image_base (c.position + inner) entry (length tail) (field_at c.code.bytes inner) found.0
+              (subst (IsOperand machine type (length tail)) (sym old) counts) found.1.1 can (omega arith) small;
+          located = located;
+        }
+
+    instruction_arrives : (c : LinkedCode) (offset : ℕ) (head tail : List ℕ) → Contains codes c → HasInstruction machine c offset head tail name →
+        InstructionArrives machine image_base linked (written ++ memory) (c.position + offset) head tail name bytes
+    instruction_arrives c offset head tail held has =
+        instruction_at c offset head has.field tail has.type has.symbol held has.alone has.four has.code has.counts (ASymbol has.names.symbol) has.names.target (placed_by c has.symbol held has.names)
+
+-- ARM64's two instructions, of fields against symbols that have the entry's address.
+pub pair_at : (image_base : ℕ) (image : List Range) (linked : List Placed) (codes : List LinkedCode) (targets : LinkedCode → ℕ → ℕ) (memory : List Range) (at : Rests ARM64 image_base image linked codes targets memory)
+    (written : List Range) (covers_it : AllByRecursion (Covers image) written) (name bytes : List ℕ) (entry : ℕ) → definitions_of name linked ≡ record { name = name; address = Some entry } ∷ [] → entry < 2 ^ 31 →
+    CanReach ARM64 image_base entry → BytesAt (written ++ memory) entry bytes → (c d : LinkedCode) (first second page_symbol offset_symbol : ℕ) → Contains codes c → Contains codes d →
+    MeetsAlone ARM64 c.code.relocations first 4 (record { offset = first; symbol = page_symbol; kind = arm64_pagebase_rel21 }) → first + 4 ≤ length c.code.bytes →
+    MeetsAlone ARM64 d.code.relocations second 4 (record { offset = second; symbol = offset_symbol; kind = arm64_pageoffset_12l }) → second + 4 ≤ length d.code.bytes →
+    adrp_immediate (field_at c.code.bytes first 4) ≡ 0 → bits_of 30 2 (field_at d.code.bytes second 4) ≡ 3 → ldr_immediate (field_at d.code.bytes second 4) ≡ 0 →
+    (x : Entry) → slice_get c.from.object.entries page_symbol ≡ Some x → symbol_address linked c.from x ≡ Some entry →
+    (y : Entry) → slice_get d.from.object.entries offset_symbol ≡ Some y → symbol_address linked d.from y ≡ Some entry →
+    PairArrives image_base linked (written ++ memory) (c.position + first) (d.position + second) (field_at c.code.bytes first 4) (field_at d.code.bytes second 4) name bytes
+pair_at image_base image linked codes targets memory at written covers_it name bytes entry once small can located c d first second page_symbol offset_symbol c_held d_held page_alone page_inside offset_alone offset_inside
+    page_empty eight offset_empty x x_got x_placed y y_got y_placed =
+    let paged = found_at ARM64 image_base image linked codes targets memory at written covers_it name bytes entry once small can located c first arm64_pagebase_rel21 page_symbol c_held page_alone page_inside x x_got x_placed in
+    let placed = found_at ARM64 image_base image linked codes targets memory at written covers_it name bytes entry once small can located d second arm64_pageoffset_12l offset_symbol d_held offset_alone offset_inside y y_got y_placed in
+    let end : c.position + length c.code.bytes + 16 ≤ 2 ^ 31 = end_of ARM64 image_base image linked codes targets memory at written covers_it name bytes entry once small can located c c_held in
+    let page_holds = paged.1.1.page_of refl in
+    let offset_holds = placed.1.1.offset_of refl eight in
+    record {
+      adrp = paged.0 4;
+      adrp_there = paged.1.0;
+      is_adrp = page_holds.0;
+      load = placed.0 4;
+      load_there = placed.1.0;
+      is_load = offset_holds.0;
+      entry = entry;
+      own = once;
+      leads = pair_leads (paged.0 4) (placed.0 4) (plus_signed 21 4096 (adrp_immediate (paged.0 4)) (page (image_base + (c.position + first)) * 4096)) (ldr_immediate (placed.0 4)) (image_base + entry)
+          (page_leads (paged.0 4) (field_at c.code.bytes first 4) image_base (c.position + first) entry page_holds.1 page_empty (omega arith) small)
+          (offset_leads (placed.0 4) (field_at d.code.bytes second 4) image_base entry offset_holds.0 eight offset_holds.1 offset_empty (sum_of_eights image_base entry can.0 can.1));
+      located = located;
+    }
+
+pairs_arrive : (machine : MachineType) (image_base : ℕ) (image : List Range) (linked : List Placed) (codes : List LinkedCode) (targets : LinkedCode → ℕ → ℕ) (memory : List Range) (at : Rests machine image_base image linked codes targets memory)
+    (written : List Range) (covers_it : AllByRecursion (Covers image) written) (name bytes : List ℕ) (entry : ℕ) → definitions_of name linked ≡ record { name = name; address = Some entry } ∷ [] → entry < 2 ^ 31 →
+    CanReach machine image_base entry → BytesAt (written ++ memory) entry bytes → (c d : LinkedCode) (first second : ℕ) → machine ≡ ARM64 → Contains codes c → Contains codes d → HasPageField c first name → HasOffsetField d second name →
+    PairArrives image_base linked (written ++ memory) (c.position + first) (d.position + second) (field_at c.code.bytes first 4) (field_at d.code.bytes second 4) name bytes
+pairs_arrive I386 image_base image linked codes targets memory at written covers_it name bytes entry once small can located c d first second is c_held d_held page_field offset_field = cc
+pairs_arrive ARMNT image_base image linked codes targets memory at written covers_it name bytes entry once small can located c d first second is c_held d_held page_field offset_field = absurd can
+pairs_arrive AMD64 image_base image linked codes targets memory at written covers_it name bytes entry once small can located c d first second is c_held d_held page_field offset_field = cc
+pairs_arrive ARM64 image_base image linked codes targets memory at written covers_it name bytes entry once small can located c d first second is c_held d_held page_field offset_field =
+    let x = page_field.field.names in
+    let y = offset_field.field.names in
+    pair_at image_base image linked codes targets memory at written covers_it name bytes entry once small can located c d first second page_field.field.symbol offset_field.field.symbol c_held d_held
+    page_field.field.alone page_field.field.inside offset_field.field.alone offset_field.field.inside page_field.empty offset_field.eight offset_field.empty
+    (ASymbol x.symbol) x.target (placed_by ARM64 image_base image linked codes targets memory at written covers_it name bytes entry once small can located c page_field.field.symbol c_held x)
+    (ASymbol y.symbol) y.target (placed_by ARM64 image_base image linked codes targets memory at written covers_it name bytes entry once small can located d offset_field.field.symbol d_held y)
+
+pub all_lead : (machine : MachineType) (image_base : ℕ) (image : List Range) (linked : List Placed) (codes : List LinkedCode) (targets : LinkedCode → ℕ → ℕ) (memory : List Range) → Rests machine image_base image linked codes targets memory →
+    (written : List Range) → AllByRecursion (Covers image) written → (name bytes : List ℕ) (entry : ℕ) → definitions_of name linked ≡ record { name = name; address = Some entry } ∷ [] → entry < 2 ^ 31 →
+    CanReach machine image_base entry → BytesAt (written ++ memory) entry bytes → AllLead machine image_base linked codes (written ++ memory) name bytes
+all_lead machine image_base image linked codes targets memory at written covers_it name bytes entry once small can located = record {
+  operands = operand_arrives machine image_base image linked codes targets memory at written covers_it name bytes entry once small can located;
+  instructions = instruction_arrives machine image_base image linked codes targets memory at written covers_it name bytes entry once small can located;
+  pairs = pairs_arrive machine image_base image linked codes targets memory at written covers_it name bytes entry once small can located;
+  pointers = pointer_arrives machine image_base image linked codes targets memory at written covers_it name bytes entry once small can located;
+}

@@ -1,0 +1,13 @@
+use Rattle.implib_link.proofs.Worked.RefusedFields.{refused_branches, refused_code, refused_instructions, refused_moves, refused_operands, refused_pairs, refused_pointers}
+use Rattle.implib_link.proofs.laws.operands.refused_fields.Goals as goal
+
+pub returns : goal.returns
+returns c = record {
+  code = refused_code;
+  operands = refused_operands;
+  instructions = refused_instructions;
+  pointers = refused_pointers;
+  branches = refused_branches;
+  pairs = refused_pairs;
+  moves = refused_moves;
+}
