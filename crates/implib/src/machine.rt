@@ -63,8 +63,8 @@ impl MachineType {
         }
     }
 
-    /// Whether a C symbol begins with an underscore that its name in C lacks.
-    pub(crate) fn has_leading_underscore(self) -> bool
+    /// Whether a C symbol begins with an underscore that its name in C lacks: on I386 alone.
+    pub fn has_leading_underscore(self) -> bool
         ensures { result ≡ has_leading_underscore self }
     {
         self == MachineType::I386

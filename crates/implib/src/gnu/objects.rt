@@ -47,8 +47,21 @@ const ENTRY_FLAGS: u32 = flags::ALIGN_4BYTES | flags::MEM_READ | flags::MEM_WRIT
 // The top bit of a thunk, in its last byte, marks an ordinal.
 const ORDINAL_BYTE: u8 = 0x80;
 
+// The indexes of the head's symbols of its address table and its lookup table, and of that of the
+// DLL's name. The file's symbol and its auxiliary record are 0 and 1.
+const HEAD_ADDRESS_TABLE: u32 = 2;
+
+const HEAD_LOOKUP_TABLE: u32 = 3;
+
+const HEAD_NAME: u32 = 5;
+
 // The index of an export's `__imp_` symbol, where the export has code.
 const IMP_SYMBOL: u32 = 2;
+
+// The index of the symbol of an export's hint/name table entry, without code and with.
+const HINT_NAME_OF_DATA: u32 = 2;
+
+const HINT_NAME_OF_CODE: u32 = 3;
 
 // The auxiliary record of the file's name.
 const FILE_AUXILIARY: [u8; 18] = *b"fake\0\0\0\0\0\0\0\0\0\0\0\0\0\0";
@@ -132,9 +145,9 @@ pub(crate) fn head_object(
     ensures { EncodesObject (layout_of (head_object machine library.now)) result }
 {
     let relocations = [
-        image_relocation(machine, descriptor::LOOKUP_TABLE, 3),
-        image_relocation(machine, descriptor::ADDRESS_TABLE, 2),
-        image_relocation(machine, descriptor::NAME, 5),
+        image_relocation(machine, descriptor::LOOKUP_TABLE, HEAD_LOOKUP_TABLE),
+        image_relocation(machine, descriptor::ADDRESS_TABLE, HEAD_ADDRESS_TABLE),
+        image_relocation(machine, descriptor::NAME, HEAD_NAME),
     ];
     let sections = head_or_tail_sections(
         section(
@@ -258,7 +271,11 @@ fn thunk(export: &ShortExport, machine: MachineType) -> [u8; 8]
 fn hint_name_symbol(export: &ShortExport) -> u32
     ensures { result ≡ hint_name_symbol (export_view export.now) }
 {
-    if export.is_data { 2 } else { 3 }
+    if export.is_data {
+        HINT_NAME_OF_DATA
+    } else {
+        HINT_NAME_OF_CODE
+    }
 }
 
 // The relocations of a thunk; an ordinal has none.
