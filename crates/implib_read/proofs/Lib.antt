@@ -9,3 +9,7 @@ pub mod MemberClasses
 pub mod Records
 pub mod Texts
 pub mod WorkedBytes
+pub mod OwnArchives
+pub mod OwnMembers
+pub mod OwnMsvc
+pub mod OwnWorked

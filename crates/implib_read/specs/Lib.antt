@@ -21,3 +21,5 @@ pub mod ObjectViews
 pub mod ShortImports
 pub mod WorkedFiles
 pub mod WorkedLibraries
+pub mod OwnLibraries
+pub mod WorkedOwn

@@ -2,9 +2,11 @@
 
 ghost use Rattle.implib_read.specs.Archives.{SameParts};
 ghost use Rattle.implib_read.specs.Objects.{SameObjects};
+ghost use Rattle.implib_read.specs.OwnLibraries.{OwnMembersFound, OwnMsvcLibraries};
 ghost use Rattle.implib_read.specs.ShortImports.{SameShortImports};
 ghost use Rattle.implib_read.specs.WorkedFiles.{WorkedChanges, WorkedIndexes, WorkedLeads, WorkedNames, WorkedParts, WorkedShortImports};
 ghost use Rattle.implib_read.specs.WorkedLibraries.{WorkedLibraries};
+ghost use Rattle.implib_read.specs.WorkedOwn.{WorkedOwnLibraries};
 
 /// What the reader of `implib`'s definitions has of an object, [`crate::Object::read`] has.
 pub fn same_objects()
@@ -55,4 +57,26 @@ pub fn worked_indexes()
 /// Where the index of a library leads, and where it ought to.
 pub fn worked_leads()
     ensures { WorkedLeads }
+{}
+
+/// In an archive of `implib_archive` the members are found, in order, and nothing else.
+pub fn own_members_found()
+    ensures { OwnMembersFound }
+{
+    same_parts();
+}
+
+/// An archive of a definition's members for Microsoft's linker reads as a library of that definition: its first
+/// members are those of the import tables, and each further one is an import or an alias of the definition.
+pub fn own_msvc_libraries()
+    ensures { OwnMsvcLibraries }
+{
+    own_members_found();
+    same_short_imports();
+    same_objects();
+}
+
+/// Libraries beside definitions, worked by hand: some that are theirs, and some that are not.
+pub fn worked_own_libraries()
+    ensures { WorkedOwnLibraries }
 {}

@@ -1,0 +1,72 @@
+-- What is worked by hand, computed.
+use Rattle.std.proofs.Common.{refl}
+use Rattle.implib_check.specs.Worked.{WorkedComparisons, WorkedIdentities, WorkedStatuses, WorkedTasks}
+
+pub worked_comparisons : WorkedComparisons
+worked_comparisons = record {
+  itself = refl;
+  empty = refl;
+  order = refl;
+  capitals = refl;
+  hint = refl;
+  untold = refl;
+  untold_constant = refl;
+  constant = refl;
+  constant_data = refl;
+  untold_data = refl;
+  dll = refl;
+  symbols = refl;
+  name = refl;
+  by_ordinal = refl;
+  ordinal = refl;
+  machine = refl;
+  weak = refl;
+  target = refl;
+  parted = refl;
+  twice = refl;
+  none = refl;
+  other = refl;
+  other_differs = refl;
+  not_understood = refl;
+  delayed = refl;
+  flags = refl;
+}
+
+pub worked_identities : WorkedIdentities
+worked_identities = record {
+  two = refl;
+  capitals = refl;
+  none = refl;
+}
+
+pub worked_statuses : WorkedStatuses
+worked_statuses = record {
+  same = refl;
+  different = refl;
+  not_decided = refl;
+  listed = refl;
+  unread = refl;
+  one_dll = refl;
+  two_dlls = refl;
+  two_strictly = refl;
+  no_dll = refl;
+  unread_dll = refl;
+}
+
+pub worked_tasks : WorkedTasks
+worked_tasks = record {
+  list = refl;
+  identify = refl;
+  strictly = refl;
+  same = refl;
+  help = refl;
+  long_help = refl;
+  version = refl;
+  long_version = refl;
+  no_word = refl;
+  no_library = refl;
+  one_library = refl;
+  two_libraries = refl;
+  three_libraries = refl;
+  unknown = refl;
+}

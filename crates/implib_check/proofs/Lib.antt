@@ -1,0 +1,4 @@
+pub mod Computed
+pub mod Counting
+pub mod KeyTexts
+pub mod Matching

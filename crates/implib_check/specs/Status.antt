@@ -1,0 +1,20 @@
+-- The exit status of the program (this project's choice).
+use Rattle.std.specs.Prelude.{ℕ, Bool, ◌==◌, ◌&&◌, ◌||◌, not, if◌then◌else◌}
+use Rattle.implib_check.specs.declared.compare.Verdict.{Verdict}
+use Rattle.implib_check.specs.declared.compare.Verdict.TheVariants.{Different, NotDecided, Same}
+
+-- of a comparison: 0 the same, 1 different, 4 not decided
+abbrev pub verdict_status : Verdict → ℕ
+verdict_status Same = 0
+verdict_status Different = 1
+verdict_status NotDecided = 4
+
+-- of a list: 4 where a member may import what is not read
+abbrev pub list_status : Bool → ℕ
+list_status unread = if unread then 4 else 0
+
+-- of the names of a number of DLLs: 4 where a member may import what is not read, and 1 where there is none, or
+-- not one alone where one is asked for
+abbrev pub identity_status : Bool → ℕ → Bool → ℕ
+identity_status unread count is_strict =
+    if unread then 4 else if count == 0 || (is_strict && not (count == 1)) then 1 else 0

@@ -1,0 +1,50 @@
+-- What the words of a command line ask for (this project's choice; `--identify` after GNU dlltool's).
+use Rattle.std.specs.Prelude.{ℕ, Bool, true, false, ◌||◌, List, [], ◌∷◌, Option, Some, None, bytes_eq, codes, if◌then◌else◌}
+use Rattle.implib_check.specs.declared.task.Task.{Task}
+use Rattle.implib_check.specs.declared.task.Task.TheVariants as task
+
+-- what is asked for
+pub data TaskView : Type 0 where
+  Help : TaskView
+  Version : TaskView
+  -- a line for each import of a library
+  Lists : List ℕ → TaskView
+  -- the DLLs of a library; whether there is to be one alone
+  Identifies : List ℕ → Bool → TaskView
+  -- whether two libraries mean the same
+  Compares : List ℕ → List ℕ → TaskView
+
+-- the view of a task of the program
+abbrev pub task_view : Task → TaskView
+task_view task.Help = Help
+task_view task.Version = Version
+task_view (task.List path) = Lists path.now
+task_view (task.Identify path is_strict) = Identifies path.now is_strict
+task_view (task.Same left right) = Compares left.now right.now
+
+-- the task of a word alone
+abbrev pub alone : List ℕ → Option TaskView
+alone option =
+    if bytes_eq option (codes "--help") || bytes_eq option (codes "-h") then Some Help
+    else if bytes_eq option (codes "--version") || bytes_eq option (codes "-V") then Some Version
+    else None
+
+-- the task of a word and a library
+abbrev pub with_library : List ℕ → List ℕ → Option TaskView
+with_library option path =
+    if bytes_eq option (codes "--list") then Some (Lists path)
+    else if bytes_eq option (codes "--identify") then Some (Identifies path false)
+    else if bytes_eq option (codes "--identify-strict") then Some (Identifies path true)
+    else None
+
+-- the task of a word and two libraries
+abbrev pub with_libraries : List ℕ → List ℕ → List ℕ → Option TaskView
+with_libraries option left right = if bytes_eq option (codes "--same") then Some (Compares left right) else None
+
+-- what the words after the program's name ask for
+abbrev pub task_named : List (List ℕ) → Option TaskView
+task_named [] = None
+task_named (option ∷ []) = alone option
+task_named (option ∷ path ∷ []) = with_library option path
+task_named (option ∷ left ∷ right ∷ []) = with_libraries option left right
+task_named (option ∷ left ∷ right ∷ more ∷ words) = None

@@ -1,0 +1,70 @@
+//! What the words of a command line ask for.
+
+ghost use Rattle.std.specs.Prelude.{◌≡◌, map};
+ghost use Rattle.std.specs.Option.{option_map};
+ghost use Rattle.std.specs.String.{string_bytes};
+ghost use Rattle.implib_check.specs.Tasks.{alone, task_named, task_view, with_libraries, with_library};
+
+/// What is asked for.
+#[derive(Clone, Copy, Debug, PartialEq, Eq)]
+pub enum Task<'a> {
+    Help,
+    Version,
+    /// A line for each import of a library.
+    List(&'a str),
+    /// The DLLs of a library; whether there is to be one alone.
+    Identify(&'a str, bool),
+    /// Whether two libraries mean the same.
+    Same(&'a str, &'a str),
+}
+
+// The task of a word alone.
+fn alone<'a>(option: &'a str) -> Option<Task<'a>>
+    ensures { option_map task_view result ≡ alone option.now }
+{
+    if option == "--help" || option == "-h" {
+        Some(Task::Help)
+    } else if option == "--version" || option == "-V" {
+        Some(Task::Version)
+    } else {
+        None
+    }
+}
+
+// The task of a word and a library.
+fn with_library<'a>(option: &str, path: &'a str) -> Option<Task<'a>>
+    ensures { option_map task_view result ≡ with_library option.now path.now }
+{
+    if option == "--list" {
+        Some(Task::List(path))
+    } else if option == "--identify" {
+        Some(Task::Identify(path, false))
+    } else if option == "--identify-strict" {
+        Some(Task::Identify(path, true))
+    } else {
+        None
+    }
+}
+
+// The task of a word and two libraries.
+fn with_libraries<'a>(option: &str, left: &'a str, right: &'a str) -> Option<Task<'a>>
+    ensures { option_map task_view result ≡ with_libraries option.now left.now right.now }
+{
+    if option == "--same" {
+        Some(Task::Same(left, right))
+    } else {
+        None
+    }
+}
+
+/// What the words after the program's name ask for, if they ask for something.
+pub fn task_named(words: &[String]) -> Option<Task<'_>>
+    ensures { option_map task_view result ≡ task_named (map string_bytes words.now) }
+{
+    match words {
+        [option] => alone(option.as_str()),
+        [option, path] => with_library(option.as_str(), path.as_str()),
+        [option, left, right] => with_libraries(option.as_str(), left.as_str(), right.as_str()),
+        _ => None,
+    }
+}

@@ -1,0 +1,163 @@
+//! The lines that are written.
+
+use crate::compare::{is_other, is_unread};
+use implib_read::{AskFound, DeclaredFound, ImportFound, ImportKind, MemberClass, MemberRead};
+use std::fmt;
+use std::fmt::Write as _;
+
+/// Bytes of a name, as they are shown: what is no visible ASCII, and a backslash, as `\x` and two digits.
+#[derive(Clone, Copy)]
+pub struct Shown<'a>(pub &'a [u8]);
+
+// Whether a byte is shown as it is.
+fn is_plain(byte: u8) -> bool {
+    0x21 <= byte && byte <= 0x7E && byte != b'\\'
+}
+
+impl<'a> fmt::Display for Shown<'a> {
+    fn fmt<W: fmt::Write>(&self, f: &mut fmt::Formatter<W>) -> fmt::Result {
+        if self.0.iter().all(|byte| is_plain(*byte)) {
+            if let Ok(text) = str::from_utf8(self.0) {
+                return f.write_str(text);
+            }
+        }
+        for byte in self.0 {
+            if is_plain(*byte) {
+                f.write_char(*byte as char)?;
+            } else {
+                write!(f, "\\x{byte:02x}")?;
+            }
+        }
+        Ok(())
+    }
+}
+
+// The word of a kind.
+fn kind_word(kind: ImportKind) -> &'static str {
+    match kind {
+        ImportKind::Code => "code",
+        ImportKind::Data => "data",
+        ImportKind::Const => "const",
+        ImportKind::CodeOrConst => "code-or-const",
+    }
+}
+
+// The symbol of an address without its prefix.
+fn without_imp<'a>(symbol: &'a [u8]) -> &'a [u8] {
+    symbol.strip_prefix(b"__imp_".as_slice()).unwrap_or(symbol)
+}
+
+/// The symbol of an import: that of its code, or else that of its address without `__imp_`.
+pub fn symbol_of<'a>(import: &ImportFound<'a>) -> &'a [u8] {
+    match &import.declared {
+        DeclaredFound::OfName(name, _) => name,
+        DeclaredFound::OfObject(addresses, code) => {
+            if let Some(symbol) = code.first() {
+                return symbol;
+            }
+            match addresses.first() {
+                Some(address) => without_imp(address),
+                None => b"",
+            }
+        }
+    }
+}
+
+/// The symbol of a member that is an import or an alias.
+pub fn symbol_of_member<'a>(member: &MemberRead<'a>) -> &'a [u8] {
+    match &member.class {
+        MemberClass::Import(import) => symbol_of(import),
+        MemberClass::Alias(alias) => alias.weak,
+        _ => b"",
+    }
+}
+
+// A row of the list, after its offset.
+#[derive(Clone, Copy)]
+struct Row<'m, 'a>(&'m ImportFound<'a>);
+
+impl<'m, 'a> fmt::Display for Row<'m, 'a> {
+    fn fmt<W: fmt::Write>(&self, f: &mut fmt::Formatter<W>) -> fmt::Result {
+        let import = self.0;
+        let dll = Shown(import.dll);
+        let symbol = Shown(symbol_of(import));
+        let kind = kind_word(import.kind);
+        write!(f, "{dll}\t{symbol}\t{kind}\t")?;
+        match import.ask {
+            AskFound::Name(name, hint) => write!(f, "name\t{}\t{hint}", Shown(name)),
+            AskFound::Ordinal(ordinal) => write!(f, "ordinal\t\t{ordinal}"),
+        }
+    }
+}
+
+/// The row of a member, if it is an import or an alias.
+#[derive(Clone, Copy)]
+pub struct Listed<'m, 'a>(pub &'m MemberRead<'a>);
+
+impl<'m, 'a> fmt::Display for Listed<'m, 'a> {
+    fn fmt<W: fmt::Write>(&self, f: &mut fmt::Formatter<W>) -> fmt::Result {
+        let offset = self.0.offset;
+        match &self.0.class {
+            MemberClass::Import(import) => writeln!(f, "0x{offset:x}\t{}", Row(import)),
+            MemberClass::Alias(alias) => writeln!(
+                f,
+                "0x{offset:x}\t\t{}\talias\tsymbol\t{}\t",
+                Shown(alias.weak),
+                Shown(alias.target)
+            ),
+            _ => Ok(()),
+        }
+    }
+}
+
+/// What a member says, in words.
+#[derive(Clone, Copy)]
+pub struct Said<'m, 'a>(pub &'m MemberRead<'a>);
+
+impl<'m, 'a> fmt::Display for Said<'m, 'a> {
+    fn fmt<W: fmt::Write>(&self, f: &mut fmt::Formatter<W>) -> fmt::Result {
+        match &self.0.class {
+            MemberClass::Import(import) => {
+                let dll = Shown(import.dll);
+                let kind = kind_word(import.kind);
+                match import.ask {
+                    AskFound::Name(name, _) => {
+                        write!(f, "asks {dll} for {}, {kind}", Shown(name))?;
+                    }
+                    AskFound::Ordinal(ordinal) => {
+                        write!(f, "asks {dll} for ordinal {ordinal}, {kind}")?;
+                    }
+                }
+                write!(f, ", machine 0x{:04x}", import.machine)
+            }
+            MemberClass::Alias(alias) => write!(f, "is an alias of {}", Shown(alias.target)),
+            _ => f.write_str("says nothing"),
+        }
+    }
+}
+
+/// Where a member is: the library, the member's name, and the offset of its header.
+#[derive(Clone, Copy)]
+pub struct Place<'p, 'm, 'a>(pub &'p str, pub &'m MemberRead<'a>);
+
+impl<'p, 'm, 'a> fmt::Display for Place<'p, 'm, 'a> {
+    fn fmt<W: fmt::Write>(&self, f: &mut fmt::Formatter<W>) -> fmt::Result {
+        let offset = self.1.offset;
+        write!(f, "{}({}@0x{offset:x})", self.0, Shown(self.1.name))
+    }
+}
+
+/// What is wrong with a member that leaves a comparison open, or nothing.
+pub fn doubt_of(class: &MemberClass, others: bool) -> Option<&'static str> {
+    if is_unread(class) {
+        return match class {
+            MemberClass::DelayImport => Some("part of a library of delayed imports"),
+            _ => Some("not understood"),
+        };
+    }
+    if others && is_other(class) {
+        Some("another object")
+    } else {
+        None
+    }
+}
