@@ -115,7 +115,7 @@ fn a_definition_without_a_name_gets_one() {
 fn parsed_definitions_make_the_library_of_their_text() {
     let texts = [
         ZOO,
-        "LIBRARY \"the zoo.dll\"\nEXPORTS\nf@8\n@f@8\n_f\n__f\n?f@@YAXXZ\n_f@8 == g @5\n",
+        "LIBRARY \"the zoo.dll\"\nEXPORTS\nf@8\n@f@8\n_f\n__f\n?c\n?f@@YAXXZ\n_f@8 == g @5\n",
         "LIBRARY a.exe\nEXPORTS \"DATA\" \"a b\" x\"y \"@5\"\nEXPORTS \"@5\" a;b\nb, c = d PRIVATE\n",
         "LIBRARY a\nEXPORTS\na == a\nb == \"@\" NONAME",
         "EXPORTS a @ 0 NONAME b @65535 c == \"d e\" DATA\nNAME ..dll\nVERSION 1.2",
