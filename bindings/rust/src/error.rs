@@ -84,7 +84,7 @@ pub enum Fault {
 
 impl Fault {
     /// Each fault.
-    pub const ALL: [Fault; 30] = [
+    pub const ALL: &'static [Fault] = &[
         Fault::OutOfMemory,
         Fault::NotUtf8,
         Fault::UnknownMachine,
@@ -119,7 +119,7 @@ impl Fault {
 
     /// The fault of a status.
     pub(crate) fn of_status(status: u32) -> Fault {
-        let known = Fault::ALL.into_iter().find(|fault| *fault as u32 == status);
+        let known = Fault::ALL.iter().copied().find(|fault| *fault as u32 == status);
         known.unwrap_or(Fault::UnknownStatus)
     }
 

@@ -128,7 +128,8 @@ fn texts() {
         "the library has another version",
         "unknown status",
     ];
-    assert_eq!(Fault::ALL.map(|fault| fault.to_string()), texts);
+    let said: Vec<_> = Fault::ALL.iter().map(Fault::to_string).collect();
+    assert_eq!(said, texts);
 }
 
 #[test]

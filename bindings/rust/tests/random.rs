@@ -21,8 +21,9 @@ fn fault(error: &io::Error) -> Fault {
 fn texts(path: &str) -> Vec<String> {
     let bytes = fs::read(path).unwrap();
     let (mut rest, mut found) = (&bytes[..], Vec::new());
-    while let Some((length, after)) = rest.split_first_chunk() {
-        let (text, after) = after.split_at(u64::from_le_bytes(*length) as usize);
+    while !rest.is_empty() {
+        let (length, after) = rest.split_at(8);
+        let (text, after) = after.split_at(u64::from_le_bytes(length.try_into().unwrap()) as usize);
         found.extend(String::from_utf8(text.to_vec()));
         rest = after;
     }
