@@ -8,6 +8,7 @@ pub mod MsvcObjects
 pub mod NotRefused
 pub mod MemberReadings
 pub mod MemberMeanings
+pub mod MemberLists
 pub mod MembersLoop
 pub mod Asked
 pub mod GnuObjects

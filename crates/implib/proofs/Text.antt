@@ -23,8 +23,11 @@ pub mod ReadStatements
 pub mod Meaning
 pub mod TerminalsRead
 pub mod TerminalsOfExports
+pub mod Heard
+pub mod HeardSteps
 pub mod ParserAnswers
 pub mod TerminalsOfStatements
 pub mod OneReading
 pub mod RefusedWithin
 pub mod SymbolNames
+pub mod HeardNames

@@ -2,6 +2,7 @@
 pub mod Tokens
 pub mod Statements
 pub mod Positions
+pub mod Heard
 pub mod Objects
 pub mod Tables
 pub mod MemberSpecs

@@ -10,5 +10,6 @@ pub mod MsvcMembers
 pub mod GnuMembers
 pub mod NameRules
 pub mod Members
+pub mod MemberLists
 pub mod ReadBack
 pub mod OfText

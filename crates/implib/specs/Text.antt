@@ -9,3 +9,4 @@ pub mod Parser
 pub mod SymbolNames
 pub mod Position
 pub mod RefusedAt
+pub mod Heard

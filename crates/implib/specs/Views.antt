@@ -2,6 +2,7 @@
 pub mod Scanner
 pub mod TokenReader
 pub mod Parser
+pub mod Hearing
 pub mod Layout
 pub mod Writer
 pub mod Table

@@ -2,6 +2,7 @@
 pub mod Tokens
 pub mod Statements
 pub mod Positions
+pub mod Heard
 pub mod Members
 pub mod Gnu
 pub mod LibraryNames

@@ -2,6 +2,7 @@
 
 pub(crate) mod definition;
 pub mod lexer;
+pub mod listener;
 pub mod parser;
 pub(crate) mod position;
 

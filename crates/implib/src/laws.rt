@@ -4,6 +4,7 @@
 pub mod asked;
 pub mod definition;
 pub mod grammar;
+pub mod heard;
 pub mod kinds;
 pub mod library_name;
 pub mod link;

@@ -3,11 +3,13 @@
 ghost use Rattle.implib.specs.Definition.{definition_view, export_view};
 ghost use Rattle.implib.specs.Fault.{IfInvalid, error_cause};
 ghost use Rattle.implib.specs.Library.{LibraryOf, library_view, member_view};
+ghost use Rattle.implib.specs.Members.MemberLists.{AreListsOf, lists_view};
 ghost use Rattle.implib.specs.Members.Members.{AreMembersOf, refusal};
 ghost use Rattle.implib.specs.Members.NameRules.{RefusesAlways};
 ghost use Rattle.implib.specs.Text.Parses.{Refuses};
 ghost use Rattle.implib.specs.Members.ReadBack.{ReadBack};
 ghost use Rattle.implib.specs.Renaming.{is_renamed, renamed};
+ghost use Rattle.implib.specs.declared.flavor.Flavor.TheVariants.{Msvc};
 ghost use Rattle.std.specs.Prelude.{◌≡◌, IfErr, IfOk, None, Some, map, true};
 
 use crate::def::definition::{ModuleDef, rename};
@@ -16,7 +18,7 @@ use crate::flavor::Flavor;
 use crate::gnu::members::members as gnu_members;
 use crate::machine::MachineType;
 use crate::member::Member;
-use crate::msvc::members::members as msvc_members;
+use crate::msvc::members::{MemberLists, member_lists, members as msvc_members};
 use std::alloc::Global;
 use std::marker::Model;
 
@@ -140,6 +142,22 @@ impl ImportLibrary {
             Flavor::Msvc => msvc_members(&self.def, self.machine),
             Flavor::Gnu => gnu_members(&self.def, self.machine),
         }
+    }
+
+    /// The members for Microsoft's linker in three lists, whatever the library's flavour.
+    ///
+    /// # Errors
+    ///
+    /// Those of [`ImportLibrary::members`] for Microsoft's linker.
+    pub(crate) fn msvc_member_lists(&self) -> Result<MemberLists, Error>
+        ensures ok { IfOk result (λ lists.
+            AreListsOf self.now.definition self.now.machine (lists_view lists)) }
+        ensures refused { IfInvalid result
+            (λ cause. refusal self.now.definition self.now.machine Msvc ≡ Some cause) }
+        ensures names_refused_always { RefusesAlways
+            self.now.definition self.now.machine Msvc result }
+    {
+        member_lists(&self.def, self.machine)
     }
 
     /// A copy of the library.

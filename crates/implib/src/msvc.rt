@@ -3,6 +3,7 @@
 ghost use Rattle.implib.specs.Definition.{definition_view};
 ghost use Rattle.implib.specs.Fault.{IfInvalid};
 ghost use Rattle.implib.specs.Library.{member_view};
+ghost use Rattle.implib.specs.Members.MemberLists.{AreListsOf, lists_view};
 ghost use Rattle.implib.specs.Members.Members.{AreMembersOf, refusal};
 ghost use Rattle.implib.specs.Members.NameRules.{RefusesAlways};
 ghost use Rattle.implib.specs.Members.ReadBack.{ReadBack};
@@ -21,6 +22,8 @@ use std::marker::Model;
 pub(crate) mod members;
 mod objects;
 mod short_import;
+
+pub use crate::msvc::members::MemberLists;
 
 /// The import library of a module definition for Microsoft's linker (docs/FORMATS.md, "Members for
 /// Microsoft's linker").
@@ -79,5 +82,22 @@ impl MsvcImportLibrary {
             self.now.definition self.now.machine Msvc result }
     {
         self.library.members()
+    }
+
+    /// The members in three lists. An alias, an export whose symbol is weak for another, has its weak
+    /// externals alone, and no short import; [`MsvcImportLibrary::members`] makes that too.
+    ///
+    /// # Errors
+    ///
+    /// Those of [`ImportLibrary::members`].
+    pub fn member_lists(&self) -> Result<MemberLists, Error>
+        ensures ok { IfOk result (λ lists.
+            AreListsOf self.now.definition self.now.machine (lists_view lists)) }
+        ensures refused { IfInvalid result
+            (λ cause. refusal self.now.definition self.now.machine Msvc ≡ Some cause) }
+        ensures names_refused_always { RefusesAlways
+            self.now.definition self.now.machine Msvc result }
+    {
+        self.library.msvc_member_lists()
     }
 }

@@ -1,12 +1,14 @@
 -- The worked archives, by computing.
-use Rattle.std.proofs.Common.{◌≡◌, [], ◌∷◌, List, Some, codes, refl, subst, ap, ◌∙◌, arith}
+use Rattle.std.proofs.Common.{◌≡◌, ◌<◌, ◌≤◌, ◌^◌, [], ◌∷◌, List, None, Some, codes, length, nat_le, refl, subst, ap, ◌∙◌, arith}
+use Rattle.std.proofs.lemmas.Bool.{le-leb, le-ltb, lt-ltb}
+use Rattle.implib.specs.Members.MemberSpec.{MemberView}
 use Rattle.std.specs.Fmt.{digits}
 use Rattle.implib.specs.Worked.Digits.{bytes_of_digits}
 use Rattle.implib_archive.specs.Archive.{archive_of, end_from, entries_from, entries_of, first_linker, first_linker_size, first_place, front, front_of, front_size, is_long, linker_label, linkers, long_names, member_label, member_part, name_end, name_field, names_bytes, names_label, names_part, names_size, offset_of, place_of, places_from, second_linker, second_linker_size, sorted_entries, strings_of, with_first, with_name}
 use Rattle.implib_archive.specs.Parts.{field, header_bytes, padded_part_bytes, padding, part_bytes, signature, u16_le, u32_be, u32_le}
 use Rattle.implib_archive.specs.Reader.{data_at, first_in, linker_data, linker_in, long_name, long_name_at, long_names_in, long_names_or, before_others, member_at, members_among, members_in, name_in, number_in, numbers_in, paired, read_as, second_in, stored_at, stored_from, stored_in, texts_in, trimmed}
 use Rattle.implib_archive.specs.Refusal.{has_short_places, has_too_many, member_refusal, members_refusal, name_refusal, places_refusal, refusal_of, symbol_refusal, symbols_refusal}
-use Rattle.implib_archive.specs.Worked.{WorkedArchives, WorkedIndexes, WorkedReadBack, WorkedReadings, WorkedRefusals, worked_coff, worked_gnu, worked_members}
+use Rattle.implib_archive.specs.Worked.{WorkedArchives, WorkedIndexes, WorkedReadBack, WorkedReadings, WorkedRefusals, member, worked_coff, worked_gnu, worked_members}
 use Rattle.std.specs.Option.{option_map}
 use Rattle.std.specs.Prelude.{ℕ, reverse, unwrap_or}
 use Rattle.std.specs.declared.cmp.Ordering.TheVariants.{Less, Greater}
@@ -14,12 +16,14 @@ use Rattle.implib_archive.specs.Leads.{IndexLeads, SecondLeads, first_lister, he
 use Rattle.std.specs.List.Sorted.{IsStrictlySortedBy}
 use Rattle.implib_archive.proofs.Leading.{each_index_leads, each_second_leads}
 use Rattle.implib_archive.specs.ReadBack.{AreLaidOut, AreReadBack}
+use Rattle.implib_archive.specs.declared.kind.Kind.{Kind}
 use Rattle.implib_archive.specs.declared.kind.Kind.TheVariants.{Coff, Gnu}
+use Rattle.implib_archive.specs.declared.error.Fault.TheVariants.{MemberTooLong, TooManyMembers}
 use Rattle.implib_archive.proofs.FoundMembers.{members_read_back}
 
 pub worked_archives : WorkedArchives
 unfolding bytes_of_digits worked_coff worked_gnu archive_of end_from entries_from entries_of first_linker first_linker_size first_place front front_of front_size is_long linker_label linkers long_names member_label member_part name_end name_field names_bytes names_label names_part names_size offset_of place_of places_from second_linker second_linker_size sorted_entries strings_of with_first with_name field header_bytes padded_part_bytes padding part_bytes signature u16_le u32_be u32_le digits
-worked_archives = record { coff = refl; gnu = refl; no_gnu_members = refl; no_coff_members = refl }
+worked_archives = record { coff = refl; gnu = refl; odd_linker_members = refl; odd_linker_member = refl; no_gnu_members = refl; no_coff_members = refl }
 
 pub worked_readings : WorkedReadings
 unfolding bytes_of_digits worked_coff worked_gnu data_at first_in linker_data linker_in long_name long_name_at long_names_in long_names_or before_others member_at members_among members_in name_in number_in numbers_in paired read_as second_in stored_at stored_from stored_in texts_in trimmed
@@ -35,6 +39,20 @@ worked_readings = record {
   gnu_last_member = refl;
 }
 
+long_member : (kind : Kind) (bytes : List ℕ) → 2 ^ 32 ≤ length bytes → member_refusal kind (member (codes "a") bytes []) ≡ Some MemberTooLong
+unfolding member_refusal name_refusal symbols_refusal
+long_member Coff bytes size = rw (le-ltb (length bytes) (2 ^ 32) size) refl
+long_member Gnu bytes size = rw (le-ltb (length bytes) (2 ^ 32) size) refl
+
+short_member : (kind : Kind) (bytes : List ℕ) → length bytes < 2 ^ 32 → member_refusal kind (member (codes "a") bytes []) ≡ None
+unfolding member_refusal name_refusal symbols_refusal
+short_member Coff bytes size = rw (lt-ltb (length bytes) (2 ^ 32) size) refl
+short_member Gnu bytes size = rw (lt-ltb (length bytes) (2 ^ 32) size) refl
+
+many_members : (members : List MemberView) → members_refusal Coff members ≡ None → 65535 ≤ length members → refusal_of Coff members ≡ Some TooManyMembers
+unfolding refusal_of has_too_many
+many_members members fine size = rw (fine, le-leb 65535 (length members) size) refl
+
 pub worked_refusals : WorkedRefusals
 unfolding entries_from entries_of first_linker_size first_place front_size is_long long_names name_end names_bytes names_size offset_of places_from second_linker_size strings_of with_first with_name has_short_places has_too_many member_refusal members_refusal name_refusal places_refusal refusal_of symbol_refusal symbols_refusal
 worked_refusals = record {
@@ -45,6 +63,16 @@ worked_refusals = record {
   line_end_in_name = refl;
   line_end_in_coff = refl;
   empty_symbol = refl;
+  nul_before_line_end = refl;
+  name_before_symbol = refl;
+  symbol_before_length = λ bytes. refl;
+  length_of_a_member = long_member;
+  shorter_member = short_member;
+  first_member = refl;
+  member_before_number = λ members. refl;
+  number_before_length = many_members;
+  number_of_65534 = λ members size. ap (nat_le 65535) size;
+  number_in_gnu = λ members. refl;
   nul_in_symbol = refl;
 }
 

@@ -1,6 +1,6 @@
 -- Whole archives of both kinds with every byte written out, worked by hand: a second statement of the tables
 -- and of the reader.
-use Rattle.std.specs.Prelude.{◌≡◌, ℕ, List, [], ◌∷◌, ◌++◌, None, Some, codes, drop, replicate, reverse}
+use Rattle.std.specs.Prelude.{◌≡◌, ◌<◌, ◌≤◌, ◌^◌, ℕ, List, [], ◌∷◌, ◌++◌, None, Some, codes, drop, false, length, replicate, reverse}
 use Rattle.std.specs.Cmp.Lexicographic.{slice_cmp}
 use Rattle.std.specs.List.Sorted.{IsStrictlySortedBy}
 use Rattle.std.specs.Ordering.{nat_cmp}
@@ -10,9 +10,10 @@ use Rattle.implib_archive.specs.Archive.{archive_of}
 use Rattle.implib_archive.specs.Leads.{IndexLeads, SecondLeads, header_for, headers_in, second_header_for}
 use Rattle.implib_archive.specs.ReadBack.{AreLaidOut, AreReadBack}
 use Rattle.implib_archive.specs.Reader.{Read, Stored, first_in, member_at, members_in, second_in, stored_at, stored_in}
-use Rattle.implib_archive.specs.Refusal.{member_refusal, refusal_of}
+use Rattle.implib_archive.specs.Refusal.{has_too_many, member_refusal, members_refusal, refusal_of}
+use Rattle.implib_archive.specs.declared.kind.Kind.{Kind}
 use Rattle.implib_archive.specs.declared.kind.Kind.TheVariants.{Coff, Gnu}
-use Rattle.implib_archive.specs.declared.error.Fault.TheVariants.{EmptyName, EmptySymbol, LineEndInName, NulInName, NulInSymbol}
+use Rattle.implib_archive.specs.declared.error.Fault.TheVariants.{EmptyName, EmptySymbol, LineEndInName, MemberTooLong, NulInName, NulInSymbol, TooManyMembers}
 
 -- a member
 abbrev pub member : List ℕ → List ℕ → List (List ℕ) → MemberView
@@ -31,6 +32,31 @@ worked_members =
 -- what is read of them
 abbrev pub worked_reads : List Read
 worked_reads = read (codes "a.o") (1 ∷ 2 ∷ 3 ∷ []) ∷ read (codes "long_member_name.o") (4 ∷ 5 ∷ []) ∷ []
+
+-- one member whose symbols take an odd number of bytes, so that each linker member ends in a padding byte
+abbrev pub odd_members : List MemberView
+odd_members = member (codes "a.o") (7 ∷ []) (codes "f" ∷ codes "gh" ∷ []) ∷ []
+
+-- its header and its byte, with the line end that follows
+abbrev pub odd_member_part : List ℕ
+odd_member_part = codes "a.o/            0           0     0     644     1         `\n" ++ 7 ∷ 10 ∷ []
+
+-- its archive of the COFF kind: linker members of 17 and 21 bytes, each with one zero byte more that its size counts
+abbrev pub odd_coff : List ℕ
+odd_coff =
+    codes "!<arch>\n/               0           0     0     0       18        `\n"
+    ++ (0 ∷ 0 ∷ 0 ∷ 2 ∷ 0 ∷ 0 ∷ 0 ∷ 168 ∷ 0 ∷ 0 ∷ 0 ∷ 168 ∷ [])
+    ++ codes "f" ++ 0 ∷ [] ++ codes "gh" ++ 0 ∷ 0 ∷ []
+    ++ codes "/               0           0     0     0       22        `\n"
+    ++ (1 ∷ 0 ∷ 0 ∷ 0 ∷ 168 ∷ 0 ∷ 0 ∷ 0 ∷ 2 ∷ 0 ∷ 0 ∷ 0 ∷ 1 ∷ 0 ∷ 1 ∷ 0 ∷ [])
+    ++ codes "f" ++ 0 ∷ [] ++ codes "gh" ++ 0 ∷ 0 ∷ [] ++ odd_member_part
+
+-- its archive of the GNU kind: the first linker member alone
+abbrev pub odd_gnu : List ℕ
+odd_gnu =
+    codes "!<arch>\n/               0           0     0     0       18        `\n"
+    ++ (0 ∷ 0 ∷ 0 ∷ 2 ∷ 0 ∷ 0 ∷ 0 ∷ 86 ∷ 0 ∷ 0 ∷ 0 ∷ 86 ∷ [])
+    ++ codes "f" ++ 0 ∷ [] ++ codes "gh" ++ 0 ∷ 0 ∷ [] ++ odd_member_part
 
 -- the archive of the COFF kind, 396 bytes
 unfoldable pub worked_coff : List ℕ
@@ -56,10 +82,12 @@ worked_gnu =
     ++ hex "60 0a 01 02 03 0a 2f 30 20 20 20 20 20 20 20 20 20 20 20 20 20 20 30 20 20 20 20 20 20 20 20 20 20 20 30 20 20 20 20 20 30 20 20 20 20 20 36 34"
     ++ hex "34 20 20 20 20 20 32 20 20 20 20 20 20 20 20 20 60 0a 04 05"
 
--- The archives of the worked members, and of no members, have these bytes.
+-- The archives of the worked members, of the one with odd linker members, and of no members, have these bytes.
 pub record WorkedArchives : Type 0 where
   pub coff : archive_of Coff worked_members ≡ worked_coff
   pub gnu : archive_of Gnu worked_members ≡ worked_gnu
+  pub odd_linker_members : archive_of Coff odd_members ≡ odd_coff
+  pub odd_linker_member : archive_of Gnu odd_members ≡ odd_gnu
   pub no_gnu_members : archive_of Gnu [] ≡ codes "!<arch>\n"
   pub no_coff_members : archive_of Coff []
       ≡ codes "!<arch>\n/               0           0     0     0       4         `\n" ++ replicate 4 0
@@ -88,6 +116,21 @@ pub record WorkedRefusals : Type 0 where
   pub line_end_in_name : refusal_of Gnu (member (97 ∷ 10 ∷ []) [] [] ∷ []) ≡ Some LineEndInName
   pub line_end_in_coff : member_refusal Coff (member (97 ∷ 10 ∷ []) [] []) ≡ None
   pub empty_symbol : refusal_of Coff (member (codes "a") [] ([] ∷ []) ∷ []) ≡ Some EmptySymbol
+  -- where there are two causes: a NUL in a name before a line end; a name before a symbol; a symbol before a length;
+  -- the first member before the second; a member before the number of members; their number before their length
+  pub nul_before_line_end : refusal_of Gnu (member (10 ∷ 0 ∷ []) [] [] ∷ []) ≡ Some NulInName
+  pub name_before_symbol : refusal_of Gnu (member (10 ∷ []) [] ([] ∷ []) ∷ []) ≡ Some LineEndInName
+  pub symbol_before_length : (bytes : List ℕ) → refusal_of Coff (member (codes "a") bytes ([] ∷ []) ∷ []) ≡ Some EmptySymbol
+  pub length_of_a_member : (kind : Kind) (bytes : List ℕ) → 2 ^ 32 ≤ length bytes →
+      member_refusal kind (member (codes "a") bytes []) ≡ Some MemberTooLong
+  pub shorter_member : (kind : Kind) (bytes : List ℕ) → length bytes < 2 ^ 32 →
+      member_refusal kind (member (codes "a") bytes []) ≡ None
+  pub first_member : refusal_of Gnu (member (codes "a") [] ([] ∷ []) ∷ member [] [] [] ∷ []) ≡ Some EmptySymbol
+  pub member_before_number : (members : List MemberView) → refusal_of Coff (member [] [] [] ∷ members) ≡ Some EmptyName
+  pub number_before_length : (members : List MemberView) → members_refusal Coff members ≡ None →
+      65535 ≤ length members → refusal_of Coff members ≡ Some TooManyMembers
+  pub number_of_65534 : (members : List MemberView) → length members ≡ 65534 → has_too_many Coff members ≡ false
+  pub number_in_gnu : (members : List MemberView) → has_too_many Gnu members ≡ false
   pub nul_in_symbol : refusal_of Coff (member (codes "a") [] (codes "f" ∷ (102 ∷ 0 ∷ []) ∷ []) ∷ []) ≡ Some NulInSymbol
 
 -- the parts of the worked archive of the GNU kind, by hand

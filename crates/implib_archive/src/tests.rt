@@ -27,6 +27,14 @@ const GNU: &[u8] = b"!<arch>\n\
     a.o/            0           0     0     644     3         `\n\x01\x02\x03\n\
     /0              0           0     0     644     2         `\n\x04\x05";
 
+// A member whose symbols take an odd number of bytes: a zero byte ends each linker member.
+const ODD_COFF: &[u8] = b"!<arch>\n\
+    /               0           0     0     0       18        `\n\
+    \0\0\0\x02\0\0\0\xa8\0\0\0\xa8f\0gh\0\0\
+    /               0           0     0     0       22        `\n\
+    \x01\0\0\0\xa8\0\0\0\x02\0\0\0\x01\0\x01\0f\0gh\0\0\
+    a.o/            0           0     0     644     1         `\n\x07\n";
+
 const EMPTY_COFF: &[u8] = b"!<arch>\n\
     /               0           0     0     0       4         `\n\0\0\0\0\
     /               0           0     0     0       8         `\n\0\0\0\0\0\0\0\0";
@@ -56,7 +64,10 @@ fn members(alloc: Global) -> Result<Vec<Member>, AllocError> {
 fn archives_have_these_bytes(rt: HostRuntime) -> Result<(), Fail> {
     let two = members(rt.alloc())?;
     let none = Vec::new(rt.alloc());
+    let mut odd = Vec::new(rt.alloc());
+    odd.push(member(rt.alloc(), "a.o", &[7], &["f", "gh"])?)?;
     for (members, kind, bytes) in [
+        (odd.as_slice(), Kind::Coff, ODD_COFF),
         (two.as_slice(), Kind::Coff, COFF),
         (two.as_slice(), Kind::Gnu, GNU),
         (none.as_slice(), Kind::Coff, EMPTY_COFF),
@@ -82,11 +93,13 @@ fn a_name_with_a_line_end_is_refused_in_one_kind(rt: HostRuntime) -> Result<(), 
     Ok(())
 }
 
-// A writer that takes at most 7 bytes a call, and `room` bytes in all.
+// A writer that takes at most 7 bytes a call, and `room` bytes in all. It then answers `fault`, or
+// takes none. It cannot be flushed.
 #[derive(Drop)]
 struct Small {
     bytes: Vec<u8>,
     room: usize,
+    fault: Option<io::ErrorKind>,
 }
 
 impl io::Write for Small {
@@ -95,32 +108,91 @@ impl io::Write for Small {
             .len()
             .min(7)
             .min(self.room.saturating_sub(self.bytes.len()));
-        self.bytes.write(&buf[..count])
+        match self.fault {
+            Some(kind) if count == 0 => Err(io::Error::from(kind)),
+            _ => self.bytes.write(&buf[..count]),
+        }
     }
 
     fn flush(&mut self) -> io::Result<()> {
-        Ok(())
+        Err(io::Error::from(io::ErrorKind::Unsupported))
     }
 }
 
-// A writer without room leaves a beginning, wherever it ends.
+// A writer without room leaves a beginning, wherever it ends; the error is the writer's own.
 #[test]
 fn an_error_leaves_a_beginning(rt: HostRuntime) -> Result<(), Fail> {
     let members = members(rt.alloc())?;
     let archive = Archive::new(rt.alloc(), members.as_slice(), Kind::Gnu)?;
-    for room in [0, 1, 180, 242, 243, 244, 245, 246, 307, 308] {
+    for (room, fault, kind) in [
+        (0, None, io::ErrorKind::WriteZero),
+        (
+            1,
+            Some(io::ErrorKind::BrokenPipe),
+            io::ErrorKind::BrokenPipe,
+        ),
+        (180, None, io::ErrorKind::WriteZero),
+        (
+            242,
+            Some(io::ErrorKind::PermissionDenied),
+            io::ErrorKind::PermissionDenied,
+        ),
+        (243, None, io::ErrorKind::WriteZero),
+        (
+            244,
+            Some(io::ErrorKind::BrokenPipe),
+            io::ErrorKind::BrokenPipe,
+        ),
+        (245, None, io::ErrorKind::WriteZero),
+        (
+            246,
+            Some(io::ErrorKind::BrokenPipe),
+            io::ErrorKind::BrokenPipe,
+        ),
+        (
+            307,
+            Some(io::ErrorKind::PermissionDenied),
+            io::ErrorKind::PermissionDenied,
+        ),
+        (
+            308,
+            Some(io::ErrorKind::BrokenPipe),
+            io::ErrorKind::BrokenPipe,
+        ),
+    ] {
         let bytes = Vec::new(rt.alloc());
-        let mut writer = Small { bytes, room };
+        let mut writer = Small { bytes, room, fault };
         let written = archive.write_to(rt.alloc(), &mut writer);
         match &written {
             Ok(()) => assert_eq!(rt; room, 308),
             Err(WriteError::Writer(cause)) => {
                 assert!(rt; room < 308);
-                assert_eq!(rt; cause.kind(), io::ErrorKind::WriteZero);
+                assert_eq!(rt; cause.kind(), kind);
             }
             Err(WriteError::OutOfMemory(_)) => return Err(Fail::new("out of memory")),
         }
         assert!(rt; writer.bytes.as_slice() == &GNU[..room]);
+    }
+    Ok(())
+}
+
+#[test]
+fn faults_have_their_texts(rt: HostRuntime) -> Result<(), Fail> {
+    for (fault, text) in [
+        (Fault::EmptyName, "member name is empty"),
+        (Fault::NulInName, "member name contains null byte"),
+        (Fault::LineEndInName, "member name contains line end"),
+        (Fault::EmptySymbol, "symbol is empty"),
+        (Fault::NulInSymbol, "symbol contains null byte"),
+        (Fault::MemberTooLong, "member too long"),
+        (Fault::TooManyMembers, "too many members"),
+        (Fault::ArchiveTooLong, "archive too long"),
+    ] {
+        let own = format!(in rt.alloc(); "{fault}")?;
+        assert!(rt; own.as_str() == text);
+        let whole = Error::from(fault);
+        let shown = format!(in rt.alloc(); "{whole}")?;
+        assert!(rt; shown.as_str() == text);
     }
     Ok(())
 }

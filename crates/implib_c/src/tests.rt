@@ -239,6 +239,64 @@ fn a_text_above_64_kib_has_members_and_places(rt: HostRuntime) -> Result<(), Fai
     Ok(())
 }
 
+// A text with this many exports.
+fn many_exports(alloc: Global, count: usize) -> Result<String, AllocError> {
+    let mut text = String::from_str(alloc, "LIBRARY zoo.dll\nEXPORTS\n")?;
+    for number in 0..count {
+        let line = format!(in alloc; "f{number:06}\n")?;
+        text.push_str(line.as_str())?;
+    }
+    Ok(text)
+}
+
+// Calls with a number of exports; the libraries for GNU's linker are longer than 1 MiB.
+const MANY: [(Call, (MachineType, u16), (Flavor, u32), usize); 4] = [
+    (
+        Call::Members,
+        (MachineType::AMD64, 0x8664),
+        (Flavor::Msvc, 0),
+        6_000,
+    ),
+    (
+        Call::Members,
+        (MachineType::I386, 0x14C),
+        (Flavor::Gnu, 1),
+        6_000,
+    ),
+    (
+        Call::Library,
+        (MachineType::ARM64, 0xAA64),
+        (Flavor::Msvc, 0),
+        6_000,
+    ),
+    (
+        Call::Library,
+        (MachineType::ARMNT, 0x1C4),
+        (Flavor::Gnu, 1),
+        6_000,
+    ),
+];
+
+#[test]
+fn thousands_of_exports_fill_a_buffer(rt: HostRuntime) -> Result<(), Fail> {
+    for (call, machine, flavor, count) in MANY {
+        let text = many_exports(rt.alloc(), count)?;
+        let want = wanted(rt.alloc(), call, text.as_str(), machine.0, flavor.0)?;
+        let mut buffer = room(rt.alloc(), want.len())?;
+        let got = called(
+            rt.alloc(),
+            call,
+            text.as_bytes(),
+            machine.1,
+            flavor.1,
+            buffer.as_mut_slice(),
+        );
+        assert_eq!(rt; got, (0, want.len(), 0));
+        assert!(rt; buffer.as_slice() == want.as_slice());
+    }
+    Ok(())
+}
+
 // Texts with a machine and a flavour, and the status and the place that they have.
 const FAULTS: [(&[u8], u16, u32, u32, usize); 18] = [
     (b"LIBRARY zoo.dll\n\xFF", 0x8664, 0, 3, 16),

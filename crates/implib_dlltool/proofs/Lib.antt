@@ -1,4 +1,5 @@
 pub mod Reading
+pub mod Letters
 pub mod TokensGiven
 pub mod Parts
 pub mod Asked

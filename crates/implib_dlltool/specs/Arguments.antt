@@ -1,8 +1,10 @@
 -- The words of a command line (this project's choice, after GNU dlltool's).
-use Rattle.std.specs.Prelude.{◌≡◌, ℕ, Bool, false, not, ◌||◌, ◌==◌, List, [], ◌∷◌, ◌++◌, length, drop, Option, None, Some, Result, Ok, Err, if◌then◌else◌, slice_index}
-use Rattle.std.specs.List.{after_first, before_first, list_any, position_or_len}
+use Rattle.std.specs.Prelude.{◌≡◌, ℕ, suc, ◌+◌, Bool, false, true, not, ◌||◌, ◌==◌, List, [], ◌∷◌, ◌++◌, length, drop, take, Option, None, Some, Result, Ok, Err, if◌then◌else◌, slice_index}
+use Rattle.std.specs.List.{after_first, before_first, flat_map, fold, list_any, position_or_len}
 use Rattle.std.specs.Prelude.{nat_lt}
 use Rattle.std.specs.Str.{byte}
+use Rattle.implib_dlltool.specs.declared.arguments.Before.{Before}
+use Rattle.implib_dlltool.specs.declared.arguments.Before.TheVariants as before
 use Rattle.implib_dlltool.specs.declared.arguments.Word.{Word}
 use Rattle.implib_dlltool.specs.declared.arguments.Word.TheVariants as word
 use Rattle.implib_dlltool.specs.declared.arguments.Occurrence.{Occurrence}
@@ -31,6 +33,8 @@ pub data WordView : Type 0 where
   Unsupported : WordView
   -- an option that is unknown, or that takes no value and has one
   Unknown : WordView
+  -- `--`: no option follows
+  Ends : WordView
   -- no option: the name of a file
   File : WordView
 
@@ -41,6 +45,7 @@ word_view (word.Gives setting value) = Gives setting value.now
 word_view (word.Switches switch) = Switches switch
 word_view word.Unsupported = Unsupported
 word_view word.Unknown = Unknown
+word_view word.Ends = Ends
 word_view word.File = File
 
 -- an option that is given without a value
@@ -61,10 +66,11 @@ valued meaning.Unknown value = Unknown
 abbrev pub is_equal_sign : ℕ → Bool
 is_equal_sign b = b == 61
 
--- `--NAME` and `--NAME=VALUE`, up to the first `=`; the text is what follows `--`
+-- `--`, `--NAME`, and `--NAME=VALUE`, up to the first `=`; the text is what follows `--`
 abbrev pub long_word : List ℕ → WordView
 long_word text =
-    if nat_lt (position_or_len is_equal_sign text) (length text) then valued (option_named (before_first is_equal_sign text)) (after_first is_equal_sign text)
+    if length text == 0 then Ends
+    else if nat_lt (position_or_len is_equal_sign text) (length text) then valued (option_named (before_first is_equal_sign text)) (after_first is_equal_sign text)
     else bare (option_named text)
 
 -- `-o` and `-oVALUE`; the text is what follows the letter
@@ -73,13 +79,47 @@ short_word letter text =
     if length text == 0 then bare (option_lettered letter)
     else valued (option_lettered letter) text
 
--- what a word says: an option is `-` and more
+-- whether a letter is an option without a value
+abbrev pub is_a_switch : Meaning → Bool
+is_a_switch (meaning.Switches switch) = true
+is_a_switch _ = false
+
+abbrev pub is_switch_letter : ℕ → Bool
+is_switch_letter letter = is_a_switch (option_lettered letter)
+
+-- How many options without a value come before the last option of letters: each letter is an option, up to one
+-- that takes a value, whose value follows, or is none. For example, of `kvdX` they are two.
+unfoldable pub switches_in : List ℕ → ℕ
+switches_in [] = 0
+switches_in (letter ∷ []) = 0
+switches_in (letter ∷ next ∷ letters) = if is_switch_letter letter then suc (switches_in (next ∷ letters)) else 0
+
+-- the option of the letter at this place, with what follows it
+abbrev pub word_at : ℕ → List ℕ → WordView
+word_at place letters =
+    if nat_lt 127 (slice_index letters place) then Unknown
+    else short_word (slice_index letters place) (drop (place + 1) letters)
+
+-- the last option of letters
+abbrev pub letters_word : List ℕ → WordView
+letters_word letters = word_at (switches_in letters) letters
+
+-- whether a word is no option; an option is `-` and more
+abbrev pub is_no_option : List ℕ → Bool
+is_no_option word = nat_lt (length word) 2 || not (slice_index word 0 == byte "-")
+
+-- what a word says, by its last option
 abbrev pub word_of : List ℕ → WordView
 word_of word =
-    if (nat_lt (length word) 2 || not (slice_index word 0 == byte "-")) then File
-    else if nat_lt 127 (slice_index word 1) then Unknown
+    if is_no_option word then File
     else if slice_index word 1 == byte "-" then long_word (drop 2 word)
-    else short_word (slice_index word 1) (drop 2 word)
+    else letters_word (drop 1 word)
+
+-- the letters of a word that are options without a value and come before its last option
+abbrev pub front_letters : List ℕ → List ℕ
+front_letters word =
+    if (is_no_option word || slice_index word 1 == byte "-") then []
+    else take (switches_in (drop 1 word)) (drop 1 word)
 
 -- an option on a command line
 pub data OccurrenceView : Type 0 where
@@ -87,6 +127,14 @@ pub data OccurrenceView : Type 0 where
   Given : Setting → List ℕ → OccurrenceView
   -- without a value
   Switched : Switch → OccurrenceView
+
+-- the options of letters, each without a value
+abbrev pub switched_of : Meaning → List OccurrenceView
+switched_of (meaning.Switches switch) = Switched switch ∷ []
+switched_of _ = []
+
+abbrev pub switched_in : List ℕ → List OccurrenceView
+switched_in letters = flat_map (λ letter. switched_of (option_lettered letter)) letters
 
 -- the view of an option of the program
 abbrev pub occurrence_view : Occurrence → OccurrenceView
@@ -117,6 +165,8 @@ pub data StepView : Type 0 where
   Waits : Setting → StepView
   -- with the word, an option is complete
   Adds : OccurrenceView → StepView
+  -- no option follows
+  Stops : StepView
   -- it is refused
   Refuses : WordFaultView → StepView
 
@@ -124,6 +174,7 @@ pub data StepView : Type 0 where
 abbrev pub step_view : Step → StepView
 step_view (stage.Waits setting) = Waits setting
 step_view (stage.Adds option) = Adds (occurrence_view option)
+step_view stage.Ends = Stops
 step_view (stage.Refuses fault) = Refuses (word_fault_view fault)
 
 -- what a word is for that is no value
@@ -133,37 +184,46 @@ first_step (Gives setting value) word = Adds (Given setting value)
 first_step (Switches switch) word = Adds (Switched switch)
 first_step Unsupported word = Refuses (IsUnsupported word)
 first_step Unknown word = Refuses (IsUnknown word)
+first_step Ends word = Stops
 first_step File word = Refuses (IsFile word)
 
--- what a word is for, behind an option that lacks its value, or behind none
-abbrev pub step : Option Setting → List ℕ → StepView
-step (Some setting) word = Adds (Given setting word)
-step None word = first_step (word_of word) word
+-- what a word is for, by its last option and by what comes before the word
+abbrev pub step : Before → List ℕ → StepView
+step (before.Lacks setting) word = Adds (Given setting word)
+step before.Ended word = Refuses (IsFile word)
+step before.Whole word = first_step (word_of word) word
+
+-- the options of a word before its last one
+abbrev pub front : Before → List ℕ → List OccurrenceView
+front before.Whole word = switched_in (front_letters word)
+front _ word = []
 
 -- what words are read as: their options in order, or what is wrong first
 abbrev pub Reading : Type 0
 Reading = Result (List OccurrenceView) WordFaultView
 
 -- with more options in front
-abbrev pub behind : List OccurrenceView → Reading → Reading
-behind options (Ok more) = Ok (options ++ more)
-behind options (Err fault) = Err fault
+abbrev pub with_front : List OccurrenceView → Reading → Reading
+with_front options (Ok more) = Ok (options ++ more)
+with_front options (Err fault) = Err fault
 
--- a step, and what the words behind it are read as, behind an option that lacks its value or behind none
-abbrev pub stepped : StepView → (Option Setting → Reading) → Reading
-stepped (Waits setting) rest = rest (Some setting)
-stepped (Adds option) rest = behind (option ∷ []) (rest None)
+-- a step, and what the words after it are read as, by what then comes before them
+abbrev pub stepped : StepView → (Before → Reading) → Reading
+stepped (Waits setting) rest = rest (before.Lacks setting)
+stepped (Adds option) rest = with_front (option ∷ []) (rest before.Whole)
+stepped Stops rest = rest before.Ended
 stepped (Refuses fault) rest = Err fault
 
--- what words are read as, behind an option that lacks its value or behind none
-unfoldable pub read_behind : Option Setting → List (List ℕ) → Reading
-read_behind None [] = Ok []
-read_behind (Some setting) [] = Err (LacksValue setting)
-read_behind waiting (word ∷ words) = stepped (step waiting word) (λ left. read_behind left words)
+-- what words are read as, by what comes before them
+unfoldable pub read_after : Before → List (List ℕ) → Reading
+read_after before.Whole [] = Ok []
+read_after (before.Lacks setting) [] = Err (LacksValue setting)
+read_after before.Ended [] = Ok []
+read_after past (word ∷ words) = with_front (front past word) (stepped (step past word) (λ left. read_after left words))
 
 -- what the words of a command line are read as
 abbrev pub read_words : List (List ℕ) → Reading
-read_words words = read_behind None words
+read_words words = read_after before.Whole words
 
 -- the words are refused for this, or memory was
 abbrev pub IsRefusalOf : List (List ℕ) → ReadWordsError → Type 0
@@ -193,3 +253,11 @@ last_given setting (option ∷ options) = later (last_given setting options) (va
 -- whether an option without a value stands somewhere
 abbrev pub is_switched : Switch → List OccurrenceView → Bool
 is_switched switch options = list_any (is_switch switch) options
+
+-- what two options without values that undo each other say after one more option
+abbrev pub last_said : Switch → Switch → Bool → OccurrenceView → Bool
+last_said switch other was option = if is_switch switch option then true else if is_switch other option then false else was
+
+-- whether, of two options without values that undo each other, the first comes last
+abbrev pub is_last : Switch → Switch → List OccurrenceView → Bool
+is_last switch other options = fold (last_said switch other) false options

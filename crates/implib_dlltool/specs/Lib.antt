@@ -12,6 +12,7 @@ pub mod Warnings
 pub mod Views
 pub mod Worked
 pub mod WorkedNames
+pub mod WorkedCallers
 pub mod WorkedOptions
 pub mod WorkedWarnings
 pub mod LibraryLaws

@@ -8,7 +8,7 @@ use Rattle.implib_dlltool.specs.declared.options.Meaning.TheVariants.{Takes, Swi
 use Rattle.implib_dlltool.specs.declared.options.Setting.{Setting}
 use Rattle.implib_dlltool.specs.declared.options.Switch.{Switch}
 use Rattle.implib_dlltool.specs.declared.options.Setting.TheVariants.{Definition, Output, Machine, Dll, Flavor, Assembler, AssemblerFlags, TemporaryPrefix}
-use Rattle.implib_dlltool.specs.declared.options.Switch.TheVariants.{KillAt, NoLeadingUnderscore, DeterministicLibraries, Verbose, Help, Version}
+use Rattle.implib_dlltool.specs.declared.options.Switch.TheVariants.{KillAt, NoLeadingUnderscore, LeadingUnderscore, DeterministicLibraries, NonDeterministicLibraries, NoDelete, Verbose, Help, Version}
 
 -- the long names, without `--`, of GNU dlltool's options that have no meaning here
 abbrev pub is_unsupported : List ℕ → Bool
@@ -27,20 +27,18 @@ is_unsupported name =
     else if bytes_eq name (codes "add-stdcall-underscore") then true
     else if bytes_eq name (codes "add-stdcall-alias") then true
     else if bytes_eq name (codes "compat-implib") then true
-    else if bytes_eq name (codes "leading-underscore") then true
     else if bytes_eq name (codes "export-all-symbols") then true
     else if bytes_eq name (codes "no-export-all-symbols") then true
     else if bytes_eq name (codes "exclude-symbols") then true
     else if bytes_eq name (codes "no-default-excludes") then true
     else if bytes_eq name (codes "use-nul-prefixed-import-tables") then true
-    else if bytes_eq name (codes "non-deterministic-libraries") then true
-    else if bytes_eq name (codes "no-delete") then true
     else false
 
 -- what a long name, without its `--`, stands for
 abbrev pub option_named : List ℕ → Meaning
 option_named name =
     if bytes_eq name (codes "input-def") then Takes Definition
+    else if bytes_eq name (codes "def") then Takes Definition
     else if bytes_eq name (codes "output-lib") then Takes Output
     else if bytes_eq name (codes "machine") then Takes Machine
     else if bytes_eq name (codes "dllname") then Takes Dll
@@ -50,7 +48,10 @@ option_named name =
     else if bytes_eq name (codes "temp-prefix") then Takes TemporaryPrefix
     else if bytes_eq name (codes "kill-at") then Switches KillAt
     else if bytes_eq name (codes "no-leading-underscore") then Switches NoLeadingUnderscore
+    else if bytes_eq name (codes "leading-underscore") then Switches LeadingUnderscore
     else if bytes_eq name (codes "deterministic-libraries") then Switches DeterministicLibraries
+    else if bytes_eq name (codes "non-deterministic-libraries") then Switches NonDeterministicLibraries
+    else if bytes_eq name (codes "no-delete") then Switches NoDelete
     else if bytes_eq name (codes "verbose") then Switches Verbose
     else if bytes_eq name (codes "help") then Switches Help
     else if bytes_eq name (codes "version") then Switches Version
@@ -68,6 +69,7 @@ option_lettered letter =
     else if letter == byte "f" then Takes AssemblerFlags
     else if letter == byte "t" then Takes TemporaryPrefix
     else if letter == byte "k" then Switches KillAt
+    else if letter == byte "n" then Switches NoDelete
     else if letter == byte "v" then Switches Verbose
     else if letter == byte "h" then Switches Help
     else if letter == byte "V" then Switches Version
@@ -83,7 +85,6 @@ option_lettered letter =
     else if letter == byte "U" then Unsupported
     else if letter == byte "A" then Unsupported
     else if letter == byte "C" then Unsupported
-    else if letter == byte "n" then Unsupported
     else Unknown
 
 -- the machine with a name, in small letters
@@ -120,6 +121,9 @@ switch_number DeterministicLibraries = 2
 switch_number Verbose = 3
 switch_number Help = 4
 switch_number Version = 5
+switch_number LeadingUnderscore = 6
+switch_number NonDeterministicLibraries = 7
+switch_number NoDelete = 8
 
 -- whether two options that take values are one
 abbrev pub is_same_setting : Setting → Setting → Bool

@@ -1,7 +1,7 @@
 -- What the options of a command line ask for (this project's choice, after GNU dlltool and llvm-dlltool).
-use Rattle.std.specs.Prelude.{◌≡◌, ℕ, Bool, ◌||◌, List, Option, None, Some, Result, Ok, Err, codes, if◌then◌else◌, is_some, length, map, nat_eq}
+use Rattle.std.specs.Prelude.{◌≡◌, ◌==◌, ℕ, Bool, true, false, ◌&&◌, ◌||◌, not, List, [], ◌∷◌, Option, None, Some, Result, Ok, Err, codes, if◌then◌else◌, is_some, length, map, nat_eq, nat_lt}
 use Rattle.std.specs.Char.{to_ascii_lowercase}
-use Rattle.std.specs.List.{ends_with, starts_with}
+use Rattle.std.specs.List.{before_first, ends_with, position_or_len, starts_with}
 use Rattle.std.specs.Option.{option_map}
 use Rattle.std.specs.Str.{bytes_eq}
 use Rattle.implib.specs.declared.flavor.Flavor.{Flavor}
@@ -9,15 +9,20 @@ use Rattle.implib.specs.declared.flavor.Flavor.TheVariants.{Msvc, Gnu}
 use Rattle.implib.specs.declared.machine.MachineType.{MachineType}
 use Rattle.implib.specs.declared.machine.MachineType.TheVariants.{I386, ARMNT, AMD64, ARM64}
 use Rattle.implib_dlltool.specs.declared.options.Setting.TheVariants.{Definition, Output, Machine, Dll, Flavor as FlavorSetting, Assembler, AssemblerFlags, TemporaryPrefix}
-use Rattle.implib_dlltool.specs.declared.options.Switch.TheVariants.{Help, KillAt, NoLeadingUnderscore, Verbose, Version}
+use Rattle.implib_dlltool.specs.declared.options.Switch.TheVariants.{Help, KillAt, LeadingUnderscore, NoLeadingUnderscore, Verbose, Version}
 use Rattle.implib_dlltool.specs.declared.request.CallError.{CallError}
 use Rattle.implib_dlltool.specs.declared.request.CallError.TheVariants as error
+use Rattle.implib_dlltool.specs.declared.request.CalledAs.{CalledAs}
+use Rattle.implib_dlltool.specs.declared.request.CalledAs.TheVariants as called
+use Rattle.implib_dlltool.specs.declared.request.CalledAs.TheVariants.{Itself, Llvm}
+use Rattle.implib_dlltool.specs.declared.request.Caller.{Caller}
 use Rattle.implib_dlltool.specs.declared.request.CallFault.{CallFault}
 use Rattle.implib_dlltool.specs.declared.request.CallFault.TheVariants as fault
 use Rattle.implib_dlltool.specs.declared.request.Request.{Request}
 use Rattle.implib_dlltool.specs.declared.request.Task.{Task}
 use Rattle.implib_dlltool.specs.declared.request.Task.TheVariants as task
-use Rattle.implib_dlltool.specs.Arguments.{OccurrenceView, is_switched, last_given}
+use Rattle.implib_dlltool.specs.Arguments.{OccurrenceView, is_last, is_switched, last_given}
+use Rattle.implib.specs.Machine.{has_leading_underscore}
 use Rattle.implib_dlltool.specs.Linked.{NamingView, naming_view}
 use Rattle.implib_dlltool.specs.Names.{last_part}
 use Rattle.implib_dlltool.specs.Options.{machine_called}
@@ -68,6 +73,10 @@ pub data CallFaultView : Type 0 where
   IsUnknownFlavor : List ℕ → CallFaultView
   HasEmptyDll : CallFaultView
   GoesToStandard : CallFaultView
+  HasEmptyOutput : CallFaultView
+  IsOtherArchitecture : CallFaultView
+  HasNoUnderscore : CallFaultView
+  ReplacesDefinition : CallFaultView
 
 -- the view of a fault of the program
 abbrev pub call_fault_view : CallFault → CallFaultView
@@ -76,6 +85,10 @@ call_fault_view (fault.UnknownMachine name) = IsUnknownMachine name.now
 call_fault_view (fault.UnknownFlavor name) = IsUnknownFlavor name.now
 call_fault_view fault.EmptyDll = HasEmptyDll
 call_fault_view fault.OutputToStandard = GoesToStandard
+call_fault_view fault.EmptyOutput = HasEmptyOutput
+call_fault_view fault.OtherArchitecture = IsOtherArchitecture
+call_fault_view fault.NoUnderscore = HasNoUnderscore
+call_fault_view fault.OutputIsDefinition = ReplacesDefinition
 
 -- a value that is asked for, or what is wrong
 abbrev pub Asked : Type 0 → Type 0
@@ -106,13 +119,91 @@ flavor_called name =
 abbrev pub begins_with : List ℕ → List ℕ → Bool
 begins_with text front = starts_with nat_eq text front
 
--- the machine for the name of the program, without its directory: by its prefix, else AMD64
-abbrev pub default_machine : List ℕ → MachineType
-default_machine program =
-    if begins_with (last_part program) (codes "i686-") then I386
-    else if begins_with (last_part program) (codes "armv7-") then ARMNT
-    else if begins_with (last_part program) (codes "aarch64-") then ARM64
-    else AMD64
+-- the architectures that are not supported, as targets and programs for them are named
+abbrev pub is_other_architecture : List ℕ → Bool
+is_other_architecture name =
+    if bytes_eq name (codes "arm64ec") then true
+    else if bytes_eq name (codes "arm64e") then true
+    else if bytes_eq name (codes "aarch64_be") then true
+    else if bytes_eq name (codes "armeb") then true
+    else if bytes_eq name (codes "thumb") then true
+    else if bytes_eq name (codes "thumbeb") then true
+    else if bytes_eq name (codes "riscv32") then true
+    else if bytes_eq name (codes "riscv64") then true
+    else if bytes_eq name (codes "loongarch32") then true
+    else if bytes_eq name (codes "loongarch64") then true
+    else if bytes_eq name (codes "ia64") then true
+    else if bytes_eq name (codes "alpha") then true
+    else if bytes_eq name (codes "mips") then true
+    else if bytes_eq name (codes "mipsel") then true
+    else if bytes_eq name (codes "mips64") then true
+    else if bytes_eq name (codes "mips64el") then true
+    else if bytes_eq name (codes "sh3") then true
+    else if bytes_eq name (codes "sh4") then true
+    else if bytes_eq name (codes "sparc") then true
+    else if bytes_eq name (codes "sparc64") then true
+    else if bytes_eq name (codes "powerpc") then true
+    else if bytes_eq name (codes "powerpc64") then true
+    else if bytes_eq name (codes "powerpc64le") then true
+    else if bytes_eq name (codes "ppc") then true
+    else if bytes_eq name (codes "ppc64") then true
+    else if bytes_eq name (codes "ppc64le") then true
+    else if bytes_eq name (codes "s390x") then true
+    else if bytes_eq name (codes "wasm32") then true
+    else if bytes_eq name (codes "wasm64") then true
+    else if bytes_eq name (codes "mcore") then true
+    else false
+
+-- the machine of an architecture that has this name
+abbrev pub architecture_named : List ℕ → Option MachineType
+architecture_named name =
+    if bytes_eq name (codes "i386") then Some I386
+    else if bytes_eq name (codes "i486") then Some I386
+    else if bytes_eq name (codes "i586") then Some I386
+    else if bytes_eq name (codes "i686") then Some I386
+    else if bytes_eq name (codes "i786") then Some I386
+    else if bytes_eq name (codes "i886") then Some I386
+    else if bytes_eq name (codes "i986") then Some I386
+    else if bytes_eq name (codes "arm") then Some ARMNT
+    else if bytes_eq name (codes "aarch64") then Some ARM64
+    else if bytes_eq name (codes "arm64") then Some ARM64
+    else None
+
+-- the machine of an architecture, as the first part of a target's name: by the name, or ARMNT for the forms of armv7;
+-- AMD64 for what is none, and none for an architecture that is not supported
+abbrev pub machine_of_architecture : List ℕ → Option MachineType
+machine_of_architecture name =
+    if is_some (architecture_named name) then architecture_named name
+    else if begins_with name (codes "armv7") then Some ARMNT
+    else if is_other_architecture name then None
+    else Some AMD64
+
+-- the byte is `-`
+abbrev pub is_minus : ℕ → Bool
+is_minus b = b == 45
+
+-- the machine of a program's name: that of the architecture before its first `-`, as in aarch64-w64-mingw32-dlltool;
+-- AMD64 without a `-`
+abbrev pub machine_of_name : List ℕ → Option MachineType
+machine_of_name name =
+    if nat_lt (position_or_len is_minus name) (length name) then machine_of_architecture (before_first is_minus name)
+    else Some AMD64
+
+-- whether a text, which is not empty, is within another
+abbrev pub holds_text : List ℕ → List ℕ → Bool
+holds_text [] text = false
+holds_text (b ∷ bytes) text = begins_with (b ∷ bytes) text || holds_text bytes text
+
+-- whose ways a program's name asks for: llvm-dlltool's, GNU dlltool's, or its own
+abbrev pub called_as : List ℕ → CalledAs
+called_as name =
+    if holds_text name (codes "llvm-dlltool") then Llvm
+    else if holds_text name (codes "dlltool") && not (holds_text name (codes "implib_dlltool")) then called.Gnu
+    else Itself
+
+-- what the name that the program is called by says
+abbrev pub caller_of : List ℕ → Caller
+caller_of program = record { machine = machine_of_name (last_part program); called_as = called_as (last_part program) }
 
 -- whether an option is given that only GNU dlltool has a use for: those who do link by GNU's linker, whatever
 -- the ending of the library's name (rustc ends it in .lib)
@@ -123,28 +214,42 @@ has_gnu_habits options =
 -- the flavour by the ending of a file's name
 abbrev pub flavor_by_ending : Option (List ℕ) → Flavor
 flavor_by_ending None = Gnu
-flavor_by_ending (Some path) = if ends_with nat_eq path (codes ".lib") then Msvc else Gnu
+flavor_by_ending (Some path) =
+    if ends_with nat_eq path (codes ".lib") then Msvc
+    else if ends_with nat_eq path (codes ".LIB") then Msvc
+    else Gnu
 
--- The flavour where none is given: Microsoft's on ARMNT and ARM64; elsewhere GNU's, but for a library in .lib
--- without GNU dlltool's options.
-abbrev pub default_flavor : MachineType → Bool → Option (List ℕ) → Flavor
-default_flavor ARMNT habits output = Msvc
-default_flavor ARM64 habits output = Msvc
-default_flavor I386 habits output = if habits then Gnu else flavor_by_ending output
-default_flavor AMD64 habits output = if habits then Gnu else flavor_by_ending output
+-- the flavour on I386 and AMD64: GNU's, but for a library in .lib without GNU dlltool's options and name
+abbrev pub usual_flavor : CalledAs → Bool → Option (List ℕ) → Flavor
+usual_flavor Itself habits output = if habits then Gnu else flavor_by_ending output
+usual_flavor _ habits output = Gnu
+
+-- The flavour where none is given: Microsoft's on ARMNT and ARM64, whose stubs for GNU's linker are not complete, and
+-- where the program is called as llvm-dlltool is.
+abbrev pub default_flavor : CalledAs → MachineType → Bool → Option (List ℕ) → Flavor
+default_flavor Llvm machine habits output = Msvc
+default_flavor called ARMNT habits output = Msvc
+default_flavor called ARM64 habits output = Msvc
+default_flavor called I386 habits output = usual_flavor called habits output
+default_flavor called AMD64 habits output = usual_flavor called habits output
 
 -- the machine, if its name is one
 abbrev pub known_machine : List ℕ → Option MachineType → Asked MachineType
 known_machine name (Some machine) = Ok machine
 known_machine name None = Err (IsUnknownMachine name)
 
+-- the machine without a name, if the program's name is not of another architecture
+abbrev pub unnamed_machine : Option MachineType → Asked MachineType
+unnamed_machine (Some machine) = Ok machine
+unnamed_machine None = Err IsOtherArchitecture
+
 -- the machine that is named, or the one without a name
-abbrev pub machine_or : MachineType → Option (List ℕ) → Asked MachineType
-machine_or unnamed None = Ok unnamed
+abbrev pub machine_or : Option MachineType → Option (List ℕ) → Asked MachineType
+machine_or unnamed None = unnamed_machine unnamed
 machine_or unnamed (Some name) = known_machine name (machine_named name)
 
 -- the machine that options name, or the one without a name
-abbrev pub machine_in : MachineType → List OccurrenceView → Asked MachineType
+abbrev pub machine_in : Option MachineType → List OccurrenceView → Asked MachineType
 machine_in unnamed options = machine_or unnamed (last_given Machine options)
 
 -- the flavour, if its name is one
@@ -158,8 +263,9 @@ flavor_or unnamed None = Ok unnamed
 flavor_or unnamed (Some name) = known_flavor name (flavor_called name)
 
 -- the flavour for a machine and a library of this file
-abbrev pub flavor_in : MachineType → Option (List ℕ) → List OccurrenceView → Asked Flavor
-flavor_in machine output options = flavor_or (default_flavor machine (has_gnu_habits options) output) (last_given FlavorSetting options)
+abbrev pub flavor_in : CalledAs → MachineType → Option (List ℕ) → List OccurrenceView → Asked Flavor
+flavor_in called machine output options =
+    flavor_or (default_flavor called machine (has_gnu_habits options) output) (last_given FlavorSetting options)
 
 -- the DLL's name, unless it is empty or ends in a directory
 abbrev pub dll_or : Option (List ℕ) → Asked (Option (List ℕ))
@@ -170,49 +276,60 @@ dll_or (Some name) = if nat_eq (length (last_part name)) 0 then Err HasEmptyDll 
 abbrev pub dll_in : List OccurrenceView → Asked (Option (List ℕ))
 dll_in options = dll_or (last_given Dll options)
 
--- the library's file, which is not standard output
-abbrev pub output_or : Option (List ℕ) → Asked (Option (List ℕ))
-output_or None = Ok None
-output_or (Some path) = if bytes_eq path (codes "-") then Err GoesToStandard else Ok (Some path)
+-- the library's file, which is not standard output, and not the definition
+abbrev pub output_or : List ℕ → Option (List ℕ) → Asked (Option (List ℕ))
+output_or definition None = Ok None
+output_or definition (Some path) =
+    if bytes_eq path (codes "-") then Err GoesToStandard
+    else if bytes_eq path [] then Err HasEmptyOutput
+    else if bytes_eq path definition then Err ReplacesDefinition
+    else Ok (Some path)
 
 -- the library's file that options give
-abbrev pub output_in : List OccurrenceView → Asked (Option (List ℕ))
-output_in options = output_or (last_given Output options)
+abbrev pub output_in : List ℕ → List OccurrenceView → Asked (Option (List ℕ))
+output_in definition options = output_or definition (last_given Output options)
 
--- how options want names to be read
-abbrev pub naming_in : List OccurrenceView → NamingView
-naming_in options = record { is_plain = is_switched NoLeadingUnderscore options; kills_at = is_switched KillAt options }
+-- How options want names to be read. Of the two about C's underscore the last counts, and one is asked for only
+-- where there is one.
+abbrev pub naming_in : MachineType → List OccurrenceView → Asked NamingView
+naming_in machine options =
+    if is_last LeadingUnderscore NoLeadingUnderscore options && not (has_leading_underscore machine) then Err HasNoUnderscore
+    else Ok (record {
+      is_plain = is_last NoLeadingUnderscore LeadingUnderscore options;
+      kills_at = is_switched KillAt options;
+    })
 
 -- the library that is asked for, of this definition
-abbrev pub request_of : MachineType → List OccurrenceView → Option (List ℕ) → Asked RequestView
-request_of unnamed options None = Err LacksDefinition
-request_of unnamed options (Some definition) =
-    with (output_in options) (λ output.
-    with (machine_in unnamed options) (λ machine.
-    with (flavor_in machine output options) (λ flavor.
+abbrev pub request_of : Caller → List OccurrenceView → Option (List ℕ) → Asked RequestView
+request_of caller options None = Err LacksDefinition
+request_of caller options (Some definition) =
+    with (output_in definition options) (λ output.
+    with (machine_in caller.machine options) (λ machine.
+    with (flavor_in caller.called_as machine output options) (λ flavor.
     with (dll_in options) (λ dll.
+    with (naming_in machine options) (λ naming.
     Ok (record {
       definition = definition;
       output = output;
       machine = machine;
       flavor = flavor;
       dll = dll;
-      naming = naming_in options;
+      naming = naming;
       is_verbose = is_switched Verbose options;
-    })))))
+    }))))))
 
 -- the library that options ask for
-abbrev pub request_in : MachineType → List OccurrenceView → Asked RequestView
-request_in unnamed options = request_of unnamed options (last_given Definition options)
+abbrev pub request_in : Caller → List OccurrenceView → Asked RequestView
+request_in caller options = request_of caller options (last_given Definition options)
 
 -- a library, as what is asked for
 abbrev pub made : Asked RequestView → Asked TaskView
 made (Ok request) = Ok (Asks request)
 made (Err fault) = Err fault
 
--- what options ask for, where this is the machine without a name
-abbrev pub task_of : MachineType → List OccurrenceView → Asked TaskView
-task_of unnamed options =
+-- what options ask for, where the program is called so
+abbrev pub task_of : Caller → List OccurrenceView → Asked TaskView
+task_of caller options =
     if is_switched Help options then Ok AsksHelp
     else if is_switched Version options then Ok AsksVersion
-    else made (request_in unnamed options)
+    else made (request_in caller options)

@@ -1,7 +1,7 @@
 -- Command lines worked by hand, each word and each option written out.
 use Rattle.std.specs.Prelude.{◌≡◌, List, [], ◌∷◌, ℕ, Some, Ok, Err, codes}
 use Rattle.implib_dlltool.specs.declared.options.Setting.TheVariants.{Definition, Output, Machine, Dll, AssemblerFlags, TemporaryPrefix}
-use Rattle.implib_dlltool.specs.declared.options.Switch.TheVariants.{KillAt, NoLeadingUnderscore}
+use Rattle.implib_dlltool.specs.declared.options.Switch.TheVariants.{KillAt, NoDelete, NoLeadingUnderscore, Verbose}
 use Rattle.implib_dlltool.specs.Arguments.{OccurrenceView, Given, Switched, IsFile, IsUnknown, IsUnsupported, LacksValue, last_given, read_words}
 
 -- as rustc calls a dlltool for I386
@@ -36,3 +36,20 @@ pub record CallsRead : Type 0 where
   pub unsupported : read_words (codes "-k" ∷ codes "-yX.a" ∷ codes "b" ∷ []) ≡ Err (IsUnsupported (codes "-yX.a"))
   pub unknown : read_words (codes "--kill-at=1" ∷ []) ≡ Err (IsUnknown (codes "--kill-at=1"))
   pub file : read_words (codes "-k" ∷ codes "a.o" ∷ []) ≡ Err (IsFile (codes "a.o"))
+  pub minus : read_words (codes "-" ∷ []) ≡ Err (IsFile (codes "-"))
+  -- a value may be empty, and may look like an option
+  pub empty_value : read_words (codes "--as-flags=" ∷ []) ≡ Ok (Given AssemblerFlags [] ∷ [])
+  pub value_as_option : read_words (codes "-f" ∷ codes "-k" ∷ []) ≡ Ok (Given AssemblerFlags (codes "-k") ∷ [])
+  -- options without a value share a word, and the last of them may take one, there or in the next word
+  pub bundle : read_words (codes "-kvd" ∷ codes "a.def" ∷ codes "-nkla.lib" ∷ codes "-kv" ∷ [])
+      ≡ Ok (Switched KillAt ∷ Switched Verbose ∷ Given Definition (codes "a.def") ∷ Switched NoDelete ∷ Switched KillAt
+      ∷ Given Output (codes "a.lib") ∷ Switched KillAt ∷ Switched Verbose ∷ [])
+  pub bundle_lacks_value : read_words (codes "-kd" ∷ []) ≡ Err (LacksValue Definition)
+  pub bundle_unsupported : read_words (codes "-kx" ∷ []) ≡ Err (IsUnsupported (codes "-kx"))
+  pub bundle_unknown : read_words (codes "-k=1" ∷ []) ≡ Err (IsUnknown (codes "-k=1"))
+  pub bundle_not_ascii : read_words ((45 ∷ 107 ∷ 195 ∷ 164 ∷ []) ∷ []) ≡ Err (IsUnknown (45 ∷ 107 ∷ 195 ∷ 164 ∷ []))
+  pub not_ascii : read_words ((45 ∷ 195 ∷ 164 ∷ []) ∷ []) ≡ Err (IsUnknown (45 ∷ 195 ∷ 164 ∷ []))
+  -- `--` ends the options, unless it is a value
+  pub ended : read_words (codes "-k" ∷ codes "--" ∷ []) ≡ Ok (Switched KillAt ∷ [])
+  pub option_after_the_end : read_words (codes "--" ∷ codes "-k" ∷ []) ≡ Err (IsFile (codes "-k"))
+  pub end_as_value : read_words (codes "-d" ∷ codes "--" ∷ codes "-k" ∷ []) ≡ Ok (Given Definition (codes "--") ∷ Switched KillAt ∷ [])

@@ -8,11 +8,13 @@ use Rattle.implib.specs.Import.{name_asked}
 use Rattle.implib_dlltool.specs.declared.options.Setting.TheVariants.{Definition, Output, Machine, Dll}
 use Rattle.implib_dlltool.specs.declared.options.Setting.TheVariants.{Flavor as FlavorSetting}
 use Rattle.implib_dlltool.specs.declared.options.Switch.TheVariants.{Help, Verbose}
+use Rattle.implib_dlltool.specs.declared.request.CalledAs.TheVariants.{Itself}
+use Rattle.implib_dlltool.specs.declared.request.Caller.{Caller}
 use Rattle.implib_dlltool.specs.Arguments.{Given, Switched}
 use Rattle.implib_dlltool.specs.Linked.{NamingView, linked, linked_export, linked_exports}
 use Rattle.implib_dlltool.specs.Names.{dll_name, lacks_name}
 use Rattle.implib_dlltool.specs.Order.{library_specs}
-use Rattle.implib_dlltool.specs.Request.{Asks, AsksHelp, GoesToStandard, HasEmptyDll, IsUnknownFlavor, IsUnknownMachine, LacksDefinition, default_machine, task_of}
+use Rattle.implib_dlltool.specs.Request.{Asks, AsksHelp, GoesToStandard, HasEmptyDll, IsUnknownFlavor, IsUnknownMachine, LacksDefinition, task_of}
 use Rattle.implib_dlltool.specs.Worked.{mingw_options, rustc_options}
 
 -- the rules without an option
@@ -149,9 +151,16 @@ pub record DllsNamed : Type 0 where
   pub directory : lacks_name None (codes "zoo/") ≡ true
   pub given_for_none : lacks_name (Some (codes "zoo")) [] ≡ false
 
+-- the program called by its own name, and by one of I386 whose ways are the same
+abbrev pub itself : Caller
+itself = record { machine = Some AMD64; called_as = Itself }
+
+abbrev pub for_i386 : Caller
+for_i386 = record { machine = Some I386; called_as = Itself }
+
 -- what command lines ask for
 pub record CallsAnswered : Type 0 where
-  pub rustc : task_of AMD64 rustc_options ≡ Ok (Asks (record {
+  pub rustc : task_of itself rustc_options ≡ Ok (Asks (record {
     definition = codes "F.def";
     output = Some (codes "F.lib");
     machine = I386;
@@ -160,7 +169,7 @@ pub record CallsAnswered : Type 0 where
     naming = plain;
     is_verbose = false;
   }))
-  pub mingw : task_of I386 mingw_options ≡ Ok (Asks (record {
+  pub mingw : task_of for_i386 mingw_options ≡ Ok (Asks (record {
     definition = codes "X.def";
     output = Some (codes "X.a");
     machine = AMD64;
@@ -169,7 +178,7 @@ pub record CallsAnswered : Type 0 where
     naming = killing;
     is_verbose = false;
   }))
-  pub by_ending : task_of AMD64 (Given Definition (codes "-") ∷ Given Output (codes "a.lib") ∷ []) ≡ Ok (Asks (record {
+  pub by_ending : task_of itself (Given Definition (codes "-") ∷ Given Output (codes "a.lib") ∷ []) ≡ Ok (Asks (record {
     definition = codes "-";
     output = Some (codes "a.lib");
     machine = AMD64;
@@ -178,7 +187,7 @@ pub record CallsAnswered : Type 0 where
     naming = usual;
     is_verbose = false;
   }))
-  pub arm64 : task_of AMD64 (Given Definition (codes "a") ∷ Given Machine (codes "AArch64") ∷ []) ≡ Ok (Asks (record {
+  pub arm64 : task_of itself (Given Definition (codes "a") ∷ Given Machine (codes "AArch64") ∷ []) ≡ Ok (Asks (record {
     definition = codes "a";
     output = None;
     machine = ARM64;
@@ -187,7 +196,7 @@ pub record CallsAnswered : Type 0 where
     naming = usual;
     is_verbose = false;
   }))
-  pub verbose : task_of AMD64 (Given Definition (codes "a") ∷ Switched Verbose ∷ []) ≡ Ok (Asks (record {
+  pub verbose : task_of itself (Given Definition (codes "a") ∷ Switched Verbose ∷ []) ≡ Ok (Asks (record {
     definition = codes "a";
     output = None;
     machine = AMD64;
@@ -196,13 +205,9 @@ pub record CallsAnswered : Type 0 where
     naming = usual;
     is_verbose = true;
   }))
-  pub help : task_of AMD64 (Switched Help ∷ []) ≡ Ok AsksHelp
-  pub no_definition : task_of AMD64 (Given Output (codes "a.lib") ∷ []) ≡ Err LacksDefinition
-  pub to_standard : task_of AMD64 (Given Definition (codes "a") ∷ Given Output (codes "-") ∷ []) ≡ Err GoesToStandard
-  pub mips : task_of AMD64 (Given Definition (codes "a") ∷ Given Machine (codes "mips") ∷ []) ≡ Err (IsUnknownMachine (codes "mips"))
-  pub borland : task_of AMD64 (Given Definition (codes "a") ∷ Given FlavorSetting (codes "borland") ∷ []) ≡ Err (IsUnknownFlavor (codes "borland"))
-  pub empty_dll : task_of AMD64 (Given Definition (codes "a") ∷ Given Dll (codes "d/") ∷ []) ≡ Err HasEmptyDll
-  pub prefix_i386 : default_machine (codes "/bin/i686-w64-mingw32-dlltool") ≡ I386
-  pub prefix_armnt : default_machine (codes "armv7-w64-mingw32-dlltool") ≡ ARMNT
-  pub prefix_arm64 : default_machine (codes "aarch64-w64-mingw32-dlltool") ≡ ARM64
-  pub prefix_none : default_machine (codes "i686-/dlltool") ≡ AMD64
+  pub help : task_of itself (Switched Help ∷ []) ≡ Ok AsksHelp
+  pub no_definition : task_of itself (Given Output (codes "a.lib") ∷ []) ≡ Err LacksDefinition
+  pub to_standard : task_of itself (Given Definition (codes "a") ∷ Given Output (codes "-") ∷ []) ≡ Err GoesToStandard
+  pub mips : task_of itself (Given Definition (codes "a") ∷ Given Machine (codes "mips") ∷ []) ≡ Err (IsUnknownMachine (codes "mips"))
+  pub borland : task_of itself (Given Definition (codes "a") ∷ Given FlavorSetting (codes "borland") ∷ []) ≡ Err (IsUnknownFlavor (codes "borland"))
+  pub empty_dll : task_of itself (Given Definition (codes "a") ∷ Given Dll (codes "d/") ∷ []) ≡ Err HasEmptyDll

@@ -1,11 +1,13 @@
 //! The words of a command line, as options with their values.
 
-ghost use Rattle.implib_dlltool.specs.Arguments.{IsRefusalOf, is_switched, last_given, long_word};
+ghost use Rattle.implib_dlltool.specs.Arguments.{IsRefusalOf, front, front_letters, is_last};
+ghost use Rattle.implib_dlltool.specs.Arguments.{is_switch_letter, is_switched, last_given, letters_word};
+ghost use Rattle.implib_dlltool.specs.Arguments.{long_word};
 ghost use Rattle.implib_dlltool.specs.Arguments.{occurrence_view};
-ghost use Rattle.implib_dlltool.specs.Arguments.{read_words, short_word, step, step_view, word_of};
-ghost use Rattle.implib_dlltool.specs.Arguments.{word_view};
+ghost use Rattle.implib_dlltool.specs.Arguments.{read_words, short_word, step, step_view, switched_in};
+ghost use Rattle.implib_dlltool.specs.Arguments.{switches_in, word_of, word_view};
 ghost use Rattle.implib_dlltool.specs.declared.arguments.ReadWordsError.TheVariants.{OutOfMemory};
-ghost use Rattle.std.specs.Prelude.{◌≡◌, IfErr, IfOk, Ok, map};
+ghost use Rattle.std.specs.Prelude.{◌≡◌, ◌++◌, ◌<◌, ◌≤◌, IfErr, IfOk, Ok, OnOk, length, map};
 ghost use Rattle.std.specs.Option.{option_map};
 ghost use Rattle.std.specs.String.{string_bytes};
 
@@ -25,6 +27,8 @@ pub enum Word<'a> {
     Unsupported,
     /// An option that is unknown, or that takes no value and has one.
     Unknown,
+    /// `--`: no option follows.
+    Ends,
     /// No option: the name of a file.
     File,
 }
@@ -33,6 +37,9 @@ pub enum Word<'a> {
 fn long_word(text: &str) -> Word<'_>
     ensures { word_view result ≡ long_word text.now }
 {
+    if text.is_empty() {
+        return Word::Ends;
+    }
     match text.split_once('=') {
         Some((name, value)) => match option_named(name) {
             Meaning::Takes(setting) => Word::Gives(setting, value),
@@ -61,7 +68,46 @@ fn short_word(letter: u8, rest: &str) -> Word<'_>
     }
 }
 
-/// What a word says.
+// Whether a letter is an option without a value.
+fn is_switch_letter(letter: u8) -> bool
+    ensures { result ≡ is_switch_letter letter }
+{
+    match option_lettered(letter) {
+        Meaning::Switches(_) => true,
+        _ => false,
+    }
+}
+
+// How many options without a value come before the last option of letters.
+fn switches_in(letters: &[u8]) -> usize
+    ensures number { result ≡ switches_in letters.now }
+    ensures below { 0 < length letters.now → result < length letters.now }
+    ensures within { result ≤ length letters.now }
+{
+    for count in 0..letters.len() {
+        if count + 1 == letters.len() || !is_switch_letter(letters[count]) {
+            return count;
+        }
+    }
+    0
+}
+
+// What the last option of letters says, of which there are some.
+fn letters_word(letters: &str) -> Word<'_>
+    requires { 0 < length letters.now }
+    ensures { word_view result ≡ letters_word letters.now }
+{
+    let bytes = letters.as_bytes();
+    let last = switches_in(bytes);
+    let letter = bytes[last];
+    if letter >= 128 {
+        return Word::Unknown;
+    }
+    short_word(letter, &letters[last + 1..])
+}
+
+/// What a word says, but for the options without a value that come before its last one, as `k` in
+/// `-kd`.
 pub fn word_of(word: &str) -> Word<'_>
     ensures { word_view result ≡ word_of word.now }
 {
@@ -69,13 +115,22 @@ pub fn word_of(word: &str) -> Word<'_>
     if bytes.len() < 2 || bytes[0] != b'-' {
         return Word::File;
     }
-    if bytes[1] >= 128 {
-        return Word::Unknown;
-    }
     if bytes[1] == b'-' {
         return long_word(&word[2..]);
     }
-    short_word(bytes[1], &word[2..])
+    letters_word(&word[1..])
+}
+
+// The letters of a word that are options without a value and come before its last option.
+fn front_letters(word: &str) -> &[u8]
+    ensures { result.now ≡ front_letters word.now }
+{
+    let bytes = word.as_bytes();
+    if bytes.len() < 2 || bytes[0] != b'-' || bytes[1] == b'-' {
+        return &bytes[..0];
+    }
+    let letters = &bytes[1..];
+    &letters[..switches_in(letters)]
 }
 
 /// An option as it stands on a command line.
@@ -125,6 +180,17 @@ impl<'a, T: Drop> From<AllocFailed<T>> for ReadWordsError<'a> {
     }
 }
 
+// What comes before a word.
+#[derive(Clone, Copy)]
+enum Before {
+    // Whole options, or nothing.
+    Whole,
+    // An option that lacks its value.
+    Lacks(Setting),
+    // `--`: no option follows.
+    Ended,
+}
+
 // What a word is for.
 #[derive(Clone, Copy)]
 enum Step<'a> {
@@ -132,23 +198,55 @@ enum Step<'a> {
     Waits(Setting),
     // With the word, an option is complete.
     Adds(Occurrence<'a>),
+    // No option follows.
+    Ends,
     Refuses(WordFault<'a>),
 }
 
-// What a word is for; `waiting` is the option before it that lacks its value, if any.
-fn step_at<'a>(waiting: Option<Setting>, word: &'a str) -> Step<'a>
-    ensures { step_view result ≡ step waiting word.now }
+// What a word is for, of its last option.
+fn step_at<'a>(before: Before, word: &'a str) -> Step<'a>
+    ensures { step_view result ≡ step before word.now }
 {
-    if let Some(setting) = waiting {
-        return Step::Adds(Occurrence::Given(setting, word));
+    match before {
+        Before::Lacks(setting) => Step::Adds(Occurrence::Given(setting, word)),
+        Before::Ended => Step::Refuses(WordFault::File(word)),
+        Before::Whole => match word_of(word) {
+            Word::Takes(setting) => Step::Waits(setting),
+            Word::Gives(setting, value) => Step::Adds(Occurrence::Given(setting, value)),
+            Word::Switches(switch) => Step::Adds(Occurrence::Switched(switch)),
+            Word::Ends => Step::Ends,
+            Word::Unsupported => Step::Refuses(WordFault::Unsupported(word)),
+            Word::Unknown => Step::Refuses(WordFault::Unknown(word)),
+            Word::File => Step::Refuses(WordFault::File(word)),
+        },
     }
-    match word_of(word) {
-        Word::Takes(setting) => Step::Waits(setting),
-        Word::Gives(setting, value) => Step::Adds(Occurrence::Given(setting, value)),
-        Word::Switches(switch) => Step::Adds(Occurrence::Switched(switch)),
-        Word::Unsupported => Step::Refuses(WordFault::Unsupported(word)),
-        Word::Unknown => Step::Refuses(WordFault::Unknown(word)),
-        Word::File => Step::Refuses(WordFault::File(word)),
+}
+
+// Appends the options of letters, each without a value.
+fn push_switches<'a>(read: &mut Vec<Occurrence<'a>>, letters: &[u8]) -> Result<(), AllocError>
+    ensures { OnOk result (map occurrence_view read.new.items
+        ≡ map occurrence_view read.old.items ++ switched_in letters.now) }
+{
+    for letter in letters {
+        if let Meaning::Switches(switch) = option_lettered(*letter) {
+            read.push(Occurrence::Switched(switch))?;
+        }
+    }
+    Ok(())
+}
+
+// Appends the options of a word that come before its last one.
+fn push_front<'a>(
+    read: &mut Vec<Occurrence<'a>>,
+    before: Before,
+    word: &str,
+) -> Result<(), AllocError>
+    ensures { OnOk result (map occurrence_view read.new.items
+        ≡ map occurrence_view read.old.items ++ front before word.now) }
+{
+    match before {
+        Before::Whole => push_switches(read, front_letters(word)),
+        Before::Lacks(_) | Before::Ended => Ok(()),
     }
 }
 
@@ -167,20 +265,23 @@ pub fn read_words<'a>(
     ensures refused { IfErr result (IsRefusalOf (map string_bytes words.now)) }
 {
     let mut read = Vec::new(alloc);
-    let mut waiting = None;
+    let mut before = Before::Whole;
     for word in words {
-        match step_at(waiting, word.as_str()) {
-            Step::Waits(setting) => waiting = Some(setting),
+        let word = word.as_str();
+        push_front(&mut read, before, word)?;
+        match step_at(before, word) {
+            Step::Waits(setting) => before = Before::Lacks(setting),
             Step::Adds(occurrence) => {
-                waiting = None;
+                before = Before::Whole;
                 read.push(occurrence)?;
             }
+            Step::Ends => before = Before::Ended,
             Step::Refuses(fault) => return Err(ReadWordsError::Refused(fault)),
         }
     }
-    match waiting {
-        Some(setting) => Err(ReadWordsError::Refused(WordFault::NoValue(setting))),
-        None => Ok(read),
+    match before {
+        Before::Lacks(setting) => Err(ReadWordsError::Refused(WordFault::NoValue(setting))),
+        Before::Whole | Before::Ended => Ok(read),
     }
 }
 
@@ -212,4 +313,21 @@ pub fn is_switched(options: &[Occurrence<'_>], switch: Switch) -> bool
         }
     }
     false
+}
+
+/// Whether, of two options without values that undo each other, the one given first comes last.
+pub fn is_last(options: &[Occurrence<'_>], one: Switch, other: Switch) -> bool
+    ensures { result ≡ is_last one other (map occurrence_view options.now) }
+{
+    let mut is_on = false;
+    for option in options {
+        if let Occurrence::Switched(switched) = option {
+            if switched.is(one) {
+                is_on = true;
+            } else if switched.is(other) {
+                is_on = false;
+            }
+        }
+    }
+    is_on
 }

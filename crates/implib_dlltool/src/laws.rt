@@ -11,6 +11,7 @@ ghost use Rattle.implib_dlltool.specs.Places.{AreAtWords};
 ghost use Rattle.implib_dlltool.specs.Repeats.{AreLeftOut, SymbolsAreOfWords};
 ghost use Rattle.implib_dlltool.specs.Warnings.{AreInOrder, RepeatsStandBefore};
 ghost use Rattle.implib_dlltool.specs.Worked.{CallsRead};
+ghost use Rattle.implib_dlltool.specs.WorkedCallers.{CallersNamed, FaultsOrdered, FlavorsChosen};
 ghost use Rattle.implib_dlltool.specs.WorkedLibraryNames.{LibrariesWorked};
 ghost use Rattle.implib_dlltool.specs.WorkedNames.{AliasesLinked, CallsAnswered, DllsNamed};
 ghost use Rattle.implib_dlltool.specs.WorkedNames.{ExportsLinked, MembersInOrder};
@@ -32,6 +33,21 @@ pub fn options_named()
 /// are refused.
 pub fn calls_answered()
     ensures { CallsAnswered }
+{}
+
+/// Programs' names ask for the machines and the ways that were worked by hand.
+pub fn callers_named()
+    ensures { CallersNamed }
+{}
+
+/// The flavours where none is given, and where one is.
+pub fn flavors_chosen()
+    ensures { FlavorsChosen }
+{}
+
+/// Of two options the right one counts, and of two faults the right one comes first.
+pub fn faults_ordered()
+    ensures { FaultsOrdered }
 {}
 
 /// Exports are linked by the symbols that were worked by hand, and ask for the names.

@@ -123,11 +123,75 @@ impl fmt::Display for Setting {
     }
 }
 
+// The long names of options.
+const NAMES: [&str; 35] = [
+    "input-def",
+    "def",
+    "output-lib",
+    "machine",
+    "dllname",
+    "flavor",
+    "as",
+    "as-flags",
+    "temp-prefix",
+    "kill-at",
+    "no-leading-underscore",
+    "leading-underscore",
+    "deterministic-libraries",
+    "non-deterministic-libraries",
+    "no-delete",
+    "verbose",
+    "help",
+    "version",
+    "output-exp",
+    "output-def",
+    "output-delaylib",
+    "base-file",
+    "identify",
+    "no-idata4",
+    "no-idata5",
+    "add-indirect",
+    "ext-prefix-alias",
+    "add-underscore",
+    "add-stdcall-underscore",
+    "add-stdcall-alias",
+    "compat-implib",
+    "export-all-symbols",
+    "no-export-all-symbols",
+    "exclude-symbols",
+    "no-default-excludes",
+];
+
+// The one long name that an option of a word begins, if there is one.
+fn whole_name(word: &str) -> Option<&'static str> {
+    let name = match word.split_once('=') {
+        Some((name, _)) => name,
+        None => word,
+    };
+    let name = name.strip_prefix("--")?.as_bytes();
+    let mut found = None;
+    for whole in NAMES {
+        if !name.is_empty() && whole.as_bytes().starts_with(name) {
+            if found.is_some() {
+                return None;
+            }
+            found = Some(whole);
+        }
+    }
+    found
+}
+
 impl<'a> fmt::Display for WordFault<'a> {
     fn fmt<W: fmt::Write>(&self, f: &mut fmt::Formatter<W>) -> fmt::Result {
         match self {
             WordFault::Unsupported(word) => write!(f, "{word}: not supported"),
-            WordFault::Unknown(word) => write!(f, "{word}: no such option"),
+            WordFault::Unknown(word) => match whole_name(word) {
+                Some(name) => write!(f, "{word}: no such option; write --{name} in full"),
+                None => write!(f, "{word}: no such option"),
+            },
+            WordFault::File(word) if word.as_bytes().starts_with(b"@") => {
+                write!(f, "{word}: files of options are not supported")
+            }
             WordFault::File(word) => write!(f, "{word}: no option; objects are not supported"),
             WordFault::NoValue(setting) => write!(f, "the option {setting} lacks its value"),
         }
@@ -137,7 +201,10 @@ impl<'a> fmt::Display for WordFault<'a> {
 impl<'a> fmt::Display for CallFault<'a> {
     fn fmt<W: fmt::Write>(&self, f: &mut fmt::Formatter<W>) -> fmt::Result {
         match self {
-            CallFault::NoDefinition => f.write_str("no definition: expected the option -d"),
+            CallFault::NoDefinition => f.write_str(
+                "no definition: expected the option -d\n\
+                 usage: implib_dlltool -d FILE [-l OUT] [-m MACHINE] [-D DLL] [--flavor FLAVOUR]",
+            ),
             CallFault::UnknownMachine(name) => write!(
                 f,
                 "{name}: no such machine: expected i386, i386:x86-64, arm or arm64",
@@ -148,6 +215,18 @@ impl<'a> fmt::Display for CallFault<'a> {
             CallFault::EmptyDll => f.write_str("the name of the DLL after -D is empty"),
             CallFault::OutputToStandard => {
                 f.write_str("the library cannot go to standard output")
+            }
+            CallFault::EmptyOutput => f.write_str(
+                "the name of the library's file after -l is empty",
+            ),
+            CallFault::OtherArchitecture => f.write_str(
+                "the program's name is of a machine that is not supported: expected the option -m",
+            ),
+            CallFault::OutputIsDefinition => {
+                f.write_str("the library would take the place of the definition")
+            }
+            CallFault::NoUnderscore => {
+                f.write_str("--leading-underscore: C's symbols have one on i386 alone")
             }
         }
     }

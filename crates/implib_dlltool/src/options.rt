@@ -11,7 +11,7 @@ use implib::MachineType;
 /// An option that takes a value.
 #[derive(Clone, Copy, Debug, PartialEq, Eq)]
 pub enum Setting {
-    /// `-d`, `--input-def`: the module definition.
+    /// `-d`, `--input-def`, `--def`: the module definition.
     Definition,
     /// `-l`, `--output-lib`: the import library.
     Output,
@@ -36,8 +36,14 @@ pub enum Switch {
     KillAt,
     /// `--no-leading-underscore`
     NoLeadingUnderscore,
+    /// `--leading-underscore`: on I386 it undoes the option before it, and is the default.
+    LeadingUnderscore,
     /// `--deterministic-libraries`: they are so in any case.
     DeterministicLibraries,
+    /// `--non-deterministic-libraries`: without an effect.
+    NonDeterministicLibraries,
+    /// `-n`, `--no-delete`: no temporary file is made that could be kept.
+    NoDelete,
     /// `-v`, `--verbose`: warnings are written.
     Verbose,
     /// `-h`, `--help`
@@ -83,6 +89,9 @@ impl Switch {
             Switch::Verbose => 3,
             Switch::Help => 4,
             Switch::Version => 5,
+            Switch::LeadingUnderscore => 6,
+            Switch::NonDeterministicLibraries => 7,
+            Switch::NoDelete => 8,
         }
     }
 
@@ -115,10 +124,9 @@ fn is_unsupported(name: &str) -> bool
         "output-exp" | "output-def" | "output-delaylib" | "base-file" | "identify" => true,
         "identify-strict" | "no-idata4" | "no-idata5" | "add-indirect" => true,
         "ext-prefix-alias" | "add-underscore" | "add-stdcall-underscore" => true,
-        "add-stdcall-alias" | "compat-implib" | "leading-underscore" => true,
+        "add-stdcall-alias" | "compat-implib" => true,
         "export-all-symbols" | "no-export-all-symbols" | "exclude-symbols" => true,
         "no-default-excludes" | "use-nul-prefixed-import-tables" => true,
-        "non-deterministic-libraries" | "no-delete" => true,
         _ => false,
     }
 }
@@ -128,7 +136,7 @@ pub fn option_named(name: &str) -> Meaning
     ensures { result ≡ option_named name.now }
 {
     match name {
-        "input-def" => Meaning::Takes(Setting::Definition),
+        "input-def" | "def" => Meaning::Takes(Setting::Definition),
         "output-lib" => Meaning::Takes(Setting::Output),
         "machine" => Meaning::Takes(Setting::Machine),
         "dllname" => Meaning::Takes(Setting::Dll),
@@ -138,7 +146,10 @@ pub fn option_named(name: &str) -> Meaning
         "temp-prefix" => Meaning::Takes(Setting::TemporaryPrefix),
         "kill-at" => Meaning::Switches(Switch::KillAt),
         "no-leading-underscore" => Meaning::Switches(Switch::NoLeadingUnderscore),
+        "leading-underscore" => Meaning::Switches(Switch::LeadingUnderscore),
         "deterministic-libraries" => Meaning::Switches(Switch::DeterministicLibraries),
+        "non-deterministic-libraries" => Meaning::Switches(Switch::NonDeterministicLibraries),
+        "no-delete" => Meaning::Switches(Switch::NoDelete),
         "verbose" => Meaning::Switches(Switch::Verbose),
         "help" => Meaning::Switches(Switch::Help),
         "version" => Meaning::Switches(Switch::Version),
@@ -160,11 +171,12 @@ pub fn option_lettered(letter: u8) -> Meaning
         b'f' => Meaning::Takes(Setting::AssemblerFlags),
         b't' => Meaning::Takes(Setting::TemporaryPrefix),
         b'k' => Meaning::Switches(Switch::KillAt),
+        b'n' => Meaning::Switches(Switch::NoDelete),
         b'v' => Meaning::Switches(Switch::Verbose),
         b'h' => Meaning::Switches(Switch::Help),
         b'V' => Meaning::Switches(Switch::Version),
         b'e' | b'z' | b'y' | b'b' | b'I' | b'x' | b'c' => Meaning::Unsupported,
-        b'a' | b'p' | b'U' | b'A' | b'C' | b'n' => Meaning::Unsupported,
+        b'a' | b'p' | b'U' | b'A' | b'C' => Meaning::Unsupported,
         _ => Meaning::Unknown,
     }
 }

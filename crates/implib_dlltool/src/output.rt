@@ -1,7 +1,7 @@
 //! The file of a library: made beside the old one, and renamed.
 
 use std::alloc::Global;
-use std::fs::{File, Files, OpenOptions};
+use std::fs::{File, Files, OpenFile, OpenOptions, Permissions};
 use std::io::ErrorKind;
 use std::path::Path;
 use std::{fs, io};
@@ -16,17 +16,20 @@ fn no_file() -> io::Error {
     io::Error::other("not a regular file; it is left as it is")
 }
 
-// The file that a path leads to by its symbolic links. It need not be there.
-fn followed<R: Files + AllocGlobal>(rt: &R, path: &str) -> io::Result<String> {
+// The file that a path leads to by its symbolic links, and its mode where it is there.
+fn followed<R: Files + AllocGlobal>(
+    rt: &R,
+    path: &str,
+) -> io::Result<(String, Option<Permissions>)> {
     let mut target = String::from_str(rt.alloc(), path)?;
     for _ in 0..LINKS {
         let metadata = match fs::symlink_metadata(rt, target.as_str()) {
             Ok(metadata) => metadata,
-            Err(error) if error.kind() == ErrorKind::NotFound => return Ok(target),
+            Err(error) if error.kind() == ErrorKind::NotFound => return Ok((target, None)),
             Err(error) => return Err(error),
         };
         if metadata.is_file() {
-            return Ok(target);
+            return Ok((target, Some(metadata.permissions())));
         }
         if !metadata.is_symlink() {
             return Err(no_file());
@@ -99,14 +102,22 @@ impl<'a, R: Files + AllocGlobal> NewFile<'a, R> {
         }
     }
 
-    // Makes the file.
+    // Makes the file. It gets the mode of the one whose place it takes.
     fn make(&self) -> io::Result<Made<R::File>> {
-        let target = followed(self.rt, self.path)?;
+        let (target, mode) = followed(self.rt, self.path)?;
         let (file, name) = open_beside(self.rt, target.as_str(), self.id)?;
+        if let Some(mode) = mode {
+            if let Err(error) = file.set_permissions(mode) {
+                drop(file);
+                let _ = fs::remove_file(self.rt, name.as_str());
+                return Err(error);
+            }
+        }
         Ok(Made { file, name, target })
     }
 
-    /// Puts the file into its place.
+    /// Puts the file into its place, once its bytes are on the disk: so an error that the system
+    /// finds late, as it would at the file's end, comes before the old file is gone.
     ///
     /// # Errors
     ///
@@ -116,8 +127,12 @@ impl<'a, R: Files + AllocGlobal> NewFile<'a, R> {
         let Some(Made { file, name, target }) = made else {
             return Ok(());
         };
+        let synced = file.sync_all();
         drop(file);
-        let renamed = fs::rename(rt, name.as_str(), target.as_str());
+        let renamed = match synced {
+            Ok(()) => fs::rename(rt, name.as_str(), target.as_str()),
+            failed => failed,
+        };
         if renamed.is_err() {
             let _ = fs::remove_file(rt, name.as_str());
         }

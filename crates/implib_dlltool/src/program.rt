@@ -8,7 +8,7 @@ use crate::library::{LibraryError, Refusal, members_for, text_in, write_library}
 use crate::message::position_of;
 use crate::output::NewFile;
 use crate::places::places_of;
-use crate::request::{CallError, Request, Task, default_machine, task_of};
+use crate::request::{CallError, Request, Task, caller_of, task_of};
 use crate::warnings::{Told, export_lines, warnings_for};
 use implib::def::{ModuleDef, Position};
 use implib::{Error, Flavor, MachineType};
@@ -25,22 +25,31 @@ usage: implib_dlltool -d FILE [-l OUT] [-m MACHINE] [-D DLL] [--flavor FLAVOUR]
 
 Makes the import library of a module definition.
 
-  -d, --input-def FILE     the module definition; - is standard input
+  -d, --input-def FILE     the module definition; - is standard input; also --def
   -l, --output-lib OUT     the import library; without it FILE is checked
-  -m, --machine MACHINE    i386, i386:x86-64, arm or arm64
+  -m, --machine MACHINE    i386 or x86; i386:x86-64, amd64, x64 or x86_64; arm or
+                           armnt; arm64 or aarch64; by default the one that the
+                           program's name begins with, as i686-w64-mingw32-dlltool,
+                           and else i386:x86-64
   -D, --dllname DLL        the name of the DLL, before that of FILE
       --flavor FLAVOUR     msvc or gnu: whose linker the library is for; by
                            default msvc for arm and arm64 and for OUT in .lib,
-                           unless -S, -f or -t is given, and else gnu
+                           unless -S, -f or -t is given, and else gnu; called
+                           as llvm-dlltool msvc, and called as another dlltool
+                           gnu but for arm and arm64
   -k, --kill-at            on I386 ask for names without @ and what follows it
       --no-leading-underscore
                            on I386 take symbols as they are written
+      --leading-underscore on I386 undo it
   -v, --verbose            write warnings of FILE on standard error
   -h, --help
   -V, --version
 
+Options of one letter without a value may share a word, as in -kd FILE; after --
+there is no option.
+
 Taken and ignored: -S --as, -f --as-flags, -t --temp-prefix, each with a value;
---deterministic-libraries.
+-n --no-delete, --deterministic-libraries, --non-deterministic-libraries.
 
 Status: 0 made; 1 FILE is refused; 2 wrong call; 3 a file or memory failed.
 ";
@@ -229,7 +238,7 @@ fn run<R: Files + AllocGlobal, I: Read, O: Write, E: Write>(
         Err(ReadWordsError::Refused(fault)) => return complain(faults, name, fault, 2),
         Err(ReadWordsError::OutOfMemory) => return complain(faults, name, "out of memory", 3),
     };
-    match task_of(rt.alloc(), options.as_slice(), default_machine(program)) {
+    match task_of(rt.alloc(), options.as_slice(), caller_of(program)) {
         Ok(Task::Help) => print(printer, faults, HELP),
         Ok(Task::Version) => print(printer, faults, VERSION),
         Ok(Task::Make(request)) => make(rt, id, &request, input, faults),
@@ -251,6 +260,9 @@ pub fn perform<R: Files + Env + AllocGlobal, I: Read, O: Write, E: Write>(
     let name = "implib_dlltool";
     let command_line = match env::args(rt) {
         Ok(command_line) => command_line,
+        Err(error) if error.kind() == io::ErrorKind::InvalidData => {
+            return complain(faults, name, "an argument is not UTF-8", 2);
+        }
         Err(error) => return complain(faults, name, error, 3),
     };
     let arguments: Result<Vec<String>, AllocError> = command_line.collect(rt.alloc());

@@ -10,7 +10,8 @@ use Rattle.implib.specs.declared.flavor.Flavor.TheVariants.{Msvc}
 use Rattle.implib.specs.declared.machine.MachineType.{MachineType}
 use Rattle.implib.specs.Definition.{ExportView, export_view}
 use Rattle.implib.specs.LibraryName.{NamesOfDll}
-use Rattle.implib.specs.Members.MemberSpec.{MemberView, member_of}
+use Rattle.implib.specs.Members.MemberLists.{alias_specs, import_specs}
+use Rattle.implib.specs.Members.MemberSpec.{MemberSpec, MemberView, member_of}
 use Rattle.implib.specs.Members.MsvcMembers.{export_specs}
 use Rattle.implib.specs.Members.Members.{has_u16_ordinal, is_too_long}
 use Rattle.implib.specs.Members.NameRules.{name_refusal, names_refusal}
@@ -72,3 +73,62 @@ exports_from items index item below is =
     ap (map export_view) (drop-cons items index item below)
     ∙ (ap (λ (x : ShortExport). export_view x ∷ map export_view (drop (suc index) items)) (sym is)
     ∙ ap (λ n. export_view item ∷ map export_view (drop n items)) (sym (add-one index)))
+
+-- what is listed, and what the exports that are left list, are all; none so far is too long
+pub record Listed (machine : MachineType) (dll : NamesOfDll) (all_imports all_aliases : List MemberView) (long sound : Bool)
+    (index : ℕ) (imports aliases : List MemberView) (exports : List ExportView) : Type 0 where
+  pub named : names_refusal Msvc machine index exports ≡ None
+  pub imported : imports ++ map member_of (flat_map (import_specs machine dll) (filter (λ e. not e.private) exports)) ≡ all_imports
+  pub aliased : aliases ++ map member_of (flat_map (alias_specs machine dll.linked) (filter (λ e. not e.private) exports)) ≡ all_aliases
+  pub fit : list_any is_too_long (flat_map (export_specs machine dll) (filter (λ e. not e.private) exports)) ≡ long
+  pub ordinals : list_all has_u16_ordinal (filter (λ e. not e.private) exports) ≡ sound
+
+-- what is found, one export more
+more_found : (found more all : List MemberView) (these others : List MemberSpec) → more ≡ found ++ map member_of these
+    → found ++ map member_of (these ++ others) ≡ all → more ++ map member_of others ≡ all
+more_found found more all these others is whole =
+    ap (λ x. x ++ map member_of others) is
+    ∙ (append_assoc found (map member_of these) (map member_of others)
+    ∙ (ap (λ x. found ++ x) (sym (map-append member_of these others))
+    ∙ whole))
+
+module _ (machine : MachineType) (dll : NamesOfDll) (all_imports all_aliases : List MemberView) (long sound : Bool) (index : ℕ) (imports aliases : List MemberView) (e : ExportView) (exports : List ExportView) where
+  -- after a private export
+  pub listed_private : e.private ≡ true → Listed machine dll all_imports all_aliases long sound index imports aliases (e ∷ exports)
+      → Listed machine dll all_imports all_aliases long sound (index + 1) imports aliases exports
+  listed_private private before =
+      let same = passed machine dll all_imports long sound index imports e exports private in
+      record {
+        named = rest_named machine dll all_imports long sound index imports e exports before.named;
+        imported = sym (ap (λ (x : List ExportView). imports ++ map member_of (flat_map (import_specs machine dll) x)) same) ∙ before.imported;
+        aliased = sym (ap (λ (x : List ExportView). aliases ++ map member_of (flat_map (alias_specs machine dll.linked) x)) same) ∙ before.aliased;
+        fit = sym (ap (λ (x : List ExportView). list_any is_too_long (flat_map (export_specs machine dll) x)) same) ∙ before.fit;
+        ordinals = sym (ap (list_all has_u16_ordinal) same) ∙ before.ordinals;
+      }
+
+  -- after an export whose members are listed
+  pub listed_public : (more_imports more_aliases : List MemberView) → e.private ≡ false
+      → Listed machine dll all_imports all_aliases long sound index imports aliases (e ∷ exports)
+      → more_imports ≡ imports ++ map member_of (import_specs machine dll e)
+      → more_aliases ≡ aliases ++ map member_of (alias_specs machine dll.linked e)
+      → list_any is_too_long (export_specs machine dll e) ≡ false → has_u16_ordinal e ≡ true
+      → Listed machine dll all_imports all_aliases long sound (index + 1) more_imports more_aliases exports
+  listed_public more_imports more_aliases public before imported aliased short ordinal =
+      let same = kept machine dll all_imports long sound index imports e exports public in
+      let these = filter (λ x. not x.private) exports in
+      record {
+        named = rest_named machine dll all_imports long sound index imports e exports before.named;
+        imported =
+            more_found imports more_imports all_imports (import_specs machine dll e) (flat_map (import_specs machine dll) these) imported
+            (sym (ap (λ (x : List ExportView). imports ++ map member_of (flat_map (import_specs machine dll) x)) same) ∙ before.imported);
+        aliased =
+            more_found aliases more_aliases all_aliases (alias_specs machine dll.linked e) (flat_map (alias_specs machine dll.linked) these) aliased
+            (sym (ap (λ (x : List ExportView). aliases ++ map member_of (flat_map (alias_specs machine dll.linked) x)) same) ∙ before.aliased);
+        fit =
+            sym (ap (λ test. test || list_any is_too_long (flat_map (export_specs machine dll) these)) short)
+            ∙ (sym (list_any-append is_too_long (export_specs machine dll e) (flat_map (export_specs machine dll) these))
+            ∙ (sym (ap (λ (x : List ExportView). list_any is_too_long (flat_map (export_specs machine dll) x)) same) ∙ before.fit));
+        ordinals =
+            sym (ap (λ test. test && list_all has_u16_ordinal these) ordinal)
+            ∙ (sym (ap (list_all has_u16_ordinal) same) ∙ before.ordinals);
+      }

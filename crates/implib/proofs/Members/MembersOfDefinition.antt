@@ -9,6 +9,11 @@ use Rattle.implib.specs.declared.machine.MachineType.{MachineType}
 use Rattle.implib.specs.Definition.{DefinitionView}
 use Rattle.implib.specs.Fault.{Cause, MemberTooLong, IfInvalid}
 use Rattle.implib.specs.Import.{public_exports}
+use Rattle.implib.specs.LibraryName.{names_for}
+use Rattle.implib.specs.Members.MemberLists.{AreListsOf, all_alias_specs, all_import_specs, lists_view}
+use Rattle.implib.specs.Members.MsvcMembers.{header_specs}
+use Rattle.implib.specs.Views.Making.{MakesLists}
+use Rattle.implib.specs.declared.msvc.members.MemberLists.{MemberLists}
 use Rattle.implib.specs.Members.Members.{AreMembersOf, member_specs, is_too_long, has_u16_ordinal, length_refusal, renamed_refusal, refusal}
 use Rattle.implib.specs.Members.MemberSpec.{MemberView, member_of}
 use Rattle.implib.specs.Members.NameRules.{first_of_both, definition_names_refusal, RefusesAlways}
@@ -32,6 +37,15 @@ pub same_refusal_by_names : (d : DefinitionView) (machine : MachineType) (flavor
 same_refusal_by_names d machine flavor found cause same is_found refused =
     is_found ∙ sym (ap (λ (x : DefinitionView). definition_names_refusal x machine flavor) same) ∙ refused
 
+-- a definition whose names are in order, and none of whose members is too long, is accepted
+accepted_of : (d : DefinitionView) (machine : MachineType) (flavor : Flavor) → renamed d ≡ d → None ≡ definition_names_refusal d machine flavor →
+    list_any is_too_long (member_specs d machine flavor) ≡ false → refusal d machine flavor ≡ None
+unfolding refusal renamed_refusal
+accepted_of d machine flavor same names fit =
+    ap (λ (x : DefinitionView). renamed_refusal x machine flavor) same
+    ∙ ap (λ (x : Option Cause). first_of_both x (length_refusal (member_specs d machine flavor))) (sym names)
+    ∙ ap (λ test. if test then Some MemberTooLong else None) fit
+
 -- members that are made, none too long, of a definition whose names are in order, are those of the definition
 pub made_of : {T : Type 0} (shown : T → List MemberView) (d : DefinitionView) (machine : MachineType) (flavor : Flavor) (result : Result T Error) →
     renamed d ≡ d → None ≡ definition_names_refusal d machine flavor →
@@ -39,14 +53,24 @@ pub made_of : {T : Type 0} (shown : T → List MemberView) (d : DefinitionView) 
     OnOk result (list_any is_too_long (member_specs d machine flavor) ≡ false) →
     OnOk result (list_all has_u16_ordinal (public_exports d) ≡ true) →
     IfOk result (λ members. AreMembersOf d machine flavor (shown members))
-unfolding refusal renamed_refusal
 made_of shown d machine flavor (Err error) same names made fit ordinals = tt
 made_of shown d machine flavor (Ok members) same names made fit ordinals = record {
-  accepted =
-      ap (λ (x : DefinitionView). renamed_refusal x machine flavor) same
-      ∙ ap (λ (x : Option Cause). first_of_both x (length_refusal (member_specs d machine flavor))) (sym names)
-      ∙ ap (λ test. if test then Some MemberTooLong else None) fit;
+  accepted = accepted_of d machine flavor same names fit;
   made = made ∙ ap (λ (x : DefinitionView). map member_of (member_specs x machine flavor)) (sym same);
+  ordinals = ap (λ (x : DefinitionView). list_all has_u16_ordinal (public_exports x)) same ∙ ordinals;
+}
+
+-- lists of members that are made of such a definition are those of the definition
+pub lists_of : (d : DefinitionView) (machine : MachineType) (result : Result MemberLists Error) →
+    renamed d ≡ d → None ≡ definition_names_refusal d machine Msvc → MakesLists d machine result →
+    OnOk result (list_all has_u16_ordinal (public_exports d) ≡ true) →
+    IfOk result (λ lists. AreListsOf d machine (lists_view lists))
+lists_of d machine (Err error) same names made ordinals = tt
+lists_of d machine (Ok lists) same names made ordinals = record {
+  accepted = accepted_of d machine Msvc same names made.fit;
+  header = made.header ∙ ap (λ (x : DefinitionView). map member_of (header_specs machine (names_for Msvc x))) (sym same);
+  imports = made.imports ∙ ap (λ (x : DefinitionView). map member_of (all_import_specs machine x)) (sym same);
+  aliases = made.aliases ∙ ap (λ (x : DefinitionView). map member_of (all_alias_specs machine x)) (sym same);
   ordinals = ap (λ (x : DefinitionView). list_all has_u16_ordinal (public_exports x)) same ∙ ordinals;
 }
 

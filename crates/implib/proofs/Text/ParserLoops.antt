@@ -19,7 +19,7 @@ module _ {X : Type 0} where
   pub ok_is : {x y : X} → ◌≡◌ {A = Result X Refusal} (Ok x) (Ok y) → x ≡ y
   ok_is e = cc
 
-  ok_is_not_err : {x : X} {y : Refusal} → ◌≡◌ {A = Result X Refusal} (Ok x) (Err y) → ⊥
+  pub ok_is_not_err : {x : X} {y : Refusal} → ◌≡◌ {A = Result X Refusal} (Ok x) (Err y) → ⊥
   ok_is_not_err e = absurd cc
 
   pub err_is : {x y : Refusal} → ◌≡◌ {A = Result X Refusal} (Err x) (Err y) → x ≡ y

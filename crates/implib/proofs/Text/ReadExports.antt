@@ -125,7 +125,7 @@ export_by_outcome Identifier t rest e =
     (λ refusal h. cut_target t rest refusal e h)
 export_by_outcome kind t rest e = (refl, none_at t.kind kind (Identifier ∷ []) e refl)
 
-export_outcome : (tokens : List TokenView) → MatchResult (export_read tokens) (ExportRead tokens) (PartCut tokens)
+pub export_outcome : (tokens : List TokenView) → MatchResult (export_read tokens) (ExportRead tokens) (PartCut tokens)
 unfolding export_read
 export_outcome [] = (refl, tt)
 export_outcome (t ∷ rest) = export_by_outcome t.kind t rest refl

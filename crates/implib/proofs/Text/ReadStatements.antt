@@ -108,7 +108,7 @@ statement_by_outcome KwLibrary t rest e = name_statement t rest (inr e)
 statement_by_outcome KwVersion t rest e = version_statement t rest e
 statement_by_outcome kind t rest e = inl (record { not_end = not_at t.kind kind Eof e refl; no_directive = none_at t.kind kind directives e refl; reported = refl }, refl)
 
-statement_outcome : (tokens : List TokenView) → MatchResult (statement_read tokens) (StatementRead tokens) (StatementCut tokens)
+pub statement_outcome : (tokens : List TokenView) → MatchResult (statement_read tokens) (StatementRead tokens) (StatementCut tokens)
 unfolding statement_read
 statement_outcome [] = (refl, tt)
 statement_outcome (t ∷ rest) = statement_by_outcome t.kind t rest refl

@@ -55,6 +55,8 @@ worked_gnu_refusals = record {
   nothing_asked = refl;
   nothing_given = refl;
   nul_in_asked_name = refl;
+  nul_and_nothing_asked = refl;
+  nul_in_target_and_nothing_asked = refl;
 }
 
 pub worked_gnu_bytes : WorkedGnuBytes

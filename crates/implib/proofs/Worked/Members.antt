@@ -67,6 +67,7 @@ worked_refusals = record {
   no_name_type_of_symbol_name = refl;
   nothing_given = refl;
   nothing_given_of_prefix = refl;
+  nul_and_nothing_asked = refl;
   nul_in_asked_name = refl;
   nul_in_asked_name_by_ordinal = refl;
 }

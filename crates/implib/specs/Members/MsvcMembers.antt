@@ -39,13 +39,20 @@ unfoldable pub header_specs : MachineType → NamesOfDll → List MemberSpec
 header_specs machine dll =
     descriptor_spec machine dll ∷ null_descriptor_spec machine dll.linked ∷ null_thunk_spec machine dll.linked ∷ []
 
+-- the specification of the weak external of an export's symbol
+abbrev pub weak_symbol_spec : MachineType → List ℕ → ExportView → MemberSpec
+weak_symbol_spec machine dll e = weak_spec machine dll (short_import_symbol e) e.alias_target
+
+-- the specification of the weak external of the symbol of its address
+abbrev pub weak_address_spec : MachineType → List ℕ → ExportView → MemberSpec
+weak_address_spec machine dll e =
+    weak_spec machine dll (imp_symbol (short_import_symbol e)) (imp_symbol e.alias_target)
+
 -- the specifications of the weak externals of an export: of its symbol, and of its address
 unfoldable pub weak_specs : MachineType → List ℕ → ExportView → List MemberSpec
 weak_specs machine dll e =
     if is_alias e.alias_target (short_import_symbol e) then
-    weak_spec machine dll (short_import_symbol e) e.alias_target
-    ∷ weak_spec machine dll (imp_symbol (short_import_symbol e)) (imp_symbol e.alias_target)
-    ∷ []
+    weak_symbol_spec machine dll e ∷ weak_address_spec machine dll e ∷ []
     else []
 
 -- the specification of an export's short import

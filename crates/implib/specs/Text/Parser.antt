@@ -3,6 +3,7 @@ use Rattle.std.specs.Prelude.{ℕ, List}
 use Rattle.implib.specs.declared.machine.MachineType.{MachineType}
 use Rattle.implib.specs.Definition.{DefinitionView}
 use Rattle.implib.specs.Fault.{Cause}
+use Rattle.implib.specs.Text.Heard.{HasHeardText, Heard}
 use Rattle.implib.specs.Text.Parses.{Parses, Refuses}
 use Rattle.implib.specs.Text.Token.{Lexed, TokenView}
 
@@ -19,3 +20,7 @@ ParsesFrom source definition =
 -- the text with these tokens is refused, for this cause
 abbrev pub RefusesFrom : Source → Cause → Type 0
 RefusesFrom source cause = (text : List ℕ) → Lexed text source.tokens → Refuses text cause
+
+-- a listener, of whom this holds, has heard the text with these tokens
+abbrev pub HasHeardFrom : Source → (List Heard → Type 0) → Type 0
+HasHeardFrom source has_heard = (text : List ℕ) → Lexed text source.tokens → HasHeardText text has_heard

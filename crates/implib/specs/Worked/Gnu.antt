@@ -123,6 +123,13 @@ pub record WorkedGnuRefusals : Type 0 where
   pub nul_in_asked_name : IsRefusedForGnu (foo_asking (codes "a") nul) AMD64 (NulInExport 0)
   pub nothing_asked : IsRefusedForGnu (of_dll (codes "foo.dll") (plain_export (codes "_") ∷ [])) I386
       (EmptyAskedName 0)
+  -- a NUL in another name comes before an empty name to ask for
+  pub nul_and_nothing_asked : IsRefusedForGnu
+      (of_dll (codes "foo.dll") (record (plain_export (codes "_")) { symbol_name = nul } ∷ [])) I386
+      (NulInExport 0)
+  pub nul_in_target_and_nothing_asked : IsRefusedForGnu
+      (of_dll (codes "foo.dll") (record (plain_export (codes "_")) { alias_target = nul } ∷ [])) I386
+      (NulInExport 0)
 
 -- bytes of members
 pub record WorkedGnuBytes : Type 0 where

@@ -222,6 +222,11 @@ pub record WorkedRefusals : Type 0 where
       (of_dll (codes "foo.dll")
       (record empty_export { name = codes "f"; symbol_name = codes "_@8" } ∷ plain_export [] ∷ [])) AMD64
       (EmptyAskedName 0)
+  -- a NUL in another name comes before an empty name to ask for
+  pub nul_and_nothing_asked : IsRefused
+      (of_dll (codes "foo.dll")
+      (record empty_export { name = codes "f"; symbol_name = codes "_@8"; alias_target = nul } ∷ [])) AMD64
+      (NulInExport 0)
   pub no_name_type : IsRefused (foo_asking (codes "a") (codes "b")) AMD64 (NoNameType 0)
   -- this symbol asks for an empty name by undecorate, and not for x by any name type
   pub no_name_type_of_symbol_name : IsRefused

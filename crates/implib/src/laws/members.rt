@@ -2,7 +2,7 @@
 
 ghost use Rattle.implib.specs.Worked.Members.{WorkedBytes, WorkedFields, WorkedMeanings, WorkedOutlines, WorkedRefusals};
 ghost use Rattle.implib.specs.Worked.Gnu.{WorkedGnuBytes, WorkedGnuOutlines, WorkedGnuRefusals};
-ghost use Rattle.implib.specs.Worked.MemberSpecs.{WorkedMemberSpecs};
+ghost use Rattle.implib.specs.Worked.MemberSpecs.{WorkedLists, WorkedMemberSpecs};
 
 use crate::machine::MachineType;
 
@@ -27,4 +27,10 @@ pub fn worked_gnu_members()
 /// A definition that was worked by hand has these members on each machine, for either linker.
 pub fn worked_member_specs()
     ensures { (machine : MachineType) → WorkedMemberSpecs machine }
+{}
+
+/// The members of a definition with aliases, one of them of data and one of a constant, are in
+/// three lists for Microsoft's linker those that were worked by hand, on each machine.
+pub fn worked_lists()
+    ensures { (machine : MachineType) → WorkedLists machine }
 {}

@@ -20,7 +20,8 @@ ghost use Rattle.implib.specs.Members.Msvc.{short_import_symbol};
 ghost use Rattle.implib.specs.Formats.ShortImport.{asked_by_name_type, before_at_sign};
 ghost use Rattle.implib.specs.Formats.ShortImport.{without_prefix};
 ghost use Rattle.std.specs.List.{list_all, list_any, position};
-ghost use Rattle.std.specs.Prelude.{false, map, nat_lt, string_bytes, true, ◌+◌, ◌<◌, ◌==◌, ◌≡◌};
+ghost use Rattle.implib.specs.declared.machine.MachineType.{MachineType};
+ghost use Rattle.std.specs.Prelude.{false, map, nat_lt, string_bytes, true, ◌+◌, ◌<◌, ◌==◌, ◌≡◌, ℕ, List};
 ghost use Rattle.std.specs.Prelude.{◌≤◌, IfNone, IfOk, IfSome, OnOk, length};
 
 use crate::coff::constants::import_type::{IMPORT_CODE, IMPORT_CONST, IMPORT_DATA};
@@ -158,4 +159,23 @@ pub(crate) fn short_import_member(
         bytes,
         symbols,
     })
+}
+
+/// Refuses an export whose short import would be too long.
+pub(crate) fn test_short_import(export: &ShortExport, dll: &str) -> Result<(), Error>
+    ensures fits { OnOk result ((machine : MachineType) (linked : List ℕ)
+        → is_too_long (short_import_spec machine (record { linked = linked; text = dll.now })
+        (export_view export.now)) ≡ false) }
+    ensures too_long { IfInvalid result (λ cause. (cause ≡ MemberTooLong)
+        × ((machine : MachineType) (linked : List ℕ)
+        → is_too_long (short_import_spec machine (record { linked = linked; text = dll.now })
+        (export_view export.now)) ≡ true)) }
+    ensures ordinal { OnOk result (has_u16_ordinal (export_view export.now) ≡ true) }
+{
+    // This brings the range of the ordinal, 16 bits, into the proof.
+    let _ordinal = export.ordinal;
+    match short_import_size(short_import_symbol(export), dll) {
+        Some(_) => Ok(()),
+        None => Err(Error::Invalid(Fault::MemberTooLong)),
+    }
 }

@@ -73,7 +73,32 @@ fn wrong_calls_are_told(rt: HostRuntime) -> Result<(), Fail> {
     for (words, said) in [
         (
             [].as_slice(),
-            "implib_dlltool: no definition: expected the option -d\n",
+            "implib_dlltool: no definition: expected the option -d\n\
+             usage: implib_dlltool -d FILE [-l OUT] [-m MACHINE] [-D DLL] [--flavor FLAVOUR]\n",
+        ),
+        (
+            ["-kvd", "-", "--", "-k"].as_slice(),
+            "implib_dlltool: -k: no option; objects are not supported\n",
+        ),
+        (
+            ["@words"].as_slice(),
+            "implib_dlltool: @words: files of options are not supported\n",
+        ),
+        (
+            ["--input=a.def"].as_slice(),
+            "implib_dlltool: --input=a.def: no such option; write --input-def in full\n",
+        ),
+        (
+            ["--no-de"].as_slice(),
+            "implib_dlltool: --no-de: no such option\n",
+        ),
+        (
+            ["-d", "-", "-l", ""].as_slice(),
+            "implib_dlltool: the name of the library's file after -l is empty\n",
+        ),
+        (
+            ["-d", "-", "--leading-underscore"].as_slice(),
+            "implib_dlltool: --leading-underscore: C's symbols have one on i386 alone\n",
         ),
         (
             ["-d", "-", "a.o"].as_slice(),

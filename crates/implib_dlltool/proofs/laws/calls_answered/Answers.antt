@@ -17,10 +17,6 @@ worked = record {
   mips = refl;
   borland = refl;
   empty_dll = refl;
-  prefix_i386 = refl;
-  prefix_armnt = refl;
-  prefix_arm64 = refl;
-  prefix_none = refl;
 }
 
 pub returns : goal.returns

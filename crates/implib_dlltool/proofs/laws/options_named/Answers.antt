@@ -1,10 +1,10 @@
 use Rattle.std.proofs.Common.{refl}
-use Rattle.implib_dlltool.specs.Arguments.{read_behind}
+use Rattle.implib_dlltool.specs.Arguments.{read_after, switches_in}
 use Rattle.implib_dlltool.specs.WorkedOptions.{OptionsNamed}
 use Rattle.implib_dlltool.proofs.laws.options_named.Goals as goal
 
 options : OptionsNamed
-unfolding read_behind
+unfolding read_after switches_in
 options = record {
   values = refl;
   no_values = refl;
@@ -23,6 +23,9 @@ options = record {
   verbose = refl;
   help = refl;
   version = refl;
+  leading_underscore = refl;
+  non_deterministic = refl;
+  no_delete = refl;
   i386 = refl;
   amd64 = refl;
   armnt = refl;

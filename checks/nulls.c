@@ -1,0 +1,113 @@
+/*
+ * Holds the inline functions of implib.h to what they pass on: the library's own functions, in whose place
+ * these stop at a null pointer, get every argument as it is, or a variable where it is null. Each call has a
+ * null pointer in some of the places that allow one.
+ */
+#include <stdio.h>
+#include <stdlib.h>
+
+#include "implib.h"
+
+static void hold(int holds, const char *what)
+{
+    if (!holds) {
+        fprintf(stderr, "nulls: %s\n", what);
+        exit(1);
+    }
+}
+
+/* What the last call passed on. */
+static const uint8_t *passed_text;
+static const void *passed_buffer;
+static size_t *passed_first, *passed_second;
+
+static uint32_t pass(const uint8_t *text, size_t text_length, uint16_t machine, uint32_t flavor, uint8_t *buffer,
+                     size_t buffer_length, size_t *length, size_t *place)
+{
+    hold(text != NULL && buffer != NULL && length != NULL && place != NULL, "a null pointer is passed on");
+    hold(text_length <= 2 && buffer_length <= 3, "another length is passed on");
+    hold(machine == IMPLIB_MACHINE_ARM64 && flavor == IMPLIB_FLAVOR_GNU, "another machine or flavour is passed on");
+    passed_text = text;
+    passed_buffer = buffer;
+    passed_first = length;
+    passed_second = place;
+    *length = 11;
+    *place = 12;
+    return IMPLIB_BUFFER_TOO_SMALL;
+}
+
+uint32_t implib_library_nonnull(const uint8_t *text, size_t text_length, uint16_t machine, uint32_t flavor,
+                                uint8_t *buffer, size_t buffer_length, size_t *length, size_t *place)
+{
+    return pass(text, text_length, machine, flavor, buffer, buffer_length, length, place);
+}
+
+uint32_t implib_members_nonnull(const uint8_t *text, size_t text_length, uint16_t machine, uint32_t flavor,
+                                uint8_t *buffer, size_t buffer_length, size_t *length, size_t *place)
+{
+    return pass(text, text_length, machine, flavor, buffer, buffer_length, length, place) + 1;
+}
+
+void implib_position_nonnull(const uint8_t *text, size_t text_length, size_t offset, size_t *line, size_t *column)
+{
+    hold(text != NULL && line != NULL && column != NULL, "a null pointer is passed on for a position");
+    hold(text_length <= 2 && offset == 5, "another length or offset is passed on");
+    passed_text = text;
+    passed_first = line;
+    passed_second = column;
+    *line = 13;
+    *column = 14;
+}
+
+size_t implib_status_text_nonnull(uint32_t status, char *buffer, size_t buffer_length)
+{
+    hold(buffer != NULL, "a null pointer is passed on for a text");
+    hold(status == IMPLIB_NO_NAME_TYPE && buffer_length <= 3, "another status or length is passed on");
+    passed_buffer = buffer;
+    return 31;
+}
+
+int main(void)
+{
+    static const uint8_t text[] = {'a', 'b'};
+    uint8_t buffer[3];
+    char letters[3];
+
+    /* Bit 0: a text; 1: a buffer; 2: the first number; 3: the second. */
+    for (unsigned given = 0; given < 16; given++) {
+        const uint8_t *some_text = given & 1 ? text : NULL;
+        uint8_t *some_buffer = given & 2 ? buffer : NULL;
+        char *some_letters = given & 2 ? letters : NULL;
+        size_t first = 0, second = 0;
+        size_t *some_first = given & 4 ? &first : NULL, *some_second = given & 8 ? &second : NULL;
+        size_t text_length = given & 1 ? 2 : 0, buffer_length = given & 2 ? 3 : 0;
+
+        for (uint32_t call = 0; call < 2; call++) {
+            uint32_t (*own)(const uint8_t *, size_t, uint16_t, uint32_t, uint8_t *, size_t, size_t *, size_t *) =
+                call == 0 ? implib_library : implib_members;
+            first = second = 0;
+            hold(own(some_text, text_length, IMPLIB_MACHINE_ARM64, IMPLIB_FLAVOR_GNU, some_buffer, buffer_length,
+                     some_first, some_second) == IMPLIB_BUFFER_TOO_SMALL + call,
+                 "another status is returned");
+            hold(some_text == NULL || passed_text == text, "another text is passed on");
+            hold(some_buffer == NULL || passed_buffer == (const void *)buffer, "another buffer is passed on");
+            hold(some_first == NULL || (passed_first == &first && first == 11), "another length is given");
+            hold(some_second == NULL || (passed_second == &second && second == 12), "another place is given");
+        }
+
+        first = second = 0;
+        implib_position(some_text, text_length, 5, some_first, some_second);
+        hold(some_text == NULL || passed_text == text, "another text is passed on for a position");
+        hold(some_first == NULL || (passed_first == &first && first == 13), "another line is given");
+        hold(some_second == NULL || (passed_second == &second && second == 14), "another column is given");
+
+        hold(implib_status_text(IMPLIB_NO_NAME_TYPE, some_letters, buffer_length) == 31, "another length of a text");
+        hold(some_letters == NULL || passed_buffer == (const void *)letters, "another buffer for a text");
+    }
+
+    /* A pointer that is not null is passed on where the length is 0 too, or a variable in its place. */
+    hold(implib_library(text, 0, IMPLIB_MACHINE_ARM64, IMPLIB_FLAVOR_GNU, buffer, 0, NULL, NULL)
+             == IMPLIB_BUFFER_TOO_SMALL,
+         "another status is returned for empty texts");
+    return 0;
+}

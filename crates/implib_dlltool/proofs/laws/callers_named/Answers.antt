@@ -1,0 +1,20 @@
+use Rattle.std.proofs.Common.{refl}
+use Rattle.implib_dlltool.specs.Names.{part_behind}
+use Rattle.implib_dlltool.specs.WorkedCallers.{CallersNamed}
+use Rattle.implib_dlltool.proofs.laws.callers_named.Goals as goal
+
+worked : CallersNamed
+unfolding part_behind
+worked = record {
+  i386 = refl;
+  armnt = refl;
+  arm64 = refl;
+  amd64 = refl;
+  others = refl;
+  llvm = refl;
+  gnu = refl;
+  own = refl;
+}
+
+pub returns : goal.returns
+returns c = worked

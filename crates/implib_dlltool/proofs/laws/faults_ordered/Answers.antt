@@ -1,0 +1,28 @@
+use Rattle.std.proofs.Common.{refl}
+use Rattle.implib_dlltool.specs.Names.{part_behind}
+use Rattle.implib_dlltool.specs.WorkedCallers.{FaultsOrdered}
+use Rattle.implib_dlltool.proofs.laws.faults_ordered.Goals as goal
+
+worked : FaultsOrdered
+unfolding part_behind
+worked = record {
+  help_first = refl;
+  version_before_faults = refl;
+  definition_first = refl;
+  empty_output = refl;
+  definition_replaced = refl;
+  output_first = refl;
+  machine_first = refl;
+  flavor_first = refl;
+  dll_first = refl;
+  no_underscore = refl;
+  other_architecture = refl;
+  named_machine = refl;
+  plain_by_the_last = refl;
+  usual_by_the_last = refl;
+  plain_elsewhere = refl;
+  usual_elsewhere = refl;
+}
+
+pub returns : goal.returns
+returns c = worked
