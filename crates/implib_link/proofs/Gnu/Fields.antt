@@ -1,17 +1,17 @@
 -- Fields of relocations: which of them meet bytes, and what they hold at another base.
-use Rattle.std.proofs.Common.{◌≡◌, ℕ, zero, suc, ◌+◌, ◌-◌, ◌*◌, ◌/◌, ◌%◌, ◌^◌, ◌<◌, ◌≤◌, ◌⊎◌, Bool, true, false, List, [], ◌∷◌, ◌++◌, length, map, take, drop, Option, None, Some, refl, ap, sym, ◌∙◌, subst, inl, inr, arith}
-use Rattle.std.specs.Prelude.{◌&&◌, ◌==◌, if◌then◌else◌, cond, nat_le, nat_lt, slice_get}
-use Rattle.std.specs.List.{AllByRecursion, filter, list_any}
+use Rattle.std.proofs.Common.{◌≡◌, ℕ, zero, suc, ◌+◌, ◌-◌, ◌/◌, ◌%◌, ◌^◌, ◌<◌, ◌≤◌, ◌⊎◌, Bool, true, false, List, [], ◌∷◌, take, drop, None, Some, refl, ap, sym, ◌∙◌, subst, inl, inr, arith}
+use Rattle.std.specs.Prelude.{◌==◌, if◌then◌else◌, cond, nat_lt, slice_get}
+use Rattle.std.specs.List.{filter, list_any}
 use Rattle.std.proofs.lemmas.Bool.{and_from, and_parts, cases_Bool, eqb-true, false_from_ne_true, lt-ltb, ltb-true}
 use Rattle.implib.specs.declared.coff.object.Relocation.{Relocation}
 use Rattle.implib.specs.declared.machine.MachineType.{MachineType}
 use Rattle.implib.specs.declared.machine.MachineType.TheVariants.{I386, ARMNT, AMD64, ARM64}
-use Rattle.implib.specs.Formats.Constants.{amd64_rel32, arm64_pagebase_rel21, arm64_pageoffset_12l, i386_dir32}
+use Rattle.implib.specs.Formats.Constants.{amd64_rel32, i386_dir32}
 use Rattle.implib.specs.Link.Image.{Range, byte_at}
 use Rattle.implib.specs.Link.Load.{BytesAt}
 use Rattle.implib.proofs.Link.Ranges.{Among}
 use Rattle.implib_link.specs.Gnu.Calls.{amd64_addr64, arm64_addr64, field_width, i386_rel32}
-use Rattle.implib_link.specs.Gnu.Fields.{Amd64Holds, Arm64Holds, FieldHolds, I386Holds, MeetsAlone, meets}
+use Rattle.implib_link.specs.Gnu.Fields.{FieldHolds, MeetsAlone, meets}
 use Rattle.implib_link.specs.Gnu.Moves.{ArePaged}
 use Rattle.implib_link.specs.Gnu.Rebased.{Place, absolute_width, amd64_addr32, arm64_addr32, covers, moved_number, places_at}
 use Rattle.implib_link.specs.Stub.{adrp_immediate, ldr_immediate, page}

@@ -1,5 +1,5 @@
 -- Linked code in memory, at the base that it was linked for and at any other: its bytes and its fields.
-use Rattle.std.proofs.Common.{◌≡◌, ℕ, ◌+◌, ◌^◌, ◌<◌, ◌≤◌, ◌⊎◌, true, false, List, [], ◌∷◌, ◌++◌, length, map, take, drop, None, Some, refl, ap, sym, ◌∙◌, subst, inl, inr, arith, true≢false}
+use Rattle.std.proofs.Common.{◌≡◌, ℕ, ◌+◌, ◌^◌, ◌<◌, ◌≤◌, ◌⊎◌, true, false, List, [], ◌∷◌, ◌++◌, length, take, drop, None, Some, refl, ap, sym, ◌∙◌, subst, inl, inr, arith, true≢false}
 use Rattle.std.specs.Prelude.{slice_get}
 use Rattle.std.specs.List.{AllByRecursion, Contains, list_any}
 use Rattle.std.proofs.lemmas.Bool.{cases_Bool, false_from_ne_true}
@@ -24,7 +24,6 @@ use Rattle.implib_link.proofs.Gnu.Keeps.{Keeps}
 use Rattle.implib_link.proofs.Gnu.Loaded.{kept_outside}
 use Rattle.implib_link.proofs.Gnu.Memory.{Covers, byte_front, code_untouched, holder, not_in_both}
 use Rattle.implib_link.proofs.Gnu.Moved.{apart_back, covering, none_covers, one_code, places_from}
-use Rattle.implib_link.proofs.Search.Lists.{contains_among}
 
 -- What memory has of a program at a base, wherever its code was linked for: the image, the bytes of code where no field
 -- stores an address whole, and in such fields of the tables' symbols the number, moved.

@@ -1,23 +1,22 @@
 -- There are linked bytes for any code: what each relocation asks can be written into its field.
-use Rattle.std.proofs.Common.{◌≡◌, ℕ, zero, suc, ◌+◌, ◌-◌, ◌*◌, ◌/◌, ◌%◌, ◌^◌, ◌<◌, ◌≤◌, ◌⊎◌, Bool, true, false, List, [], ◌∷◌, ◌++◌, length, take, drop, Option, None, Some, refl, ap, sym, ◌∙◌, subst, inl, inr, arith, true≢false}
-use Rattle.std.specs.Prelude.{◌==◌, ◌&&◌, ◌||◌, if◌then◌else◌, cond, nat_le, nat_lt, slice_get}
+use Rattle.std.proofs.Common.{◌≡◌, ℕ, zero, suc, ◌+◌, ◌-◌, ◌*◌, ◌/◌, ◌%◌, ◌^◌, ◌<◌, ◌≤◌, ◌⊎◌, Bool, true, false, List, [], ◌∷◌, ◌++◌, length, take, drop, None, Some, refl, ap, sym, ◌∙◌, subst, inl, inr, arith, true≢false}
+use Rattle.std.specs.Prelude.{◌==◌, if◌then◌else◌, nat_le, nat_lt, slice_get}
 use Rattle.std.specs.List.{AllByRecursion, filter, list_any}
-use Rattle.std.proofs.lemmas.Bool.{and_from, and_parts, cases_Bool, eq-eqb, eqb-true, false_from_ne_true, leb-true, le-leb, ltb-false, ltb-true, ne_eqb, or_parts}
+use Rattle.std.proofs.lemmas.Bool.{cases_Bool, eq-eqb, false_from_ne_true, leb-true, le-leb, ltb-false, ltb-true, ne_eqb, or_parts}
 use Rattle.std.proofs.lemmas.List.{append-nil, length-append, length-drop, length-take-le, take_at}
 use Rattle.std.proofs.lemmas.Option.{slice_get_within}
 use Rattle.implib.specs.declared.coff.object.Relocation.{Relocation}
 use Rattle.implib.specs.declared.machine.MachineType.{MachineType}
 use Rattle.implib.specs.declared.machine.MachineType.TheVariants.{I386, ARMNT, AMD64, ARM64}
 use Rattle.implib.specs.Formats.Bytes.{u32_bytes}
-use Rattle.implib.specs.Formats.Constants.{amd64_rel32, arm64_pagebase_rel21, arm64_pageoffset_12l, i386_dir32}
+use Rattle.implib.specs.Formats.Constants.{amd64_rel32, arm64_pagebase_rel21, i386_dir32}
 use Rattle.implib.specs.Formats.Object.{ObjectSection}
 use Rattle.implib.specs.Link.Load.{number_in}
 use Rattle.implib.proofs.Formats.Bytes.{length-u32_bytes}
-use Rattle.implib.proofs.Link.Ranges.{Among}
-use Rattle.implib_link.specs.Gnu.Calls.{amd64_addr64, arm64_addr64, arm64_branch26, field_width, i386_rel32}
+use Rattle.implib_link.specs.Gnu.Calls.{amd64_addr64, arm64_addr64, arm64_branch26, field_width}
 use Rattle.implib_link.specs.Gnu.Fields.{FieldHolds, IsRelocated, MeetsAlone, field_at, meets}
 use Rattle.implib_link.specs.Stub.{adrp_immediate, bits_of, ldr_immediate, page, with_adrp, with_bits}
-use Rattle.implib_link.proofs.Gnu.Fields.{get_drop, get_take, meets_bounds, meets_from}
+use Rattle.implib_link.proofs.Gnu.Fields.{get_drop, meets_bounds, meets_from}
 use Rattle.implib_link.proofs.Gnu.Jumps.{number-u32}
 
 -- Lists by their places.

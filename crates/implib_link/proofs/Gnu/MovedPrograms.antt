@@ -1,16 +1,14 @@
 -- There is memory of a linked program at any base that it can be moved to.
-use Rattle.std.proofs.Common.{◌≡◌, ℕ, ◌+◌, ◌≤◌, ◌⊎◌, List, [], ◌∷◌, ◌++◌, length, map, Some, refl, ap, sym, ◌∙◌, subst, inr, arith}
-use Rattle.std.specs.Prelude.{slice_get}
-use Rattle.std.specs.List.{AllByRecursion, Contains, flat_map, list_any}
+use Rattle.std.proofs.Common.{◌≡◌, ℕ, ◌+◌, ◌≤◌, List, [], ◌∷◌, ◌++◌, length, ap, ◌∙◌, inr, arith}
+use Rattle.std.specs.List.{AllByRecursion, flat_map, list_any}
 use Rattle.implib.specs.declared.machine.MachineType.{MachineType}
-use Rattle.implib.specs.Formats.Object.{Entry}
 use Rattle.implib.specs.Link.Image.{Range, range_end}
 use Rattle.implib.specs.Link.Placement.{Placed}
 use Rattle.implib.proofs.Link.LinkedMembers.{among_contains}
-use Rattle.implib.proofs.Link.Ranges.{Among, among_flat, all_among}
+use Rattle.implib.proofs.Link.Ranges.{among_flat}
 use Rattle.implib_link.specs.Gnu.Fields.{AreLinkedBeside, IsRelocated, LinkedCode, range_of_code, ranges_of_codes}
-use Rattle.implib_link.specs.Gnu.Moves.{AreInMemory, AreMoved, ArePaged, CanBeMoved, absolute_places, places_of_code}
-use Rattle.implib_link.specs.Gnu.Rebased.{IsRebased, Place, absolute_width, covers, table_places}
+use Rattle.implib_link.specs.Gnu.Moves.{AreInMemory, ArePaged, CanBeMoved, places_of_code}
+use Rattle.implib_link.specs.Gnu.Rebased.{Place, covers, table_places}
 use Rattle.implib_link.proofs.Gnu.Choices.{PlaceIn, all_widths, can_rebase, places_apart, places_in, places_widths}
 use Rattle.implib_link.proofs.Gnu.Moved.{among_place, apart_back, places_from}
 use Rattle.implib_link.proofs.Search.Lists.{contains_among}

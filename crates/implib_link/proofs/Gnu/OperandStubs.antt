@@ -12,7 +12,6 @@ use Rattle.implib.specs.Link.Load.{BytesAt, number_in}
 use Rattle.implib.specs.Link.Placement.{Placed}
 use Rattle.implib.specs.Link.Resolution.{definitions_of}
 use Rattle.implib.specs.Members.Gnu.{stub_bytes, stub_relocations}
-use Rattle.implib_link.specs.Gnu.Calls.{field_width}
 use Rattle.implib_link.specs.Gnu.Fields.{LinkedCode, MeetsAlone, field_at, meets, placed_code}
 use Rattle.implib_link.specs.Gnu.Operands.{InstructionArrives, PairArrives}
 use Rattle.implib_link.specs.Gnu.Rebased.{StubArrives}

@@ -1,6 +1,5 @@
 -- The usual calls and loads through a pointer are cases of instructions with an operand, and of pages and offsets.
-use Rattle.std.proofs.Common.{◌≡◌, ℕ, ◌+◌, ◌*◌, ◌%◌, ◌^◌, ◌<◌, ◌≤◌, ◌⊎◌, Bool, true, false, List, [], ◌∷◌, ◌++◌, length, map, take, drop, Some, refl, ap, sym, ◌∙◌, subst, inl, inr, arith}
-use Rattle.std.specs.Prelude.{cond}
+use Rattle.std.proofs.Common.{◌≡◌, ℕ, ◌+◌, ◌*◌, ◌%◌, ◌^◌, ◌<◌, ◌≤◌, Bool, false, List, [], ◌∷◌, ◌++◌, length, map, take, drop, Some, refl, ap, sym, ◌∙◌, subst, inl, inr, arith}
 use Rattle.std.specs.List.{AllByRecursion, Contains, filter, list_any}
 use Rattle.std.proofs.lemmas.Bool.{false_from_ne_true}
 use Rattle.std.proofs.lemmas.List.{append_assoc, drop-drop, drop_at, length-append, take_at}
@@ -19,7 +18,7 @@ use Rattle.implib_link.specs.Gnu.Calls.{CallArrives, HasCall, HasInstructions, I
 use Rattle.implib_link.specs.Gnu.Fields.{LinkedCode, MeetsAlone, field_at, meets, placed_code}
 use Rattle.implib_link.specs.Gnu.Operands.{AllLead, AreKept, HasInstruction, HasOffsetField, HasPageField, InstructionArrives, IsOperand, Names, PairArrives}
 use Rattle.implib_link.specs.Gnu.Pages.{HasPage, HasPageOffset, PageArrives, offset_word, page_word}
-use Rattle.implib_link.specs.Gnu.Pointers.{HasLoad, LoadArrives, load_bytes, load_reads, load_relocations}
+use Rattle.implib_link.specs.Gnu.Pointers.{HasLoad, LoadArrives, load_reads}
 use Rattle.implib_link.specs.Stub.{adrp_immediate, bits_of, ldr_immediate, page, plus_signed, with_adrp, with_bits, word_at}
 use Rattle.implib_link.proofs.Gnu.Fields.{meets_bounds, meets_from}
 use Rattle.implib_link.proofs.Gnu.Jumps.{number-u32}

@@ -1,5 +1,5 @@
 -- Linked code by computing: what relates its bytes to the object's, its symbols' addresses, and base relocations of it.
-use Rattle.std.proofs.Common.{◌≡◌, ℕ, zero, suc, ◌+◌, ◌-◌, ◌*◌, ◌/◌, ◌%◌, ◌^◌, ◌<◌, ◌≤◌, Bool, true, false, List, [], ◌∷◌, ◌++◌, length, map, Option, Some, None, refl, ap, sym, ◌∙◌, subst, inl, inr, arith, true≢false}
+use Rattle.std.proofs.Common.{◌≡◌, ℕ, zero, suc, ◌+◌, ◌-◌, ◌/◌, ◌%◌, ◌^◌, Bool, true, false, List, [], ◌∷◌, ◌++◌, length, map, Option, Some, None, refl, ap, sym, ◌∙◌, subst, inl, inr, arith}
 use Rattle.std.specs.Prelude.{bytes_eq, nat_le, slice_get, ◌&&◌, ◌||◌, ◌==◌, if◌then◌else◌}
 use Rattle.std.specs.List.{AllByRecursion, Contains, flat_map, list_all, list_any}
 use Rattle.std.proofs.lemmas.Bool.{and_from, and_parts, cases_Bool, eq-eqb, eqb-true, le-leb, ne_eqb, or_parts}
@@ -9,17 +9,17 @@ use Rattle.implib.specs.declared.machine.MachineType.{MachineType}
 use Rattle.implib.specs.declared.machine.MachineType.TheVariants.{I386, ARMNT, AMD64, ARM64}
 use Rattle.implib.specs.Formats.Constants.{amd64_rel32, arm64_pagebase_rel21, arm64_pageoffset_12l, i386_dir32}
 use Rattle.implib.specs.Formats.File.{is_defined_external}
-use Rattle.implib.specs.Formats.Object.{ASymbol, Auxiliary, Entry, ObjectSection, ObjectSymbol}
-use Rattle.implib.specs.Link.Image.{AllApart, Range, byte_at, is_in}
-use Rattle.implib.specs.Link.Load.{BytesAt, NumberAt, number_in}
+use Rattle.implib.specs.Formats.Object.{ASymbol, Auxiliary, Entry, ObjectSection}
+use Rattle.implib.specs.Link.Image.{AllApart, Range, is_in}
+use Rattle.implib.specs.Link.Load.{NumberAt, number_in}
 use Rattle.implib.specs.Link.Placement.{Placed}
 use Rattle.implib.specs.Link.Resolution.{address_or_zero, is_undefined_external, symbol_address, target_address}
 use Rattle.implib.proofs.Link.Definitions.{same_text}
 use Rattle.implib.proofs.Link.LinkedMembers.{among_contains}
 use Rattle.implib.proofs.Link.Loading.{number_once}
-use Rattle.implib.proofs.Link.Ranges.{Among, all_among, among_flat, range_located}
+use Rattle.implib.proofs.Link.Ranges.{all_among, among_flat, range_located}
 use Rattle.implib_link.specs.Gnu.Calls.{amd64_addr64, arm64_addr64, arm64_branch26, field_width, i386_rel32}
-use Rattle.implib_link.specs.Gnu.Fields.{Amd64Holds, Arm64Holds, DefinesIn, FieldHolds, I386Holds, IsRelocated, LinkedCode, TakesSymbols, field_at, meets}
+use Rattle.implib_link.specs.Gnu.Fields.{Amd64Holds, Arm64Holds, FieldHolds, I386Holds, IsRelocated, LinkedCode, TakesSymbols, field_at, meets}
 use Rattle.implib_link.specs.Gnu.Moves.{places_of_code}
 use Rattle.implib_link.specs.Gnu.Rebased.{IsRebased, Place, absolute_width, covers, moved_number}
 use Rattle.implib_link.specs.Stub.{adrp_immediate, bits_of, ldr_immediate, page, with_adrp, with_bits}

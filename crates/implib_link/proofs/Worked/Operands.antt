@@ -1,15 +1,13 @@
 -- Code as compilers write it, by computing and by the laws.
-use Rattle.std.proofs.Common.{◌≡◌, ℕ, zero, suc, ◌+◌, ◌^◌, ◌<◌, ◌≤◌, ◌⊎◌, true, false, List, [], ◌∷◌, ◌++◌, codes, length, map, Some, None, refl, ap, sym, ◌∙◌, subst, inl, inr, arith}
-use Rattle.std.specs.Prelude.{Bool, drop, nat_le, slice_get, take, ◌&&◌}
+use Rattle.std.proofs.Common.{◌≡◌, ℕ, ◌+◌, ◌^◌, ◌<◌, ◌≤◌, ◌⊎◌, true, List, [], ◌∷◌, codes, refl, ap, inl, inr, arith}
+use Rattle.std.specs.Prelude.{Bool, drop, nat_le, take, ◌&&◌}
 use Rattle.std.specs.List.{AllByRecursion}
 use Rattle.std.proofs.lemmas.Bool.{and_parts, leb-true}
 use Rattle.implib.specs.declared.coff.object.Relocation.{Relocation}
-use Rattle.implib.specs.declared.machine.MachineType.TheVariants.{I386, ARMNT, AMD64, ARM64}
+use Rattle.implib.specs.declared.machine.MachineType.TheVariants.{I386, AMD64, ARM64}
 use Rattle.implib.specs.Formats.Constants.{amd64_rel32, arm64_pagebase_rel21, arm64_pageoffset_12l, class_external, i386_dir32}
 use Rattle.implib.specs.Formats.Bytes.{u32_bytes}
-use Rattle.implib.specs.Import.{imp_symbol}
-use Rattle.implib.specs.Link.Image.{AllApart, Range, image_of}
-use Rattle.implib.specs.Link.Load.{NumberAt, number_in}
+use Rattle.implib.specs.Link.Image.{Range}
 use Rattle.implib.specs.Members.GnuMembers.{alias_specs}
 use Rattle.implib.specs.Members.Members.{refusal, renamed_refusal}
 use Rattle.implib.specs.Members.WeakExternal.{weak_object}
@@ -18,14 +16,14 @@ use Rattle.implib.proofs.Link.Ranges.{apart_as_they_rise, ends_below}
 use Rattle.implib_link.specs.Gnu.Calls.{HasCall, HasDirectCall, amd64_addr64, arm64_addr64, arm64_branch26, field_width, i386_rel32}
 use Rattle.implib_link.specs.Gnu.Fields.{AreLinkedBeside, placed_code}
 use Rattle.implib_link.specs.Gnu.Moves.{AreInMemory, AreMoved, CanBeMoved, places_of_code}
-use Rattle.implib_link.specs.Gnu.Operands.{HasBranch, HasField, HasInstruction, HasOffsetField, HasOperand, HasPageField, HasPointer, IsOperand, Names}
+use Rattle.implib_link.specs.Gnu.Operands.{HasBranch, HasInstruction, HasOffsetField, HasOperand, HasPageField, HasPointer, IsOperand, Names}
 use Rattle.implib_link.specs.Gnu.Pages.{HasPage, HasPageOffset}
 use Rattle.implib_link.specs.Gnu.Program.{IsProgram, has_tables, linked_symbols}
 use Rattle.implib_link.specs.Gnu.Choices.{ArePlacesApart}
 use Rattle.implib_link.specs.Gnu.Rebased.{IsRebased, Place, covers, table_places}
 use Rattle.implib_link.specs.Worked.Operands.{AdjacentCalls, MovableCode, PassingFields, WorkedFields, WorkedOperands, amd64_rel32_1, field, imp_open, arm64_pageoffset_12a, arm64_secrel, moved_memory, open_on, passing, passing_at, passing_bytes, passing_codes, passing_image, passing_memory, passing_objects, passing_placed, passing_places, passing_targets, stub_of_open, x86_secrel}
 use Rattle.implib_link.specs.Worked.Calls.{given_on}
-use Rattle.implib_link.specs.Worked.Programs.{another, both_inputs, foo_input, symbol_of_class, symbol_on, touching_4, touching_8}
+use Rattle.implib_link.specs.Worked.Programs.{another, both_inputs, foo_input, symbol_of_class, touching_4, touching_8}
 use Rattle.implib_link.proofs.Gnu.Moved.{covered_bounds}
 use Rattle.implib_link.proofs.Gnu.MovedPrograms.{moved_memory_exists}
 use Rattle.implib_link.proofs.Gnu.Operands.{operand_width}

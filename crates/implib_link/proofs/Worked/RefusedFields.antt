@@ -1,7 +1,7 @@
 -- Near misses of linked code and of where fields lead, by computing.
-use Rattle.std.proofs.Common.{◌≡◌, ℕ, ◌+◌, ◌*◌, ◌^◌, ◌<◌, List, [], ◌∷◌, ◌++◌, codes, length, Some, None, refl, ap, sym, ◌∙◌, subst, arith}
+use Rattle.std.proofs.Common.{◌≡◌, ℕ, ◌+◌, ◌*◌, ◌<◌, List, [], ◌∷◌, ◌++◌, codes, length, Some, None, refl, ap, sym, ◌∙◌, subst, arith}
 use Rattle.std.specs.Prelude.{drop}
-use Rattle.implib.specs.declared.machine.MachineType.TheVariants.{I386, AMD64, ARM64}
+use Rattle.implib.specs.declared.machine.MachineType.TheVariants.{AMD64, ARM64}
 use Rattle.implib.specs.Formats.Constants.{amd64_rel32}
 use Rattle.implib.specs.Formats.Layout.{encoded_size}
 use Rattle.implib.specs.Link.Image.{Range, byte_at}
@@ -14,10 +14,9 @@ use Rattle.implib.proofs.Link.Loading.{number_once}
 use Rattle.implib_link.specs.Gnu.Calls.{amd64_addr64}
 use Rattle.implib_link.specs.Gnu.Operands.{branch_leads, operand_leads}
 use Rattle.implib_link.specs.Gnu.Program.{has_tables}
-use Rattle.implib_link.specs.Gnu.Rebased.{moved_number}
 use Rattle.implib_link.specs.Stub.{adrp_immediate, ldr_immediate, page, plus_signed, with_adrp, with_bits}
-use Rattle.implib_link.specs.Worked.Operands.{amd64_rel32_1, field, imp_open, moved_memory, or_else, passing_at, passing_code, passing_linked, passing_memory, passing_placed, passing_places, passing_targets}
-use Rattle.implib_link.specs.Worked.Programs.{touching_4, touching_8}
+use Rattle.implib_link.specs.Worked.Operands.{amd64_rel32_1, field, imp_open, or_else, passing_at, passing_code, passing_linked, passing_memory, passing_placed, passing_targets}
+use Rattle.implib_link.specs.Worked.Programs.{touching_8}
 use Rattle.implib_link.specs.Worked.RefusedFields.{RefusedBranches, RefusedCode, RefusedInstructions, RefusedMoves, RefusedOperands, RefusedPairs, RefusedPointers, linked_on_amd64, open_address, two_ranges, with_byte}
 use Rattle.implib_link.proofs.Gnu.Memory.{byte_first}
 use Rattle.implib_link.proofs.Gnu.Stubs.{same_address}

@@ -1,7 +1,7 @@
 -- Single rules of linking, by computing.
 use Rattle.std.proofs.Common.{◌≡◌, ℕ, ◌+◌, ◌*◌, List, [], ◌∷◌, ◌++◌, codes, length, Some, refl, ap, sym, ◌∙◌, subst, arith}
-use Rattle.std.specs.Prelude.{drop, take}
-use Rattle.implib.specs.declared.machine.MachineType.TheVariants.{I386, AMD64, ARM64}
+use Rattle.std.specs.Prelude.{drop}
+use Rattle.implib.specs.declared.machine.MachineType.TheVariants.{AMD64}
 use Rattle.implib.specs.Formats.Constants.{class_external}
 use Rattle.implib.specs.Formats.ShortImport.{short_import_in}
 use Rattle.implib.specs.Link.Image.{Range}
@@ -14,7 +14,6 @@ use Rattle.implib_link.specs.Gnu.Calls.{call_reads, direct_leads}
 use Rattle.implib_link.specs.Gnu.Fields.{placed_code}
 use Rattle.implib_link.specs.Gnu.Pointers.{load_reads}
 use Rattle.implib_link.specs.Stub.{adrp_immediate, jump_reads, ldr_immediate, page, plus_signed, word_at}
-use Rattle.implib_link.specs.Worked.Operands.{or_else}
 use Rattle.implib_link.specs.Worked.Programs.{symbol_of_class}
 use Rattle.implib_link.specs.Worked.RefusedFields.{open_address, two_ranges}
 use Rattle.implib_link.specs.Worked.Rules.{ArrivalRules, LldRules, MovingRules, SymbolRules, early_caller, late_open, other_address}

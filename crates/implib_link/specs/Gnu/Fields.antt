@@ -2,7 +2,7 @@
 -- relocation meets holds what its type asks (PE/COFF specification, "COFF Relocations", "Type Indicators"). Of types
 -- that are not named here nothing is said: their fields may hold any bytes. Addresses of code and of its targets count
 -- from the image's base.
-use Rattle.std.specs.Prelude.{◌≡◌, ℕ, ◌+◌, ◌-◌, ◌*◌, ◌/◌, ◌%◌, ◌^◌, ◌<◌, ◌≤◌, Bool, ◌&&◌, nat_lt, true, false, List, [], ◌∷◌, ◌++◌, drop, length, map, slice_get, take, Option, Some, None}
+use Rattle.std.specs.Prelude.{◌≡◌, ℕ, ◌+◌, ◌-◌, ◌/◌, ◌%◌, ◌^◌, ◌<◌, ◌≤◌, Bool, ◌&&◌, nat_lt, true, false, List, [], ◌∷◌, ◌++◌, drop, length, map, slice_get, take, Some}
 use Rattle.std.specs.List.{AllByRecursion, Contains, filter, list_any}
 use Rattle.implib.specs.declared.coff.object.Relocation.{Relocation}
 use Rattle.implib.specs.declared.machine.MachineType.{MachineType}

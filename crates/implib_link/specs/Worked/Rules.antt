@@ -1,10 +1,9 @@
 -- Single rules of linking, by examples that no larger one tells apart: each is true as it stands, and not so of the rule
 -- with one thing changed.
-use Rattle.std.specs.Prelude.{◌≡◌, ℕ, ◌+◌, true, false, List, [], ◌∷◌, ◌++◌, codes, drop, Option, None}
+use Rattle.std.specs.Prelude.{◌≡◌, ℕ, true, false, List, [], ◌∷◌, ◌++◌, codes, drop, None}
 use Rattle.implib.specs.declared.machine.MachineType.TheVariants.{I386, AMD64, ARM64}
 use Rattle.implib.specs.Formats.Constants.{class_external}
 use Rattle.implib.specs.Formats.Object.{ASymbol}
-use Rattle.implib.specs.Link.Image.{Range}
 use Rattle.implib.specs.Link.Placement.{Addresses, At, Unplaced}
 use Rattle.implib.specs.Members.Gnu.{section}
 use Rattle.implib.specs.Members.ImportTables.{zeros}
