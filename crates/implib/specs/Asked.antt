@@ -40,7 +40,7 @@ abbrev pub AsksForWords : (text : List ℕ) (machine : MachineType) (definition 
 AsksForWords text machine definition parsed =
     EachAsksForItsWord machine (renamed definition).exports (exports_of_text parsed.statements)
 
--- Where an export gives an asked name and asks by name, it asks for just that name: by what is expected, and by
+-- Where an export gives an asked name and asks by name, it asks for exactly that name: by what is expected, and by
 -- its member of this flavour. For example, on I386 `_f@8` that gives `f@8` asks for `f@8`.
 pub record AsksForGiven (flavor : Flavor) (machine : MachineType) (e : ExportView) : Type 0 where
   pub expected : (name : List ℕ) → e.asked_name ≡ Some name → e.no_name ≡ false →

@@ -29,7 +29,7 @@ pub record Block : Type 0 where
 abbrev pub linked_symbols : MachineType → NamesOfDll → List ExportView → List (List ℕ)
 linked_symbols machine dll es = head_symbol machine dll.linked ∷ (flat_map archive_symbols es ++ iname_symbol machine dll.linked ∷ [])
 
--- the objects of DLLs, and others behind them
+-- the objects of DLLs, and others after them
 abbrev pub blocks_objects : MachineType → List Block → List Object → List Object
 blocks_objects machine [] rest = rest
 blocks_objects machine (k ∷ blocks) rest = head machine k.dll ∷ after_head machine k.dll k.exports (blocks_objects machine blocks rest)
@@ -74,13 +74,13 @@ names-blocks machine b (k ∷ blocks) =
     ∙ ap (λ names. names ++ map (λ (d : SymbolDefinition). d.name) (blocks_definitions machine later blocks)) (names-block machine k.dll b k.exports)
     ∙ ap (λ rest. linked_symbols machine k.dll k.exports ++ rest) (names-blocks machine later blocks)
 
--- each block links, with its descriptor behind those before it
+-- each block links, with its descriptor after those before it
 unfoldable pub BlocksLink : MachineType → List Placed → List Range → Bases → List Block → Type 0
 BlocksLink machine linked image b [] = Unit {0}
 BlocksLink machine linked image b (k ∷ blocks) =
     BlockLinks machine linked image b k.dll k.exports × BlocksLink machine linked image (ends_of_block machine k.dll b k.exports) blocks
 
--- what is known of blocks among all that is linked, with other objects behind them
+-- what is known of blocks among all that is linked, with other objects after them
 pub record EachLinks (machine : MachineType) (linked : List Placed) (image : List Range) (b : Bases) (blocks : List Block) (rest : List Object) : Type 0 where
   pub imports : BlocksLink machine linked image b blocks
   pub defined : AllByRecursion (IsDefinedAt linked) (undefined_names (placed_from (ends_of_blocks machine b blocks) rest)) →

@@ -53,7 +53,7 @@ stop_located text n found =
     let stop : get_or text n 0 ≡ full_stop = eqb-true (get_or text n 0) full_stop located.1 in
     (located.0, omega arith)
 
--- what is before it, an underscore and the mangled name of what is behind are the mangled name
+-- what is before it, an underscore and the mangled name of what is after are the mangled name
 pub mangled_name_step : (out text : List ℕ) (n : ℕ) → position stops text ≡ Some n → ((out ++ slice_range text 0 n) ++ underscore ∷ []) ++ mangled_name (drop (n + 1) text) ≡ out ++ mangled_name text
 mangled_name_step out text n found =
     let whole : n - 0 ≡ n = omega arith in

@@ -356,7 +356,7 @@ module _ (d : DefinitionView) (machine : MachineType) (members : List MemberView
   of_members : {Y : Type 0} (f : MemberView → Y) → map f members ≡ map (λ p. f (member_of p)) (member_specs (renamed d) machine Gnu)
   of_members f = ap (map f) made.made ∙ map_after f member_of (member_specs (renamed d) machine Gnu)
 
-  -- the members behind the tail and the head, turned round, are those that were built
+  -- the members after the tail and the head, turned round, are those that were built
   behind : reverse (drop 2 members) ≡ map member_of built
   behind =
       ap (λ (x : List MemberView). reverse (drop 2 x)) made.made

@@ -10,7 +10,7 @@ use Rattle.implib.specs.Members.ReadBack.{FitsShortImport}
 use Rattle.implib.specs.Formats.Object.{u16_at, u32_at}
 use Rattle.implib.specs.Formats.ShortImport.{ShortImport, short_import_header_size, text_in, is_short_import, short_import_from, short_import_with, short_import_in}
 
--- a text without NUL is read up to the NUL behind it
+-- a text without NUL is read up to the NUL after it
 pub text_in-append : (text rest : List ℕ) → holds 0 text ≡ false → text_in (text ++ 0 ∷ rest) ≡ Some (text, rest)
 text_in-append [] rest none = refl
 text_in-append (b ∷ text) rest none =

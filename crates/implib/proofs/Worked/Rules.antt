@@ -18,7 +18,7 @@ use Rattle.implib.specs.Members.MsvcObjects.{base_name}
 use Rattle.implib.specs.Text.Token.{kind_of_word}
 use Rattle.implib.specs.Worked.Rules.{IsCutFrom, TakeNothingElse, only_flavor_name, only_name, only_number, only_word}
 
--- a row of a table by names, and one of a table by numbers: what it answers has just its own name or number
+-- a row of a table by names, and one of a table by numbers: what it answers has exactly its own name or number
 name_row : {X : Type 0} (name own : List ℕ) (a x : X) (others : Option X) (only : X → List ℕ) → only a ≡ own →
     (others ≡ Some x → name ≡ only x) →
     (if bytes_eq name own then Some a else others) ≡ Some x → name ≡ only x

@@ -43,7 +43,7 @@ abbrev pub declared_by : File → List (List ℕ)
 declared_by (ShortImportFile r) = import_symbols (r.import_type == import_data) r.symbol
 declared_by (ObjectFile o) = filter_map declared_by_entry o.entries
 
--- the tag index of a weak external: the symbol that replaces it, in the auxiliary record behind it
+-- the tag index of a weak external: the symbol that replaces it, in the auxiliary record after it
 abbrev pub tag_index : List Entry → Option ℕ
 tag_index [] = None
 tag_index (ASymbol s ∷ entries) = None
@@ -74,7 +74,7 @@ only_alias entries ((weak, Some index) ∷ other ∷ others) = None
 only_alias entries ((weak, Some index) ∷ []) =
     option_map (λ target. record { weak = weak; target = target }) (name_at entries index)
 
--- The alias that an object makes, where just one of its symbols is a weak external. For example, that foo is
+-- The alias that an object makes, where exactly one of its symbols is a weak external. For example, that foo is
 -- weak for baz.
 abbrev pub alias_of_object : Object → Option Alias
 alias_of_object o = only_alias o.entries (weak_symbols o.entries)

@@ -80,7 +80,7 @@ abbrev pub image_of : MachineType → Bases → List Placed → List Range
 image_of machine bases linked =
     flat_map (λ group. range_of (base_of group bases) (contributions machine linked group linked)) groups
 
--- the address behind a range
+-- the address after a range
 abbrev pub range_end : Range → ℕ
 range_end r = r.start + length r.bytes
 

@@ -36,11 +36,11 @@ undefined_name (ASymbol s) = if is_undefined_external s then Some s.name else No
 abbrev pub undefined_names : List Placed → List (List ℕ)
 undefined_names linked = flat_map (λ p. filter_map undefined_name p.object.entries) linked
 
--- just one object defines a name, once
+-- exactly one object defines a name, once
 abbrev pub IsDefinedOnce : List Placed → List ℕ → Type 0
 IsDefinedOnce linked name = (d : SymbolDefinition) × (definitions_of name linked ≡ d ∷ [])
 
--- just one object defines a name, once, at an address
+-- exactly one object defines a name, once, at an address
 abbrev pub IsDefinedAt : List Placed → List ℕ → Type 0
 IsDefinedAt linked name =
     (address : ℕ) × (definitions_of name linked ≡ record { name = name; address = Some address } ∷ [])

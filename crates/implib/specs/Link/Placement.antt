@@ -85,7 +85,7 @@ pub data SectionAddress : Type 0 where
   Unplaced : SectionAddress
   At : Group → ℕ → SectionAddress
 
--- the address behind the ends of what is placed already
+-- the address after the ends of what is placed already
 abbrev pub address_after : Bases → ℕ → Option Group → SectionAddress
 address_after ends flags None = Unplaced
 address_after ends flags (Some group) = At group (next_multiple (alignment flags) (base_of group ends))
@@ -95,7 +95,7 @@ abbrev pub end_after : Bases → SectionAddress → ℕ → Bases
 end_after ends Unplaced size = ends
 end_after ends (At group address) size = with_base group (address + size) ends
 
--- the address of a section, behind these ends
+-- the address of a section, after these ends
 abbrev pub section_address_of : Bases → ObjectSection → SectionAddress
 section_address_of ends s = address_after ends s.flags (group_named s.name)
 
@@ -118,9 +118,9 @@ pub record Placed : Type 0 where
   pub section_addresses : List SectionAddress
 
 -- Objects that are placed in their order. Each group has an address from which on it is free: its base, and
--- then the end of the last section placed. A section goes there, or as far behind it as its alignment makes
+-- then the end of the last section placed. A section goes there, or as far after it as its alignment makes
 -- it; a base that the alignment divides is taken as it is. For example, on AMD64 the thunk of the tail,
--- behind two entries from 0x1020 on, goes to 0x1030.
+-- after two entries from 0x1020 on, goes to 0x1030.
 abbrev pub placed_from : Bases → List Object → List Placed
 placed_from ends [] = []
 placed_from ends (o ∷ objects) =

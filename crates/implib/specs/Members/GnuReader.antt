@@ -122,7 +122,7 @@ import_of export head tail =
     let ask : Option Ask = ask_of_export export in
     option_and_then (λ name. option_map (import_from export name) ask) dll
 
--- what an object behind the tail and the head means: an alias, or otherwise an import
+-- what an object after the tail and the head means: an alias, or otherwise an import
 abbrev pub alias_or_import : Option Alias → Option Import → Option Meaning
 alias_or_import (Some a) i = Some (AnAlias a)
 alias_or_import None i = option_map AnImport i

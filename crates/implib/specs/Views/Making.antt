@@ -36,7 +36,7 @@ pub record MakesMembers {A : Type 0} (specs : List MemberSpec) (result : Result 
   pub fit : OnOk result (list_any is_too_long specs ≡ false)
   pub too_long : IfInvalid result (λ cause. (cause ≡ MemberTooLong) × (list_any is_too_long specs ≡ true))
 
--- the specified members are put behind the old ones; they are refused only where one is too long
+-- the specified members are put after the old ones; they are refused only where one is too long
 pub record PushesMembers (specs : List MemberSpec) (old new : List Member) (result : Result (Unit {0}) Error) :
     Type 0 where
   pub ok : OnOk result (map member_view new ≡ map member_view old ++ map member_of specs)

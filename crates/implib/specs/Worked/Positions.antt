@@ -6,7 +6,7 @@ use Rattle.implib.specs.Fault.{InvalidOrdinal, LoneAt}
 use Rattle.implib.specs.Text.Parses.{RefusesAt}
 use Rattle.implib.specs.Text.Position.{line_and_column}
 
--- line and column behind texts
+-- line and column after texts
 pub record WorkedLines : Type 0 where
   pub beginning : line_and_column [] ≡ (1, 1)
   pub one_byte : line_and_column (codes "N") ≡ (1, 2)
@@ -40,7 +40,7 @@ pub record WorkedPositions : Type 0 where
       (ExpectedIdentifier kind.Eof) 10 1 11
   pub missing_size_at_last_line : IsRefusedIn (codes "STACKSIZE\n\n") (ExpectedIdentifier kind.Eof) 11 3 1
   pub negative_size : IsRefusedIn (codes "NAME a\nHEAPSIZE -1") ExpectedInteger 16 2 10
-  -- of a quoted name, its value counts, and behind the quote where the value is empty
+  -- of a quoted name, its value counts, and after the quote where the value is empty
   pub quoted_size : IsRefusedIn (codes "HEAPSIZE \" x \"") ExpectedInteger 11 1 12
   pub unclosed_size : IsRefusedIn (codes "HEAPSIZE \"1") ExpectedInteger 10 1 11
   pub three_numbers : IsRefusedIn (codes "VERSION 1.2.3") ExpectedInteger 8 1 9

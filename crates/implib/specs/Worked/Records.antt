@@ -73,7 +73,7 @@ pub record WorkedFieldsOfRecords : Type 0 where
   pub symbol_read : symbol_of [] symbol_record ≡ Some (read_back 0x1234)
   pub type_read : symbol_of [] (hex "61 62 63 00 00 00 00 00 78 56 34 12 34 12 ad 0b 9a 00")
       ≡ Some (record (read_back 0x1234) { kind = 0x0BAD })
-  -- the name of 8 bytes has no NUL, and one in the string table has its offset behind four zeros
+  -- the name of 8 bytes has no NUL, and one in the string table has its offset after four zeros
   pub whole_name_read : name_of [] (codes "abcdefgh") ≡ Some (codes "abcdefgh")
   pub long_name : symbol_bytes (4 ∷ 0x01020304 ∷ []) with_auxiliary
       ≡ hex "00 00 00 00 04 03 02 01 78 56 34 12 fe ff 00 00 9a 01" ++ codes "abcdefghijklmnopqr"
@@ -81,7 +81,7 @@ pub record WorkedFieldsOfRecords : Type 0 where
   pub end_of_a_string : name_of (hex "0b 00 00 00" ++ codes "ab\0cde\0") (hex "00 00 00 00 09 00 00 00") ≡ Some (codes "e")
   pub relocation_written : relocation_bytes relocation ≡ relocation_record
   pub relocation_read : relocation_of relocation_record ≡ relocation
-  -- the data at an offset, and the relocations behind it
+  -- the data at an offset, and the relocations after it
   pub section_written : section_header 0x12345678 (section (codes "sections") 0x89ABCDEF (hex "01 02 03") (relocation ∷ relocation ∷ []))
       ≡ codes "sections" ++ hex "00 00 00 00 00 00 00 00 03 00 00 00 78 56 34 12 7b 56 34 12 00 00 00 00 02 00 00 00 ef cd ab 89"
   pub section_without_data : section_header 0x12345678 (section (codes "sections") 0x89ABCDEF [] [])

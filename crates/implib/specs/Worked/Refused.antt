@@ -16,7 +16,7 @@ use Rattle.implib.specs.Worked.Digits.{hex}
 abbrev pub header_with_records : List ℕ → List ℕ
 header_with_records records = hex "64 86 00 00 00 00 00 00 14 00 00 00" ++ records ++ hex "00 00 00 00 00 00 00"
 
--- the record of a symbol of three letters, from the byte behind its value on
+-- the record of a symbol of three letters, from the byte after its value on
 abbrev pub symbol_record : List ℕ → List ℕ → List ℕ
 symbol_record name rest = name ++ hex "00 00 00 00 00 00 00 00 00" ++ rest
 
@@ -54,7 +54,7 @@ two_weak_externals = concat (
     ∷ no_strings
     ∷ [])
 
--- foo is weak for the symbol behind the last one
+-- foo is weak for the symbol after the last one
 unfoldable pub weak_for_no_symbol : List ℕ
 weak_for_no_symbol = concat (
     header_with_records (hex "03")

@@ -50,7 +50,7 @@ pub record WorkedTokens : Type 0 where
   pub nul_in_word : Lexed (codes "LIBRARY a\0b")
       (token kind.KwLibrary (codes "LIBRARY") 0 ∷ identifier (codes "a\0b") 8 ∷ eof 11 ∷ [])
   pub nul_in_name : Lexed (codes "\"a\0b\"") (identifier (codes "a\0b") 1 ∷ eof 5 ∷ [])
-  -- a quoted name is trimmed, and is right behind its quote where nothing is left; unclosed, it is empty
+  -- a quoted name is trimmed, and is right after its quote where nothing is left; unclosed, it is empty
   pub blank_name : Lexed (codes "\" \"") (identifier [] 1 ∷ eof 3 ∷ [])
   pub trimmed_name : Lexed (codes "\" a b \"") (identifier (codes "a b") 2 ∷ eof 7 ∷ [])
   pub quotes_in_word : Lexed (codes "x\"y\"") (identifier (codes "x\"y\"") 0 ∷ eof 4 ∷ [])

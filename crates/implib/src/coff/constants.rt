@@ -85,11 +85,11 @@ pub mod relocation {
     pub const I386_DIR32NB: u16 = 7;
     /// `IMAGE_REL_ARM_ADDR32NB`: the address relative to the image.
     pub const ARM_ADDR32NB: u16 = 2;
-    /// `IMAGE_REL_ARM_REL32`: the address relative to the byte behind the field.
+    /// `IMAGE_REL_ARM_REL32`: the address relative to the byte after the field.
     pub const ARM_REL32: u16 = 0x0A;
     /// `IMAGE_REL_AMD64_ADDR32NB`: the address relative to the image.
     pub const AMD64_ADDR32NB: u16 = 3;
-    /// `IMAGE_REL_AMD64_REL32`: the address relative to the byte behind the field.
+    /// `IMAGE_REL_AMD64_REL32`: the address relative to the byte after the field.
     pub const AMD64_REL32: u16 = 4;
     /// `IMAGE_REL_ARM64_ADDR32NB`: the address relative to the image.
     pub const ARM64_ADDR32NB: u16 = 2;

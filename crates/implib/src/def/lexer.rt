@@ -146,7 +146,7 @@ fn is_delimiter(byte: u8) -> bool
     )
 }
 
-// The text behind its leading trivia: white space and comments.
+// The text after its leading trivia: white space and comments.
 fn skip_trivia(text: &str) -> &str
     ensures skips { SkipsTrivia text.now result.now }
     ensures utf8 { IsUtf8 text.now }
@@ -211,7 +211,7 @@ fn equal_sign<'a>(text: &'a str, at: usize) -> (Token<'a>, &'a str)
 }
 
 // The token of the quoted name at the front of the text. An unclosed name, and one of white space
-// alone, has an empty value, which begins behind the first quote.
+// alone, has an empty value, which begins after the first quote.
 fn quoted_name<'a>(text: &'a str, at: usize) -> (Token<'a>, &'a str)
     requires quote { begins is_quote text.now ≡ true }
     requires fits { at + length text.now < 2 ^ 64 }

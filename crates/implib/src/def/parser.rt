@@ -49,7 +49,7 @@ impl ModuleDef {
     /// position.
     ///
     /// The fault is that of the first token, from the left, that no derivation allows. The position
-    /// is that of the token's value ([`Token::at`]): for a quoted name the byte behind the quote,
+    /// is that of the token's value ([`Token::at`]): for a quoted name the byte after the quote,
     /// for `Eof` the end of the text, which is its length or a NUL. Line and column take a second
     /// pass over a refused text.
     ///

@@ -10,7 +10,7 @@ use std::fmt;
 pub struct Position {
     /// The offset in bytes, from 0.
     pub offset: usize,
-    /// The line, from 1. A line ends behind its line feed, so `\r\n` ends one line.
+    /// The line, from 1. A line ends after its line feed, so `\r\n` ends one line.
     pub line: usize,
     /// The column, from 1: one more than the bytes of the line that come before.
     pub column: usize,

@@ -18,7 +18,7 @@ pub fn asked_is_word(text: &str, machine: MachineType)
 {}
 
 /// Of a definition that has members, each export that is not private, gives an asked name and is
-/// imported by name is imported under just that name, on every machine and in both flavours.
+/// imported by name is imported under exactly that name, on every machine and in both flavours.
 pub fn given_name_is_asked(machine: MachineType, flavor: Flavor)
     ensures { (definition : DefinitionView) (members : List MemberView) →
         AreMembersOf definition machine flavor members →

@@ -11,7 +11,7 @@ use std::alloc::{AllocError, AllocFailed};
 #[derive(Drop)]
 pub enum ReadError {
     /// The fault of a refused token, and the offset of its value. The offset is 0 where no token is
-    /// left. That never happens for a text: `Eof` is its last token, and no reader reads on behind
+    /// left. That never happens for a text: `Eof` is its last token, and no reader reads on after
     /// it.
     Refused(Fault, usize),
     /// An allocation failed.
