@@ -1,6 +1,6 @@
 -- The members of an export in two lists.
 use Rattle.std.proofs.Common.{◌≡◌, ℕ, ◌+◌, ◌<◌, ◌≤◌, ◌++◌, Bool, true, false, List, [], ◌∷◌, length, drop, map, if◌then◌else◌, refl, sym, ap, ◌∙◌, arith, append-nil, Result, Ok, Err}
-use Rattle.std.specs.Prelude.{nat_lt, ◌||◌, codes, OnOk}
+use Rattle.std.specs.Prelude.{nat_lt, ◌||◌, codes}
 use Rattle.std.specs.List.{list_any}
 use Rattle.std.proofs.lemmas.List.{length-append}
 use Rattle.std.proofs.lemmas.Bool.{le-ltb, ltb-false, or_from, or_parts}

@@ -1,4 +1,4 @@
-use Rattle.std.proofs.Common.{◌≡◌, ◌+◌, ◌++◌, List, map, drop, sym, subst, false}
+use Rattle.std.proofs.Common.{◌≡◌, ◌+◌, ◌++◌, List, map, drop, subst, false}
 use Rattle.std.specs.List.{list_all, list_any}
 use Rattle.implib.specs.declared.flavor.Flavor.TheVariants.{Msvc}
 use Rattle.implib.specs.Definition.{ExportView, definition_view, export_view}
