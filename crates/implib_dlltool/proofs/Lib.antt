@@ -1,5 +1,4 @@
 pub mod Reading
-pub mod TokensGiven
 pub mod Parts
 pub mod Asked
 pub mod Targets
@@ -14,9 +13,7 @@ pub mod OrderedReadings
 pub mod PlainNames
 pub mod Made
 pub mod Positions
-pub mod NameOffsets
 pub mod Firsts
-pub mod Ordinals
 pub mod Warned
 pub mod InOrder
-pub mod Named
+pub mod PlacesHeard
