@@ -1,20 +1,21 @@
 -- The warnings of a text are in the order of their offsets.
-use Rattle.std.proofs.Common.{◌≡◌, ◌∙◌, ℕ, suc, ◌+◌, ◌-◌, ◌==◌, ◌≤◌, Bool, true, false, List, [], ◌∷◌, ◌++◌, Option, None, Some, append_assoc, append-nil, arith, fold, length, subst, sym}
+use Rattle.std.proofs.Common.{◌≡◌, ◌∙◌, ℕ, suc, ◌+◌, ◌-◌, ◌==◌, ◌≤◌, Bool, true, false, List, [], ◌∷◌, ◌++◌, Option, None, Some, append_assoc, append-nil, arith, fold, length, map, subst, sym, ◌||◌}
 use Rattle.std.specs.Prelude.{is_some, slice_get, if◌then◌else◌}
 use Rattle.std.proofs.lemmas.List.{length-append}
-use Rattle.std.specs.Str.{trim, trim_end, trim_start}
+use Rattle.std.specs.Str.{IsUtf8, trim, trim_end, trim_start}
 use Rattle.implib.specs.declared.def.lexer.TokenKind.TheVariants as kind
 use Rattle.implib.specs.declared.def.position.Position.{Position}
 use Rattle.implib.specs.Definition.{ExportView}
+use Rattle.implib.specs.Text.Heard.{Heard, IsHeard}
 use Rattle.implib.specs.Text.Position.{position_at}
-use Rattle.implib.specs.Text.Token.{Blank, Comment, CommaSign, EqualSign, EqualSigns, LastComment, Lexed, Lexeme, Quoted, TokenView, Unclosed, Word}
+use Rattle.implib.specs.Text.Token.{Blank, Comment, CommaSign, EqualSign, EqualSigns, LastComment, Lexeme, Quoted, TokenView, Unclosed, Word}
 use Rattle.implib.specs.Text.Token.{kind_of_word, lexeme_text, tokens_of, tokens_of_lexeme, value_start}
+use Rattle.implib.proofs.Text.HeardNames.{whole_of}
 use Rattle.implib_dlltool.specs.declared.places.Place.{Place}
 use Rattle.implib_dlltool.specs.declared.places.Site.{Site}
 use Rattle.implib_dlltool.specs.declared.places.Site.TheVariants as site
-use Rattle.implib_dlltool.specs.declared.places.Walk.{Walk}
 use Rattle.implib_dlltool.specs.Linked.{word_of}
-use Rattle.implib_dlltool.specs.Places.{Walked, placed, places_in, site_at, started, walk_behind, walked, walked_on}
+use Rattle.implib_dlltool.specs.Places.{Walked, is_heading, placed, places_in, site_at, started, walked, walked_on}
 use Rattle.implib_dlltool.specs.Request.{RequestView}
 use Rattle.implib_dlltool.specs.Warnings.{Ascends, NoticeView, OpensLine, WarningView, asked_warnings, first_declared, first_of_ordinal, first_of_word, heading_notice, if_export, index_after}
 use Rattle.implib_dlltool.specs.Warnings.{lowered_notice, no_export_notice, ordinal_like_notice, ordinal_notice, other_kind_notice, repeat_notice, stdcall_notice}
@@ -76,19 +77,19 @@ places_from-less : (less offset : ℕ) (places : List Place) → less ≤ offset
 places_from-less less offset [] order from = tt
 places_from-less less offset (place ∷ places) order from = (omega (arith, order, from.0), from.1)
 
--- the places of tokens, behind what is known of those before them
-abbrev pub places_after : List ℕ → Walk → List TokenView → List Place
-places_after text walk [] = []
-places_after text walk (token ∷ tokens) =
-    placed (site_at walk (position_at text token.at).line token.kind token.value) (position_at text token.at)
-    ++ places_after text (walk_behind walk (position_at text token.at).line token.kind token.value) tokens
+-- the places of tokens, after a heading or not, and after a token in this line
+abbrev pub places_after : List ℕ → Bool → ℕ → List Heard → List Place
+places_after text is_headed line [] = []
+places_after text is_headed line (h ∷ heard) =
+    placed (site_at is_headed line (position_at text h.token.at).line h.role h.token.kind) (position_at text h.token.at)
+    ++ places_after text (is_headed || is_heading h.token.kind) (position_at text h.token.at).line heard
 
-pub walked_places : (text : List ℕ) (before : Walked) (tokens : List TokenView)
-    → (fold (walked_on text) before tokens).places ≡ before.places ++ places_after text before.walk tokens
+pub walked_places : (text : List ℕ) (before : Walked) (heard : List Heard)
+    → (fold (walked_on text) before heard).places ≡ before.places ++ places_after text before.is_headed before.line heard
 walked_places text before [] = sym (append-nil before.places)
-walked_places text before (token ∷ tokens) =
-    walked_places text (walked_on text before token) tokens
-    ∙ append_assoc before.places (placed (site_at before.walk (position_at text token.at).line token.kind token.value) (position_at text token.at)) _
+walked_places text before (h ∷ heard) =
+    walked_places text (walked_on text before h) heard
+    ∙ append_assoc before.places (placed (site_at before.is_headed before.line (position_at text h.token.at).line h.role h.token.kind) (position_at text h.token.at)) _
 
 placed_first : (site : Option Site) (offset : ℕ) (position : Position) (rest : List Place) → offset ≤ position.offset
     → PlacesFrom position.offset rest → PlacesFrom offset (placed site position ++ rest)
@@ -96,12 +97,12 @@ placed_first None offset position rest order from = places_from-less offset posi
 placed_first (Some site) offset position rest order from = (order, from)
 
 -- the places of tokens that ascend do so
-places_ascend : (text : List ℕ) (walk : Walk) (offset : ℕ) (tokens : List TokenView) → TokensFrom offset tokens
-    → PlacesFrom offset (places_after text walk tokens)
-places_ascend text walk offset [] from = tt
-places_ascend text walk offset (token ∷ tokens) from =
-    placed_first (site_at walk (position_at text token.at).line token.kind token.value) offset (position_at text token.at) _ from.0
-    (places_ascend text (walk_behind walk (position_at text token.at).line token.kind token.value) token.at tokens from.1)
+places_ascend : (text : List ℕ) (is_headed : Bool) (line offset : ℕ) (heard : List Heard) (rest : List TokenView) → TokensFrom offset (map (λ (h : Heard). h.token) heard ++ rest)
+    → PlacesFrom offset (places_after text is_headed line heard)
+places_ascend text is_headed line offset [] rest from = tt
+places_ascend text is_headed line offset (h ∷ heard) rest from =
+    placed_first (site_at is_headed line (position_at text h.token.at).line h.role h.token.kind) offset (position_at text h.token.at) _ from.0
+    (places_ascend text (is_headed || is_heading h.token.kind) (position_at text h.token.at).line h.token.at heard rest from.1)
 
 ascends-less : (less offset : ℕ) (warnings : List WarningView) → less ≤ offset → Ascends offset warnings → Ascends less warnings
 ascends-less less offset [] order from = tt
@@ -171,12 +172,13 @@ if_verbose : (is : Bool) (warnings : List WarningView) → Ascends 0 warnings �
 if_verbose true warnings from = from
 if_verbose false warnings from = tt
 
-pub in_order : (text : List ℕ) (tokens : List TokenView) (request : RequestView) (exports : List ExportView) (count : ℕ) → Lexed text tokens
-    → Ascends 0 (warnings_for request exports (places_in text tokens) count)
+pub in_order : (text : List ℕ) (heard : List Heard) (request : RequestView) (exports : List ExportView) (count : ℕ) → IsUtf8 text → IsHeard text heard
+    → Ascends 0 (warnings_for request exports (places_in text heard) count)
 unfolding walked
-in_order text tokens request exports count lexed =
-    let tokens_from = subst (TokensFrom 0) (sym lexed.given) (tokens_ascend 0 lexed.lexemes) in
-    let places_from = subst (PlacesFrom 0) (sym (walked_places text started tokens)) (places_ascend text started.walk 0 tokens tokens_from) in
-    if_verbose request.is_verbose (warnings_of request exports (places_in text tokens) count)
+in_order text heard request exports count utf8 is =
+    let all = whole_of text is.tokens heard utf8 is.lexed is in
+    let tokens_from = subst (TokensFrom 0) (sym is.lexed.given ∙ all.whole) (tokens_ascend 0 is.lexed.lexemes) in
+    let places_from = subst (PlacesFrom 0) (sym (walked_places text started heard)) (places_ascend text false 1 0 heard (all.end ∷ []) tokens_from) in
+    if_verbose request.is_verbose (warnings_of request exports (places_in text heard) count)
     (both_before whole _ _ (one_before (no_export_notice exports) whole) (one_before (other_kind_notice request.flavor count) whole) _
-    (warnings_ascend request exports 0 0 (places_in text tokens) places_from))
+    (warnings_ascend request exports 0 0 (places_in text heard) places_from))

@@ -1,6 +1,5 @@
 pub mod Reading
 pub mod Letters
-pub mod TokensGiven
 pub mod Parts
 pub mod Asked
 pub mod Targets
@@ -15,9 +14,7 @@ pub mod OrderedReadings
 pub mod PlainNames
 pub mod Made
 pub mod Positions
-pub mod NameOffsets
 pub mod Firsts
-pub mod Ordinals
 pub mod Warned
 pub mod InOrder
-pub mod Named
+pub mod PlacesHeard

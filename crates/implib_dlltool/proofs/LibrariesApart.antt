@@ -51,7 +51,7 @@ named_of flavor d whole msvc is text =
 pub found_of_text : (text : List ℕ) (request : RequestView) (d : DefinitionView) → DefinitionFor text request d → request.flavor ≡ Msvc
     → is_empty_text (without_ending d.import_name) ≡ false → IsFoundByGnu d
 found_of_text text request d meant msvc filled =
-    let plain = record meant.parsed { import_name = dll_name request.dll meant.parsed.import_name (is_program meant.tokens) } in
+    let plain = record meant.parsed { import_name = dll_name request.dll meant.parsed.import_name (is_program meant.heard) } in
     let before = linked request.machine request.naming request.flavor (without_repeats plain) in
     found_named d (without_ending d.import_name) (named_of request.flavor before d msvc meant.is filled) refl
 

@@ -8,6 +8,7 @@ pub mod LibraryName
 pub mod Order
 pub mod Library
 pub mod Places
+pub mod Heard
 pub mod Warnings
 pub mod Views
 pub mod Worked

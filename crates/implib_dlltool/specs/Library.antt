@@ -17,7 +17,7 @@ use Rattle.implib.specs.Members.ReadBack.{ReadBack}
 use Rattle.implib.specs.Renaming.{renamed}
 use Rattle.implib.specs.Text.Parses.{Parses, RefusesAt}
 use Rattle.implib.specs.Text.Position.{position_at}
-use Rattle.implib.specs.Text.Token.{Lexed, TokenView}
+use Rattle.implib.specs.Text.Heard.{Heard, IsHeard}
 use Rattle.implib_archive.specs.declared.error.Error.{Error as ArchiveError}
 use Rattle.implib_archive.specs.declared.error.Error.TheVariants as archive
 use Rattle.implib_archive.specs.declared.error.Fault.{Fault as ArchiveFault}
@@ -65,9 +65,9 @@ pub record DefinitionFor (text : List ℕ) (request : RequestView) (definition :
   pub parsed : DefinitionView
   pub parses : Parses text AMD64 parsed
   pub named : lacks_name request.dll parsed.import_name ≡ false
-  pub tokens : List TokenView
-  pub lexed : Lexed text tokens
-  pub is : definition ≡ definition_for request parsed (is_program tokens)
+  pub heard : List Heard
+  pub is_heard : IsHeard text heard
+  pub is : definition ≡ definition_for request parsed (is_program heard)
 
 -- the text is a definition, but neither has it a name of the DLL nor is one given
 pub record LacksName (text : List ℕ) (request : RequestView) : Type 0 where

@@ -3,7 +3,7 @@ use Rattle.std.specs.Prelude.{ℕ, ◌==◌, Bool, true, false, List, [], ◌∷
 use Rattle.std.specs.List.{fold, list_any}
 use Rattle.implib.specs.declared.def.lexer.TokenKind.{TokenKind}
 use Rattle.implib.specs.declared.def.lexer.TokenKind.TheVariants as kind
-use Rattle.implib.specs.Text.Token.{TokenView}
+use Rattle.implib.specs.Text.Heard.{Heard}
 
 -- whether a byte is in a name
 abbrev pub has : ℕ → List ℕ → Bool
@@ -15,9 +15,10 @@ heading_after before kind.KwName = true
 heading_after before kind.KwLibrary = false
 heading_after before _ = before
 
--- whether the last heading among tokens, `NAME` or `LIBRARY`, is `NAME`: then the definition is a program's
-abbrev pub is_program : List TokenView → Bool
-is_program tokens = fold (λ before token. heading_after before token.kind) false tokens
+-- whether the last heading among the tokens that are heard, `NAME` or `LIBRARY`, is `NAME`: then the definition is a
+-- program's
+abbrev pub is_program : List Heard → Bool
+is_program heard = fold (λ before h. heading_after before h.token.kind) false heard
 
 -- the ending that a name without one gets
 abbrev pub ending : Bool → List ℕ
@@ -47,11 +48,6 @@ with_ending name program = if has 46 name then name else name ++ ending program
 abbrev pub dll_name : Option (List ℕ) → List ℕ → Bool → List ℕ
 dll_name (Some given) own program = last_part given
 dll_name None own program = with_ending (last_part own) program
-
--- whether the name gets an ending: it is the definition's own, and has no full stop
-abbrev pub gets_ending : Option (List ℕ) → List ℕ → Bool
-gets_ending (Some given) own = false
-gets_ending None own = not (has 46 (last_part own))
 
 -- whether there is no name, but for a directory
 abbrev pub lacks_name : Option (List ℕ) → List ℕ → Bool

@@ -1,26 +1,22 @@
--- The places of a text that a warning can be at, by its tokens (this project's choice). A text is read from the left;
--- what is said here counts for the tokens of a definition that the grammar allows.
-use Rattle.std.specs.Prelude.{◌≡◌, ℕ, Bool, true, false, not, ◌&&◌, ◌||◌, List, [], ◌∷◌, ◌++◌, Option, None, Some, drop, get_or, if◌then◌else◌, is_some, map, nat_lt}
+-- The places of a text that a warning can be at, by its tokens and their roles (this project's choice). A text is read
+-- from the left.
+use Rattle.std.specs.Prelude.{◌≡◌, ℕ, Bool, true, false, ◌&&◌, ◌||◌, List, [], ◌∷◌, ◌++◌, Option, None, Some, get_or, if◌then◌else◌, map, nat_lt}
 use Rattle.std.specs.List.{fold}
-use Rattle.std.specs.Str.{bytes_eq}
+use Rattle.std.specs.Str.{IsUtf8}
 use Rattle.implib.specs.declared.def.lexer.TokenKind.{TokenKind}
 use Rattle.implib.specs.declared.def.lexer.TokenKind.TheVariants as kind
+use Rattle.implib.specs.declared.def.listener.Role.{Role}
+use Rattle.implib.specs.declared.def.listener.Role.TheVariants.{Name, Other}
 use Rattle.implib.specs.declared.def.position.Position.{Position}
 use Rattle.implib.specs.declared.machine.MachineType.TheVariants.{AMD64}
-use Rattle.implib.specs.Ascii.{at_sign, begins_with}
 use Rattle.implib.specs.Definition.{DefinitionView}
 use Rattle.implib.specs.Fault.{Cause, export_index}
-use Rattle.implib.specs.Text.Number.{u16_limit}
+use Rattle.implib.specs.Text.Heard.{Heard, IsHeard, names_of}
 use Rattle.implib.specs.Text.Parses.{Parses}
 use Rattle.implib.specs.Text.Position.{position_at}
-use Rattle.implib.specs.Text.Token.{Lexed, TokenView}
-use Rattle.implib.specs.Views.TokenReader.{number_of}
-use Rattle.implib_dlltool.specs.declared.places.Next.{Next}
-use Rattle.implib_dlltool.specs.declared.places.Next.TheVariants.{Outside, First, Inside, Within}
 use Rattle.implib_dlltool.specs.declared.places.Place.{Place}
 use Rattle.implib_dlltool.specs.declared.places.Site.{Site}
 use Rattle.implib_dlltool.specs.declared.places.Site.TheVariants as site
-use Rattle.implib_dlltool.specs.declared.places.Walk.{Walk}
 use Rattle.implib_dlltool.specs.declared.warnings.words.Attribute.{Attribute}
 use Rattle.implib_dlltool.specs.declared.warnings.words.Attribute.TheVariants.{Data, Constant, Private, NoName}
 use Rattle.implib_dlltool.specs.Linked.{word_of}
@@ -39,126 +35,78 @@ is_heading kind.KwLibrary = true
 is_heading kind.KwName = true
 is_heading _ = false
 
--- whether a word is `@`, behind which an ordinal stands
-abbrev pub is_lone_at : List ℕ → Bool
-is_lone_at word = bytes_eq word (at_sign ∷ [])
-
--- whether a word is an ordinal with its `@`: a number of 16 bits
-abbrev pub is_ordinal : List ℕ → Bool
-is_ordinal word = begins_with at_sign word && is_some (number_of (drop 1 word) u16_limit)
-
--- whether a word is the name of an export, behind `EXPORTS` or behind another export: there `@` and `@5` are attributes
-abbrev pub is_name : Next → List ℕ → Bool
-is_name First word = true
-is_name Inside word = not (is_lone_at word) && not (is_ordinal word)
-is_name _ word = false
-
--- whether a token is the name of an export
-abbrev pub begins_export : Next → TokenKind → List ℕ → Bool
-begins_export next kind.Identifier word = is_name next word
-begins_export next _ word = false
-
--- what may follow a word: behind a lone `@` its number, and else a part of the export or the next export
-abbrev pub next_after_word : Next → List ℕ → Next
-next_after_word Outside word = Outside
-next_after_word Inside word = if is_lone_at word then Within else Inside
-next_after_word _ word = Inside
-
--- what may follow, within the exports of a statement; elsewhere nothing of an export does
-abbrev pub if_exports : Next → Next → Next
-if_exports Outside next = Outside
-if_exports _ next = next
-
--- what may follow a token
-abbrev pub next_after : Next → TokenKind → List ℕ → Next
-next_after next kind.KwExports word = First
-next_after next kind.Identifier word = next_after_word next word
-next_after next kind.Equal word = if_exports next Within
-next_after next kind.EqualEqual word = if_exports next Within
-next_after next kind.KwData word = if_exports next Inside
-next_after next kind.KwConstant word = if_exports next Inside
-next_after next kind.KwPrivate word = if_exports next Inside
-next_after next kind.KwNoname word = if_exports next Inside
-next_after next _ word = Outside
-
 -- an attribute that begins a line: the token before it begins in an earlier one
 abbrev pub opening : Bool → Option Attribute → Option Site
 opening true (Some attribute) = Some (site.Attribute attribute)
 opening _ _ = None
 
--- what stands at a token in this line, behind what is known of the tokens before it
-abbrev pub site_at : Walk → ℕ → TokenKind → List ℕ → Option Site
-site_at walk line kind word =
-    if begins_export walk.next kind word then Some site.Export
-    else if is_heading kind && walk.is_headed then Some site.Heading
-    else opening (nat_lt walk.line line) (attribute_of kind)
+-- what stands at another part of a statement than a name
+abbrev pub site_of_other : Bool → ℕ → ℕ → TokenKind → Option Site
+site_of_other is_headed before line kind =
+    if is_heading kind && is_headed then Some site.Heading else opening (nat_lt before line) (attribute_of kind)
 
--- what is known behind one more token
-abbrev pub walk_behind : Walk → ℕ → TokenKind → List ℕ → Walk
-walk_behind walk line kind word = record {
-  next = next_after walk.next kind word;
-  is_headed = walk.is_headed || is_heading kind;
-  line = line;
-}
+-- what stands at a token in its role and in this line, after a heading or not, and after a token in the line `before`
+abbrev pub site_at : Bool → ℕ → ℕ → Role → TokenKind → Option Site
+site_at is_headed before line Name kind = Some site.Export
+site_at is_headed before line Other kind = site_of_other is_headed before line kind
 
 -- the place of what stands at a position
 abbrev pub placed : Option Site → Position → List Place
 placed None position = []
 placed (Some site) position = record { site = site; position = position } ∷ []
 
--- what is known behind some tokens, and their places
+-- what is known behind some tokens: whether a heading is among them, the line of the last one, and their places
 pub record Walked : Type 0 where
-  pub walk : Walk
+  pub is_headed : Bool
+  pub line : ℕ
   pub places : List Place
 
 -- at the beginning of a text
 abbrev pub started : Walked
-started = record { walk = record { next = Outside; is_headed = false; line = 1 }; places = [] }
+started = record { is_headed = false; line = 1; places = [] }
 
 -- behind one more token, which is at this position
-abbrev pub walked_at : Walked → TokenView → Position → Walked
-walked_at walked token position = record {
-  walk = walk_behind walked.walk position.line token.kind token.value;
-  places = walked.places ++ placed (site_at walked.walk position.line token.kind token.value) position;
+abbrev pub walked_at : Walked → Heard → Position → Walked
+walked_at walked heard position = record {
+  is_headed = walked.is_headed || is_heading heard.token.kind;
+  line = position.line;
+  places = walked.places ++ placed (site_at walked.is_headed walked.line position.line heard.role heard.token.kind) position;
 }
 
 -- behind one more token of a text
-abbrev pub walked_on : List ℕ → Walked → TokenView → Walked
-walked_on text walked token = walked_at walked token (position_at text token.at)
+abbrev pub walked_on : List ℕ → Walked → Heard → Walked
+walked_on text walked heard = walked_at walked heard (position_at text heard.token.at)
 
 -- behind tokens of a text
-unfoldable pub walked : List ℕ → List TokenView → Walked
-walked text tokens = fold (walked_on text) started tokens
+unfoldable pub walked : List ℕ → List Heard → Walked
+walked text heard = fold (walked_on text) started heard
 
--- the places of a text with these tokens, in their order
-abbrev pub places_in : List ℕ → List TokenView → List Place
-places_in text tokens = (walked text tokens).places
+-- the places of a text of which these tokens are heard, in their order
+abbrev pub places_in : List ℕ → List Heard → List Place
+places_in text heard = (walked text heard).places
 
--- a token, if it is the name of an export, before other ones
-abbrev pub name_first : Bool → TokenView → List TokenView → List TokenView
-name_first true token named = token ∷ named
-name_first false token named = named
+-- these are the places of a text
+abbrev pub ArePlacesOf : List ℕ → List Place → Type 0
+ArePlacesOf text places = (heard : List Heard) × IsHeard text heard × (places ≡ places_in text heard)
 
--- the tokens that are names of exports, where this may follow
-abbrev pub named_after : Next → List TokenView → List TokenView
-named_after next [] = []
-named_after next (token ∷ tokens) =
-    name_first (begins_export next token.kind token.value) token (named_after (next_after next token.kind token.value) tokens)
+-- the offset of the name of the export at an index, by the tokens that are heard; 0 where there is none
+abbrev pub name_offset : List Heard → ℕ → ℕ
+name_offset heard index = get_or (map (λ t. t.at) (names_of heard)) index 0
 
--- the offset of the name of the export at an index, by the tokens of a text; 0 where there is none
-abbrev pub name_offset : List TokenView → ℕ → ℕ
-name_offset tokens index = get_or (map (λ t. t.at) (named_after Outside tokens)) index 0
+-- the position is that of the name of the export at an index
+pub record IsAtName (text : List ℕ) (index : ℕ) (position : Position) : Type 0 where
+  pub heard : List Heard
+  pub is_heard : IsHeard text heard
+  pub is : position ≡ position_at text (name_offset heard index)
 
--- the offset of a fault: that of the name of its export, or the beginning of the text
-abbrev pub fault_offset : List TokenView → Option ℕ → ℕ
-fault_offset tokens None = 0
-fault_offset tokens (Some index) = name_offset tokens index
+-- the position is that of the export at an index, if there is one, and else the beginning of the text
+abbrev pub IsAtExport : List ℕ → Option ℕ → Position → Type 0
+IsAtExport text None position = position ≡ position_at text 0
+IsAtExport text (Some index) position = IsAtName text index position
 
 -- the position is that of a fault in a text
-pub record IsAtFault (text : List ℕ) (cause : Cause) (position : Position) : Type 0 where
-  pub tokens : List TokenView
-  pub lexed : Lexed text tokens
-  pub is : position ≡ position_at text (fault_offset tokens (export_index cause))
+abbrev pub IsAtFault : List ℕ → Cause → Position → Type 0
+IsAtFault text cause position = IsAtExport text (export_index cause) position
 
 -- the positions of exports among places
 abbrev pub position_first : Site → Position → List Position → List Position
@@ -169,14 +117,14 @@ abbrev pub export_positions : List Place → List Position
 export_positions [] = []
 export_positions (place ∷ places) = position_first place.site place.position (export_positions places)
 
--- The tokens that are taken for names of exports are the words of the definition's exports, one for one, and the places
--- of exports are where they stand.
-pub record ExportsStandAtWords (text : List ℕ) (definition : DefinitionView) : Type 0 where
-  pub tokens : List TokenView
-  pub lexed : Lexed text tokens
-  pub words : map (λ t. t.value) (named_after Outside tokens) ≡ map word_of definition.exports
-  pub positions : export_positions (places_in text tokens) ≡ map (λ t. position_at text t.at) (named_after Outside tokens)
+-- The names that are heard of a text are the words of the definition's exports, one for one, and the places of exports
+-- are where they stand.
+pub record ExportsStandAtWords (text : List ℕ) (definition : DefinitionView) (heard : List Heard) : Type 0 where
+  pub words : map (λ t. t.value) (names_of heard) ≡ map word_of definition.exports
+  pub positions : export_positions (places_in text heard) ≡ map (λ t. position_at text t.at) (names_of heard)
 
--- so in each text that means a definition with its words as they are written
+-- so of each text that means a definition with its words as they are written
 abbrev pub AreAtWords : Type 0
-AreAtWords = (text : List ℕ) (definition : DefinitionView) → Parses text AMD64 definition → ExportsStandAtWords text definition
+AreAtWords =
+    (text : List ℕ) (definition : DefinitionView) (heard : List Heard) → IsUtf8 text → Parses text AMD64 definition → IsHeard text heard →
+    ExportsStandAtWords text definition heard

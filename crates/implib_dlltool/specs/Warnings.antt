@@ -5,7 +5,7 @@ use Rattle.std.specs.Char.{is_ascii_digit}
 use Rattle.std.specs.HashMap.{HashMap, get, get_by}
 use Rattle.std.specs.List.{after_first, before_first, list_all, list_any}
 use Rattle.std.specs.Option.{option_map}
-use Rattle.std.specs.Str.{bytes_eq, str_eq_ignore_ascii_case}
+use Rattle.std.specs.Str.{IsUtf8, bytes_eq, str_eq_ignore_ascii_case}
 use Rattle.implib.specs.declared.def.position.Position.{Position}
 use Rattle.implib.specs.declared.flavor.Flavor.{Flavor}
 use Rattle.implib.specs.declared.flavor.Flavor.TheVariants.{Msvc, Gnu}
@@ -14,7 +14,7 @@ use Rattle.implib.specs.Ascii.{at_sign, begins_with, question_mark}
 use Rattle.implib.specs.Definition.{ExportView}
 use Rattle.implib.specs.Import.{is_empty_text}
 use Rattle.implib.specs.Machine.{has_leading_underscore}
-use Rattle.implib.specs.Text.Token.{Lexed, TokenView}
+use Rattle.implib.specs.Text.Heard.{Heard, IsHeard}
 use Rattle.implib_dlltool.specs.declared.places.Place.{Place}
 use Rattle.implib_dlltool.specs.declared.places.Site.{Site}
 use Rattle.implib_dlltool.specs.declared.places.Site.TheVariants as site
@@ -287,5 +287,5 @@ Ascends offset (warning ∷ warnings) = (offset ≤ warning.position.offset) × 
 -- the warnings of a text are in the order of their offsets
 abbrev pub AreInOrder : Type 0
 AreInOrder =
-    (text : List ℕ) (tokens : List TokenView) (request : RequestView) (exports : List ExportView) (count : ℕ) → Lexed text tokens →
-    Ascends 0 (warnings_for request exports (places_in text tokens) count)
+    (text : List ℕ) (heard : List Heard) (request : RequestView) (exports : List ExportView) (count : ℕ) → IsUtf8 text →
+    IsHeard text heard → Ascends 0 (warnings_for request exports (places_in text heard) count)

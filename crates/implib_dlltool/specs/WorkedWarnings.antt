@@ -1,11 +1,13 @@
 -- Words, places and warnings worked by hand.
 use Rattle.std.specs.Prelude.{◌≡◌, ℕ, List, [], ◌∷◌, Bool, true, false, Option, None, Some, codes}
-use Rattle.implib.specs.declared.def.lexer.TokenKind.TheVariants.{Eof, Identifier, EqualEqual, KwData, KwExports, KwName, KwPrivate}
+use Rattle.implib.specs.declared.def.lexer.TokenKind.{TokenKind}
+use Rattle.implib.specs.declared.def.lexer.TokenKind.TheVariants.{Identifier, EqualEqual, KwData, KwExports, KwName, KwPrivate}
+use Rattle.implib.specs.declared.def.listener.Role.TheVariants.{Name, Other}
 use Rattle.implib.specs.declared.def.position.Position.{Position}
 use Rattle.implib.specs.declared.flavor.Flavor.TheVariants.{Msvc}
 use Rattle.implib.specs.declared.machine.MachineType.TheVariants.{I386}
 use Rattle.implib.specs.Definition.{ExportView, empty_export}
-use Rattle.implib.specs.Text.Token.{TokenView}
+use Rattle.implib.specs.Text.Heard.{Heard, IsHeard}
 use Rattle.implib_dlltool.specs.declared.places.Place.{Place}
 use Rattle.implib_dlltool.specs.declared.places.Site.{Site}
 use Rattle.implib_dlltool.specs.declared.places.Site.TheVariants as site
@@ -52,28 +54,35 @@ place site position = record { site = site; position = position }
 abbrev pub lined_text : List ℕ
 lined_text = codes "NAME z EXPORTS a\n DATA b == c PRIVATE\n@ 5\nNAME"
 
--- its tokens
-abbrev pub lined_tokens : List TokenView
-lined_tokens =
-    record { kind = KwName; value = codes "NAME"; at = 0 }
-    ∷ record { kind = Identifier; value = codes "z"; at = 5 }
-    ∷ record { kind = KwExports; value = codes "EXPORTS"; at = 7 }
-    ∷ record { kind = Identifier; value = codes "a"; at = 15 }
-    ∷ record { kind = KwData; value = codes "DATA"; at = 18 }
-    ∷ record { kind = Identifier; value = codes "b"; at = 23 }
-    ∷ record { kind = EqualEqual; value = codes "=="; at = 25 }
-    ∷ record { kind = Identifier; value = codes "c"; at = 28 }
-    ∷ record { kind = KwPrivate; value = codes "PRIVATE"; at = 30 }
-    ∷ record { kind = Identifier; value = codes "@"; at = 38 }
-    ∷ record { kind = Identifier; value = codes "5"; at = 40 }
-    ∷ record { kind = KwName; value = codes "NAME"; at = 42 }
-    ∷ record { kind = Eof; value = []; at = 46 }
+-- the name of an export, and another part of a statement
+abbrev pub name : List ℕ → ℕ → Heard
+name value at = record { role = Name; token = record { kind = Identifier; value = value; at = at } }
+
+abbrev pub other : TokenKind → List ℕ → ℕ → Heard
+other kind value at = record { role = Other; token = record { kind = kind; value = value; at = at } }
+
+-- what is heard of it
+abbrev pub lined_heard : List Heard
+lined_heard =
+    other KwName (codes "NAME") 0
+    ∷ other Identifier (codes "z") 5
+    ∷ other KwExports (codes "EXPORTS") 7
+    ∷ name (codes "a") 15
+    ∷ other KwData (codes "DATA") 18
+    ∷ name (codes "b") 23
+    ∷ other EqualEqual (codes "==") 25
+    ∷ other Identifier (codes "c") 28
+    ∷ other KwPrivate (codes "PRIVATE") 30
+    ∷ other Identifier (codes "@") 38
+    ∷ other Identifier (codes "5") 40
+    ∷ other KwName (codes "NAME") 42
     ∷ []
 
 -- its places: the names of exports, the attribute that begins a line and not the one within a line, and the
 -- second heading
 pub record PlacesWorked : Type 0 where
-  pub lined : places_in lined_text lined_tokens
+  pub is_heard : IsHeard lined_text lined_heard
+  pub lined : places_in lined_text lined_heard
       ≡ place site.Export (at_line 15 1 16)
       ∷ place (site.Attribute Data) (at_line 18 2 2)
       ∷ place site.Export (at_line 23 2 7)

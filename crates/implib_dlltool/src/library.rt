@@ -14,7 +14,7 @@ ghost use Rattle.std.specs.Str.{IsUtf8};
 
 use crate::aliases::link_with_targets;
 use crate::library_name::library_name_for;
-use crate::name::{dll_name, gets_ending, is_program, lacks_name};
+use crate::name::{LastHeading, dll_name, lacks_name};
 use crate::order::in_order;
 use crate::places::position_of_fault;
 use crate::repeats::leave_out_repeats;
@@ -155,14 +155,13 @@ pub fn definition_for(alloc: Global, text: &str, request: &Request) -> Result<Mo
     ensures refused { IfErr result (IsRefusalOfText text.now (request_view request.now)) }
 {
     // The words are read as they are written, as on a machine without an underscore.
-    let mut def = ModuleDef::parse_with_position(alloc, text, MachineType::AMD64)?;
+    let mut heading = LastHeading { is_program: false };
+    let mut def = ModuleDef::parse_with(alloc, text, MachineType::AMD64, &mut heading)?;
     let own = def.import_name.as_str();
     if lacks_name(request.dll, own) {
         return Err(Refusal::NoName);
     }
-    // The headings of the text are looked for only where the ending depends on them.
-    let is_program = gets_ending(request.dll, own) && is_program(text);
-    def.import_name = dll_name(alloc, request.dll, own, is_program)?;
+    def.import_name = dll_name(alloc, request.dll, own, heading.is_program)?;
     leave_out_repeats(alloc, &mut def.exports)?;
     link_with_targets(
         alloc,
@@ -195,7 +194,7 @@ pub fn members_for(alloc: Global, bytes: &[u8], request: &Request) -> Result<Vec
         Err(Error::Invalid(fault)) => {
             // The export is one of the text: the targets behind them break no rule on names that
             // their aliases keep.
-            let position = position_of_fault(text, &fault);
+            let position = position_of_fault(alloc, text, &fault)?;
             Err(Refusal::Members(fault, position))
         }
         Err(Error::OutOfMemory(_)) => Err(Refusal::OutOfMemory),

@@ -1,26 +1,15 @@
 //! The name of the DLL that an import library is for.
 
-ghost use Rattle.implib.specs.Text.Token.{Lexed, TokenView};
-ghost use Rattle.implib_dlltool.specs.Names.{dll_name, ending, gets_ending, heading_after, is_program};
+ghost use Rattle.implib_dlltool.specs.Names.{dll_name, ending, heading_after};
 ghost use Rattle.implib_dlltool.specs.Names.{lacks_name, last_part, part_behind};
 ghost use Rattle.std.specs.List.{after_first, position_or_len};
 ghost use Rattle.std.specs.Option.{option_map};
 ghost use Rattle.std.specs.Prelude.{◌==◌, ◌≡◌, ◌<◌, IfOk, List, MatchOption, length};
 ghost use Rattle.std.specs.String.{string_bytes};
 
-use implib::def::lexer::{Lexer, TokenKind};
+use implib::def::lexer::{Token, TokenKind};
+use implib::def::listener::{Listener, Role};
 use std::alloc::{AllocError, Global};
-
-/// Whether the last heading of a text, `NAME` or `LIBRARY`, is `NAME`.
-pub fn is_program(text: &str) -> bool
-    ensures { (tokens : List TokenView) × Lexed text.now tokens × (result ≡ is_program tokens) }
-{
-    let mut is_program = false;
-    for token in Lexer::new(text) {
-        is_program = heading_after(is_program, token.kind);
-    }
-    is_program
-}
 
 // Whether the heading is `NAME` once a keyword is read.
 fn heading_after(before: bool, kind: TokenKind) -> bool
@@ -30,6 +19,24 @@ fn heading_after(before: bool, kind: TokenKind) -> bool
         TokenKind::KwName => true,
         TokenKind::KwLibrary => false,
         _ => before,
+    }
+}
+
+/// Whether the last heading that was heard, `NAME` or `LIBRARY`, is `NAME`.
+#[derive(Clone, Copy, Debug, PartialEq, Eq)]
+pub struct LastHeading {
+    /// Whether it is.
+    pub is_program: bool,
+}
+
+impl Listener for LastHeading {
+    ghost use Rattle.implib_dlltool.specs.Names.{is_program};
+    ghost use Rattle.std.specs.Prelude.{◌≡◌};
+
+    ghost has_heard = { λ _ heading heard. heading.is_program ≡ is_program heard };
+
+    fn hear(&mut self, _role: Role, token: Token<'_>) {
+        self.is_program = heading_after(self.is_program, token.kind);
     }
 }
 
@@ -81,17 +88,6 @@ fn ending(is_program: bool) -> &'static str
     ensures { result.now ≡ ending is_program }
 {
     if is_program { ".exe" } else { ".dll" }
-}
-
-/// Whether the name of the DLL gets an ending: it is the definition's own, and without its directory
-/// it has no full stop.
-pub fn gets_ending(given: Option<&str>, own: &str) -> bool
-    ensures { result ≡ gets_ending (option_map (λ text. text.now) given.entry) own.now }
-{
-    match given {
-        Some(_) => false,
-        None => !last_part(own).as_bytes().contains(&b'.'),
-    }
 }
 
 /// The name of the DLL: the one that is given, or the definition's own, with an ending where it has

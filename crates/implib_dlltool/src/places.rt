@@ -1,17 +1,20 @@
 //! The places of a text that a fault or a warning is at.
 
+ghost use Rattle.implib.specs.Definition.{definition_view};
 ghost use Rattle.implib.specs.Fault.{cause_of};
+ghost use Rattle.implib.specs.Text.Parses.{Parses};
 ghost use Rattle.implib.specs.Text.Position.{position_at};
-ghost use Rattle.implib.specs.Text.Token.{Lexed, TokenView};
-ghost use Rattle.implib_dlltool.specs.Places.{IsAtFault, attribute_of, begins_export, is_heading};
-ghost use Rattle.implib_dlltool.specs.Places.{is_ordinal, name_offset, next_after, placed};
-ghost use Rattle.implib_dlltool.specs.Places.{places_in, site_at, walk_behind};
-ghost use Rattle.std.specs.Prelude.{◌≡◌, ◌++◌, IfOk, List, OnOk};
+ghost use Rattle.implib.specs.Text.RefusedAt.{IsRefusedAt};
+ghost use Rattle.implib.specs.declared.machine.MachineType.TheVariants.{AMD64};
+ghost use Rattle.implib_dlltool.specs.Places.{ArePlacesOf, IsAtFault, IsAtName, attribute_of};
+ghost use Rattle.implib_dlltool.specs.Places.{is_heading, placed, site_at};
+ghost use Rattle.std.specs.Prelude.{◌≡◌, ◌++◌, ◌||◌, IfErr, IfOk, None};
 
 use crate::warnings::words::Attribute;
-use implib::Fault;
-use implib::def::Position;
-use implib::def::lexer::{Lexer, TokenKind};
+use implib::def::lexer::{Token, TokenKind};
+use implib::def::listener::{Listener, Role};
+use implib::def::{ModuleDef, Position};
+use implib::{Fault, MachineType, ParseError};
 use std::alloc::{AllocError, Global};
 
 /// What stands at a place of a text.
@@ -32,39 +35,6 @@ pub struct Place {
     pub site: Site,
     /// Where it begins.
     pub position: Position,
-}
-
-// What the next token of a text may be.
-#[derive(Clone, Copy, Debug, PartialEq, Eq)]
-enum Next {
-    // No part of an export.
-    Outside,
-    // The name of the first export of a statement.
-    First,
-    // A part of an export, or the name of the next one.
-    Inside,
-    // The word that `=`, `==` or a lone `@` asks for.
-    Within,
-}
-
-// What is known of a text behind some of its tokens.
-#[derive(Clone, Copy, Debug, PartialEq, Eq)]
-struct Walk {
-    next: Next,
-    // Whether `LIBRARY` or `NAME` was among them.
-    is_headed: bool,
-    // The line of the last one.
-    line: usize,
-}
-
-// Whether a word is an ordinal with its `@`.
-fn is_ordinal(word: &str) -> bool
-    ensures { result ≡ is_ordinal word.now }
-{
-    match word.strip_prefix('@') {
-        Some(number) => number.parse::<u16>().is_ok(),
-        None => false,
-    }
 }
 
 // The attribute of a keyword.
@@ -90,69 +60,29 @@ fn is_heading(kind: TokenKind) -> bool
     }
 }
 
-// Whether a token is the name of an export.
-fn begins_export(next: Next, kind: TokenKind, word: &str) -> bool
-    ensures { result ≡ begins_export next kind word.now }
+// Whether a heading is among tokens, once one more is read.
+fn is_headed_after(before: bool, kind: TokenKind) -> bool
+    ensures { result ≡ (before || is_heading kind) }
 {
-    match kind {
-        TokenKind::Identifier => match next {
-            Next::First => true,
-            Next::Inside => word != "@" && !is_ordinal(word),
-            Next::Outside | Next::Within => false,
-        },
-        _ => false,
-    }
+    before || is_heading(kind)
 }
 
-// What the token behind this one may be.
-fn next_after(next: Next, kind: TokenKind, word: &str) -> Next
-    ensures { result ≡ next_after next kind word.now }
+// What stands at a token in its role, if it is a place: after a heading or not, after a token in
+// the line `before`, and in this line.
+fn site_at(is_headed: bool, before: usize, line: usize, role: Role, kind: TokenKind) -> Option<Site>
+    ensures { result ≡ site_at is_headed before line role kind }
 {
-    match kind {
-        TokenKind::KwExports => Next::First,
-        TokenKind::Identifier => match next {
-            Next::Outside => Next::Outside,
-            Next::Inside if word == "@" => Next::Within,
-            Next::Inside | Next::First | Next::Within => Next::Inside,
-        },
-        TokenKind::Equal | TokenKind::EqualEqual => match next {
-            Next::Outside => Next::Outside,
-            _ => Next::Within,
-        },
-        TokenKind::KwData | TokenKind::KwConstant | TokenKind::KwPrivate | TokenKind::KwNoname => {
-            match next {
-                Next::Outside => Next::Outside,
-                _ => Next::Inside,
+    match role {
+        Role::Name => Some(Site::Export),
+        Role::Other => {
+            if is_heading(kind) && is_headed {
+                return Some(Site::Heading);
+            }
+            match attribute_of(kind) {
+                Some(attribute) if before < line => Some(Site::Attribute(attribute)),
+                _ => None,
             }
         }
-        _ => Next::Outside,
-    }
-}
-
-// What stands at a token that is in this line, if it is a place.
-fn site_at(walk: Walk, line: usize, kind: TokenKind, word: &str) -> Option<Site>
-    ensures { result ≡ site_at walk line kind word.now }
-{
-    if begins_export(walk.next, kind, word) {
-        return Some(Site::Export);
-    }
-    if is_heading(kind) && walk.is_headed {
-        return Some(Site::Heading);
-    }
-    match attribute_of(kind) {
-        Some(attribute) if walk.line < line => Some(Site::Attribute(attribute)),
-        _ => None,
-    }
-}
-
-// What is known behind one more token.
-fn walk_behind(walk: Walk, line: usize, kind: TokenKind, word: &str) -> Walk
-    ensures { result ≡ walk_behind walk line kind word.now }
-{
-    Walk {
-        next: next_after(walk.next, kind, word),
-        is_headed: walk.is_headed || is_heading(kind),
-        line,
     }
 }
 
@@ -184,75 +114,138 @@ fn advanced(text: &str, from: Position, offset: usize) -> Position
     }
 }
 
-// Appends a place, if there is one.
-fn push_place(
+// Appends a place, if there is one, or keeps that an allocation failed.
+fn note_place(
     places: &mut Vec<Place>,
+    failure: &mut Option<AllocError>,
     site: Option<Site>,
     position: Position,
-) -> Result<(), AllocError>
-    ensures { OnOk result (places.new.items ≡ places.old.items ++ placed site position) }
+)
+    ensures { failure.new ≡ None → (failure.old ≡ None)
+        × (places.new.items ≡ places.old.items ++ placed site position) }
 {
     if let Some(site) = site {
-        places.push(Place { site, position })?;
+        if let Err(refused) = places.push(Place { site, position }) {
+            *failure = Some(AllocError::from(refused));
+        }
     }
-    Ok(())
 }
 
-/// The places of a text, in its order, in one pass over the text.
+// The places of the tokens of a text that were heard.
+#[derive(Drop)]
+struct Places<'a> {
+    text: &'a str,
+    places: Vec<Place>,
+    // Where the last token is.
+    here: Position,
+    // Whether `LIBRARY` or `NAME` was among the tokens.
+    is_headed: bool,
+    // The allocation that failed, if one did: then places are missing.
+    failure: Option<AllocError>,
+    ghost in_text: { here ≡ position_at text.now here.offset },
+}
+
+impl<'a> Listener for Places<'a> {
+    ghost use Rattle.implib_dlltool.specs.Heard.{HasPlacesOf};
+
+    ghost has_heard = { HasPlacesOf };
+
+    fn hear(&mut self, role: Role, token: Token<'_>) {
+        let here = advanced(self.text, self.here, token.at);
+        let site = site_at(self.is_headed, self.here.line, here.line, role, token.kind);
+        note_place(&mut self.places, &mut self.failure, site, here);
+        self.here = here;
+        self.is_headed = is_headed_after(self.is_headed, token.kind);
+    }
+}
+
+/// What a text means with its words as they are written, and its places, in its order, in one pass
+/// over the text.
 ///
 /// # Errors
 ///
-/// An allocation failed.
-pub fn places_of(alloc: Global, text: &str) -> Result<Vec<Place>, AllocError>
-    ensures { IfOk result (λ places. (tokens : List TokenView) × Lexed text.now tokens
-        × (places.items ≡ places_in text.now tokens)) }
+/// A syntax error, with its position; a failed allocation.
+pub fn read_with_places(alloc: Global, text: &str) -> Result<(ModuleDef, Vec<Place>), ParseError>
+    ensures parses { IfOk result (λ read. Parses text.now AMD64 (definition_view read.0)) }
+    ensures places { IfOk result (λ read. ArePlacesOf text.now read.1.items) }
+    ensures refused { IfErr result (IsRefusedAt text.now) }
 {
-    let mut places = Vec::new(alloc);
-    let mut here = Position {
-        offset: 0,
-        line: 1,
-        column: 1,
-    };
-    let mut walk = Walk {
-        next: Next::Outside,
+    let mut places = Places {
+        text,
+        places: Vec::new(alloc),
+        here: Position {
+            offset: 0,
+            line: 1,
+            column: 1,
+        },
         is_headed: false,
-        line: 1,
+        failure: None,
     };
-    for token in Lexer::new(text) {
-        here = advanced(text, here, token.at);
-        let site = site_at(walk, here.line, token.kind, token.value);
-        push_place(&mut places, site, here)?;
-        walk = walk_behind(walk, here.line, token.kind, token.value);
+    let def = ModuleDef::parse_with(alloc, text, MachineType::AMD64, &mut places)?;
+    let Places {
+        places,
+        failure,
+        ..
+    } = places;
+    match failure {
+        Some(refused) => Err(ParseError::OutOfMemory(refused)),
+        None => Ok((def, places)),
     }
-    Ok(places)
 }
 
-// The offset of the name of the export at an index; 0 where there is none.
-fn name_offset(text: &str, index: usize) -> usize
-    ensures { (tokens : List TokenView) × Lexed text.now tokens
-        × (result ≡ name_offset tokens index) }
-{
-    let mut left = index;
-    let mut next = Next::Outside;
-    for token in Lexer::new(text) {
-        if begins_export(next, token.kind, token.value) {
-            if left == 0 {
-                return token.at;
+// The offset of the name of the export at an index, if it was heard.
+#[derive(Clone, Copy, Drop)]
+struct NameOffset {
+    // How many names are to come before it; at the start this is the index.
+    left: usize,
+    offset: Option<usize>,
+}
+
+impl Listener for NameOffset {
+    ghost use Rattle.implib_dlltool.specs.Heard.{HasOffsetOf};
+
+    ghost has_heard = { HasOffsetOf };
+
+    fn hear(&mut self, role: Role, token: Token<'_>) {
+        match role {
+            Role::Name => {
+                if self.offset.is_none() {
+                    if self.left == 0 {
+                        self.offset = Some(token.at);
+                    } else {
+                        self.left -= 1;
+                    }
+                }
             }
-            left -= 1;
+            Role::Other => {}
         }
-        next = next_after(next, token.kind, token.value);
     }
-    0
+}
+
+// Where the name of the export at an index begins.
+fn position_of_name(alloc: Global, text: &str, index: usize) -> Result<Position, ParseError>
+    ensures at { IfOk result (IsAtName text.now index) }
+    ensures refused { IfErr result (IsRefusedAt text.now) }
+{
+    let mut name = NameOffset {
+        left: index,
+        offset: None,
+    };
+    let _read = ModuleDef::parse_with(alloc, text, MachineType::AMD64, &mut name)?;
+    Ok(Position::at(text, name.offset.unwrap_or(0)))
 }
 
 /// Where a fault of members is: at the name of its export, or at the beginning of the text.
-pub fn position_of_fault(text: &str, fault: &Fault) -> Position
-    ensures { IsAtFault text.now (cause_of fault.now) result }
+///
+/// # Errors
+///
+/// An allocation failed while the text was read again for the name.
+pub fn position_of_fault(alloc: Global, text: &str, fault: &Fault) -> Result<Position, ParseError>
+    ensures at { IfOk result (IsAtFault text.now (cause_of fault.now)) }
+    ensures refused { IfErr result (IsRefusedAt text.now) }
 {
-    let offset = match fault.export_index() {
-        Some(index) => name_offset(text, index),
-        None => 0,
-    };
-    Position::at(text, offset)
+    match fault.export_index() {
+        Some(index) => position_of_name(alloc, text, index),
+        None => Ok(Position::at(text, 0)),
+    }
 }

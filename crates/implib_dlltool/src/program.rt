@@ -7,11 +7,11 @@ use crate::arguments::{ReadWordsError, read_words};
 use crate::library::{LibraryError, Refusal, members_for, text_in, write_library};
 use crate::message::position_of;
 use crate::output::NewFile;
-use crate::places::places_of;
+use crate::places::read_with_places;
 use crate::request::{CallError, Request, Task, caller_of, task_of};
 use crate::warnings::{Told, export_lines, warnings_for};
-use implib::def::{ModuleDef, Position};
-use implib::{Error, Flavor, MachineType};
+use implib::def::Position;
+use implib::{Flavor, ParseError};
 use std::alloc::{AllocError, Global};
 use std::env::Env;
 use std::fmt::Write as _;
@@ -148,13 +148,12 @@ fn warn<E: Write>(
     let Some(text) = text_in(bytes) else {
         return Ok(());
     };
-    let def = match ModuleDef::parse(alloc, text, MachineType::AMD64) {
-        Ok(def) => def,
-        Err(Error::Invalid(_)) => return Ok(()),
-        Err(Error::OutOfMemory(refused)) => return Err(refused),
+    let (def, places) = match read_with_places(alloc, text) {
+        Ok(read) => read,
+        Err(ParseError::Invalid(..)) => return Ok(()),
+        Err(ParseError::OutOfMemory(refused)) => return Err(refused),
     };
     let exports = def.exports.as_slice();
-    let places = places_of(alloc, text)?;
     let count = member_count(alloc, bytes, request);
     let warnings = warnings_for(alloc, exports, places.as_slice(), request, count)?;
     let export_lines = export_lines(alloc, places.as_slice())?;

@@ -1,4 +1,4 @@
-use Rattle.implib_dlltool.proofs.Named.{at_words}
+use Rattle.implib_dlltool.proofs.PlacesHeard.{at_words}
 use Rattle.implib_dlltool.proofs.laws.exports_at_words.Goals as goal
 
 pub returns : goal.returns

@@ -17,5 +17,5 @@ pub returns-in-Err-Invalid-clause-refused : goal.returns-in-Err-Invalid-clause-r
 returns-in-Err-Invalid-clause-refused c =
     let fault = c.in-Err-Invalid.fault in (
       members_refused _ _ (request_view c.args.request.now) _ c.from_def-library.result (cause_of fault) c.in-Some.ensures c.in_ok-def.ensures.meant c.from_def-library.ensures.held (search rules),
-      subst (λ (text : List ℕ). IsAtFault text (cause_of fault) c.position_of_fault-position.result) c.in-Some.ensures.0 c.position_of_fault-position.ensures,
+      subst (λ (text : List ℕ). IsAtFault text (cause_of fault) c.in_ok-position-in-Err-Invalid.position) c.in-Some.ensures.0 c.in_ok-position-in-Err-Invalid.ensures.at,
     )
