@@ -231,7 +231,7 @@ holds_moved AMD64 type width from to position target old new is holds = record {
 }
 holds_moved ARM64 type width from to position target old new is holds = record {
   addr64 = λ addr. moved_by_64 (old 8) (new 8) from to target (holds.addr64 addr);
-  branch = λ other near far. absurd (not_arm64 type width 3 is other (omega arith) (omega arith));
+  branch = λ other none near far. absurd (not_arm64 type width 3 is other (omega arith) (omega arith));
   page_of = λ other. absurd (not_arm64 type width 4 is other (omega arith) (omega arith));
   offset_of = λ other eight. absurd (not_arm64 type width 7 is other (omega arith) (omega arith));
 }

@@ -295,7 +295,7 @@ number_for AMD64 type image_base position target old =
     if type == amd64_addr64 then old 8 + (image_base + target) else old 4 + target + (2 ^ 32 - (position + 4 + (type - amd64_rel32)) % 2 ^ 32)
 number_for ARM64 type image_base position target old =
     if type == arm64_addr64 then old 8 + (image_base + target)
-    else if type == arm64_branch26 then with_bits 0 26 (bits_of 0 26 (old 4) + (target + (2 ^ 28 - position % 2 ^ 28)) / 4) (old 4)
+    else if type == arm64_branch26 then with_bits 0 26 ((target + (2 ^ 28 - position % 2 ^ 28)) / 4) (old 4)
     else if type == arm64_pagebase_rel21
     then with_adrp (page (image_base + target + adrp_immediate (old 4)) + (2 ^ 21 - page (image_base + position) % 2 ^ 21)) (old 4)
     else with_bits 10 12 ((image_base + target + ldr_immediate (old 4)) % 4096 / 8) (old 4)
@@ -323,10 +323,10 @@ number_holds AMD64 type image_base position target old new small is = record {
 }
 number_holds ARM64 type image_base position target old new small is = record {
   addr64 = λ addr. let here : (type == arm64_addr64) ≡ true = eq-eqb type arm64_addr64 addr in (rw here at is) ∙ eight_bytes (old 8 + (image_base + target));
-  branch = λ own near far.
+  branch = λ own none near far.
       let one : (type == arm64_addr64) ≡ false = ne_eqb type arm64_addr64 (λ same. omega arith) in
       let here : (type == arm64_branch26) ≡ true = eq-eqb type arm64_branch26 own in
-      let k : ℕ = bits_of 0 26 (old 4) + (target + (2 ^ 28 - position % 2 ^ 28)) / 4 in
+      let k : ℕ = (target + (2 ^ 28 - position % 2 ^ 28)) / 4 in
       let word : new 4 ≡ with_bits 0 26 k (old 4) = four_word (with_bits 0 26 k (old 4)) (new 4) (branch_word k (old 4) small) (rw (one, here) at is) in
       (ap (with_bits 0 26 0) word ∙ branch_kept k (old 4), ap (bits_of 0 26) word ∙ branch_has k (old 4));
   page_of = λ own.

@@ -107,11 +107,7 @@ branch_by ARMNT type base position target after old new counts holds can near sm
 branch_by AMD64 type base position target after old new (further, (few, (is, ends))) holds can near small =
     ap Some (rel32_leads (new 4) (old 4) base position target after further (holds.rel32 further few is) ends near small)
 branch_by ARM64 type base position target after old new counts holds can near small =
-    let word = (holds.branch counts.0 can.2 can.3).1 in
-    let words : ℕ = (target + (2 ^ 28 - position % 2 ^ 28)) / 4 in
-    let plain : 0 + words ≡ words = omega arith in
-    let field : bits_of 0 26 (new 4) ≡ words % 2 ^ 26 = word ∙ ap (λ n. (n + words) % 2 ^ 26) counts.1 ∙ ap (λ n. n % 2 ^ 26) plain in
-    ap Some (words_lead base position target can.0 can.1 can.2 can.3 (bits_of 0 26 (new 4)) field)
+    ap Some (words_lead base position target can.0 can.1 can.2 can.3 (bits_of 0 26 (new 4)) (holds.branch counts.0 counts.1 can.2 can.3).1)
 
 pointer_by : (machine : MachineType) (type base position target : ℕ) (old new : ℕ → ℕ) → IsPointer machine type → old (thunk_width machine) ≡ 0 → FieldHolds machine type base position target old new →
     CanReach machine base target → base + 2 ^ 31 ≤ 2 ^ 64 → target < 2 ^ 31 → new (thunk_width machine) ≡ base + target
