@@ -30,6 +30,7 @@ ghost use Rattle.implib_link.specs.Stub.{CanJump};
 ghost use Rattle.implib_link.specs.Worked.Operands.{AdjacentCalls, MovableCode, PassingFields};
 ghost use Rattle.implib_link.specs.Worked.Operands.{WorkedFlavorFields, WorkedOperands};
 ghost use Rattle.implib_link.specs.Worked.RefusedFields.{RefusedBranches, RefusedCode};
+ghost use Rattle.implib_link.specs.Worked.RefusedFields.{RefusedFieldsOfTypes};
 ghost use Rattle.implib_link.specs.Worked.RefusedFields.{RefusedInstructions, RefusedMoves};
 ghost use Rattle.implib_link.specs.Worked.RefusedFields.{RefusedOperands, RefusedPairs};
 ghost use Rattle.implib_link.specs.Worked.RefusedFields.{RefusedPointers};
@@ -335,6 +336,7 @@ pub fn worked_operands()
 /// the entry, each with one thing wrong.
 pub fn refused_fields()
     ensures code { RefusedCode }
+    ensures types { RefusedFieldsOfTypes }
     ensures operands { RefusedOperands }
     ensures instructions { RefusedInstructions }
     ensures pointers { RefusedPointers }
