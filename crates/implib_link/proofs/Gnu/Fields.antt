@@ -1,5 +1,5 @@
 -- Fields of relocations: which of them meet bytes, and what they hold at another base.
-use Rattle.std.proofs.Common.{◌≡◌, ℕ, zero, suc, ◌+◌, ◌-◌, ◌/◌, ◌%◌, ◌^◌, ◌<◌, ◌≤◌, ◌⊎◌, Bool, true, false, List, [], ◌∷◌, take, drop, None, Some, refl, ap, sym, ◌∙◌, subst, inl, inr, arith}
+use Rattle.std.proofs.Common.{◌≡◌, ℕ, zero, suc, ◌+◌, ◌-◌, ◌/◌, ◌%◌, ◌^◌, ◌<◌, ◌≤◌, ◌⊎◌, Bool, true, false, List, [], ◌∷◌, ◌++◌, take, drop, None, Some, refl, ap, sym, ◌∙◌, subst, inl, inr, arith}
 use Rattle.std.specs.Prelude.{◌==◌, if◌then◌else◌, cond, nat_lt, slice_get}
 use Rattle.std.specs.List.{filter, list_any}
 use Rattle.std.proofs.lemmas.Bool.{and_from, and_parts, cases_Bool, eqb-true, false_from_ne_true, lt-ltb, ltb-true}
@@ -30,6 +30,11 @@ get_take zero xs i b is = cc
 get_take (suc n) [] i b is = is
 get_take (suc n) (x ∷ xs) zero b is = is
 get_take (suc n) (x ∷ xs) (suc i) b is = get_take n xs i b is
+
+pub get_front : (xs ys : List ℕ) (i b : ℕ) → slice_get xs i ≡ Some b → slice_get (xs ++ ys) i ≡ Some b
+get_front [] ys i b is = cc
+get_front (x ∷ xs) ys zero b is = is
+get_front (x ∷ xs) ys (suc i) b is = get_front xs ys i b is
 
 -- bytes are in memory where each of them is
 pub located_from : (memory : List Range) (bytes : List ℕ) (a : ℕ) → ((i b : ℕ) → slice_get bytes i ≡ Some b → byte_at memory (a + i) ≡ Some b) → BytesAt memory a bytes

@@ -16,7 +16,7 @@ use Rattle.implib.proofs.Formats.Bytes.{length-u32_bytes}
 use Rattle.implib_link.specs.Gnu.Calls.{amd64_addr64, arm64_addr64, arm64_branch26, field_width}
 use Rattle.implib_link.specs.Gnu.Fields.{FieldHolds, IsRelocated, MeetsAlone, field_at, meets}
 use Rattle.implib_link.specs.Stub.{adrp_immediate, bits_of, ldr_immediate, page, with_adrp, with_bits}
-use Rattle.implib_link.proofs.Gnu.Fields.{get_drop, meets_bounds, meets_from}
+use Rattle.implib_link.proofs.Gnu.Fields.{get_drop, get_front, meets_bounds, meets_from}
 use Rattle.implib_link.proofs.Gnu.Jumps.{number-u32}
 
 -- Lists by their places.
@@ -43,11 +43,6 @@ unfolding write
 write_size bytes zero value within = omega (arith, length-append value (drop (length value) bytes), length-drop (length value) bytes)
 write_size [] (suc offset) value within = refl
 write_size (x ∷ bytes) (suc offset) value within = let later = write_size bytes offset value (omega arith) in omega arith
-
-get_front : (xs ys : List ℕ) (i b : ℕ) → slice_get xs i ≡ Some b → slice_get (xs ++ ys) i ≡ Some b
-get_front [] ys i b is = cc
-get_front (x ∷ xs) ys zero b is = is
-get_front (x ∷ xs) ys (suc i) b is = get_front xs ys i b is
 
 get_behind : (xs ys : List ℕ) (i : ℕ) → length xs ≤ i → slice_get (xs ++ ys) i ≡ slice_get ys (i - length xs)
 get_behind [] ys i past = let same : i ≡ i - 0 = omega arith in ap (slice_get ys) same

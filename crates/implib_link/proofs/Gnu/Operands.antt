@@ -24,7 +24,7 @@ use Rattle.implib_link.specs.Gnu.Rebased.{absolute_width, amd64_addr32}
 use Rattle.implib_link.specs.Stub.{adrp_immediate, bits_of, ldr_immediate, page, plus_signed, with_bits}
 use Rattle.implib_link.proofs.Gnu.CallReads.{CanReach}
 use Rattle.implib_link.proofs.Gnu.DirectCalls.{words_lead}
-use Rattle.implib_link.proofs.Gnu.Fields.{alone_same, alone_within, get_drop, meets_bounds, meets_from, meeting}
+use Rattle.implib_link.proofs.Gnu.Fields.{alone_same, alone_within, get_drop, get_front, meeting, meets_bounds, meets_from}
 use Rattle.implib_link.proofs.Gnu.FieldsInMemory.{Rests, bytes_there, field_there, own_end, steady_there}
 use Rattle.implib_link.proofs.Gnu.Jumps.{near_pages, page_and_offset, pages_add, sum_of_eights, whole_eights}
 use Rattle.implib_link.proofs.Gnu.Memory.{Covers}
@@ -154,11 +154,6 @@ parts_of c offset count head field tail is =
       back = back;
       whole = sym (take-append-drop count (drop offset c.code.bytes)) ∙ ap (λ xs. xs ++ back) is ∙ append_assoc head (field ++ tail) back ∙ ap (λ xs. head ++ xs) (append_assoc field tail back);
     }
-
-get_front : (xs ys : List ℕ) (i b : ℕ) → slice_get xs i ≡ Some b → slice_get (xs ++ ys) i ≡ Some b
-get_front [] ys i b is = cc
-get_front (x ∷ xs) ys zero b is = is
-get_front (x ∷ xs) ys (suc i) b is = get_front xs ys i b is
 
 module _ (machine : MachineType) (image_base : ℕ) (image : List Range) (linked : List Placed) (codes : List LinkedCode) (targets : LinkedCode → ℕ → ℕ) (memory : List Range)
     (at : Rests machine image_base image linked codes targets memory) (written : List Range) (covers_it : AllByRecursion (Covers image) written) where
