@@ -1,5 +1,5 @@
 -- Fields of code in a program of both flavours, by computing and by the law.
-use Rattle.std.proofs.Common.{◌≡◌, ℕ, ◌+◌, ◌^◌, List, [], ◌∷◌, ◌++◌, length, Some, refl, inl, inr, arith}
+use Rattle.std.proofs.Common.{◌^◌, [], ◌∷◌, refl, inl, inr, arith}
 use Rattle.implib.specs.declared.machine.MachineType.TheVariants.{AMD64}
 use Rattle.implib.specs.Formats.Constants.{amd64_rel32, class_external}
 use Rattle.implib.specs.Formats.Layout.{encoded_size}
