@@ -1,10 +1,9 @@
 -- The places of exports are at the names that are heard, which are the words of the exports.
-use Rattle.std.proofs.Common.{◌≡◌, ◌∙◌, ℕ, ◌+◌, ◌<◌, Bool, true, false, List, [], ◌∷◌, ◌++◌, Option, None, Some, ◌&&◌, ◌||◌, ap, append-nil, arith, get_or, length, map, nat_lt, refl, subst, suc, sym, unwrap_or}
+use Rattle.std.proofs.Common.{◌≡◌, ◌∙◌, ℕ, Bool, true, false, List, [], ◌∷◌, ◌++◌, Option, None, Some, ◌&&◌, ◌||◌, ap, append-nil, arith, get_or, map, nat_lt, refl, subst, suc, sym, unwrap_or}
 use Rattle.std.specs.Prelude.{if◌then◌else◌, is_none}
 use Rattle.std.specs.Str.{IsUtf8}
 use Rattle.std.proofs.lemmas.List.{get_or_append_left, get_or_past, get_or_push, length-append, length-map, map-append}
 use Rattle.std.proofs.lemmas.List.Sums.{fold_push}
-use Rattle.implib.specs.declared.def.lexer.TokenKind.{TokenKind}
 use Rattle.implib.specs.declared.def.listener.Role.{Role}
 use Rattle.implib.specs.declared.def.listener.Role.TheVariants.{Name, Other}
 use Rattle.implib.specs.declared.def.position.Position.{Position}

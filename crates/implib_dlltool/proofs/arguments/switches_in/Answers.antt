@@ -1,4 +1,4 @@
-use Rattle.std.proofs.Common.{◌≡◌, ◌∙◌, ◌+◌, ◌<◌, sym, suc, length, drop, arith}
+use Rattle.std.proofs.Common.{◌≡◌, ◌∙◌, ◌+◌, ◌<◌, sym, length, drop, arith}
 use Rattle.implib_dlltool.specs.Arguments.{switches_in}
 use Rattle.implib_dlltool.proofs.Letters.{at_last, at_other, at_switch, no_letter, none_there}
 use Rattle.implib_dlltool.proofs.arguments.switches_in.Goals as goal

@@ -9,8 +9,8 @@ pub returns-in-Ok-clause-made : goal.returns-in-Ok-clause-made
 returns-in-Ok-clause-made c =
     members_made _ _ (request_view c.args.request.now) _ _ c.in-Some.ensures c.in_ok-def.ensures.meant c.in-Ok.ensures.ok
 
-pub returns-in-Err-Invalid-clause-refused : goal.returns-in-Err-Invalid-clause-refused
-returns-in-Err-Invalid-clause-refused c =
+pub returns-in_ok-position-in-Err-Invalid-clause-refused : goal.returns-in_ok-position-in-Err-Invalid-clause-refused
+returns-in_ok-position-in-Err-Invalid-clause-refused c =
     let fault = c.in-Err-Invalid.fault in (
       members_refused _ _ (request_view c.args.request.now) _ (cause_of fault) c.in-Some.ensures c.in_ok-def.ensures.meant (search rules),
       subst (λ (text : List ℕ). IsAtFault text (cause_of fault) c.in_ok-position-in-Err-Invalid.position) c.in-Some.ensures.0 c.in_ok-position-in-Err-Invalid.ensures.at,

@@ -1,4 +1,4 @@
-use Rattle.std.proofs.Common.{◌≡◌, [], List, ap, false, refl, sym}
+use Rattle.std.proofs.Common.{List, ap, false, refl, sym}
 use Rattle.implib_dlltool.specs.declared.places.Place.{Place}
 use Rattle.implib_dlltool.specs.Places.{Walked, walked}
 use Rattle.implib_dlltool.proofs.places.read_with_places.Goals as goal

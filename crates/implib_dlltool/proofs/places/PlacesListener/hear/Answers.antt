@@ -1,4 +1,4 @@
-use Rattle.std.proofs.Common.{◌≡◌, ◌∙◌, ℕ, ◌++◌, Bool, List, Option, ap, sym}
+use Rattle.std.proofs.Common.{◌∙◌, ℕ, ◌++◌, Bool, List, Option, ap, sym}
 use Rattle.implib.specs.Text.Position.{position_at}
 use Rattle.implib.specs.Text.Token.{token_view}
 use Rattle.implib_dlltool.specs.declared.places.Place.{Place}
