@@ -9,7 +9,6 @@ pub mod LibraryNames
 pub mod Symbols
 pub mod LibrariesApart
 pub mod Accepted
-pub mod Ordered
 pub mod OrderedReadings
 pub mod PlainNames
 pub mod Made

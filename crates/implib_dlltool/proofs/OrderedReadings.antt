@@ -13,14 +13,25 @@ use Rattle.implib.specs.LibraryName.{NamesOfDll, names_for}
 use Rattle.implib.specs.Members.Members.{AreMembersOf, member_specs}
 use Rattle.implib.specs.Members.MemberSpec.{MemberSpec, MemberView, member_of}
 use Rattle.implib.specs.Members.Msvc.{short_import_symbol, symbol_or_name}
-use Rattle.implib.specs.Members.MsvcMembers.{descriptor_spec, export_specs, header_specs, short_import_spec, weak_specs}
+use Rattle.implib.specs.Members.MsvcMembers.{descriptor_spec, export_specs, header_specs, short_import_spec, weak_address_spec, weak_specs, weak_symbol_spec}
 use Rattle.implib.specs.Members.ReadBack.{MsvcReadBack, import_written, meanings_written}
 use Rattle.implib.specs.Renaming.{renamed}
 use Rattle.implib.proofs.Members.Import.{import_written-expected}
 use Rattle.implib.proofs.Members.MemberReadings.{map_after}
 use Rattle.implib.proofs.Members.NotRefused.{AsksNoOther, exports_ask}
-use Rattle.implib_dlltool.specs.Order.{ReadsInOrder, alias_specs, has_code, import_specs, is_weak, kept_of_alias, msvc_specs, own_imports}
-use Rattle.implib_dlltool.proofs.Ordered.{length-weak_specs, weak_specs-none}
+use Rattle.implib.specs.Members.MemberLists.{alias_specs, has_code, import_specs, is_weak, kept_of_alias}
+use Rattle.implib_dlltool.specs.Order.{ReadsInOrder, msvc_specs, own_imports}
+
+module _ (machine : MachineType) (dll : NamesOfDll) (e : ExportView) where
+  weak_specs-none : is_weak e ≡ false → weak_specs machine dll.linked e ≡ []
+  unfolding weak_specs
+  weak_specs-none none =
+      ap (λ b. if b then weak_symbol_spec machine dll.linked e ∷ weak_address_spec machine dll.linked e ∷ [] else []) none
+
+  length-weak_specs : is_weak e ≡ true → length (weak_specs machine dll.linked e) ≡ 2
+  unfolding weak_specs
+  length-weak_specs weak =
+      ap (λ b. length (if b then weak_symbol_spec machine dll.linked e ∷ weak_address_spec machine dll.linked e ∷ [] else [])) weak
 
 -- lists that show the same, cut in two and joined
 module _ {A M Y : Type 0} (F : A → Y) (G : M → Y) where
@@ -66,14 +77,14 @@ module _ {M Y : Type 0} (F : MemberSpec → Y) (G : M → Y) (machine : MachineT
   pub shown_in_order : (exports : List ExportView)
       → map F (flat_map (export_specs machine dll) exports) ≡ map G (flat_map (λ e. aliases e ++ imports e) exports)
       → (map F (flat_map (import_specs machine dll) exports) ≡ map G (flat_map (λ e. if is_weak e then [] else imports e) exports))
-      × (map F (flat_map (alias_specs machine dll) exports) ≡ map G (flat_map (λ e. kept_of_alias e (aliases e)) exports))
+      × (map F (flat_map (alias_specs machine dll.linked) exports) ≡ map G (flat_map (λ e. kept_of_alias e (aliases e)) exports))
   shown_in_order [] same = (refl, refl)
   shown_in_order (e ∷ exports) same =
       let first = cut F G (export_specs machine dll e) (flat_map (export_specs machine dll) exports) (aliases e ++ imports e) (flat_map (λ x. aliases x ++ imports x) exports) (long_both e) same in
       let own = cut F G (weak_specs machine dll.linked e) (short_import_spec machine dll e ∷ []) (aliases e) (imports e) (long e) first.0 in
       let rest = shown_in_order exports first.1 in (
         join F G (import_specs machine dll e) (flat_map (import_specs machine dll) exports) (if is_weak e then [] else imports e) (flat_map (λ x. if is_weak x then [] else imports x) exports) (import_shown (is_weak e) e own.1) rest.0,
-        join F G (alias_specs machine dll e) (flat_map (alias_specs machine dll) exports) (kept_of_alias e (aliases e)) (flat_map (λ x. kept_of_alias x (aliases x)) exports) (kept_shown (has_code e) e own.0) rest.1,
+        join F G (alias_specs machine dll.linked e) (flat_map (alias_specs machine dll.linked) exports) (kept_of_alias e (aliases e)) (flat_map (λ x. kept_of_alias x (aliases x)) exports) (kept_shown (has_code e) e own.0) rest.1,
       )
 
 -- an alias is two weak externals
@@ -143,7 +154,7 @@ reads_in_order d machine all members made reads once plain is =
     let header = header_specs machine dll in
     let each = flat_map (export_specs machine dll) exports in
     let imports = flat_map (import_specs machine dll) exports in
-    let aliases = flat_map (alias_specs machine dll) exports in
+    let aliases = flat_map (alias_specs machine dll.linked) exports in
     let whole : all ≡ map member_of (header ++ each) = made.made ∙ ap (λ (x : DefinitionView). map member_of (member_specs x machine Msvc)) once in
     let ask : AllByRecursion (AsksNoOther Msvc machine) exports = subst (λ (x : DefinitionView). AllByRecursion (AsksNoOther Msvc machine) (public_exports x)) once (exports_ask d machine Msvc all made) in
     let files = λ (p : MemberSpec). option_map declared_by (file_in (member_of p).bytes) in

@@ -1,56 +1,41 @@
 -- The members of a library in the order of llvm-dlltool, and what they are read as (docs/DECISIONS.md, "A
 -- program in place of dlltool").
-use Rattle.std.specs.Prelude.{◌≡◌, Bool, ◌&&◌, not, List, [], ◌∷◌, ◌++◌, Some, drop, if◌then◌else◌, map, slice_get}
-use Rattle.std.specs.List.{filter, flat_map, list_any}
+use Rattle.std.specs.Prelude.{◌≡◌, not, List, ◌++◌, Some, drop, map, slice_get}
+use Rattle.std.specs.List.{filter, flat_map}
 use Rattle.std.specs.Option.{option_and_then, option_map}
 use Rattle.implib.specs.declared.flavor.Flavor.{Flavor}
 use Rattle.implib.specs.declared.flavor.Flavor.TheVariants.{Msvc, Gnu}
 use Rattle.implib.specs.declared.machine.MachineType.{MachineType}
-use Rattle.implib.specs.Definition.{DefinitionView, ExportView}
+use Rattle.implib.specs.Definition.{DefinitionView}
 use Rattle.implib.specs.Formats.File.{AnAlias, AnImport, declared_by, dll_in, file_in, meaning_in}
-use Rattle.implib.specs.Import.{Alias, Import, aliases_for, expected_import, is_alias, public_exports}
-use Rattle.implib.specs.LibraryName.{NamesOfDll, names_for}
-use Rattle.implib.specs.Members.Members.{member_specs}
-use Rattle.implib.specs.Members.MemberSpec.{MemberSpec, MemberView}
-use Rattle.implib.specs.Members.Msvc.{short_import_symbol}
-use Rattle.implib.specs.Members.MsvcMembers.{header_specs, short_import_spec, weak_specs}
+use Rattle.implib.specs.Import.{Alias, Import, aliases_for, expected_import, public_exports}
+use Rattle.implib.specs.LibraryName.{names_for}
+use Rattle.implib.specs.Members.MemberLists.{all_alias_specs, all_import_specs, is_weak, kept_of_alias}
+use Rattle.implib.specs.Members.Members.{AreMembersOf, member_specs}
+use Rattle.implib.specs.Members.MemberSpec.{MemberSpec, MemberView, member_of}
+use Rattle.implib.specs.Members.MsvcMembers.{header_specs}
+use Rattle.implib.specs.Members.ReadBack.{ReadBack}
 
--- whether an export, as it is linked, is an alias: its symbol is weak for another
-abbrev pub is_weak : ExportView → Bool
-is_weak e = is_alias e.alias_target (short_import_symbol e)
-
--- whether there is an alias among exports that are not private
-abbrev pub has_alias : List ExportView → Bool
-has_alias exports = list_any (λ e. not e.private && is_weak e) exports
-
--- the specification of the short import of an export; an alias has none
-abbrev pub import_specs : MachineType → NamesOfDll → ExportView → List MemberSpec
-import_specs machine dll e = if is_weak e then [] else short_import_spec machine dll e ∷ []
-
--- whether an export is a function, which has a symbol beside that of its address
-abbrev pub has_code : ExportView → Bool
-has_code e = not e.is_data && not e.constant
-
--- of what is made for the symbol of an alias and for its address, what the library has: for data the latter alone
-abbrev pub kept_of_alias : {X : Type 0} → ExportView → List X → List X
-kept_of_alias e both = if has_code e then both else drop 1 both
-
--- the specifications of the weak externals of an export; an import has none
-abbrev pub alias_specs : MachineType → NamesOfDll → ExportView → List MemberSpec
-alias_specs machine dll e = kept_of_alias e (weak_specs machine dll.linked e)
-
--- the members for Microsoft's linker: those of the DLL, the short imports of the exports in their order, and
--- last the weak externals in the order of theirs
+-- the members for Microsoft's linker: those of the DLL, the short imports of the exports that are no aliases, in
+-- their order, and last the weak externals of the others, in the order of theirs
 abbrev pub msvc_specs : MachineType → DefinitionView → List MemberSpec
 msvc_specs machine d =
-    header_specs machine (names_for Msvc d)
-    ++ (flat_map (import_specs machine (names_for Msvc d)) (public_exports d)
-    ++ flat_map (alias_specs machine (names_for Msvc d)) (public_exports d))
+    header_specs machine (names_for Msvc d) ++ (all_import_specs machine d ++ all_alias_specs machine d)
 
 -- the members of a library
 abbrev pub library_specs : DefinitionView → MachineType → Flavor → List MemberSpec
 library_specs d machine Msvc = msvc_specs machine d
 library_specs d machine Gnu = member_specs d machine Gnu
+
+-- The members of a library, in order; all members of its definition are read back as it says.
+pub record AreInOrder (d : DefinitionView) (machine : MachineType) (flavor : Flavor) (members : List MemberView)
+    : Type 0 where
+  -- all members of the definition, which is not refused
+  pub all : List MemberView
+  pub made : AreMembersOf d machine flavor all
+  pub reads : ReadBack d machine flavor all
+  -- those of the library
+  pub is : members ≡ map member_of (library_specs d machine flavor)
 
 -- the imports of the exports that are no aliases
 abbrev pub own_imports : MachineType → DefinitionView → List Import

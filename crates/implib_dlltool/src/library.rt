@@ -1,26 +1,32 @@
 //! From the bytes of a definition to those of its import library.
 
 ghost use Rattle.implib.specs.Definition.{definition_view};
+ghost use Rattle.implib.specs.Fault.{IfInvalid};
 ghost use Rattle.implib.specs.Library.{member_view};
+ghost use Rattle.implib.specs.Members.Members.{refusal};
+ghost use Rattle.implib.specs.Renaming.{renamed};
+ghost use Rattle.implib.specs.declared.flavor.Flavor.TheVariants.{Gnu, Msvc};
 ghost use Rattle.implib_archive.specs.Refusal.{refusal_of};
 ghost use Rattle.implib_dlltool.specs.Library.{BreaksOff, DefinitionFor, IsRefusalOfArchive};
 ghost use Rattle.implib_dlltool.specs.Library.{IsRefusalOfBytes, IsRefusalOfMembers};
 ghost use Rattle.implib_dlltool.specs.Library.{IfBrokenOff, IfRefused, IsRefusalOfText};
 ghost use Rattle.implib_dlltool.specs.Library.{MembersFor, WritesLibrary};
 ghost use Rattle.implib_dlltool.specs.Library.{kind_for, kind_of, without_mark};
+ghost use Rattle.implib_dlltool.specs.Order.{AreInOrder};
 ghost use Rattle.implib_dlltool.specs.Request.{request_view};
-ghost use Rattle.std.specs.Prelude.{◌≡◌, IfErr, IfOk, MatchOption, None, OnOk, length, map};
+ghost use Rattle.std.specs.Prelude.{◌≡◌, IfErr, IfOk, MatchOption, None, OnOk, Some, length, map};
 ghost use Rattle.std.specs.Str.{IsUtf8};
 
 use crate::aliases::link_with_targets;
 use crate::library_name::library_name_for;
 use crate::name::{LastHeading, dll_name, lacks_name};
-use crate::order::in_order;
 use crate::places::position_of_fault;
 use crate::repeats::leave_out_repeats;
 use crate::request::Request;
 use implib::def::{ModuleDef, Position};
-use implib::{Error, Fault, Flavor, ImportLibrary, MachineType, Member, ParseError};
+use implib::gnu::GnuImportLibrary;
+use implib::msvc::{MemberLists, MsvcImportLibrary};
+use implib::{Error, Fault, Flavor, MachineType, Member, ParseError};
 use implib_archive::{Archive, Kind, WriteError};
 use std::alloc::{AllocError, Global};
 use std::{io, mem};
@@ -174,6 +180,52 @@ pub fn definition_for(alloc: Global, text: &str, request: &Request) -> Result<Mo
     Ok(def)
 }
 
+// The members for Microsoft's linker, weak externals last, and without the short imports of
+// aliases.
+fn msvc_members_in_order(def: ModuleDef, machine: MachineType) -> Result<Vec<Member>, Error>
+    ensures ok { IfOk result (λ members. AreInOrder (renamed (definition_view def)) machine Msvc
+        (map member_view members.items)) }
+    ensures refused { IfInvalid result
+        (λ cause. refusal (renamed (definition_view def)) machine Msvc ≡ Some cause) }
+{
+    let lists = MsvcImportLibrary::new(def, machine).member_lists()?;
+    let MemberLists {
+        header: mut members,
+        mut imports,
+        mut aliases,
+    } = lists;
+    members.append(&mut imports)?;
+    members.append(&mut aliases)?;
+    Ok(members)
+}
+
+// The members for GNU's linker.
+fn gnu_members(def: ModuleDef, machine: MachineType) -> Result<Vec<Member>, Error>
+    ensures ok { IfOk result (λ members. AreInOrder (renamed (definition_view def)) machine Gnu
+        (map member_view members.items)) }
+    ensures refused { IfInvalid result
+        (λ cause. refusal (renamed (definition_view def)) machine Gnu ≡ Some cause) }
+{
+    GnuImportLibrary::new(def, machine).members()
+}
+
+// The members of a definition in the order in which an archive is to have them.
+fn members_in_order(
+    def: ModuleDef,
+    machine: MachineType,
+    flavor: Flavor,
+) -> Result<Vec<Member>, Error>
+    ensures ok { IfOk result (λ members. AreInOrder (renamed (definition_view def)) machine flavor
+        (map member_view members.items)) }
+    ensures refused { IfInvalid result
+        (λ cause. refusal (renamed (definition_view def)) machine flavor ≡ Some cause) }
+{
+    match flavor {
+        Flavor::Msvc => msvc_members_in_order(def, machine),
+        Flavor::Gnu => gnu_members(def, machine),
+    }
+}
+
 /// The members of the library that is asked for.
 ///
 /// # Errors
@@ -188,9 +240,8 @@ pub fn members_for(alloc: Global, bytes: &[u8], request: &Request) -> Result<Vec
         return Err(Refusal::NotUtf8);
     };
     let def = definition_for(alloc, text, request)?;
-    let library = ImportLibrary::from_def(def, request.machine, request.flavor);
-    match library.members() {
-        Ok(members) => Ok(in_order(&library, members)?),
+    match members_in_order(def, request.machine, request.flavor) {
+        Ok(members) => Ok(members),
         Err(Error::Invalid(fault)) => {
             // The export is one of the text: the targets behind them break no rule on names that
             // their aliases keep.

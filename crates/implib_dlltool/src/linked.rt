@@ -62,7 +62,7 @@ pub fn symbol_of(
         (λ symbol. string_bytes symbol ≡ symbol_of machine (naming_view naming) word.now) }
 {
     let mut symbol = String::new(alloc);
-    if machine == MachineType::I386 && !naming.is_plain && !keeps_word(word.as_bytes()) {
+    if machine.has_leading_underscore() && !naming.is_plain && !keeps_word(word.as_bytes()) {
         symbol.push('_')?;
     }
     symbol.push_str(word)?;
@@ -92,7 +92,7 @@ fn killed(word: &str) -> &str
 fn word_asked(machine: MachineType, naming: Naming, word: &str) -> &str
     ensures { result.now ≡ word_asked machine (naming_view naming) word.now }
 {
-    if machine == MachineType::I386 && naming.kills_at {
+    if machine.has_leading_underscore() && naming.kills_at {
         killed(word)
     } else {
         word
@@ -199,7 +199,7 @@ fn name_given(
     ensures { IfOk result
         (λ given. option_map string_bytes given ≡ name_given machine symbol.now asked.now) }
 {
-    if machine != MachineType::I386 && symbol == asked {
+    if !machine.has_leading_underscore() && symbol == asked {
         return Ok(None);
     }
     Ok(Some(String::from_str(alloc, asked)?))
@@ -256,7 +256,7 @@ fn link_alias(
 fn is_linked(machine: MachineType, export: &ShortExport) -> bool
     ensures { result ≡ is_linked machine (export_view export.now) }
 {
-    machine != MachineType::I386 && export.ext_name.is_none() && export.alias_target.is_empty()
+    !machine.has_leading_underscore() && export.ext_name.is_none() && export.alias_target.is_empty()
 }
 
 // Gives an export its symbol, and what it asks the DLL for or is weak for.

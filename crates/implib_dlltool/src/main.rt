@@ -2,7 +2,7 @@
 //!
 //! What the words of the command line ask for, which name the DLL has, and which bytes a library
 //! has, or why there is none, are decided by functions with contracts ([`arguments`], [`request`],
-//! [`name`], [`repeats`], [`linked`], [`aliases`], [`library_name`], [`order`], [`library`]). What then
+//! [`name`], [`repeats`], [`linked`], [`aliases`], [`library_name`], [`library`]). What then
 //! is read and written are files ([`output`], [`program`]).
 #![tactic(auto)]
 
@@ -15,7 +15,6 @@ pub mod linked;
 mod message;
 pub mod name;
 pub mod options;
-pub mod order;
 mod output;
 mod places;
 pub mod program;

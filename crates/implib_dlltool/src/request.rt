@@ -373,7 +373,7 @@ fn naming_in<'a>(options: &[Occurrence<'a>], machine: MachineType) -> Result<Nam
         Switch::LeadingUnderscore,
         Switch::NoLeadingUnderscore,
     );
-    if has_underscore && machine != MachineType::I386 {
+    if has_underscore && !machine.has_leading_underscore() {
         return Err(CallFault::NoUnderscore);
     }
     Ok(Naming {

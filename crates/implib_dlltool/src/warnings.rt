@@ -148,7 +148,7 @@ fn stdcall_notice<'a>(
     ensures { option_map notice_view result
         ≡ stdcall_notice machine (naming_view naming) (export_view export.now) }
 {
-    if machine != MachineType::I386 || naming.kills_at {
+    if !machine.has_leading_underscore() || naming.kills_at {
         return None;
     }
     let word = word_of(export);

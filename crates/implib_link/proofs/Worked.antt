@@ -34,6 +34,7 @@ pub mod Instructions
 pub mod LinkedCode
 pub mod Operands
 pub mod RefusedFields
+pub mod FlavorFields
 pub mod Rules
 pub mod Lld
 pub mod MsvcExists

@@ -13,3 +13,5 @@ pub mod OwnArchives
 pub mod OwnMembers
 pub mod OwnMsvc
 pub mod OwnWorked
+pub mod OwnGnu
+pub mod OwnGnuLibrary

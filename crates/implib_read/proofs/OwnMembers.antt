@@ -36,12 +36,12 @@ use Rattle.implib_read.specs.OwnLibraries.{expected_kind, import_of_class, meani
 use Rattle.implib_read.specs.declared.import.ImportKind.TheVariants.{Code, Const, Data}
 
 -- a file that `implib`'s reader has, as this reader has it
-pub found_of : File → FoundFile
+unfoldable pub found_of : File → FoundFile
 found_of (ShortImportFile r) = FoundShortImport (record { fields = r; exported = None })
 found_of (ObjectFile o) = FoundObject o
 
 -- whether a file is of no machine or name type that the two readers see with other eyes
-pub is_plain : File → Bool
+unfoldable pub is_plain : File → Bool
 is_plain (ShortImportFile r) = not (r.machine == arm64ec) && not (r.name_type == 4)
 is_plain (ObjectFile o) = not (o.machine == 0)
 
@@ -175,7 +175,7 @@ null_thunk_class defined machine dll = refl
 
 -- Each member is plain.
 
-machine_plain : (machine : MachineType) → (not (machine_number machine == arm64ec) ≡ true) × (not (machine_number machine == 0) ≡ true)
+pub machine_plain : (machine : MachineType) → (not (machine_number machine == arm64ec) ≡ true) × (not (machine_number machine == 0) ≡ true)
 machine_plain I386 = (refl, refl)
 machine_plain ARMNT = (refl, refl)
 machine_plain AMD64 = (refl, refl)

@@ -23,22 +23,22 @@ use Rattle.implib_read.specs.OwnLibraries.{OwnMembersFound, ReadsAsMsvcLibrary, 
 use Rattle.implib_read.specs.ShortImports.{SameShortImports}
 use Rattle.implib_read.proofs.OwnMembers.{drop_mapped, drop_plain, files_as, found_of, header_classes, kinds_of, machines_of, meanings_as, own_files, own_imports, read_meanings, specs_plain}
 
-map_twice : {A B C : Type 0} (f : B → C) (g : A → B) (xs : List A) → map f (map g xs) ≡ map (λ x. f (g x)) xs
+pub map_twice : {A B C : Type 0} (f : B → C) (g : A → B) (xs : List A) → map f (map g xs) ≡ map (λ x. f (g x)) xs
 map_twice f g [] = refl
 map_twice f g (x ∷ xs) = ap (λ ys. f (g x) ∷ ys) (map_twice f g xs)
 
 -- the archive, with the bytes of its members
-record FoundArchive (bytes : List ℕ) (contents : List (List ℕ)) : Type 0 where
-  archive : Archive
-  is : archive_in bytes ≡ Some archive
-  same : map (λ m. m.bytes) archive.members ≡ contents
+pub record FoundArchive (bytes : List ℕ) (contents : List (List ℕ)) : Type 0 where
+  pub archive : Archive
+  pub is : archive_in bytes ≡ Some archive
+  pub same : map (λ m. m.bytes) archive.members ≡ contents
 
-archive_by : (bytes : List ℕ) (contents : List (List ℕ)) (o : Option Archive) → archive_in bytes ≡ o → option_map (λ a. map (λ m. m.bytes) a.members) o ≡ Some contents → FoundArchive bytes contents
+pub archive_by : (bytes : List ℕ) (contents : List (List ℕ)) (o : Option Archive) → archive_in bytes ≡ o → option_map (λ a. map (λ m. m.bytes) a.members) o ≡ Some contents → FoundArchive bytes contents
 archive_by bytes contents None is same = cc
 archive_by bytes contents (Some a) is same = record { archive = a; is = is; same = cc }
 
 -- the classes of members, by their bytes
-classes_read : (members : List StoredMember)
+pub classes_read : (members : List StoredMember)
     → map (λ m. m.class) (members_read members) ≡ map (class_of_file (definer_among (files_of members))) (map file_found (map (λ m. m.bytes) members))
 unfolding members_read
 classes_read members =

@@ -1,5 +1,5 @@
 -- Libraries beside definitions, computed.
-use Rattle.std.proofs.Common.{◌≡◌, ◌∙◌, ℕ, Bool, true, false, List, [], ◌∷◌, Option, None, Some, ap, codes, map, refl, sym}
+use Rattle.std.proofs.Common.{◌≡◌, ◌∙◌, ℕ, Bool, true, false, List, [], ◌∷◌, Option, None, Some, ap, bytes_eq, codes, map, refl, sym}
 use Rattle.std.specs.List.{filter_map}
 use Rattle.std.specs.Option.{option_map}
 use Rattle.std.proofs.lemmas.Bool.{true≢false}
@@ -7,7 +7,7 @@ use Rattle.implib.specs.Formats.File.{Meaning, AnAlias as MeansAlias, AnImport a
 use Rattle.implib.specs.Import.{Ask, Import, Name, Ordinal}
 use Rattle.implib.specs.Members.ReadBack.{alias_among, import_among}
 use Rattle.implib_read.specs.Classes.{MemberRead}
-use Rattle.implib_read.specs.WorkedOwn.{WorkedOwnLibraries}
+use Rattle.implib_read.specs.WorkedOwn.{WorkedOwnGnuLibraries, WorkedOwnLibraries}
 use Rattle.implib_read.proofs.WorkedBytes.{worked_libraries}
 
 -- what is read tells the meanings
@@ -52,4 +52,35 @@ worked_own_libraries = record {
   other_kind = λ l. let same = l.kinds in cc;
   untold_kind = λ l. let same = l.kinds in cc;
   other_machine = λ l. absurd (true≢false (sym l.machines));
+}
+
+-- the symbol of the first import
+first_symbol : List Import → List (List ℕ)
+first_symbol [] = []
+first_symbol (i ∷ imports) = i.declared
+
+is_bar : List (List ℕ) → Bool
+is_bar [] = false
+is_bar (s ∷ ss) = bytes_eq s (codes "__imp_bar")
+
+pub worked_own_gnu_libraries : WorkedOwnGnuLibraries
+unfolding first_symbol is_bar
+worked_own_gnu_libraries = record {
+  dlltool = record {
+    classes = _;
+    found = ap (option_map (map (λ (m : MemberRead). m.class))) worked_libraries.dlltool;
+    means = record { header = refl; meanings = _ ∷ []; read = refl; imports = refl; aliases = refl };
+  };
+  ld = record {
+    classes = _;
+    found = ap (option_map (map (λ (m : MemberRead). m.class))) worked_libraries.ld;
+    means = record { header = refl; meanings = _ ∷ _ ∷ []; read = refl; imports = refl; aliases = refl };
+  };
+  none = record { header = refl; meanings = []; read = refl; imports = refl; aliases = refl };
+  with_alias = record { header = refl; meanings = _ ∷ _ ∷ _ ∷ []; read = refl; imports = refl; aliases = refl };
+  backwards = record { header = refl; meanings = _ ∷ _ ∷ []; read = refl; imports = refl; aliases = refl };
+  no_header = λ l. let same = l.header in cc;
+  not_read = λ l. no_meaning l.meanings l.read;
+  forwards = λ l. absurd (true≢false (sym (ap (λ is. is_bar (first_symbol is)) (ap (filter_map import_among) (two_meanings _ _ l.meanings l.read) ∙ l.imports))));
+  other_alias = λ l. let same = ap (filter_map alias_among) (two_meanings _ _ l.meanings l.read) ∙ l.aliases in cc;
 }

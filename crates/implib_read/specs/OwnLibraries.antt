@@ -1,8 +1,8 @@
 -- What this reader has of the libraries that `implib` and `implib_archive` make.
-use Rattle.std.specs.Prelude.{◌≡◌, ℕ, ◌==◌, true, if◌then◌else◌, List, [], ◌∷◌, Option, None, Some, drop, map, take}
+use Rattle.std.specs.Prelude.{◌≡◌, ℕ, ◌==◌, true, if◌then◌else◌, List, [], ◌∷◌, Option, None, Some, drop, map, reverse, take}
 use Rattle.std.specs.List.{filter_map, list_all}
 use Rattle.std.specs.Option.{option_map}
-use Rattle.implib.specs.declared.flavor.Flavor.TheVariants.{Msvc}
+use Rattle.implib.specs.declared.flavor.Flavor.TheVariants.{Gnu, Msvc}
 use Rattle.implib.specs.declared.machine.MachineType.{MachineType}
 use Rattle.implib.specs.Definition.{DefinitionView, ExportView}
 use Rattle.implib.specs.Formats.File.{Meaning, AnAlias as MeansAlias, AnImport as MeansImport}
@@ -86,3 +86,24 @@ abbrev pub OwnMsvcLibraries : Type 0
 OwnMsvcLibraries = (kind : Kind) (d : DefinitionView) (machine : MachineType) (members : List MemberView)
     → ReadBack d machine Msvc members → has_no_symbol_names d ≡ true → refusal_of kind members ≡ None
     → ReadsAsMsvcLibrary d machine (archive_of kind members)
+
+-- The members of a library for GNU's linker are for what a definition means: the first two are the tail and the head;
+-- each after them, from the last to the first, is an import or an alias, and these are those of the definition, in its
+-- order.
+pub record IsGnuLibraryOf (d : DefinitionView) (machine : MachineType) (classes : List Class) : Type 0 where
+  pub header : take 2 classes ≡ Tail ∷ Head ∷ []
+  pub meanings : List Meaning
+  pub read : map meaning_of_class (reverse (drop 2 classes)) ≡ map Some meanings
+  pub imports : filter_map import_among meanings ≡ imports_of machine d
+  pub aliases : filter_map alias_among meanings ≡ aliases_of d
+
+-- what the members in these bytes are for is what the definition means
+pub record ReadsAsGnuLibrary (d : DefinitionView) (machine : MachineType) (bytes : List ℕ) : Type 0 where
+  pub classes : List Class
+  pub found : classes_in bytes ≡ Some classes
+  pub means : IsGnuLibraryOf d machine classes
+
+-- An archive of a definition's members for GNU's linker reads as a library of that definition.
+abbrev pub OwnGnuLibraries : Type 0
+OwnGnuLibraries = (kind : Kind) (d : DefinitionView) (machine : MachineType) (members : List MemberView)
+    → ReadBack d machine Gnu members → refusal_of kind members ≡ None → ReadsAsGnuLibrary d machine (archive_of kind members)

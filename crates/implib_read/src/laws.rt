@@ -2,11 +2,11 @@
 
 ghost use Rattle.implib_read.specs.Archives.{SameParts};
 ghost use Rattle.implib_read.specs.Objects.{SameObjects};
-ghost use Rattle.implib_read.specs.OwnLibraries.{OwnMembersFound, OwnMsvcLibraries};
+ghost use Rattle.implib_read.specs.OwnLibraries.{OwnGnuLibraries, OwnMembersFound, OwnMsvcLibraries};
 ghost use Rattle.implib_read.specs.ShortImports.{SameShortImports};
 ghost use Rattle.implib_read.specs.WorkedFiles.{WorkedChanges, WorkedIndexes, WorkedLeads, WorkedNames, WorkedParts, WorkedShortImports};
 ghost use Rattle.implib_read.specs.WorkedLibraries.{WorkedLibraries};
-ghost use Rattle.implib_read.specs.WorkedOwn.{WorkedOwnLibraries};
+ghost use Rattle.implib_read.specs.WorkedOwn.{WorkedOwnGnuLibraries, WorkedOwnLibraries};
 
 /// What the reader of `implib`'s definitions has of an object, [`crate::Object::read`] has.
 pub fn same_objects()
@@ -79,4 +79,19 @@ pub fn own_msvc_libraries()
 /// Libraries beside definitions, worked by hand: some that are theirs, and some that are not.
 pub fn worked_own_libraries()
     ensures { WorkedOwnLibraries }
+{}
+
+/// An archive of a definition's members for GNU's linker reads as a library of that definition: its first members are
+/// the tail and the head, and each further one is an import or an alias of the definition.
+pub fn own_gnu_libraries()
+    ensures { OwnGnuLibraries }
+{
+    own_members_found();
+    same_short_imports();
+    same_objects();
+}
+
+/// Libraries for GNU's linker beside definitions, worked by hand: some that are theirs, and some that are not.
+pub fn worked_own_gnu_libraries()
+    ensures { WorkedOwnGnuLibraries }
 {}

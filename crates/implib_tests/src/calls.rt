@@ -59,6 +59,17 @@ fn libraries_for_one_linker_have_members(rt: HostRuntime) -> Result<(), Fail> {
     Ok(())
 }
 
+#[test]
+fn members_for_microsoft_are_in_three_lists(rt: HostRuntime) -> Result<(), Fail> {
+    let text = "LIBRARY foo.dll\nEXPORTS\nfoo == baz\nbar\nvar == baz DATA";
+    let def = ModuleDef::parse(rt.alloc(), text, MachineType::AMD64)?;
+    let lists = MsvcImportLibrary::new(def, MachineType::AMD64).member_lists()?;
+    assert!(rt; have_lengths(&lists.header, &[358, 127, 159]));
+    assert!(rt; have_lengths(&lists.imports, &[32]));
+    assert!(rt; have_lengths(&lists.aliases, &[162, 174, 174]));
+    Ok(())
+}
+
 // What a fault says is empty.
 fn empty_part(fault: &Fault) -> &'static str {
     match fault {

@@ -1,5 +1,5 @@
 -- Fields of relocations: which of them meet bytes, and what they hold at another base.
-use Rattle.std.proofs.Common.{◌≡◌, ℕ, zero, suc, ◌+◌, ◌-◌, ◌/◌, ◌%◌, ◌^◌, ◌<◌, ◌≤◌, ◌⊎◌, Bool, true, false, List, [], ◌∷◌, take, drop, None, Some, refl, ap, sym, ◌∙◌, subst, inl, inr, arith}
+use Rattle.std.proofs.Common.{◌≡◌, ℕ, zero, suc, ◌+◌, ◌-◌, ◌/◌, ◌%◌, ◌^◌, ◌<◌, ◌≤◌, ◌⊎◌, Bool, true, false, List, [], ◌∷◌, ◌++◌, take, drop, None, Some, refl, ap, sym, ◌∙◌, subst, inl, inr, arith}
 use Rattle.std.specs.Prelude.{◌==◌, if◌then◌else◌, cond, nat_lt, slice_get}
 use Rattle.std.specs.List.{filter, list_any}
 use Rattle.std.proofs.lemmas.Bool.{and_from, and_parts, cases_Bool, eqb-true, false_from_ne_true, lt-ltb, ltb-true}
@@ -30,6 +30,11 @@ get_take zero xs i b is = cc
 get_take (suc n) [] i b is = is
 get_take (suc n) (x ∷ xs) zero b is = is
 get_take (suc n) (x ∷ xs) (suc i) b is = get_take n xs i b is
+
+pub get_front : (xs ys : List ℕ) (i b : ℕ) → slice_get xs i ≡ Some b → slice_get (xs ++ ys) i ≡ Some b
+get_front [] ys i b is = cc
+get_front (x ∷ xs) ys zero b is = is
+get_front (x ∷ xs) ys (suc i) b is = get_front xs ys i b is
 
 -- bytes are in memory where each of them is
 pub located_from : (memory : List Range) (bytes : List ℕ) (a : ℕ) → ((i b : ℕ) → slice_get bytes i ≡ Some b → byte_at memory (a + i) ≡ Some b) → BytesAt memory a bytes
@@ -231,7 +236,7 @@ holds_moved AMD64 type width from to position target old new is holds = record {
 }
 holds_moved ARM64 type width from to position target old new is holds = record {
   addr64 = λ addr. moved_by_64 (old 8) (new 8) from to target (holds.addr64 addr);
-  branch = λ other near far. absurd (not_arm64 type width 3 is other (omega arith) (omega arith));
+  branch = λ other none near far. absurd (not_arm64 type width 3 is other (omega arith) (omega arith));
   page_of = λ other. absurd (not_arm64 type width 4 is other (omega arith) (omega arith));
   offset_of = λ other eight. absurd (not_arm64 type width 7 is other (omega arith) (omega arith));
 }

@@ -16,7 +16,7 @@ use Rattle.implib.proofs.Formats.Bytes.{length-u32_bytes}
 use Rattle.implib_link.specs.Gnu.Calls.{amd64_addr64, arm64_addr64, arm64_branch26, field_width}
 use Rattle.implib_link.specs.Gnu.Fields.{FieldHolds, IsRelocated, MeetsAlone, field_at, meets}
 use Rattle.implib_link.specs.Stub.{adrp_immediate, bits_of, ldr_immediate, page, with_adrp, with_bits}
-use Rattle.implib_link.proofs.Gnu.Fields.{get_drop, meets_bounds, meets_from}
+use Rattle.implib_link.proofs.Gnu.Fields.{get_drop, get_front, meets_bounds, meets_from}
 use Rattle.implib_link.proofs.Gnu.Jumps.{number-u32}
 
 -- Lists by their places.
@@ -43,11 +43,6 @@ unfolding write
 write_size bytes zero value within = omega (arith, length-append value (drop (length value) bytes), length-drop (length value) bytes)
 write_size [] (suc offset) value within = refl
 write_size (x ∷ bytes) (suc offset) value within = let later = write_size bytes offset value (omega arith) in omega arith
-
-get_front : (xs ys : List ℕ) (i b : ℕ) → slice_get xs i ≡ Some b → slice_get (xs ++ ys) i ≡ Some b
-get_front [] ys i b is = cc
-get_front (x ∷ xs) ys zero b is = is
-get_front (x ∷ xs) ys (suc i) b is = get_front xs ys i b is
 
 get_behind : (xs ys : List ℕ) (i : ℕ) → length xs ≤ i → slice_get (xs ++ ys) i ≡ slice_get ys (i - length xs)
 get_behind [] ys i past = let same : i ≡ i - 0 = omega arith in ap (slice_get ys) same
@@ -295,7 +290,7 @@ number_for AMD64 type image_base position target old =
     if type == amd64_addr64 then old 8 + (image_base + target) else old 4 + target + (2 ^ 32 - (position + 4 + (type - amd64_rel32)) % 2 ^ 32)
 number_for ARM64 type image_base position target old =
     if type == arm64_addr64 then old 8 + (image_base + target)
-    else if type == arm64_branch26 then with_bits 0 26 (bits_of 0 26 (old 4) + (target + (2 ^ 28 - position % 2 ^ 28)) / 4) (old 4)
+    else if type == arm64_branch26 then with_bits 0 26 ((target + (2 ^ 28 - position % 2 ^ 28)) / 4) (old 4)
     else if type == arm64_pagebase_rel21
     then with_adrp (page (image_base + target + adrp_immediate (old 4)) + (2 ^ 21 - page (image_base + position) % 2 ^ 21)) (old 4)
     else with_bits 10 12 ((image_base + target + ldr_immediate (old 4)) % 4096 / 8) (old 4)
@@ -323,10 +318,10 @@ number_holds AMD64 type image_base position target old new small is = record {
 }
 number_holds ARM64 type image_base position target old new small is = record {
   addr64 = λ addr. let here : (type == arm64_addr64) ≡ true = eq-eqb type arm64_addr64 addr in (rw here at is) ∙ eight_bytes (old 8 + (image_base + target));
-  branch = λ own near far.
+  branch = λ own none near far.
       let one : (type == arm64_addr64) ≡ false = ne_eqb type arm64_addr64 (λ same. omega arith) in
       let here : (type == arm64_branch26) ≡ true = eq-eqb type arm64_branch26 own in
-      let k : ℕ = bits_of 0 26 (old 4) + (target + (2 ^ 28 - position % 2 ^ 28)) / 4 in
+      let k : ℕ = (target + (2 ^ 28 - position % 2 ^ 28)) / 4 in
       let word : new 4 ≡ with_bits 0 26 k (old 4) = four_word (with_bits 0 26 k (old 4)) (new 4) (branch_word k (old 4) small) (rw (one, here) at is) in
       (ap (with_bits 0 26 0) word ∙ branch_kept k (old 4), ap (bits_of 0 26) word ∙ branch_has k (old 4));
   page_of = λ own.

@@ -41,23 +41,29 @@ joined memory (x ∷ xs) ys a first second =
     let further : a + suc (length xs) ≡ a + 1 + length xs = omega arith in
     (first.0, joined memory xs ys (a + 1) first.1 (subst (λ n. BytesAt memory n ys) further second))
 
+-- four bytes
+pub record Four (bytes : List ℕ) : Type 0 where
+  pub a : ℕ
+  pub b : ℕ
+  pub c : ℕ
+  pub d : ℕ
+  pub is : bytes ≡ a ∷ b ∷ c ∷ d ∷ []
+
+pub four_of : (bytes : List ℕ) → length bytes ≡ 4 → Four bytes
+four_of [] four = absurd (omega arith)
+four_of (a ∷ []) four = absurd (omega arith)
+four_of (a ∷ b ∷ []) four = absurd (omega arith)
+four_of (a ∷ b ∷ c ∷ []) four = absurd (omega arith)
+four_of (a ∷ b ∷ c ∷ d ∷ []) four = record { a = a; b = b; c = c; d = d; is = refl }
+four_of (a ∷ b ∷ c ∷ d ∷ e ∷ rest) four = absurd (omega arith)
+
 -- The fields of I386's instructions.
 
-call_field : (address : ℕ) (field : List ℕ) → length field ≡ 4 → call_reads I386 address (0xFF ∷ 0x15 ∷ (field ++ [])) ≡ Some (number_in field)
-call_field address [] four = absurd (omega arith)
-call_field address (a ∷ []) four = absurd (omega arith)
-call_field address (a ∷ b ∷ []) four = absurd (omega arith)
-call_field address (a ∷ b ∷ c ∷ []) four = absurd (omega arith)
-call_field address (a ∷ b ∷ c ∷ d ∷ []) four = refl
-call_field address (a ∷ b ∷ c ∷ d ∷ e ∷ rest) four = absurd (omega arith)
+pub call_field : (address : ℕ) (field : List ℕ) → length field ≡ 4 → call_reads I386 address (0xFF ∷ 0x15 ∷ (field ++ [])) ≡ Some (number_in field)
+call_field address field four = let f = four_of field four in subst (λ xs. call_reads I386 address (0xFF ∷ 0x15 ∷ (xs ++ [])) ≡ Some (number_in xs)) (sym f.is) refl
 
-jump_field : (address : ℕ) (field : List ℕ) → length field ≡ 4 → jump_reads I386 address (0xFF ∷ 0x25 ∷ (field ++ 0x90 ∷ 0x90 ∷ [])) ≡ Some (number_in field)
-jump_field address [] four = absurd (omega arith)
-jump_field address (a ∷ []) four = absurd (omega arith)
-jump_field address (a ∷ b ∷ []) four = absurd (omega arith)
-jump_field address (a ∷ b ∷ c ∷ []) four = absurd (omega arith)
-jump_field address (a ∷ b ∷ c ∷ d ∷ []) four = refl
-jump_field address (a ∷ b ∷ c ∷ d ∷ e ∷ rest) four = absurd (omega arith)
+pub jump_field : (address : ℕ) (field : List ℕ) → length field ≡ 4 → jump_reads I386 address (0xFF ∷ 0x25 ∷ (field ++ 0x90 ∷ 0x90 ∷ [])) ≡ Some (number_in field)
+jump_field address field four = let f = four_of field four in subst (λ xs. jump_reads I386 address (0xFF ∷ 0x25 ∷ (xs ++ 0x90 ∷ 0x90 ∷ [])) ≡ Some (number_in xs)) (sym f.is) refl
 
 pub field_value : (from to target : ℕ) → to + 2 ^ 31 ≤ 2 ^ 32 → target < 2 ^ 31 → moved_number 4 from to ((0 + (from + target)) % 2 ^ 32 % 2 ^ 32) ≡ to + target
 field_value from to target fits small = omega arith

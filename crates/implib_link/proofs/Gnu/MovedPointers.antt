@@ -36,7 +36,7 @@ use Rattle.implib_link.proofs.Gnu.Keeps.{bytes_kept, keeps_written}
 use Rattle.implib_link.proofs.Gnu.Loaded.{program_loads}
 use Rattle.implib_link.proofs.Gnu.Memory.{Covers, byte_first, loaded_below, written_covers}
 use Rattle.implib_link.proofs.Gnu.Moved.{Window, code_kept, code_unwritten, field_moved, image_kept, window_clear}
-use Rattle.implib_link.proofs.Gnu.MovedCode.{Lies, apart_same, beside_field, call_window, can_jump, field_value, high_same, joined, low_same, offset_same, window_kept}
+use Rattle.implib_link.proofs.Gnu.MovedCode.{Lies, apart_same, beside_field, call_window, can_jump, field_value, four_of, high_same, joined, low_same, offset_same, window_kept}
 use Rattle.implib_link.proofs.Gnu.Pages.{adrp_by, adrp_code, ldr_by, ldr_code, near_in, one_within}
 use Rattle.implib_link.proofs.Gnu.Pages.{adrp_is as paged_is}
 use Rattle.implib_link.proofs.Gnu.Pointers.{adrp_is, arm64_code, load_by, load_within}
@@ -48,13 +48,8 @@ use Rattle.implib_link.proofs.Search.Lists.{contains_among}
 
 -- I386's field.
 
-mov_field : (address : ℕ) (field : List ℕ) → length field ≡ 4 → load_reads I386 address (0xA1 ∷ (field ++ [])) ≡ Some (number_in field)
-mov_field address [] four = absurd (omega arith)
-mov_field address (a ∷ []) four = absurd (omega arith)
-mov_field address (a ∷ b ∷ []) four = absurd (omega arith)
-mov_field address (a ∷ b ∷ c ∷ []) four = absurd (omega arith)
-mov_field address (a ∷ b ∷ c ∷ d ∷ []) four = refl
-mov_field address (a ∷ b ∷ c ∷ d ∷ e ∷ rest) four = absurd (omega arith)
+pub mov_field : (address : ℕ) (field : List ℕ) → length field ≡ 4 → load_reads I386 address (0xA1 ∷ (field ++ [])) ≡ Some (number_in field)
+mov_field address field four = let f = four_of field four in subst (λ xs. load_reads I386 address (0xA1 ∷ (xs ++ [])) ≡ Some (number_in xs)) (sym f.is) refl
 
 -- what becomes of `mov eax, [disp32]`
 record MovMoved (memory : List Range) (address from to number : ℕ) : Type 0 where

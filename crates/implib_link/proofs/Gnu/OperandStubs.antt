@@ -19,29 +19,10 @@ use Rattle.implib_link.specs.Stub.{adrp_immediate, bits_of, jump_reads, ldr_imme
 use Rattle.implib_link.proofs.Gnu.CallReads.{CanReach}
 use Rattle.implib_link.proofs.Gnu.FieldsInMemory.{Rests, part_there}
 use Rattle.implib_link.proofs.Gnu.Memory.{Covers}
-use Rattle.implib_link.proofs.Gnu.MovedCode.{joined}
+use Rattle.implib_link.proofs.Gnu.MovedCode.{four_of, joined, jump_field}
 use Rattle.implib_link.proofs.Gnu.Operands.{instruction_at, pair_at}
 use Rattle.implib_link.proofs.Gnu.PlacedStubs.{StubAt}
 use Rattle.implib_link.proofs.Search.Lists.{contains_among}
-
--- four bytes
-pub record Four (bytes : List ℕ) : Type 0 where
-  pub a : ℕ
-  pub b : ℕ
-  pub c : ℕ
-  pub d : ℕ
-  pub is : bytes ≡ a ∷ b ∷ c ∷ d ∷ []
-
-pub four_of : (bytes : List ℕ) → length bytes ≡ 4 → Four bytes
-four_of [] four = absurd (omega arith)
-four_of (a ∷ []) four = absurd (omega arith)
-four_of (a ∷ b ∷ []) four = absurd (omega arith)
-four_of (a ∷ b ∷ c ∷ []) four = absurd (omega arith)
-four_of (a ∷ b ∷ c ∷ d ∷ []) four = record { a = a; b = b; c = c; d = d; is = refl }
-four_of (a ∷ b ∷ c ∷ d ∷ e ∷ rest) four = absurd (omega arith)
-
-i386_jump : (address : ℕ) (field : List ℕ) → length field ≡ 4 → jump_reads I386 address (0xFF ∷ 0x25 ∷ (field ++ 0x90 ∷ 0x90 ∷ [])) ≡ Some (number_in field)
-i386_jump address field four = let f = four_of field four in subst (λ xs. jump_reads I386 address (0xFF ∷ 0x25 ∷ (xs ++ 0x90 ∷ 0x90 ∷ [])) ≡ Some (number_in xs)) (sym f.is) refl
 
 amd64_jump : (address : ℕ) (field : List ℕ) → length field ≡ 4 → jump_reads AMD64 address (0xFF ∷ 0x25 ∷ (field ++ 0x90 ∷ 0x90 ∷ [])) ≡ Some (plus_signed 32 1 (number_in field) (address + 6))
 amd64_jump address field four =
@@ -98,7 +79,7 @@ stub_arrives I386 image_base image linked codes targets memory at written covers
     (subst (λ xs. take 6 (drop 0 xs) ≡ 0xFF ∷ 0x25 ∷ 0 ∷ 0 ∷ 0 ∷ 0 ∷ []) (sym stub.bytes) refl) (refl, refl) stub.symbol stub.held stub.placed in
     x86_jumps (written ++ memory) d.position name bytes I386 image_base linked refl x
     (stub_part I386 image_base image linked codes targets memory at written covers_it d held (stub_relocations I386 2) 6 2 (0x90 ∷ 0x90 ∷ []) (subst (λ xs. take 2 (drop 6 xs) ≡ 0x90 ∷ 0x90 ∷ []) (sym stub.bytes) refl) stub.relocations refl)
-    (i386_jump (image_base + d.position) x.field x.four ∙ x.leads)
+    (jump_field (image_base + d.position) x.field x.four ∙ x.leads)
 stub_arrives ARMNT image_base image linked codes targets memory at written covers_it name bytes entry once small can located d t held stub = absurd can
 stub_arrives AMD64 image_base image linked codes targets memory at written covers_it name bytes entry once small can located d t held stub =
     let x = instruction_at AMD64 image_base image linked codes targets memory at written covers_it name bytes entry once small can located d 0 (0xFF ∷ 0x25 ∷ []) (0 ∷ 0 ∷ 0 ∷ 0 ∷ []) [] amd64_rel32 2 held

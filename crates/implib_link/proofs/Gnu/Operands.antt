@@ -1,5 +1,5 @@
 -- Fields against a name lead to its entry, whatever instruction holds them.
-use Rattle.std.proofs.Common.{◌≡◌, ℕ, zero, suc, ◌+◌, ◌-◌, ◌*◌, ◌/◌, ◌%◌, ◌^◌, ◌<◌, ◌≤◌, ◌⊎◌, false, List, [], ◌∷◌, ◌++◌, length, take, drop, None, Some, refl, ap, sym, ◌∙◌, subst, inl, inr, arith}
+use Rattle.std.proofs.Common.{◌≡◌, ℕ, ◌+◌, ◌-◌, ◌*◌, ◌/◌, ◌%◌, ◌^◌, ◌<◌, ◌≤◌, ◌⊎◌, false, List, [], ◌∷◌, ◌++◌, length, take, drop, None, Some, refl, ap, sym, ◌∙◌, subst, inl, inr, arith}
 use Rattle.std.specs.Prelude.{◌==◌, nat_lt, slice_get}
 use Rattle.std.specs.List.{AllByRecursion, Contains, list_any}
 use Rattle.std.proofs.lemmas.Bool.{cases_Bool, false_from_ne_true, ltb-false, ltb-true, ne_eqb}
@@ -24,7 +24,7 @@ use Rattle.implib_link.specs.Gnu.Rebased.{absolute_width, amd64_addr32}
 use Rattle.implib_link.specs.Stub.{adrp_immediate, bits_of, ldr_immediate, page, plus_signed, with_bits}
 use Rattle.implib_link.proofs.Gnu.CallReads.{CanReach}
 use Rattle.implib_link.proofs.Gnu.DirectCalls.{words_lead}
-use Rattle.implib_link.proofs.Gnu.Fields.{alone_same, alone_within, get_drop, meets_bounds, meets_from, meeting}
+use Rattle.implib_link.proofs.Gnu.Fields.{alone_same, alone_within, get_drop, get_front, meeting, meets_bounds, meets_from}
 use Rattle.implib_link.proofs.Gnu.FieldsInMemory.{Rests, bytes_there, field_there, own_end, steady_there}
 use Rattle.implib_link.proofs.Gnu.Jumps.{near_pages, page_and_offset, pages_add, sum_of_eights, whole_eights}
 use Rattle.implib_link.proofs.Gnu.Memory.{Covers}
@@ -107,11 +107,7 @@ branch_by ARMNT type base position target after old new counts holds can near sm
 branch_by AMD64 type base position target after old new (further, (few, (is, ends))) holds can near small =
     ap Some (rel32_leads (new 4) (old 4) base position target after further (holds.rel32 further few is) ends near small)
 branch_by ARM64 type base position target after old new counts holds can near small =
-    let word = (holds.branch counts.0 can.2 can.3).1 in
-    let words : ℕ = (target + (2 ^ 28 - position % 2 ^ 28)) / 4 in
-    let plain : 0 + words ≡ words = omega arith in
-    let field : bits_of 0 26 (new 4) ≡ words % 2 ^ 26 = word ∙ ap (λ n. (n + words) % 2 ^ 26) counts.1 ∙ ap (λ n. n % 2 ^ 26) plain in
-    ap Some (words_lead base position target can.0 can.1 can.2 can.3 (bits_of 0 26 (new 4)) field)
+    ap Some (words_lead base position target can.0 can.1 can.2 can.3 (bits_of 0 26 (new 4)) (holds.branch counts.0 counts.1 can.2 can.3).1)
 
 pointer_by : (machine : MachineType) (type base position target : ℕ) (old new : ℕ → ℕ) → IsPointer machine type → old (thunk_width machine) ≡ 0 → FieldHolds machine type base position target old new →
     CanReach machine base target → base + 2 ^ 31 ≤ 2 ^ 64 → target < 2 ^ 31 → new (thunk_width machine) ≡ base + target
@@ -158,11 +154,6 @@ parts_of c offset count head field tail is =
       back = back;
       whole = sym (take-append-drop count (drop offset c.code.bytes)) ∙ ap (λ xs. xs ++ back) is ∙ append_assoc head (field ++ tail) back ∙ ap (λ xs. head ++ xs) (append_assoc field tail back);
     }
-
-get_front : (xs ys : List ℕ) (i b : ℕ) → slice_get xs i ≡ Some b → slice_get (xs ++ ys) i ≡ Some b
-get_front [] ys i b is = cc
-get_front (x ∷ xs) ys zero b is = is
-get_front (x ∷ xs) ys (suc i) b is = get_front xs ys i b is
 
 module _ (machine : MachineType) (image_base : ℕ) (image : List Range) (linked : List Placed) (codes : List LinkedCode) (targets : LinkedCode → ℕ → ℕ) (memory : List Range)
     (at : Rests machine image_base image linked codes targets memory) (written : List Range) (covers_it : AllByRecursion (Covers image) written) where

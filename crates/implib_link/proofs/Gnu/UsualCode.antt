@@ -2,7 +2,7 @@
 use Rattle.std.proofs.Common.{◌≡◌, ℕ, ◌+◌, ◌*◌, ◌%◌, ◌^◌, ◌<◌, ◌≤◌, Bool, false, List, [], ◌∷◌, ◌++◌, length, map, take, drop, Some, refl, ap, sym, ◌∙◌, subst, inl, inr, arith}
 use Rattle.std.specs.List.{AllByRecursion, Contains, filter, list_any}
 use Rattle.std.proofs.lemmas.Bool.{false_from_ne_true}
-use Rattle.std.proofs.lemmas.List.{append_assoc, drop-drop, drop_at, length-append, take_at}
+use Rattle.std.proofs.lemmas.List.{append-nil, append_assoc, drop-drop, drop_at, length-append, take_at}
 use Rattle.std.proofs.lemmas.List.Elements.{filter-append}
 use Rattle.std.proofs.lemmas.List.Folds.{list_any-append}
 use Rattle.implib.specs.declared.coff.object.Relocation.{Relocation}
@@ -22,14 +22,10 @@ use Rattle.implib_link.specs.Gnu.Pointers.{HasLoad, LoadArrives, load_reads}
 use Rattle.implib_link.specs.Stub.{adrp_immediate, bits_of, ldr_immediate, page, plus_signed, with_adrp, with_bits, word_at}
 use Rattle.implib_link.proofs.Gnu.Fields.{meets_bounds, meets_from}
 use Rattle.implib_link.proofs.Gnu.Jumps.{number-u32}
-use Rattle.implib_link.proofs.Gnu.MovedCode.{joined}
-use Rattle.implib_link.proofs.Gnu.OperandStubs.{four_of}
+use Rattle.implib_link.proofs.Gnu.MovedCode.{call_field, four_of, joined}
+use Rattle.implib_link.proofs.Gnu.MovedPointers.{mov_field}
 
 -- Relocations aside meet no part of the instructions.
-
-append_none : (xs : List Relocation) → xs ++ [] ≡ xs
-append_none [] = refl
-append_none (x ∷ xs) = ap (λ ys. x ∷ ys) (append_none xs)
 
 aside_misses : (machine : MachineType) (offset count inner size : ℕ) (r : Relocation) → IsAside machine offset count r → offset ≤ inner → inner + size ≤ offset + count → meets machine inner size r ≡ false
 aside_misses machine offset count inner size r aside from to =
@@ -60,7 +56,7 @@ module _ (machine : MachineType) (c : LinkedCode) (offset : ℕ) (name bytes : L
       let first : filter p has.before ≡ [] = aside_none machine offset (length bytes) inner size has.before has.aside_before from to in
       let last : filter p has.behind ≡ [] = aside_none machine offset (length bytes) inner size has.behind has.aside_behind from to in
       ap (filter p) has.relocated ∙ filter-append p has.before (own ++ has.behind) ∙ ap (λ xs. xs ++ filter p (own ++ has.behind)) first
-      ∙ filter-append p own has.behind ∙ ap (λ xs. filter p own ++ xs) last ∙ append_none (filter p own)
+      ∙ filter-append p own has.behind ∙ ap (λ xs. filter p own ++ xs) last ∙ append-nil (filter p own)
 
   own_any : (inner size : ℕ) → offset ≤ inner → inner + size ≤ offset + length bytes → list_any (meets machine inner size) own ≡ false → list_any (meets machine inner size) c.code.relocations ≡ false
   own_any inner size from to none =
@@ -114,15 +110,9 @@ module _ (machine : MachineType) (image_base : ℕ) (linked : List Placed) (code
       let whole : length (0xFF ∷ 0x15 ∷ (x.field ++ [])) ≡ 6 = omega (arith, length-append x.field []) in
       record { instructions = 0xFF ∷ 0x15 ∷ (x.field ++ []); here = x.there; whole = whole ∙ sym size; entry = x.entry; reads = reads; located = x.located }
 
-i386_call : (address : ℕ) (field : List ℕ) → length field ≡ 4 → call_reads I386 address (0xFF ∷ 0x15 ∷ (field ++ [])) ≡ Some (number_in field)
-i386_call address field four = let f = four_of field four in subst (λ xs. call_reads I386 address (0xFF ∷ 0x15 ∷ (xs ++ [])) ≡ Some (number_in xs)) (sym f.is) refl
-
 amd64_call : (address : ℕ) (field : List ℕ) → length field ≡ 4 → call_reads AMD64 address (0xFF ∷ 0x15 ∷ (field ++ [])) ≡ Some (plus_signed 32 1 (number_in field) (address + 6))
 amd64_call address field four =
     let f = four_of field four in subst (λ xs. call_reads AMD64 address (0xFF ∷ 0x15 ∷ (xs ++ [])) ≡ Some (plus_signed 32 1 (number_in xs) (address + 6))) (sym f.is) refl
-
-i386_load : (address : ℕ) (field : List ℕ) → length field ≡ 4 → load_reads I386 address (0xA1 ∷ (field ++ [])) ≡ Some (number_in field)
-i386_load address field four = let f = four_of field four in subst (λ xs. load_reads I386 address (0xA1 ∷ (xs ++ [])) ≡ Some (number_in xs)) (sym f.is) refl
 
 amd64_load : (address : ℕ) (field : List ℕ) → length field ≡ 4 → load_reads AMD64 address (0x48 ∷ 0x8B ∷ 5 ∷ (field ++ [])) ≡ Some (plus_signed 32 1 (number_in field) (address + 7))
 amd64_load address field four =
@@ -235,7 +225,7 @@ pub usual_calls : (machine : MachineType) (image_base : ℕ) (linked : List Plac
     AllLead machine image_base linked codes memory name bytes → AreKept machine codes memory → Contains codes c → HasCall machine (placed_code c) offset name → CallArrives machine image_base memory (c.position + offset) bytes
 usual_calls I386 image_base linked codes memory name bytes c offset other lead kept held has =
     let x = lead.instructions c offset (0xFF ∷ 0x15 ∷ []) [] held (x86_instruction I386 c offset i386_dir32 6 (0xFF ∷ 0x15 ∷ []) name refl refl refl (refl, refl) has) in
-    x86_call I386 image_base linked codes memory name bytes (c.position + offset) refl x (i386_call (image_base + (c.position + offset)) x.field x.four ∙ x.leads)
+    x86_call I386 image_base linked codes memory name bytes (c.position + offset) refl x (call_field (image_base + (c.position + offset)) x.field x.four ∙ x.leads)
 usual_calls ARMNT image_base linked codes memory name bytes c offset other lead kept held has = absurd (other refl)
 usual_calls AMD64 image_base linked codes memory name bytes c offset other lead kept held has =
     let x = lead.instructions c offset (0xFF ∷ 0x15 ∷ []) [] held (x86_instruction AMD64 c offset amd64_rel32 6 (0xFF ∷ 0x15 ∷ []) name refl refl refl (0, (omega arith, (refl, refl))) has) in
@@ -284,7 +274,7 @@ usual_loads I386 image_base linked codes memory name bytes c offset other lead h
       here = x.there;
       whole = omega (arith, length-append x.field []);
       entry = x.entry;
-      reads = i386_load (image_base + (c.position + offset)) x.field x.four ∙ x.leads;
+      reads = mov_field (image_base + (c.position + offset)) x.field x.four ∙ x.leads;
       located = x.located;
     }
 usual_loads ARMNT image_base linked codes memory name bytes c offset other lead held has = absurd (other refl)

@@ -73,7 +73,7 @@ arm64_test type image_base position target old new =
     if type == arm64_addr64 then new 8 == (old 8 + (image_base + target)) % 2 ^ 64
     else if type == arm64_branch26
     then (with_bits 0 26 0 (new 4) == with_bits 0 26 0 (old 4))
-    && (bits_of 0 26 (new 4) == (bits_of 0 26 (old 4) + (target + (2 ^ 28 - position % 2 ^ 28)) / 4) % 2 ^ 26)
+    && (bits_of 0 26 (new 4) == (target + (2 ^ 28 - position % 2 ^ 28)) / 4 % 2 ^ 26)
     else if type == arm64_pagebase_rel21
     then (with_adrp 0 (new 4) == with_adrp 0 (old 4))
     && (adrp_immediate (new 4)
@@ -90,7 +90,7 @@ arm64_holds : (type image_base position target : ℕ) (old new : ℕ → ℕ) �
 unfolding arm64_test
 arm64_holds type image_base position target old new test = record {
   addr64 = λ is. let here : (type == arm64_addr64) ≡ true = eq-eqb type arm64_addr64 is in eqb-true (new 8) ((old 8 + (image_base + target)) % 2 ^ 64) (rw here at test);
-  branch = λ is near far.
+  branch = λ is none near far.
       let one : (type == arm64_addr64) ≡ false = ne_eqb type arm64_addr64 (λ same. omega arith) in
       let here : (type == arm64_branch26) ≡ true = eq-eqb type arm64_branch26 is in
       both_equal _ _ _ _ (rw (one, here) at test);

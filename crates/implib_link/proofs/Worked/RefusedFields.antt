@@ -2,7 +2,7 @@
 use Rattle.std.proofs.Common.{◌≡◌, ℕ, ◌+◌, ◌*◌, ◌<◌, List, [], ◌∷◌, ◌++◌, codes, length, Some, None, refl, ap, sym, ◌∙◌, subst, arith}
 use Rattle.std.specs.Prelude.{drop}
 use Rattle.implib.specs.declared.machine.MachineType.TheVariants.{AMD64, ARM64}
-use Rattle.implib.specs.Formats.Constants.{amd64_rel32}
+use Rattle.implib.specs.Formats.Constants.{amd64_rel32, arm64_pagebase_rel21, arm64_pageoffset_12l, i386_dir32}
 use Rattle.implib.specs.Formats.Layout.{encoded_size}
 use Rattle.implib.specs.Link.Image.{Range, byte_at}
 use Rattle.implib.specs.Link.Load.{BytesAt, NumberAt}
@@ -11,13 +11,13 @@ use Rattle.implib.specs.Members.GnuMembers.{alias_specs}
 use Rattle.implib.specs.Members.Members.{refusal, renamed_refusal}
 use Rattle.implib.specs.Members.WeakExternal.{weak_object}
 use Rattle.implib.proofs.Link.Loading.{number_once}
-use Rattle.implib_link.specs.Gnu.Calls.{amd64_addr64}
+use Rattle.implib_link.specs.Gnu.Calls.{amd64_addr64, arm64_addr64, arm64_branch26, i386_rel32}
 use Rattle.implib_link.specs.Gnu.Operands.{branch_leads, operand_leads}
 use Rattle.implib_link.specs.Gnu.Program.{has_tables}
 use Rattle.implib_link.specs.Stub.{adrp_immediate, ldr_immediate, page, plus_signed, with_adrp, with_bits}
 use Rattle.implib_link.specs.Worked.Operands.{amd64_rel32_1, field, imp_open, or_else, passing_at, passing_code, passing_linked, passing_memory, passing_placed, passing_targets}
 use Rattle.implib_link.specs.Worked.Programs.{touching_8}
-use Rattle.implib_link.specs.Worked.RefusedFields.{RefusedBranches, RefusedCode, RefusedInstructions, RefusedMoves, RefusedOperands, RefusedPairs, RefusedPointers, linked_on_amd64, open_address, two_ranges, with_byte}
+use Rattle.implib_link.specs.Worked.RefusedFields.{RefusedBranches, RefusedCode, RefusedFieldsOfTypes, RefusedInstructions, RefusedMoves, RefusedOperands, RefusedPairs, RefusedPointers, linked_on_amd64, open_address, two_ranges, with_byte}
 use Rattle.implib_link.proofs.Gnu.Memory.{byte_first}
 use Rattle.implib_link.proofs.Gnu.Stubs.{same_address}
 use Rattle.implib_link.proofs.Worked.LinkedCode.{relocated_by, relocated_test}
@@ -63,6 +63,22 @@ refused_code = record {
   rel32_1 = λ r. let is : 0xFFFF_F069 ≡ 0xFFFF_F068 = (r.fields (field 19 1 amd64_rel32_1) refl (omega arith)).rel32 1 (omega arith) refl in differ 0xFFFF_F068 0xFFFF_F069 (sym is) (omega arith);
   half = λ r. let is : 0x4000_0080 ≡ 0x1_4000_0080 = (r.fields (field 52 1 amd64_addr64) refl (omega arith)).addr64 refl in differ 0x4000_0080 0x1_4000_0080 is (omega arith);
   any = relocated_by AMD64 0x1_4000_0000 (passing_targets AMD64 touching_8 (passing_at AMD64)) 0x1000 (passing_code AMD64) (with_byte (passing_linked AMD64) 43 0x55) refl;
+}
+
+pub refused_types : RefusedFieldsOfTypes
+unfolding opened refusal renamed_refusal alias_specs encoded_size weak_object has_tables relocated_test
+refused_types = record {
+  i386_dir32 = λ r. let is : 0x40_0061 ≡ 0x40_0060 = (r.fields (field 11 1 i386_dir32) refl (omega arith)).dir32 refl in differ 0x40_0060 0x40_0061 (sym is) (omega arith);
+  i386_rel32 = λ r. let is : 0x18 ≡ 0x17 = (r.fields (field 37 3 i386_rel32) refl (omega arith)).rel32 refl in differ 0x17 0x18 (sym is) (omega arith);
+  arm64_addr64 = λ r. let is : 0x1_4000_0088 ≡ 0x1_4000_0080 = (r.fields (field 32 1 arm64_addr64) refl (omega arith)).addr64 refl in differ 0x1_4000_0080 0x1_4000_0088 (sym is) (omega arith);
+  arm64_branch = λ r. let is : 10 ≡ 9 = ((r.fields (field 28 3 arm64_branch26) refl (omega arith)).branch refl refl (omega arith) (omega arith)).1 in differ 9 10 (sym is) (omega arith);
+  arm64_link = λ r. let is : 0x1400_0000 ≡ 0x9400_0000 = ((r.fields (field 28 3 arm64_branch26) refl (omega arith)).branch refl refl (omega arith) (omega arith)).0 in differ 0x1400_0000 0x9400_0000 is (omega arith);
+  arm64_page = λ r. let is : 0x1F_FFFE ≡ 0x1F_FFFF = ((r.fields (field 12 1 arm64_pagebase_rel21) refl (omega arith)).page_of refl).1 in differ 0x1F_FFFE 0x1F_FFFF is (omega arith);
+  arm64_paged = λ r. let is : 0x9000_0009 ≡ 0x9000_0008 = ((r.fields (field 12 1 arm64_pagebase_rel21) refl (omega arith)).page_of refl).0 in differ 0x9000_0008 0x9000_0009 (sym is) (omega arith);
+  arm64_offset = λ r. let is : 0x11 ≡ 0x10 = ((r.fields (field 16 1 arm64_pageoffset_12l) refl (omega arith)).offset_of refl refl).1 in differ 0x10 0x11 (sym is) (omega arith);
+  arm64_loaded = λ r. let is : 0xF940_0109 ≡ 0xF940_0108 = ((r.fields (field 16 1 arm64_pageoffset_12l) refl (omega arith)).offset_of refl refl).0 in differ 0xF940_0108 0xF940_0109 (sym is) (omega arith);
+  arm64_add = relocated_by ARM64 0x1_4000_0000 (passing_targets ARM64 touching_8 (passing_at ARM64)) 0x1000 (passing_code ARM64) (with_byte (passing_linked ARM64) 9 0x80) refl;
+  arm64_wide = relocated_by ARM64 0x1_4000_0000 (passing_targets ARM64 touching_8 (passing_at ARM64)) 0x1000 (passing_code ARM64) (with_byte (passing_linked ARM64) 25 8) refl;
 }
 
 call_number : List ℕ

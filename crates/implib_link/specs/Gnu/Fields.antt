@@ -44,15 +44,16 @@ pub record Amd64Holds (type image_base position target : ℕ) (old new : ℕ →
   pub rel32 : (further : ℕ) → further ≤ 5 → type ≡ amd64_rel32 + further →
       new 4 ≡ (old 4 + target + (2 ^ 32 - (position + 4 + further) % 2 ^ 32)) % 2 ^ 32
 
--- ARM64: ADDR64 adds the target's address; BRANCH26, where the branch reaches the target, the words from the branch to
--- it; PAGEBASE_REL21 the target's page relative to its own; PAGEOFFSET_12L, of a load of 8 bytes, the target's offset
--- in its page. All other bits of an instruction are as they were. A linker may send a branch that does not reach its
--- target by other code: of such a field nothing is said.
+-- ARM64: ADDR64 adds the target's address; BRANCH26, empty and within the branch's reach, has the words from the branch
+-- to the target; PAGEBASE_REL21 the target's page relative to its own; PAGEOFFSET_12L, of a load of 8 bytes, the target's
+-- offset in its page. All other bits of an instruction are as they were. A linker may send a branch that does not reach
+-- its target by other code: of such a field nothing is said.
 pub record Arm64Holds (type image_base position target : ℕ) (old new : ℕ → ℕ) : Type 0 where
   pub addr64 : type ≡ arm64_addr64 → new 8 ≡ (old 8 + (image_base + target)) % 2 ^ 64
-  pub branch : type ≡ arm64_branch26 → position ≤ target + 2 ^ 27 → target < position + 2 ^ 27 →
+  pub branch : type ≡ arm64_branch26 → bits_of 0 26 (old 4) ≡ 0 → position ≤ target + 2 ^ 27 →
+      target < position + 2 ^ 27 →
       (with_bits 0 26 0 (new 4) ≡ with_bits 0 26 0 (old 4))
-      × (bits_of 0 26 (new 4) ≡ (bits_of 0 26 (old 4) + (target + (2 ^ 28 - position % 2 ^ 28)) / 4) % 2 ^ 26)
+      × (bits_of 0 26 (new 4) ≡ (target + (2 ^ 28 - position % 2 ^ 28)) / 4 % 2 ^ 26)
   pub page_of : type ≡ arm64_pagebase_rel21 →
       (with_adrp 0 (new 4) ≡ with_adrp 0 (old 4))
       × (adrp_immediate (new 4)

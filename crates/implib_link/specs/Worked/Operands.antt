@@ -12,15 +12,17 @@ use Rattle.implib.specs.Link.Placement.{Bases, Placed, SectionAddress, Unplaced,
 use Rattle.implib.specs.Link.Resolution.{target_address}
 use Rattle.implib.specs.Members.Gnu.{section, stub_bytes, stub_relocations, text_name}
 use Rattle.implib.specs.Members.ImportTables.{thunk_width}
+use Rattle.implib_link.specs.Flavors.Program.{IsFlavorProgram}
 use Rattle.implib_link.specs.Gnu.Calls.{HasCall, HasDirectCall, IsAside, amd64_addr64, arm64_addr64, arm64_branch26, i386_rel32}
 use Rattle.implib_link.specs.Gnu.Fields.{LinkedCode, placed_code, ranges_of_codes}
 use Rattle.implib_link.specs.Gnu.Moves.{AreInMemory, CanBeMoved}
-use Rattle.implib_link.specs.Gnu.Operands.{AllLead, AreKept, BranchArrives, HasBranch, HasInstruction, HasOffsetField, HasOperand, HasPageField, HasPointer, IsOperand, branch_leads, operand_leads}
+use Rattle.implib_link.specs.Gnu.Operands.{AllLead, AreKept, BranchArrives, HasBranch, HasInstruction, HasOffsetField, HasOperand, HasPageField, HasPointer, InstructionArrives, IsOperand, branch_leads, operand_leads}
 use Rattle.implib_link.specs.Gnu.Pages.{HasPage, HasPageOffset}
 use Rattle.implib_link.specs.Gnu.Program.{IsProgram, null_descriptor}
 use Rattle.implib_link.specs.Gnu.Reading.{ReadsAndWrites}
 use Rattle.implib_link.specs.Gnu.Rebased.{Place, StubArrives}
-use Rattle.implib_link.specs.Worked.Calls.{given_on}
+use Rattle.implib_link.specs.Worked.Calls.{calling, calling_code, calling_flavors, first_bytes, flavors_placed, given_on, last_bytes}
+use Rattle.implib_link.specs.Worked.Flavors.{both_inputs as flavor_inputs, flavor_bases_8}
 use Rattle.implib_link.specs.Worked.Programs.{another, both_inputs, foo_input, input_objects, symbol_of_class, symbol_on, touching_4, touching_8, zed_input}
 
 -- The relocations relative to a section ("Type Indicators": SECREL), of which no law says what their fields hold, and
@@ -338,3 +340,38 @@ pub record MovableCode : Type 0 where
   -- so there is memory of AMD64's program at any other base, say at 0x200000000
   pub somewhere : (memory : List Range) × AreInMemory AMD64 0x2_0000_0000 (passing_image AMD64 touching_8)
       (passing_placed AMD64 touching_8) (passing_codes AMD64 touching_8) (passing_targets AMD64 touching_8) memory
+
+-- In a program of both flavours: the code of Worked/Calls, whose call at 0x1004 leads to 0x88.
+abbrev pub calling_linked : LinkedCode
+calling_linked = record {
+  from = record { object = calling AMD64; section_addresses = Unplaced ∷ [] };
+  number = 1;
+  code = calling_code AMD64;
+  position = 0x1000;
+  bytes = first_bytes AMD64 ++ (0xFF ∷ 0x15 ∷ 0x7E ∷ 0xF0 ∷ 0xFF ∷ 0xFF ∷ last_bytes AMD64);
+}
+
+abbrev pub linked_targets : LinkedCode → ℕ → ℕ
+linked_targets c index =
+    named_or AMD64 (slice_get c.from.object.entries index) (target_address flavors_placed c.from index)
+
+abbrev pub flavors_linked : List Range
+flavors_linked = image_of AMD64 flavor_bases_8 flavors_placed ++ ranges_of_codes (calling_linked ∷ [])
+
+-- It is in memory as it was linked for 0x140000000, and at 0x200000000, where nothing changes; at both the call arrives
+-- at what foo.dll gives for `open`.
+pub record WorkedFlavorFields : Type 0 where
+  pub program : IsFlavorProgram AMD64 flavor_bases_8 (flavor_inputs AMD64) calling_flavors
+  pub linked : AreInMemory AMD64 0x1_4000_0000 (image_of AMD64 flavor_bases_8 flavors_placed) flavors_placed
+      (calling_linked ∷ []) linked_targets flavors_linked
+  pub moved : AreInMemory AMD64 0x2_0000_0000 (image_of AMD64 flavor_bases_8 flavors_placed) flavors_placed
+      (calling_linked ∷ []) linked_targets flavors_linked
+  pub call : HasInstruction AMD64 calling_linked 4 (0xFF ∷ 0x15 ∷ []) [] (imp_open AMD64)
+  pub arrives : (n : ℕ) (written : List Range) →
+      ReadsAndWrites flavors_linked 8 (given_on AMD64) n 8 written →
+      InstructionArrives AMD64 0x1_4000_0000 flavors_placed (written ++ flavors_linked) 0x1004 (0xFF ∷ 0x15 ∷ []) []
+      (imp_open AMD64) (0x40 ∷ 0 ∷ 0 ∷ 0x10 ∷ 0 ∷ 0 ∷ 0 ∷ 0 ∷ [])
+  pub arrives_moved : (n : ℕ) (written : List Range) →
+      ReadsAndWrites flavors_linked 8 (given_on AMD64) n 8 written →
+      InstructionArrives AMD64 0x2_0000_0000 flavors_placed (written ++ flavors_linked) 0x1004 (0xFF ∷ 0x15 ∷ []) []
+      (imp_open AMD64) (0x40 ∷ 0 ∷ 0 ∷ 0x10 ∷ 0 ∷ 0 ∷ 0 ∷ 0 ∷ [])

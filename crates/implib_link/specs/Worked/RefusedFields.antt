@@ -30,6 +30,31 @@ pub record RefusedCode : Type 0 where
   pub half : Relinked (with_byte (passing_linked AMD64) 56 0) → ⊥
   pub any : Relinked (with_byte (passing_linked AMD64) 43 0x55)
 
+-- the same of I386's and of ARM64's code
+abbrev pub RelinkedI386 : List ℕ → Type 0
+RelinkedI386 bytes =
+    IsRelocated I386 0x40_0000 (passing_targets I386 touching_4 (passing_at I386)) 0x1000 (passing_code I386) bytes
+
+abbrev pub RelinkedArm64 : List ℕ → Type 0
+RelinkedArm64 bytes =
+    IsRelocated ARM64 0x1_4000_0000 (passing_targets ARM64 touching_8 (passing_at ARM64)) 0x1000 (passing_code ARM64) bytes
+
+-- I386: another address in the call, another distance in the jump.
+-- ARM64: another stored address; another distance, and `b` in the place of `bl`; another page, and another register;
+-- another offset, and another register. The `add` and the load of 16 bytes may have any offset.
+pub record RefusedFieldsOfTypes : Type 0 where
+  pub i386_dir32 : RelinkedI386 (with_byte (passing_linked I386) 11 0x61) → ⊥
+  pub i386_rel32 : RelinkedI386 (with_byte (passing_linked I386) 37 0x18) → ⊥
+  pub arm64_addr64 : RelinkedArm64 (with_byte (passing_linked ARM64) 32 0x88) → ⊥
+  pub arm64_branch : RelinkedArm64 (with_byte (passing_linked ARM64) 28 10) → ⊥
+  pub arm64_link : RelinkedArm64 (with_byte (passing_linked ARM64) 31 0x14) → ⊥
+  pub arm64_page : RelinkedArm64 (with_byte (passing_linked ARM64) 15 0xD0) → ⊥
+  pub arm64_paged : RelinkedArm64 (with_byte (passing_linked ARM64) 12 0xE9) → ⊥
+  pub arm64_offset : RelinkedArm64 (with_byte (passing_linked ARM64) 17 0x45) → ⊥
+  pub arm64_loaded : RelinkedArm64 (with_byte (passing_linked ARM64) 16 9) → ⊥
+  pub arm64_add : RelinkedArm64 (with_byte (passing_linked ARM64) 9 0x80)
+  pub arm64_wide : RelinkedArm64 (with_byte (passing_linked ARM64) 25 8)
+
 -- a memory of two ranges: a field at an address, and what is at the entry of `open`
 abbrev pub two_ranges : ℕ → List ℕ → List ℕ → List Range
 two_ranges address field bytes =

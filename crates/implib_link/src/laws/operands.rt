@@ -28,8 +28,9 @@ ghost use Rattle.implib_link.specs.Gnu.Reading.{ReadsAndWrites};
 ghost use Rattle.implib_link.specs.Gnu.Rebased.{StubArrives};
 ghost use Rattle.implib_link.specs.Stub.{CanJump};
 ghost use Rattle.implib_link.specs.Worked.Operands.{AdjacentCalls, MovableCode, PassingFields};
-ghost use Rattle.implib_link.specs.Worked.Operands.{WorkedOperands};
+ghost use Rattle.implib_link.specs.Worked.Operands.{WorkedFlavorFields, WorkedOperands};
 ghost use Rattle.implib_link.specs.Worked.RefusedFields.{RefusedBranches, RefusedCode};
+ghost use Rattle.implib_link.specs.Worked.RefusedFields.{RefusedFieldsOfTypes};
 ghost use Rattle.implib_link.specs.Worked.RefusedFields.{RefusedInstructions, RefusedMoves};
 ghost use Rattle.implib_link.specs.Worked.RefusedFields.{RefusedOperands, RefusedPairs};
 ghost use Rattle.implib_link.specs.Worked.RefusedFields.{RefusedPointers};
@@ -328,12 +329,14 @@ pub fn worked_operands()
     ensures calls { AdjacentCalls }
     ensures programs { WorkedOperands }
     ensures moving { MovableCode }
+    ensures flavors { WorkedFlavorFields }
 {}
 
 /// Near misses: bytes that no linker makes of the worked code, and memory in which no field leads to
 /// the entry, each with one thing wrong.
 pub fn refused_fields()
     ensures code { RefusedCode }
+    ensures types { RefusedFieldsOfTypes }
     ensures operands { RefusedOperands }
     ensures instructions { RefusedInstructions }
     ensures pointers { RefusedPointers }
