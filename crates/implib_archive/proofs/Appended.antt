@@ -7,7 +7,7 @@ use Rattle.std.proofs.lemmas.List.{take_more}
 use Rattle.std.proofs.lemmas.List.Folds.{flat_map-map}
 use Rattle.implib_archive.specs.Pushed.{Pushes, shown}
 
--- bytes behind bytes
+-- bytes after bytes
 pub pushes_then : {a b c x y : List ℕ} → Pushes a b x → Pushes b c y → Pushes a c (x ++ y)
 pushes_then {a} {b} {c} {x} {y} p q = record { whole = q.whole ∙ ap (λ t. t ++ y) p.whole ∙ append_assoc a x y }
 
@@ -25,7 +25,7 @@ pushes_as {a} e p = record { whole = p.whole ∙ ap (λ t. a ++ t) e }
 pub pushes_nothing : (a : List ℕ) → Pushes a a []
 pushes_nothing a = record { whole = sym (append-nil a) }
 
--- what a call appends where it succeeds, behind other bytes
+-- what a call appends where it succeeds, after other bytes
 pub on_then : {T E : Type 0} {a b x : List ℕ} (r : Result T E) (c y : List ℕ) → Pushes a b x → OnOk r (Pushes b c y) → OnOk r (Pushes a c (x ++ y))
 on_then (Ok u) c y p q = pushes_then p q
 on_then (Err e) c y p q = q

@@ -131,7 +131,7 @@ map_pairs : (xs : List (List ℕ × ℕ)) → map (λ x. (x.0, x.1)) xs ≡ xs
 map_pairs [] = refl
 map_pairs (x ∷ xs) = ap (λ t. x ∷ t) (map_pairs xs)
 
--- the entries, behind the offsets
+-- the entries, after the offsets
 abbrev entries_data : List ℕ → List (List ℕ × ℕ)
 entries_data rest = let count = from_le_bytes w32 (take 4 rest) in paired (texts_in count (drop (4 + 2 * count) rest)) (numbers_in (from_le_bytes w16) 2 count (drop 4 rest))
 

@@ -38,7 +38,7 @@ nothing_left (x ∷ rest) found = by_part (stored_at (x ∷ rest) 0) found
     by_part None e = absurd (cc)
     by_part (Some s) e = by_others s (stored_from (59 + length s.contents + length s.contents % 2) rest) e
 
--- the first part, and those behind it
+-- the first part, and those after it
 record IsFirst (bytes : List ℕ) (s : Stored) (parts : List Stored) : Type 0 where
   at : stored_at bytes 0 ≡ Some s
   others : stored_from (59 + length s.contents + length s.contents % 2) (drop 1 bytes) ≡ Some parts
@@ -85,7 +85,7 @@ laid_from bytes place (s ∷ parts) within found =
           (ap (stored_from 0) (sym rest) ∙ more.1),
     )
 
--- what is found in an archive is laid out behind its signature
+-- what is found in an archive is laid out after its signature
 pub laid_out : (bytes : List ℕ) (parts : List Stored) → stored_in bytes ≡ Some parts → (take 8 bytes ≡ codes "!<arch>\n") × AreLaidOut bytes 8 parts
 unfolding stored_in
 laid_out bytes parts found = by_test (bytes_eq (take 8 bytes) (codes "!<arch>\n")) refl found

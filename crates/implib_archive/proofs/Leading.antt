@@ -205,7 +205,7 @@ unfolding headers_in
 headers_found kind members accepted =
     ap (option_map (headers_among 8)) (parts_read_back kind members accepted) ∙ ap (λ t. Some t) (headers_of_parts kind members accepted)
 
--- Behind each header of a member it is read.
+-- After each header of a member it is read.
 
 module _ (kind : Kind) (bytes : List ℕ) (all : List Stored) (found : stored_in bytes ≡ Some all) where
   at_header : (place : ℕ) (s : Stored) → stored_at bytes place ≡ Some s → member_at kind bytes place ≡ read_as kind (long_names_in all) (name_in s.field) s.contents

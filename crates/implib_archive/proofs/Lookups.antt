@@ -20,7 +20,7 @@ use Rattle.implib_archive.specs.declared.kind.Kind.{Kind}
 use Rattle.implib_archive.specs.declared.kind.Kind.TheVariants.{Coff, Gnu}
 use Rattle.implib_archive.proofs.Numbered.{sorted_push}
 
--- One list behind another.
+-- One list after another.
 
 -- the first of two that is there
 abbrev or_else : {X : Type 0} → Option X → Option X → Option X

@@ -33,7 +33,7 @@ begins_all a b x y p = record { taken = x; left = y; whole = refl; written = p }
 pub begins_more : (a b : Option (List ℕ)) (x y : List ℕ) → AppendsBeginning a b x → AppendsBeginning a b (x ++ y)
 begins_more a b x y p = record { taken = p.taken; left = p.left ++ y; whole = ap (λ t. t ++ y) p.whole ∙ append_assoc p.taken p.left y; written = p.written }
 
--- a beginning behind bytes
+-- a beginning after bytes
 pub begins_then : (a b c : Option (List ℕ)) (x y : List ℕ) → Appends a b x → AppendsBeginning b c y → AppendsBeginning a c (x ++ y)
 begins_then a b c x y p q = record {
   taken = x ++ q.taken;
@@ -42,7 +42,7 @@ begins_then a b c x y p q = record {
   written = appends_then a b c x q.taken p q.written;
 }
 
--- what a call writes behind bytes
+-- what a call writes after bytes
 pub writes_then : {T E : Type 0} (r : Result T E) (a b c : Option (List ℕ)) (x y : List ℕ) → Appends a b x → Writes b c y r → Writes a c (x ++ y) r
 writes_then (Ok u) a b c x y p q = appends_then a b c x y p q
 writes_then (Err e) a b c x y p q = begins_then a b c x y p q

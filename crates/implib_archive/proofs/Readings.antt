@@ -139,7 +139,7 @@ walked (x ∷ part) rest s long at =
     ap (λ r. option_and_then (λ p. option_map (λ others. p ∷ others) (stored_from (59 + length p.contents + length p.contents % 2) (part ++ rest))) r) at
     ∙ (ap (λ n. option_map (λ others. s ∷ others) (stored_from n (part ++ rest))) left ∙ ap (option_map (λ others. s ∷ others)) (passed part rest))
 
--- a part is found, and those behind it
+-- a part is found, and those after it
 stored_part : (l : Label) (contents pad rest : List ℕ) → LabelFits l → length contents < 2 ^ 33 → length pad ≡ length contents % 2
     → stored_from 0 ((header_bytes l (length contents) ++ contents ++ pad) ++ rest) ≡ option_map (λ others. stored l.name contents ∷ others) (stored_from 0 rest)
 stored_part l contents pad rest fits short p =

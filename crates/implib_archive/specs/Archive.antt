@@ -59,7 +59,7 @@ unfoldable pub offset_of : List (List ℕ × ℕ) → List ℕ → Option ℕ
 offset_of [] name = None
 offset_of (n ∷ names) name = if bytes_eq name n.0 then Some n.1 else offset_of names name
 
--- the long names and one more behind them, if it is long and not among them
+-- the long names and one more after them, if it is long and not among them
 unfoldable pub with_name : Kind → List (List ℕ × ℕ) → List ℕ → List (List ℕ × ℕ)
 with_name kind names name =
     if is_long name then (if is_some (offset_of names name) then names else names ++ (name, length (names_bytes kind names)) ∷ []) else names
@@ -94,7 +94,7 @@ unfoldable pub places_from : ℕ → List MemberView → List ℕ
 places_from place [] = []
 places_from place (m ∷ members) = place ∷ places_from (place + part_size (length m.bytes)) members
 
--- the offset behind the members, the first of which begins at this one
+-- the offset after the members, the first of which begins at this one
 unfoldable pub end_from : ℕ → List MemberView → ℕ
 end_from place [] = place
 end_from place (m ∷ members) = end_from (place + part_size (length m.bytes)) members

@@ -64,7 +64,7 @@ first_lister (place ∷ headers) (m ∷ members) symbol =
 
 -- Where the index of an archive leads:
 -- `headers`, `found`: the members' headers are at these offsets;
--- `read`: the members are behind them, in order;
+-- `read`: the members are after them, in order;
 -- `leads`: each symbol leads to the header of the first member that lists it, and any other text nowhere;
 -- `listed`: a text leads somewhere exactly if a member lists it.
 pub record IndexLeads (kind : Kind) (members : List MemberView) (bytes : List ℕ) : Type 0 where

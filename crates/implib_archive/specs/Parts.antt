@@ -23,11 +23,11 @@ unfoldable pub header_bytes : Label → ℕ → List ℕ
 header_bytes l size =
     field 16 l.name ++ field 12 l.date ++ field 6 l.owner ++ field 6 l.owner ++ field 8 l.mode ++ field 10 (decimal size) ++ (96 ∷ 10 ∷ [])
 
--- the padding byte behind data of an odd size, or nothing
+-- the padding byte after data of an odd size, or nothing
 unfoldable pub padding : ℕ → ℕ → List ℕ
 padding byte size = replicate (size % 2) byte
 
--- a part: header, data, and a line end behind data of an odd size, which the size in the header does not
+-- a part: header, data, and a line end after data of an odd size, which the size in the header does not
 -- count
 unfoldable pub part_bytes : Label → List ℕ → List ℕ
 part_bytes l contents = header_bytes l (length contents) ++ contents ++ padding 10 (length contents)

@@ -10,7 +10,7 @@ use Rattle.implib_archive.specs.declared.kind.Kind.TheVariants.{Coff, Gnu}
 
 -- Headers and data.
 
--- a header's name field, and the data behind the header
+-- a header's name field, and the data after the header
 pub record Stored : Type 0 where
   pub field : List ℕ
   pub contents : List ℕ
@@ -51,7 +51,7 @@ stored_from zero (x ∷ rest) = option_and_then
     (λ s. option_map (λ others. s ∷ others) (stored_from (59 + length s.contents + length s.contents % 2) rest))
     (stored_at (x ∷ rest) 0)
 
--- the parts of an archive, behind its signature
+-- the parts of an archive, after its signature
 unfoldable pub stored_in : List ℕ → Option (List Stored)
 stored_in bytes = if bytes_eq (take 8 bytes) (codes "!<arch>\n") then stored_from 0 (drop 8 bytes) else None
 

@@ -8,7 +8,7 @@ use Rattle.implib_archive.specs.Worked.{member}
 use Rattle.implib_archive.specs.declared.kind.Kind.TheVariants.{Coff, Gnu}
 use Rattle.implib_archive.specs.declared.error.Fault.TheVariants.{EmptyName, EmptySymbol, MemberTooLong, NulInName, NulInSymbol}
 
--- Names that a header has in its field, with a slash behind them, and names that it cannot have there: of 15 and of
+-- Names that a header has in its field, with a slash after them, and names that it cannot have there: of 15 and of
 -- 16 bytes, and with a slash in them.
 pub record WorkedFields : Type 0 where
   pub of_15_bytes : is_long (codes "fifteen_bytes.o") ≡ false

@@ -62,7 +62,7 @@ pub(crate) fn push_header(out: &mut Vec<u8>, label: &Label, size: usize) -> Resu
     out.extend_from_slice(b"`\n")
 }
 
-// Appends the padding byte behind data of an odd size.
+// Appends the padding byte after data of an odd size.
 pub(crate) fn push_padding(out: &mut Vec<u8>, byte: u8, size: usize) -> Result<(), AllocError>
     ensures { OnOk result (Pushes out.old.items out.new.items (padding byte size)) }
 {

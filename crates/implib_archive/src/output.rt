@@ -22,7 +22,7 @@ pub(crate) fn put<W: io::Write>(writer: &mut W, bytes: &[u8]) -> io::Result<()>
     Ok(())
 }
 
-// Writes some bytes, and others behind them.
+// Writes some bytes, and others after them.
 fn put_both<W: io::Write>(writer: &mut W, first: &[u8], second: &[u8]) -> io::Result<()>
     ensures { Writes (W.contents writer.old) (W.contents writer.new) (first.now
         ++ second.now) result }
@@ -31,7 +31,7 @@ fn put_both<W: io::Write>(writer: &mut W, first: &[u8], second: &[u8]) -> io::Re
     put(writer, second)
 }
 
-// Writes a header, data, and a line end behind data of an odd size.
+// Writes a header, data, and a line end after data of an odd size.
 pub(crate) fn put_part<W: io::Write>(writer: &mut W, header: &[u8], bytes: &[u8]) -> io::Result<()>
     ensures { Writes (W.contents writer.old) (W.contents writer.new) (header.now ++ bytes.now
         ++ padding 10 (length bytes.now)) result }

@@ -85,7 +85,7 @@ impl<'a> Archive<'a> {
         self.places.end
     }
 
-    /// The archive's bytes, in memory of just their size.
+    /// The archive's bytes, in memory of exactly their size.
     ///
     /// # Errors
     ///

@@ -34,7 +34,7 @@ AreHeadersOf headers members (h ∷ taken) [] = ⊥
 -- What is taken by headers, in the bytes of the archive of members, are members of which something holds:
 -- `headers`, `located`: the members' headers in the bytes;
 -- `found`, `at`: the headers that are taken are those of these members;
--- `read`: behind them a reader finds these members' names and bytes;
+-- `read`: after them a reader finds these members' names and bytes;
 -- `holds`: what holds of these members.
 pub record AreMembersAt (kind : Kind) (members : List MemberView) (taken : List ℕ)
     (P : List MemberView → Type 0) : Type 0 where
@@ -55,7 +55,7 @@ abbrev pub TakesJust : Kind → LinkerMember → List MemberView → Asks → (L
 TakesJust kind linker members asks P = (taken : List ℕ) →
     TakesAt kind linker (archive_of kind members) asks taken → AreMembersAt kind members taken P
 
--- A name leads to the header of the first member that it is listed for, behind which a reader finds this
+-- A name leads to the header of the first member that it is listed for, after which a reader finds this
 -- member's name and bytes; and nowhere, where it is listed for none.
 pub record LeadsToFirst (kind : Kind) (linker : LinkerMember) (members : List MemberView) (name : List ℕ)
     : Type 0 where
@@ -65,7 +65,7 @@ pub record LeadsToFirst (kind : Kind) (linker : LinkerMember) (members : List Me
       ≡ option_map read_view (first_listed members name)
 
 -- The bytes are an archive in the sense of searches:
--- `leads`: a name leads to the header of just the first member that it is listed for;
+-- `leads`: a name leads to the header of exactly the first member that it is listed for;
 -- `wanted`, `given`, `short`: what a linker takes in the bytes, for wanted names, for given objects, or of
 -- short imports, are members that it takes of the list of members.
 pub record AreSearched (kind : Kind) (linker : LinkerMember) (members : List MemberView) : Type 0 where

@@ -18,7 +18,7 @@ use Rattle.implib_link.specs.Stub.{CanJump}
 
 -- What is taken for the objects of a program closes it (`links`: each import is used, and each name that the
 -- program leaves undefined and the libraries list is an import or an alias). A loader that reads the image stops
--- behind as many descriptors as there are DLLs (`ends`). In the memory that it leaves, a call through `__imp_E` in
+-- after as many descriptors as there are DLLs (`ends`). In the memory that it leaves, a call through `__imp_E` in
 -- any object's placed code goes to what the DLL gives for E (`calls`).
 pub record CallsArrive (machine : MachineType) (libraries : List Library) (own : List Object)
     (taken : List MemberView) (arranged : List Library) (bases : Bases) (objects : List Object)

@@ -16,7 +16,7 @@ use Rattle.implib_link.specs.Worked.Search.{members_of, three, wanted}
 abbrev pub names_wanted : List (List ℕ)
 names_wanted = codes "f" ∷ codes "g" ∷ codes "h" ∷ []
 
--- In the worked archives a linker takes for these names the members behind the headers that `f` and `g`
+-- In the worked archives a linker takes for these names the members after the headers that `f` and `g`
 -- lead to, by either linker member; for `h` alone nothing. It does not stop before `f` is taken, and does
 -- not take for it the second member, which lists it, too. The GNU kind has no second linker member. The
 -- members of three exports have archives of both kinds; a linker that takes for wanted names a function's

@@ -119,7 +119,7 @@ memory = image_of AMD64 bases linked ++ code_ranges AMD64 0x1_4000_0000 targets 
 
 -- The text means the definition. All premises are met: the archive has the members, the program may be given, and a linker takes for it, in the
 -- bytes, tail, head and `bar`; what is linked is a program, with its code beside the tables. The call is relocated
--- to `call [rip - 0xFD2]`, which reads the entry at 0x2038. By the law a loader stops behind one descriptor, and
+-- to `call [rip - 0xFD2]`, which reads the entry at 0x2038. By the law a loader stops after one descriptor, and
 -- the call at 0x3004 arrives at what foo.dll gives for `bar`, 0x1000_0030. An object with a `bar` of its own may
 -- not be given.
 pub record WorkedWay : Type 0 where

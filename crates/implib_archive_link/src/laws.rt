@@ -56,8 +56,8 @@ pub fn searches_end()
         IsEnding kind linker members (asks_on machine wanted) }
 {}
 
-/// In the bytes of the archive of a definition's members for GNU's linker a linker takes just the
-/// head, the members of the exports that are wanted and the tail; nothing, where no export is
+/// In the bytes of the archive of a definition's members for GNU's linker a linker takes exactly
+/// the head, the members of the exports that are wanted and the tail; nothing, where no export is
 /// wanted.
 ///
 /// All listed symbols differ, so no export has an alias.
@@ -72,7 +72,7 @@ pub fn search_takes_wanted()
         (λ taken. HaveSame taken (linked_if_any d machine (exports_wanted d wanted))) }
 {}
 
-/// In the bytes of an archive of the members of several libraries a linker takes just what is
+/// In the bytes of an archive of the members of several libraries a linker takes exactly what is
 /// linked of the wanted exports of each, and weak externals, whose targets are then wanted, too.
 pub fn libraries_are_searched()
     ensures { (kind : Kind) (linker : LinkerMember) (machine : MachineType)
@@ -109,9 +109,9 @@ pub fn closed_program_links()
         LinksClosed machine libraries own taken arranged bases objects) }
 {}
 
-/// In the bytes of the archive of a definition's members for Microsoft's linker a linker takes just
-/// the short imports that are wanted, the import descriptor, the null descriptor and the null
-/// thunk; nothing, where no export is wanted.
+/// In the bytes of the archive of a definition's members for Microsoft's linker a linker takes
+/// exactly the short imports that are wanted, the import descriptor, the null descriptor and the
+/// null thunk; nothing, where no export is wanted.
 pub fn search_takes_short_imports()
     ensures { (kind : Kind) (linker : LinkerMember) (machine : MachineType) (d : DefinitionView)
         (members : List MemberView) (wanted : List (List ℕ)) →

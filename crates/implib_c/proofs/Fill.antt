@@ -14,7 +14,7 @@ fills_as {old} {new} {a} {b} y e fills = record {
   new_is = fills.new_is ∙ ap (λ t. take a old ++ (t ++ drop b old)) e;
 }
 
--- what is before the end of a chunk, and what is behind it
+-- what is before the end of a chunk, and what is after it
 module _ {old mid : List ℕ} {a b : ℕ} {x : List ℕ} (room : b ≤ length old) (fills : Fills old mid a b x) where
   whole : mid ≡ (take a old ++ x) ++ drop b old
   whole = fills.new_is ∙ sym (append_assoc (take a old) x (drop b old))
@@ -45,7 +45,7 @@ fills_both {old} {mid} {new} {a} {b} {c} {x} {y} room first second =
           ∙ ap (λ t. take a old ++ t) (sym (append_assoc x y (drop c old))))));
     }
 
--- the items of a list, behind a first chunk
+-- the items of a list, after a first chunk
 
 module _ {T V : Type 0} (f : V → List ℕ) (view : T → V) (items : List T) (index : ℕ) (front : List ℕ) {old mid : List ℕ} {a b : ℕ} (fills : Fills old mid a b (front ++ flat_map f (map view (take index items)))) where
   -- the next item fits where they all do

@@ -95,12 +95,12 @@ place_of text (SyntaxError cause offset) = offset
 place_of text (Refused cause) = unwrap_or (export_index cause) 0
 place_of text _ = 0
 
--- the buffer: the encoding and what was behind it, or all as it was
+-- the buffer: the encoding and what was after it, or all as it was
 abbrev pub buffer_of : List ℕ → Outcome → List ℕ
 buffer_of old (Success members) = encoded_members members ++ drop (length (encoded_members members)) old
 buffer_of old _ = old
 
--- what is read in the buffer: the members, and then what was behind their encoding
+-- what is read in the buffer: the members, and then what was after their encoding
 abbrev pub BufferReads : List ℕ → List ℕ → Outcome → Type 0
 BufferReads old new (Success members) =
     members_in new ≡ Some (members, drop (length (encoded_members members)) old)

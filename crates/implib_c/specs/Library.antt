@@ -68,7 +68,7 @@ place_of text (TooLong kind members) = 0
 place_of text (Unpacked kind members cause) = 0
 place_of text (Failed outcome) = members.place_of text outcome
 
--- the buffer: the archive and what was behind it, or all as it was
+-- the buffer: the archive and what was after it, or all as it was
 abbrev pub buffer_of : List ℕ → Ending → List ℕ
 buffer_of old (Packed kind members) =
     archive_of kind members ++ drop (length (archive_of kind members)) old

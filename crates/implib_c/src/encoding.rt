@@ -51,7 +51,7 @@ pub fn members_length(members: &[Member]) -> Option<usize>
     Some(sum)
 }
 
-/// Puts bytes into the buffer from an offset on, where there is room. Gives the offset behind them.
+/// Puts bytes into the buffer from an offset on, where there is room. Gives the offset after them.
 pub fn put_bytes(buffer: &mut [u8], start: usize, bytes: &[u8]) -> usize
     requires { start + length bytes.now ≤ length buffer.old }
     ensures { Fills buffer.old buffer.new start result bytes.now }

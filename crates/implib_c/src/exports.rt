@@ -84,7 +84,7 @@ pub extern "C" fn implib_library_nonnull(
 }
 
 /// Puts the line and the column of an offset in a text into `line` and `column`, both from 1. A line
-/// ends behind its line feed, and a column counts bytes.
+/// ends after its line feed, and a column counts bytes.
 ///
 /// The end of the longest beginning of the text that is UTF-8 has a position, too. A greater offset
 /// has the position of this end.

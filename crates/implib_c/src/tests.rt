@@ -139,7 +139,7 @@ fn wanted(
     }
 }
 
-// Holds calls with buffers of length 0, of a byte less than the encoding, just as long, and longer.
+// Holds calls with buffers of length 0, of a byte less than the encoding, as long, and longer.
 fn expect_buffers(
     rt: &impl Abort,
     alloc: Global,

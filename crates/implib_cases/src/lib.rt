@@ -1,6 +1,6 @@
 //! Cases as a person writes them, one directive a line, for programs that answer them.
 //!
-//! A line has a word and, behind one space, its argument. `case NAME` begins a case. The lines before
+//! A line has a word and, after one space, its argument. `case NAME` begins a case. The lines before
 //! the first case of a file belong to each of its cases. Lines that are empty or begin with `#` and
 //! a space are comments. The words beside `case` are those of the program; three kinds of argument
 //! are read here: texts, numbers and bytes.
@@ -14,7 +14,7 @@ use std::test::Fail;
 pub struct Line<'a> {
     /// Its first word.
     pub word: &'a str,
-    /// The argument: all that follows the space behind the word.
+    /// The argument: all that follows the space after the word.
     pub rest: &'a str,
 }
 
@@ -74,7 +74,7 @@ pub fn text_of(alloc: Global, lines: &[Line]) -> Result<Option<String>, Fail> {
     Ok(all)
 }
 
-/// A text with a further line behind it.
+/// A text with a further line after it.
 fn continued(alloc: Global, text: Option<String>, line: &str) -> Result<String, Fail> {
     let line = unescaped(alloc, line)?;
     match text {
@@ -116,7 +116,7 @@ pub fn push_escaped(all: &mut String, text: &str) -> Result<(), AllocError> {
     Ok(())
 }
 
-/// The number in a word: decimal, or hexadecimal behind `0x`.
+/// The number in a word: decimal, or hexadecimal after `0x`.
 pub fn number_in(word: &str) -> Result<u64, Fail> {
     match word.strip_prefix("0x") {
         Some(digits) => Ok(u64::from_str_radix(digits, 16)?),
@@ -145,7 +145,7 @@ pub fn bytes_in(alloc: Global, text: &str) -> Result<Vec<u8>, Fail> {
     Ok(bytes)
 }
 
-/// Appends bytes, two hexadecimal digits each behind a space.
+/// Appends bytes, two hexadecimal digits each after a space.
 pub fn push_bytes(all: &mut String, bytes: &[u8]) -> Result<(), AllocError> {
     for byte in bytes {
         write!(all, " {byte:02x}")?;

@@ -144,7 +144,7 @@ where_first : (is : Bool) (found : Option ℕ) (index : ℕ) (before : Bool) →
 where_first true found index before same = some_where (nat_lt 0 (suc index)) 0 ∙ lt-ltb 0 (suc index) (omega arith)
 where_first false found index before same = one_on found index ∙ same
 
--- the first item that passes is before an index just where one of the items before the index passes
+-- the first item that passes is before an index exactly where one of the items before the index passes
 pub where_before : {A : Type 0} (test : A → Bool) (items : List A) (index : ℕ) → is_some (earlier (first_where test items) index) ≡ list_any test (take index items)
 where_before test [] zero = refl
 where_before test [] (suc index) = refl

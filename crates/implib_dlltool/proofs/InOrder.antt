@@ -21,7 +21,7 @@ use Rattle.implib_dlltool.specs.Warnings.{Ascends, NoticeView, OpensLine, Warnin
 use Rattle.implib_dlltool.specs.Warnings.{lowered_notice, no_export_notice, ordinal_like_notice, ordinal_notice, other_kind_notice, repeat_notice, stdcall_notice}
 use Rattle.implib_dlltool.specs.Warnings.{target_notice, warned, warnings_at, warnings_at_site, warnings_for, warnings_from, warnings_of, whole, word_before}
 
--- each token is at this offset or behind it, and none is before the one that it follows
+-- each token is at this offset or after it, and none is before the one that it follows
 abbrev TokensFrom : ℕ → List TokenView → Type 0
 TokensFrom offset [] = Unit {0}
 TokensFrom offset (token ∷ tokens) = (offset ≤ token.at) × TokensFrom token.at tokens
@@ -30,7 +30,7 @@ tokens_from-less : (less offset : ℕ) (tokens : List TokenView) → less ≤ of
 tokens_from-less less offset [] order from = tt
 tokens_from-less less offset (token ∷ tokens) order from = (omega (arith, order, from.0), from.1)
 
--- a token within its lexeme, before those of the lexemes behind it
+-- a token within its lexeme, before those of the lexemes after it
 one_token : (offset : ℕ) (token : TokenView) (more : ℕ) (tokens : List TokenView) → offset ≤ token.at → token.at ≤ offset + more
     → TokensFrom (offset + more) tokens → TokensFrom offset (token ∷ tokens)
 one_token offset token more tokens below within rest = (below, tokens_from-less token.at (offset + more) tokens within rest)
@@ -45,7 +45,7 @@ quoted_within offset inside =
     let long = length-append inside (34 ∷ []) in
     omega (arith, start, long)
 
--- the tokens of a lexeme, and then those of the lexemes behind it
+-- the tokens of a lexeme, and then those of the lexemes after it
 by_lexeme : (offset : ℕ) (lexeme : Lexeme) (rest : List TokenView) → TokensFrom (offset + length (lexeme_text lexeme)) rest
     → TokensFrom offset (tokens_of_lexeme offset lexeme ++ rest)
 by_lexeme offset (Blank character) rest from = tokens_from-less offset _ rest (omega arith) from
@@ -68,7 +68,7 @@ tokens_ascend offset [] = (omega arith, tt)
 tokens_ascend offset (lexeme ∷ lexemes) =
     by_lexeme offset lexeme (tokens_of (offset + length (lexeme_text lexeme)) lexemes) (tokens_ascend (offset + length (lexeme_text lexeme)) lexemes)
 
--- each place is at this offset or behind it, and none is before the one that it follows
+-- each place is at this offset or after it, and none is before the one that it follows
 abbrev PlacesFrom : ℕ → List Place → Type 0
 PlacesFrom offset [] = Unit {0}
 PlacesFrom offset (place ∷ places) = (offset ≤ place.position.offset) × PlacesFrom place.position.offset places

@@ -85,7 +85,7 @@ module _ (test : Bool → Bool) (set : test true ≡ true) where
       ap (λ x. x ∷ left_out (drop 1 flags) exports) parts.0
       ∙ ap (λ l. e ∷ l) (none_left_out (drop 1 flags) exports parts.1)
 
--- the export at an index, behind others, is left out where it repeats a word of those before it
+-- the export at an index, after others, is left out where it repeats a word of those before it
 left_out_behind : (before exports : List ExportView) (index : ℕ) (e : ExportView) → slice_get exports index ≡ Some e
     → slice_get (left_out (repeats_behind before exports) exports) index ≡ Some (left_out_if (repeats (before ++ take index exports) e) e)
 left_out_behind before [] zero e at = absurd (none-some e at)

@@ -32,14 +32,14 @@ pub whole_first : (separator : ℕ) (part : List ℕ) (b : ℕ) (name : List ℕ
 whole_first separator part b name true none rest = absurd (omega (arith, none))
 whole_first separator part b name false none rest = rest (part ++ b ∷ []) (omega (arith, none)) ∙ append_assoc part (b ∷ []) name
 
--- a name without a separator stays, behind what it has
+-- a name without a separator stays, after what it has
 pub fold_whole : (separator : ℕ) (part name : List ℕ) → position_or_len (λ c. c == separator) name ≡ length name
     → fold (part_after separator) part name ≡ part ++ name
 fold_whole separator part [] none = sym (append-nil part)
 fold_whole separator part (b ∷ name) none =
     whole_first separator part b name (b == separator) none (λ before. fold_whole separator before name)
 
--- the last part of a name with a separator is that of what stands behind the first
+-- the last part of a name with a separator is that of what stands after the first
 pub part_behind_first : (separator : ℕ) (name : List ℕ) → position_or_len (λ c. c == separator) name < length name
     → part_behind separator name ≡ part_behind separator (after_first (λ c. c == separator) name)
 unfolding part_behind
@@ -51,7 +51,7 @@ pub part_behind_none : (separator : ℕ) (name : List ℕ) → position_or_len (
 unfolding part_behind
 part_behind_none separator name = fold_whole separator [] name
 
--- behind its first separator a name has the same last part
+-- after its first separator a name has the same last part
 pub passed : (separator : ℕ) (name part after : List ℕ) → part_behind separator name ≡ part_behind separator part
     → (after ≡ after_first (λ c. c == separator) part) × (position_or_len (λ c. c == separator) part < length part)
     → part_behind separator name ≡ part_behind separator after

@@ -1,4 +1,4 @@
--- Lines and columns behind more bytes of a text.
+-- Lines and columns after more bytes of a text.
 use Rattle.std.proofs.Common.{◌≡◌, ◌∙◌, ℕ, zero, suc, refl, ◌+◌, ◌-◌, ◌≤◌, Bool, true, false, List, [], ◌∷◌, ◌++◌, ap, arith, drop, if◌then◌else◌, length, sym, take}
 use Rattle.std.specs.List.{fold}
 use Rattle.std.proofs.lemmas.List.{length-drop, take-append-drop}
@@ -70,7 +70,7 @@ whole_rest zero (b ∷ rest) end = absurd (omega (arith, end))
 whole_rest (suc index) [] end = refl
 whole_rest (suc index) (b ∷ rest) end = ap (λ t. b ∷ t) (whole_rest index rest (omega (arith, end)))
 
--- what is left behind so many bytes
+-- what is left after so many bytes
 pub left : (front : List ℕ) (from : ℕ) → take (length front - from) (drop from front) ≡ drop from front
 left front from = whole_rest (length front - from) (drop from front) (let long = length-drop from front in omega (arith, long))
 

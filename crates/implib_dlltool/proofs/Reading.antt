@@ -44,7 +44,7 @@ words_from text items index item below is =
     ∙ (ap (λ x. text x ∷ map text (drop (suc index) items)) (sym is)
     ∙ ap (λ n. text item ∷ map text (drop n items)) (sym (add-one index)))
 
--- behind the last word there is none
+-- after the last word there is none
 pub words_end : {A : Type 0} (text : A → List ℕ) (items : List A) (index : ℕ) → length items ≤ index → map text (drop index items) ≡ []
 words_end text items index past = ap (map text) (drop_of_length-le items past)
 

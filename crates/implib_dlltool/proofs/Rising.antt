@@ -24,7 +24,7 @@ not_itself : (word : List ℕ) → slice_cmp nat_cmp word word ≡ Less → ⊥
 not_itself word less =
     true≢false (ap is_lt (sym less ∙ nat_list_cmp_total.antisymm word word ∙ ap ordering_reverse less))
 
--- none of these exports declares a word behind this one
+-- none of these exports declares a word after this one
 abbrev NoneBehind : List ℕ → List ExportView → Type 0
 NoneBehind last before = (word : List ℕ) → slice_cmp nat_cmp last word ≡ Less → is_declared before word ≡ false
 
@@ -36,7 +36,7 @@ and_false : (b c : Bool) → c ≡ false → (b && c) ≡ false
 and_false true c none = none
 and_false false c none = refl
 
--- with the export of a word behind it
+-- with the export of a word after it
 none_behind : (last : List ℕ) (before : List ExportView) (e : ExportView) → slice_cmp nat_cmp last (word_of e) ≡ Less
     → NoneBehind last before → NoneBehind (word_of e) (before ++ e ∷ [])
 none_behind last before e less none = λ word behind.

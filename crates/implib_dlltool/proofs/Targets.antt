@@ -31,7 +31,7 @@ module _ {X : Type 0} (text : X → List ℕ) (k : X) (eq : X → X → Bool) (s
       pushed (list_any (eq k) keys) keys
       ∙ ap (λ b. if b then map text keys else map text keys ++ text k ∷ []) (among-text keys)
 
--- the symbols of exports, behind those of others
+-- the symbols of exports, after those of others
 abbrev pub symbols_from : MachineType → NamingView → List (List ℕ) → List ExportView → List (List ℕ)
 symbols_from machine naming symbols exports =
     fold with_symbol symbols (map (symbol_linked machine naming) (filter (λ e. not e.private) exports))
@@ -60,7 +60,7 @@ same_symbols : (b c : Bool) (symbols more : List (List ℕ)) → b ≡ false →
 same_symbols true c symbols more none = absurd (true≢false none)
 same_symbols false c symbols more none = refl
 
--- without a word behind `==` there is no alias
+-- without a word after `==` there is no alias
 pub targets_beside-none : (machine : MachineType) (naming : NamingView) (symbols : List (List ℕ)) (exports : List ExportView) → list_any has_target exports ≡ false → targets_beside machine naming Msvc symbols exports ≡ []
 targets_beside-none machine naming symbols [] none = refl
 targets_beside-none machine naming symbols (e ∷ exports) none =

@@ -33,7 +33,7 @@ place_passed request exports all said more index next places at d place within i
     ∙ ap (λ t. t ++ warnings_from request exports (index_after place.site index) (drop (at + 1) places)) (sym pushed)
     ∙ ap (λ n. more ++ warnings_from request exports n (drop (at + 1) places)) (sym counted)
 
--- behind the last place there are none
+-- after the last place there are none
 pub places_passed : (request : RequestView) (exports : List ExportView) (all said : List WarningView) (index : ℕ) (places : List Place) (at : ℕ)
     → length places ≤ at → all ≡ said ++ warnings_from request exports index (drop at places) → said ≡ all
 unfolding warnings_from

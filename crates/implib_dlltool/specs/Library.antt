@@ -159,13 +159,13 @@ IsRefusalOfBytes bytes request (Members fault position) = IsRefusalOfMembers byt
 IsRefusalOfBytes bytes request (Archive fault) = RefusesArchive bytes request fault
 IsRefusalOfBytes bytes request OutOfMemory = Unit {0}
 
--- the library was written behind what a writer had
+-- the library was written after what a writer had
 pub record WritesLibrary (bytes : List ℕ) (request : RequestView) (before after : Option (List ℕ)) : Type 0 where
   pub file : List ℕ
   pub is_library : IsLibrary bytes request file
   pub written : Appends before after file
 
--- a beginning of the library was written behind what a writer had
+-- a beginning of the library was written after what a writer had
 pub record BreaksOff (bytes : List ℕ) (request : RequestView) (before after : Option (List ℕ)) (cause : WriteError) : Type 0 where
   pub file : List ℕ
   pub is_library : IsLibrary bytes request file

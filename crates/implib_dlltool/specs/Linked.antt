@@ -17,7 +17,7 @@ use Rattle.implib_dlltool.specs.declared.linked.Naming.{Naming}
 pub record NamingView : Type 0 where
   -- symbols are as written
   pub is_plain : Bool
-  -- names are asked for without their `@` and the number behind it
+  -- names are asked for without their `@` and the number after it
   pub kills_at : Bool
 
 -- the view of the rules of the program
@@ -58,7 +58,7 @@ has_at_sign word = nat_lt (position_or_len is_at_sign word) (length word)
 abbrev pub killed_fastcall : List ℕ → List ℕ → List ℕ
 killed_fastcall behind word = if has_at_sign behind then before_first is_at_sign behind else word
 
--- A word without its `@` and the number behind it, and without the `@` of fastcall in front. For example,
+-- A word without its `@` and the number after it, and without the `@` of fastcall in front. For example,
 -- `f@8` and `@f@8` give f, `_f@8` gives `_f`, and C++'s names stay.
 abbrev pub killed : List ℕ → List ℕ
 killed word =
@@ -71,7 +71,7 @@ killed word =
 abbrev pub word_asked : MachineType → NamingView → List ℕ → List ℕ
 word_asked machine naming word = if has_leading_underscore machine && naming.kills_at then killed word else word
 
--- what the DLL is asked for, for a word and the one behind `==`, which is asked for as it is written
+-- what the DLL is asked for, for a word and the one after `==`, which is asked for as it is written
 abbrev pub asked_of : MachineType → NamingView → List ℕ → List ℕ → List ℕ
 asked_of machine naming word target = if is_empty_text target then word_asked machine naming word else target
 
@@ -99,7 +99,7 @@ linked_import machine naming e = record e {
   asked_name = name_given machine (symbol_linked machine naming e) (asked_of machine naming (word_of e) e.alias_target);
 }
 
--- An export that is linked as an import asks for the word behind `==`, or else for what its own word says, given or
+-- An export that is linked as an import asks for the word after `==`, or else for what its own word says, given or
 -- not.
 abbrev pub AsksAsLinked : Type 0
 AsksAsLinked =
@@ -113,11 +113,11 @@ makes symbol name =
     bytes_eq symbol name
     || (bytes_eq (without_prefix symbol) name || bytes_eq (before_at_sign (without_prefix symbol)) name)
 
--- whether an export has a word behind `==`
+-- whether an export has a word after `==`
 abbrev pub has_target : ExportView → Bool
 has_target e = not (is_empty_text e.alias_target)
 
--- Whether an export of this symbol is an alias in a flavour: it has a word behind `==` that Microsoft's short
+-- Whether an export of this symbol is an alias in a flavour: it has a word after `==` that Microsoft's short
 -- import of the symbol cannot ask for. One that is private is left out, and one by ordinal asks for no name.
 abbrev pub is_alias_under : Flavor → List ℕ → ExportView → Bool
 is_alias_under Gnu symbol e = false
@@ -128,7 +128,7 @@ is_alias_under Msvc symbol e =
 abbrev pub is_linked_alias : MachineType → NamingView → Flavor → ExportView → Bool
 is_linked_alias machine naming flavor e = is_alias_under flavor (symbol_linked machine naming e) e
 
--- the symbol that the word behind `==` names
+-- the symbol that the word after `==` names
 abbrev pub target_symbol : MachineType → NamingView → ExportView → List ℕ
 target_symbol machine naming e = symbol_of machine naming e.alias_target
 
@@ -148,7 +148,7 @@ linked_export machine naming flavor e =
     if is_linked_alias machine naming flavor e then linked_alias machine naming e
     else linked_import machine naming e
 
--- the import of an alias's target, which asks for the word behind `==` as it is written
+-- the import of an alias's target, which asks for the word after `==` as it is written
 abbrev pub target_import : MachineType → NamingView → ExportView → ExportView
 target_import machine naming e = record empty_export {
   name = target_symbol machine naming e;
@@ -161,7 +161,7 @@ target_import machine naming e = record empty_export {
 abbrev pub is_among : List (List ℕ) → List ℕ → Bool
 is_among symbols symbol = list_any (bytes_eq symbol) symbols
 
--- the symbols, and this one behind them unless it is among them
+-- the symbols, and this one after them unless it is among them
 abbrev pub with_symbol : List (List ℕ) → List ℕ → List (List ℕ)
 with_symbol symbols symbol = if is_among symbols symbol then symbols else symbols ++ symbol ∷ []
 
@@ -194,7 +194,7 @@ abbrev pub targets_added : MachineType → NamingView → Flavor → List Export
 targets_added machine naming flavor exports =
     targets_beside machine naming flavor (symbols_linked machine naming exports) exports
 
--- exports as they are linked, and behind them the targets that aliases add
+-- exports as they are linked, and after them the targets that aliases add
 abbrev pub linked_exports : MachineType → NamingView → Flavor → List ExportView → List ExportView
 linked_exports machine naming flavor exports =
     map (linked_export machine naming flavor) exports ++ targets_added machine naming flavor exports

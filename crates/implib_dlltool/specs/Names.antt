@@ -33,7 +33,7 @@ part_after separator part b = if b == separator then [] else part ++ b ∷ []
 unfoldable pub part_behind : ℕ → List ℕ → List ℕ
 part_behind separator name = fold (part_after separator) [] name
 
--- A name without its directory: behind the last `/` (47), and then behind the last `\` (92). For example, that
+-- A name without its directory: after the last `/` (47), and then after the last `\` (92). For example, that
 -- of `d/e/zoo` is zoo, and that of `d/` is empty.
 abbrev pub last_part : List ℕ → List ℕ
 last_part name = part_behind 92 (part_behind 47 name)

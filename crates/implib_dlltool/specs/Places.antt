@@ -55,7 +55,7 @@ abbrev pub placed : Option Site → Position → List Place
 placed None position = []
 placed (Some site) position = record { site = site; position = position } ∷ []
 
--- what is known behind some tokens: whether a heading is among them, the line of the last one, and their places
+-- what is known after some tokens: whether a heading is among them, the line of the last one, and their places
 pub record Walked : Type 0 where
   pub is_headed : Bool
   pub line : ℕ
@@ -65,7 +65,7 @@ pub record Walked : Type 0 where
 abbrev pub started : Walked
 started = record { is_headed = false; line = 1; places = [] }
 
--- behind one more token, which is at this position
+-- after one more token, which is at this position
 abbrev pub walked_at : Walked → Heard → Position → Walked
 walked_at walked heard position = record {
   is_headed = walked.is_headed || is_heading heard.token.kind;
@@ -73,11 +73,11 @@ walked_at walked heard position = record {
   places = walked.places ++ placed (site_at walked.is_headed walked.line position.line heard.role heard.token.kind) position;
 }
 
--- behind one more token of a text
+-- after one more token of a text
 abbrev pub walked_on : List ℕ → Walked → Heard → Walked
 walked_on text walked heard = walked_at walked heard (position_at text heard.token.at)
 
--- behind tokens of a text
+-- after tokens of a text
 unfoldable pub walked : List ℕ → List Heard → Walked
 walked text heard = fold (walked_on text) started heard
 

@@ -18,7 +18,7 @@ is_declared exports word = list_any (λ e. declares e word) exports
 abbrev pub repeats : List ExportView → ExportView → Bool
 repeats before e = not e.private && is_declared before (word_of e)
 
--- whether each of these exports repeats a word of those before it, behind other exports
+-- whether each of these exports repeats a word of those before it, after other exports
 abbrev pub repeats_behind : List ExportView → List ExportView → List Bool
 repeats_behind before [] = []
 repeats_behind before (e ∷ exports) = repeats before e ∷ repeats_behind (before ++ e ∷ []) exports
@@ -46,7 +46,7 @@ without_repeated exports = left_out (repeats_behind [] exports) exports
 abbrev pub without_repeats : DefinitionView → DefinitionView
 without_repeats d = record d { exports = without_repeated d.exports }
 
--- The export at an index is left out just where it repeats a word of those before it, and else stays as it is.
+-- The export at an index is left out exactly where it repeats a word of those before it, and else stays as it is.
 abbrev pub AreLeftOut : Type 0
 AreLeftOut =
     (exports : List ExportView) (index : ℕ) (e : ExportView) → slice_get exports index ≡ Some e →

@@ -28,7 +28,7 @@ has_word words word = contains_by (λ k. bytes_eq word k.now) words
 abbrev pub comes_before : List ℕ → List ℕ → Bool
 comes_before word next = is_lt (slice_cmp nat_cmp word next)
 
--- the words of exports rise: each comes before the next one, and behind this word
+-- the words of exports rise: each comes before the next one, and after this word
 abbrev pub rise_from : List ℕ → List ExportView → Bool
 rise_from last [] = true
 rise_from last (e ∷ exports) = comes_before last (word_of e) && rise_from (word_of e) exports

@@ -85,7 +85,7 @@ pub data NoticeView : Type 0 where
   IsOrdinalLike : List ℕ → NoticeView
   -- the DLL is asked for a name of stdcall
   IsStdcall : List ℕ → NoticeView
-  -- the word behind `==` is no export
+  -- the word after `==` is no export
   IsNotExported : List ℕ → NoticeView
   -- a second `LIBRARY` or `NAME`
   IsSecondHeading : NoticeView
@@ -173,7 +173,7 @@ stdcall_notice machine naming e =
     && (is_asked_by_word e && is_empty_text e.alias_target && is_stdcall_word (word_of e))
     then Some (IsStdcall (word_of e)) else None
 
--- for Microsoft's linker the word behind `==` is no export, by the first export of that word
+-- for Microsoft's linker the word after `==` is no export, by the first export of that word
 abbrev pub target_notice : Flavor → ExportView → Option ℕ → Option NoticeView
 target_notice Gnu e first = None
 target_notice Msvc e first =
@@ -270,8 +270,8 @@ warnings_of request exports places count =
 abbrev pub warnings_for : RequestView → List ExportView → List Place → ℕ → List WarningView
 warnings_for request exports places count = if request.is_verbose then warnings_of request exports places count else []
 
--- An export is said to repeat a word just where it is left out for one before it that declares the word; and to
--- repeat an ordinal just where an export before it has the ordinal, which is not 0.
+-- An export is said to repeat a word exactly where it is left out for one before it that declares the word; and to
+-- repeat an ordinal exactly where an export before it has the ordinal, which is not 0.
 pub record RepeatsStandBefore : Type 0 where
   pub words : (e : ExportView) (exports : List ExportView) (index : ℕ) →
       is_some (repeat_notice e (first_declared (word_of e) exports) index) ≡ repeats (take index exports) e
@@ -279,7 +279,7 @@ pub record RepeatsStandBefore : Type 0 where
       is_some (ordinal_notice ordinal (first_of_ordinal ordinal exports) index)
       ≡ (not (ordinal == 0) && list_any (λ e. nat_eq ordinal e.ordinal) (take index exports))
 
--- each warning is at this offset or behind it, and none is before the one that it follows
+-- each warning is at this offset or after it, and none is before the one that it follows
 abbrev pub Ascends : ℕ → List WarningView → Type 0
 Ascends offset [] = Unit {0}
 Ascends offset (warning ∷ warnings) = (offset ≤ warning.position.offset) × Ascends warning.position.offset warnings

@@ -29,11 +29,11 @@ killing = record { is_plain = false; kills_at = true }
 abbrev pub plain : NamingView
 plain = record { is_plain = true; kills_at = false }
 
--- the export of a word, with another behind `==` or with an empty one
+-- the export of a word, with another after `==` or with an empty one
 abbrev pub line : List ℕ → List ℕ → ExportView
 line word target = record empty_export { name = word; alias_target = target }
 
--- in GNU's flavour the export of a word, with another behind `==` or with an empty one, has this symbol and asks
+-- in GNU's flavour the export of a word, with another after `==` or with an empty one, has this symbol and asks
 -- for this name
 pub record Links (machine : MachineType) (naming : NamingView) (word target symbol asked : List ℕ) : Type 0 where
   pub symbol_is : (linked_export machine naming Gnu (line word target)).name ≡ symbol

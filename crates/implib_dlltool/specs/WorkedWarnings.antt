@@ -112,7 +112,7 @@ doubtful =
     ∷ record empty_export { name = codes "G@8"; private = true }
     ∷ []
 
--- where they are, with an attribute that opens a line behind the second, and a second heading
+-- where they are, with an attribute that opens a line after the second, and a second heading
 abbrev pub doubtful_places : List Place
 doubtful_places =
     place site.Export (at_line 8 1 9)

@@ -110,7 +110,7 @@ fn targets_beside(
     Ok(targets)
 }
 
-// Whether an export has a word behind `==`.
+// Whether an export has a word after `==`.
 fn has_targets(exports: &[ShortExport]) -> bool
     ensures { result ≡ list_any has_target (map export_view exports.now) }
 {
@@ -122,7 +122,7 @@ fn has_targets(exports: &[ShortExport]) -> bool
     false
 }
 
-// The imports that aliases add in Microsoft's flavour. Without a word behind `==` no symbol is made.
+// The imports that aliases add in Microsoft's flavour. Without a word after `==` no symbol is made.
 fn msvc_targets(
     alloc: Global,
     machine: MachineType,
@@ -158,7 +158,7 @@ fn targets_added(
 }
 
 /// Gives each export its symbol, and what it asks the DLL for or is weak for, and adds the targets
-/// of aliases that are no exports, behind all others.
+/// of aliases that are no exports, after all others.
 ///
 /// # Errors
 ///

@@ -129,7 +129,7 @@ pub fn warnings_worked()
     ensures { WarningsWorked }
 {}
 
-/// An export repeats a word or an ordinal just where one before it has that.
+/// An export repeats a word or an ordinal exactly where one before it has that.
 pub fn repeats_stand_before()
     ensures { RepeatsStandBefore }
 {}

@@ -243,7 +243,7 @@ pub fn members_for(alloc: Global, bytes: &[u8], request: &Request) -> Result<Vec
     match members_in_order(def, request.machine, request.flavor) {
         Ok(members) => Ok(members),
         Err(Error::Invalid(fault)) => {
-            // The export is one of the text: the targets behind them break no rule on names that
+            // The export is one of the text: the targets after them break no rule on names that
             // their aliases keep.
             let position = position_of_fault(alloc, text, &fault)?;
             Err(Refusal::Members(fault, position))

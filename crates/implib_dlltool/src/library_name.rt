@@ -15,7 +15,7 @@ use implib::def::{ModuleDef, ShortExport};
 use md5::{Digest, Md5};
 use std::alloc::{AllocError, Global};
 
-// Takes a text in, and a null byte behind it.
+// Takes a text in, and a null byte after it.
 fn take_text(hasher: &mut Md5, text: &str)
     ensures { (taken : List ℕ) → Holds hasher.old taken →
         Holds hasher.new (taken ++ text_taken text.now) }

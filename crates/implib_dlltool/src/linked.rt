@@ -22,7 +22,7 @@ use std::alloc::{AllocError, Global};
 pub struct Naming {
     /// Symbols are as written (`--no-leading-underscore`), without an underscore in front.
     pub is_plain: bool,
-    /// The DLL is asked for names without the `@` and the number behind them (`-k`).
+    /// The DLL is asked for names without the `@` and the number after them (`-k`).
     pub kills_at: bool,
 }
 
@@ -69,7 +69,7 @@ pub fn symbol_of(
     Ok(symbol)
 }
 
-// A word without its `@` and the number behind it, and without the `@` of fastcall in front.
+// A word without its `@` and the number after it, and without the `@` of fastcall in front.
 fn killed(word: &str) -> &str
     ensures { result.now ≡ killed word.now }
 {
@@ -99,7 +99,7 @@ fn word_asked(machine: MachineType, naming: Naming, word: &str) -> &str
     }
 }
 
-// What the DLL is asked for: the word behind `==`, or else what the export's own word says.
+// What the DLL is asked for: the word after `==`, or else what the export's own word says.
 fn asked_of<'a>(machine: MachineType, naming: Naming, word: &'a str, target: &'a str) -> &'a str
     ensures { result.now ≡ asked_of machine (naming_view naming) word.now target.now }
 {
@@ -172,7 +172,7 @@ fn makes(symbol: &[u8], name: &[u8]) -> bool
     symbol == name || plain == name || before_at_sign(plain) == name
 }
 
-/// Whether an export of this symbol is an alias: it has a word behind `==` that Microsoft's short
+/// Whether an export of this symbol is an alias: it has a word after `==` that Microsoft's short
 /// import of the symbol cannot ask for.
 pub fn is_alias_under(flavor: Flavor, symbol: &str, export: &ShortExport) -> bool
     ensures { result ≡ is_alias_under flavor symbol.now (export_view export.now) }

@@ -24,7 +24,7 @@ pub enum Site {
     Export,
     /// An attribute of the export before it, as the first word of a line.
     Attribute(Attribute),
-    /// `LIBRARY` or `NAME`, behind another of these.
+    /// `LIBRARY` or `NAME`, after another of these.
     Heading,
 }
 

@@ -218,7 +218,7 @@ fn make<R: Files + AllocGlobal, I: Read, E: Write>(
     }
 }
 
-// Does what the words behind the program's name ask for, and gives the exit status.
+// Does what the words after the program's name ask for, and gives the exit status.
 fn run<R: Files + AllocGlobal, I: Read, O: Write, E: Write>(
     rt: &R,
     id: u32,

@@ -48,7 +48,7 @@ pub enum Notice<'a> {
     OrdinalLike(&'a str),
     /// The DLL is asked for a name of stdcall.
     Stdcall(&'a str),
-    /// The word behind `==` is no export.
+    /// The word after `==` is no export.
     NotExported(&'a str),
     /// A second `LIBRARY` or `NAME`.
     SecondHeading,
@@ -159,7 +159,7 @@ fn stdcall_notice<'a>(
     }
 }
 
-// That the word behind `==` is no export; `first` is the first export of that word.
+// That the word after `==` is no export; `first` is the first export of that word.
 fn target_notice<'a>(
     flavor: Flavor,
     export: &'a ShortExport,

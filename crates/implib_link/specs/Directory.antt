@@ -20,7 +20,7 @@ imported machine p = record {
   asks = map (expected_ask machine) (chosen_exports p.definition p.chosen);
 }
 
--- At an address is a directory of just these imports, in this order, each by a descriptor that a
+-- At an address is a directory of exactly these imports, in this order, each by a descriptor that a
 -- strict loader takes; 20 zero bytes end it.
 unfoldable pub DirectoryAt : List Range → ℕ → ℕ → List Imported → Type 0
 DirectoryAt image width address [] = BytesAt image address (zeros 20)

@@ -11,7 +11,7 @@ use Rattle.implib_link.specs.Gnu.Program.{has_tables}
 abbrev pub slash : ℕ
 slash = 0x2F
 
--- the number of decimal digits that go on behind a number
+-- the number of decimal digits that go on after a number
 unfoldable pub digits_behind : ℕ → List ℕ → Option ℕ
 digits_behind n [] = Some n
 digits_behind n (digit ∷ digits) =
@@ -50,7 +50,7 @@ abbrev pub by_full_names : Option (List ℕ) → Object → Option Object
 by_full_names strings o =
     option_map (λ sections. record o { sections = sections }) (sections_by_full_names strings o.sections)
 
--- the string table of a file, which is behind the records of 18 bytes of the symbol table
+-- the string table of a file, which is after the records of 18 bytes of the symbol table
 unfoldable pub strings_of : List ℕ → Option (List ℕ)
 strings_of bytes =
     option_and_then

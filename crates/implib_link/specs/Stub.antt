@@ -49,7 +49,7 @@ abbrev pub with_ldr : ℕ → ℕ → ℕ
 with_ldr n word = with_bits 10 12 (n / 2 ^ bits_of 30 2 word) word
 
 -- A word of code that a relocation of this type changes, at an address, for a target:
--- I386 type 6, the target's address; AMD64 type 4, the target relative to the byte behind the field; ARM64
+-- I386 type 6, the target's address; AMD64 type 4, the target relative to the byte after the field; ARM64
 -- type 4, the target's page relative to its own, and type 7, the target's offset in its page.
 abbrev pub code_word : MachineType → ℕ → ℕ → ℕ → ℕ → ℕ → ℕ
 code_word I386 type image_base position target word =
@@ -81,7 +81,7 @@ plus_signed width step n address =
     if nat_lt n (2 ^ (width - 1)) then address + n * step else address + n * step - 2 ^ width * step
 
 -- Where the jump that code at an address begins with reads its target, by the rule of its instructions:
--- I386 `jmp [disp32]`, at the displacement; AMD64 `jmp [rip + disp32]`, that far behind the jump; ARM64
+-- I386 `jmp [disp32]`, at the displacement; AMD64 `jmp [rip + disp32]`, that far after the jump; ARM64
 -- `adrp x16, page`, `ldr x16, [x16, offset]`, `br x16`.
 abbrev pub jump_reads : MachineType → ℕ → List ℕ → Option ℕ
 jump_reads I386 address bytes =
@@ -107,7 +107,7 @@ CanJump ARMNT image_base bases = ⊥
 CanJump AMD64 image_base bases = Unit {0}
 CanJump ARM64 image_base bases = (image_base % 8 ≡ 0) × (bases.addresses % 8 ≡ 0)
 
--- A name is that of code which jumps through an entry: just one object defines it, once, at the beginning of
+-- A name is that of code which jumps through an entry: exactly one object defines it, once, at the beginning of
 -- its first section, and wherever this section is placed below 2^31, the jump that it begins with reads the
 -- entry.
 pub record JumpsThrough (machine : MachineType) (image_base : ℕ) (linked : List Placed) (name : List ℕ)

@@ -1,6 +1,6 @@
-//! The files of a case: the members of its libraries, and its objects behind them.
+//! The files of a case: the members of its libraries, and its objects after them.
 //!
-//! `library gnu` or `library msvc` begins a library; the `text` lines behind it are its definition,
+//! `library gnu` or `library msvc` begins a library; the `text` lines after it are its definition,
 //! and `numbered e 3` adds lines `e0`, `e1` and `e2` to it. `unlist NAME` has an archive list no
 //! symbol for a member. A file is named by its name; `foo.dll:3` is the fourth file of a name.
 
@@ -118,7 +118,7 @@ fn push_numbered(text: &mut String, words: &str) -> Result<(), Fail> {
     Ok(())
 }
 
-/// Appends a line of a word and a number behind it.
+/// Appends a line of a word and a number after it.
 fn push_line(text: &mut String, front: &str, number: u64) -> Result<(), AllocError> {
     write!(text, "\n{front}{number}")
 }
@@ -140,7 +140,7 @@ pub fn index_of(files: &[File], word: &str) -> Result<usize, Fail> {
     Err(Fail::new(format_args!("there is no file {word}")))
 }
 
-/// Appends the word that names the file of an index, behind a space.
+/// Appends the word that names the file of an index, after a space.
 fn push_name(text: &mut String, files: &[File], index: usize) -> Result<(), Fail> {
     let (member, _) = files.get(index).ok_or("there is no such file")?;
     let mut before = 0usize;

@@ -41,7 +41,7 @@ pub fn show_listed(text: &mut String, member: &Member) -> Result<(), AllocError>
     Ok(())
 }
 
-/// Appends a symbol behind a space.
+/// Appends a symbol after a space.
 fn push_symbol(text: &mut String, symbol: &str) -> Result<(), AllocError> {
     text.push(' ')?;
     push_escaped(text, symbol)

@@ -32,7 +32,7 @@ pub fn given_address(dll: &str, ask: Ask, size: usize) -> u64 {
     }
 }
 
-/// A hash of bytes behind others (FNV-1a, 64 bits).
+/// A hash of bytes after others (FNV-1a, 64 bits).
 fn hashed(start: u64, bytes: &[u8]) -> u64 {
     let mut hash = start;
     for byte in bytes {

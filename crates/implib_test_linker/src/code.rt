@@ -25,7 +25,7 @@ pub fn relocated(
     match (machine, kind) {
         // The address in the image.
         (I386, 7) | (ARMNT, 2) | (AMD64, 3) | (ARM64, 2) => Ok(word.wrapping_add(target)),
-        // The address relative to the byte behind the field.
+        // The address relative to the byte after the field.
         (I386, 0x14) | (AMD64, 4) | (ARMNT, 0x0A) => Ok(
             word.wrapping_add(target)
                 .wrapping_sub(address)

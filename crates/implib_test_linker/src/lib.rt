@@ -157,7 +157,7 @@ fn place<'a>(
     })
 }
 
-/// Places sections behind others, and gives the addresses of those that are placed.
+/// Places sections after others, and gives the addresses of those that are placed.
 fn place_sections(
     alloc: Global,
     image: &mut Image,

@@ -147,7 +147,7 @@ impl<'a> Object<'a> {
     }
 }
 
-/// The number of the section of a name, which is put behind the others where there is none.
+/// The number of the section of a name, which is put after the others where there is none.
 fn section_number<'a>(
     alloc: Global,
     sections: &mut Vec<Section<'a>>,

@@ -42,7 +42,7 @@ pub record CountsOfObjects : Type 0 where
   pub sections_counted : take 2 (drop 2 (header_bytes (record empty_object { sections = empty_sections 257 })))
       ≡ hex "01 01"
   pub relocations_counted : take 2 (drop 32 (section_header 0 (relocated 258))) ≡ hex "02 01"
-  -- one more is added behind them
+  -- one more is added after them
   pub section_added : length (with_section (holding (empty_sections 300) 0) (relocated 0)).sections ≡ 301
   pub symbol_added : length (with_symbol (holding [] 300) (added Undefined)).symbols ≡ 301
   pub relocation_added :

@@ -201,7 +201,7 @@ fn texts_for_i386_have_names_with_an_underscore(rt: HostRuntime) -> Result<(), F
     Ok(())
 }
 
-/// A text of this front, with a name of 300 bytes behind it.
+/// A text of this front, with a name of 300 bytes after it.
 fn with_long_name(alloc: Global, front: &str) -> Result<String, AllocError> {
     let mut text = String::from_str(alloc, front)?;
     for _ in 0u32..30 {

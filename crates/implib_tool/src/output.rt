@@ -36,7 +36,7 @@ impl Buffer {
         Ok(Buffer { bytes })
     }
 
-    /// Puts bytes behind those that wait. Where there is no room for them, those that wait are
+    /// Puts bytes after those that wait. Where there is no room for them, those that wait are
     /// written first.
     pub fn put<W: Sink>(&mut self, writer: &mut W, bytes: &[u8])
         ensures { Passes W.keeps (buffered (W.contents writer.old) (W.failed writer.old) self.old)

@@ -63,7 +63,7 @@ IsErrorIn text machine (Some position) =
     (cause : Cause) × RefusesAt text cause position.offset × (position ≡ position_at text position.offset)
 
 -- The loader that reads the first import descriptor of an image finds the DLL of the text, and is asked for
--- just the words by which the text names the chosen exports (or for their ordinals).
+-- exactly the words by which the text names the chosen exports (or for their ordinals).
 pub record LoadsAsStated (text : List ℕ) (machine : MachineType) (chosen : List ℕ) (bases : Bases)
     (objects : List Object) : Type 0 where
   pub parsed : DefinitionView

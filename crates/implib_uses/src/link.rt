@@ -9,7 +9,7 @@ use implib::{Error, MachineType, Member};
 use std::alloc::Global;
 
 /// The members of a text for GNU's linker. Linked at any admissible bases, any exports chosen, they
-/// make the loader ask the text's DLL for just the words by which the text names these exports.
+/// make the loader ask the text's DLL for exactly the words by which the text names these exports.
 pub fn members_to_link(
     alloc: Global,
     text: &str,

@@ -137,7 +137,7 @@ fn wrong_calls_are_told(rt: HostRuntime) -> Result<(), Fail> {
     Ok(())
 }
 
-// A word behind `==` is taken in both flavours. A name that no name type makes of the symbol is
+// A word after `==` is taken in both flavours. A name that no name type makes of the symbol is
 // refused for Microsoft's linker where `-k` makes it of the export's own word, and a null byte in
 // both, at the export.
 #[test]
@@ -181,7 +181,7 @@ fn other_names_are_refused_or_asked(rt: HostRuntime) -> Result<(), Fail> {
     Ok(())
 }
 
-// In Microsoft's flavour an alias is two weak externals behind the short imports, and its target is
+// In Microsoft's flavour an alias is two weak externals after the short imports, and its target is
 // added where it is no export: the library is that of the definition with it, whose symbols and
 // length are those of llvm-dlltool 19.
 #[test]

@@ -182,7 +182,7 @@ module _ (machine : MachineType) (dll : NamesOfDll) (linked : List Placed) (besi
     rest_beside machine dll es b rest linked beside starts ends dll_text fit (wide_aligned machine b even) only located,
   )
 
--- The objects of several DLLs, and zeros behind their descriptors.
+-- The objects of several DLLs, and zeros after their descriptors.
 module _ (machine : MachineType) (linked : List Placed) (image beside : List Range)
     (image_starts : AllByRecursion (λ r. 0 < r.start) image) (image_ends : AllByRecursion (λ r. range_end r < 2 ^ 31) image)
     (starts : AllByRecursion (λ r. 0 < r.start) beside) (ends : AllByRecursion (λ r. range_end r < 2 ^ 31) beside) where

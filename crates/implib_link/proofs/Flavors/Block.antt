@@ -183,7 +183,7 @@ unfolding EntriesAt SymbolsAt
 symbols_from linked width address [] entries = tt
 symbols_from linked width address (e ∷ es) entries = (entries.0, symbols_from linked width (address + width) es entries.1)
 
--- What is known of one DLL's objects among all that is linked, with other objects behind them.
+-- What is known of one DLL's objects among all that is linked, with other objects after them.
 pub record OneLinks (machine : MachineType) (linked : List Placed) (image : List Range) (flavor : Flavor) (dll : NamesOfDll) (es : List ExportView) (b : Bases) (rest : List Object) : Type 0 where
   pub top : definitions_of (descriptor_in flavor machine dll) linked ≡ record { name = descriptor_in flavor machine dll; address = Some b.descriptors } ∷ []
   pub loads : LoadsStrictly image (thunk_width machine) b.descriptors dll.text (map (ask_in flavor machine) es)

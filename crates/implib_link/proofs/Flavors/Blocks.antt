@@ -33,7 +33,7 @@ pub record FlavorBlock : Type 0 where
   pub dll : NamesOfDll
   pub exports : List ExportView
 
--- the objects of DLLs, and others behind them
+-- the objects of DLLs, and others after them
 abbrev pub all_objects : MachineType → List FlavorBlock → List Object → List Object
 all_objects machine [] rest = rest
 all_objects machine (k ∷ blocks) rest = objects_of machine k.flavor k.dll k.exports (all_objects machine blocks rest)
@@ -119,7 +119,7 @@ BlocksIn machine linked image rest b [] = Unit {0}
 BlocksIn machine linked image rest b (k ∷ blocks) =
     OneLinks machine linked image k.flavor k.dll k.exports b (all_objects machine blocks rest) × BlocksIn machine linked image rest (ends_one machine b k) blocks
 
--- what is known of DLLs' objects among all that is linked, with other objects behind them
+-- what is known of DLLs' objects among all that is linked, with other objects after them
 pub record EachIn (machine : MachineType) (linked : List Placed) (image : List Range) (b : Bases) (blocks : List FlavorBlock) (rest : List Object) : Type 0 where
   pub imports : BlocksIn machine linked image rest b blocks
   pub defined : AllByRecursion (IsDefinedAt linked) (undefined_names (placed_from (ends_all machine b blocks) rest)) →
@@ -194,7 +194,7 @@ nth_in machine linked image rest (q ∷ blocks) b links (suc i) k is =
 abbrev pub imported_of : MachineType → FlavorBlock → Imported
 imported_of machine k = record { dll = k.dll.text; asks = map (ask_in k.flavor machine) k.exports }
 
--- blocks, and zeros behind their descriptors, are a directory
+-- blocks, and zeros after their descriptors, are a directory
 pub directory_in : (machine : MachineType) (linked : List Placed) (image : List Range) (rest : List Object) (blocks : List FlavorBlock) (b : Bases) →
     BlocksIn machine linked image rest b blocks → BytesAt image (ends_all machine b blocks).descriptors (zeros 20) →
     DirectoryAt image (thunk_width machine) b.descriptors (map (imported_of machine) blocks)

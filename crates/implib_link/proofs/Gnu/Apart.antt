@@ -21,7 +21,7 @@ back_apart : (xs ys : List Range) → AllApart (xs ++ ys) → AllApart ys
 back_apart [] ys apart = apart
 back_apart (x ∷ xs) ys apart = back_apart xs ys apart.1
 
--- of ranges apart, none before or behind these ones has an address of theirs
+-- of ranges apart, none before or after these ones has an address of theirs
 not_between : (xs ys zs : List Range) (r s : Range) (a : ℕ) → AllApart (xs ++ (ys ++ zs)) → Among r xs ⊎ Among r zs → Among s ys → is_in a r ≡ true → is_in a s ≡ true → ⊥
 not_between xs ys zs r s a apart (inl m) n first second = not_in_both xs (ys ++ zs) r s a apart m (among_front s ys zs n) first second
 not_between xs ys zs r s a apart (inr m) n first second = not_in_both ys zs s r a (back_apart xs (ys ++ zs) apart) n m second first
@@ -41,7 +41,7 @@ among_parts r [] zs m = inr m
 among_parts r (x ∷ xs) zs (inl e) = inl (inl e)
 among_parts r (x ∷ xs) zs (inr m) = elim (among_parts r xs zs m) [ inl front ↦ inl (inr front) | inr back ↦ inr back ]
 
--- where a range before or behind these ones is, none of these is
+-- where a range before or after these ones is, none of these is
 none_between : (xs ys zs : List Range) (r : Range) (a : ℕ) → AllApart (xs ++ (ys ++ zs)) → Among r xs ⊎ Among r zs → is_in a r ≡ true → list_any (is_in a) ys ≡ false
 none_between xs ys zs r a apart m within =
     false_from_ne_true (list_any (is_in a) ys) (λ any.
@@ -128,7 +128,7 @@ module _ (machine : MachineType) (b : Bases) (objects : List Object) (admissible
       not_between front (ranges Addresses) back found.0 table a apart (among_parts found.0 front back found.1.0)
       (range_around b.addresses (contributions machine linked Addresses linked) a from (omega arith)) found.1.1 (is_in_from a table from (omega arith))
 
-  -- bytes of a range before or behind
+  -- bytes of a range before or after
   moves : (r : Range) (bytes : List ℕ) (a : ℕ) → (((x : ℕ) → r.start ≤ x → x < range_end r → Among r front ⊎ Among r back)) → r.start ≤ a → a + length bytes ≤ range_end r →
       BytesAt (image_of machine b linked) a bytes → BytesAt (front ++ back) a bytes
   unfolding BytesAt

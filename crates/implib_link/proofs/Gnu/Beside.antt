@@ -247,7 +247,7 @@ module _ (machine : MachineType) (dll : NamesOfDll) (es : List ExportView) (b : 
         has_addresses = above;
       }
 
--- The objects of several DLLs, and the null descriptor behind them.
+-- The objects of several DLLs, and the null descriptor after them.
 module _ (machine : MachineType) (linked : List Placed) (image beside : List Range)
     (image_starts : AllByRecursion (λ r. 0 < r.start) image) (image_ends : AllByRecursion (λ r. range_end r < 2 ^ 31) image)
     (starts : AllByRecursion (λ r. 0 < r.start) beside) (ends : AllByRecursion (λ r. range_end r < 2 ^ 31) beside) where

@@ -1,4 +1,4 @@
--- Where the descriptors and the address tables of blocks are, and the null descriptor behind them.
+-- Where the descriptors and the address tables of blocks are, and the null descriptor after them.
 use Rattle.std.proofs.Common.{◌≡◌, ℕ, zero, suc, ◌+◌, ◌*◌, ◌-◌, List, [], ◌∷◌, ◌++◌, length, map, Some, refl, ap, sym, ◌∙◌, subst, arith}
 use Rattle.std.specs.Prelude.{slice_get}
 use Rattle.std.proofs.Math.Nat.{mul-add, mul-suc, mul-zero}
@@ -20,7 +20,7 @@ use Rattle.implib_link.specs.Gnu.Program.{null_descriptor, thunks_before}
 use Rattle.implib.specs.LibraryName.{NamesOfDll, names_for}
 use Rattle.implib.specs.declared.flavor.Flavor.TheVariants.{Gnu}
 
--- objects behind blocks
+-- objects after blocks
 pub objects_behind : (machine : MachineType) (blocks : List Block) (rest : List Object) →
     blocks_objects machine blocks [] ++ rest ≡ blocks_objects machine blocks rest
 objects_behind machine [] rest = refl
@@ -104,7 +104,7 @@ nth_block machine linked image (q ∷ inputs) b links (suc i) p is =
     ∙ table_sum b.addresses (thunk_width machine) (length exports + 1) (thunks_before i inputs) in
     (found.0, (found.1.0 ∙ at_descriptor, (found.1.1.0 ∙ at_table, found.1.1.1)))
 
--- blocks and the null descriptor behind them are a directory
+-- blocks and the null descriptor after them are a directory
 pub directory_of : (machine : MachineType) (linked : List Placed) (image : List Range) (inputs : List LinkInput) (b : Bases) →
     BlocksLink machine linked image b (map block_of inputs) → BytesAt image (ends_of_blocks machine b (map block_of inputs)).descriptors (zeros 20) →
     DirectoryAt image (thunk_width machine) b.descriptors (map (imported machine) inputs)

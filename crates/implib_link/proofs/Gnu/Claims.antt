@@ -37,7 +37,7 @@ claimed_after machine dll (e ∷ es) rest =
 abbrev listed_of : MachineType → Block → List (List ℕ)
 listed_of machine k = head_symbol machine k.dll.linked ∷ (flat_map archive_symbols k.exports ++ iname_symbol machine k.dll.linked ∷ [])
 
--- the names that blocks claim, with the null descriptor behind them, which claims none
+-- the names that blocks claim, with the null descriptor after them, which claims none
 pub claimed_blocks : (machine : MachineType) (blocks : List Block) →
     flat_map claimed_names (blocks_objects machine blocks (null_descriptor ∷ [])) ≡ flat_map (listed_of machine) blocks
 claimed_blocks machine [] = refl

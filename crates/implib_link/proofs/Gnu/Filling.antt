@@ -35,7 +35,7 @@ pub record DescriptorBeside (beside : List Range) (width descriptor table : ℕ)
   pub addresses_field : NumberAt beside 4 (descriptor + 16) table
   pub has_addresses : 0 < table
 
--- descriptors of these imports, whose address tables are one behind another
+-- descriptors of these imports, whose address tables are one after another
 unfoldable pub DirectoryBeside : List Range → ℕ → ℕ → ℕ → List Imported → Type 0
 DirectoryBeside beside width descriptor table [] = BytesAt beside descriptor (zeros 20)
 DirectoryBeside beside width descriptor table (i ∷ others) =
@@ -228,7 +228,7 @@ before_start a r before =
     let above : r.start ≤ a = bounds.0 in
     omega arith)
 
--- a range in front of later ones, or behind them
+-- a range in front of later ones, or after them
 swapped : (low high : ℕ) (xs memory : List Range) (r : Range) (a : ℕ) → range_end r ≤ low → AllByRecursion (λ x. (low ≤ x.start) × (range_end x ≤ high)) xs →
     byte_at (xs ++ (r ∷ memory)) a ≡ byte_at (r ∷ (xs ++ memory)) a
 swapped low high [] memory r a before within = refl
@@ -261,7 +261,7 @@ module _ (width : ℕ) (gives : Ask → List ℕ) (wide : (ask : Ask) → length
       ∙ swapped (entry + width) (entry + width + width * length asks) (entries_written width (entry + width) gives asks) memory r a (omega arith)
       (entries_within width gives wide asks (entry + width) (entry + width) (entry + width + width * length asks) (omega arith) (omega arith))
 
--- tables in front of later ones, or behind them
+-- tables in front of later ones, or after them
 all_swapped : (first middle high : ℕ) (xs ys memory : List Range) (a : ℕ) → AllByRecursion (λ x. (first ≤ x.start) × (range_end x ≤ middle)) xs →
     AllByRecursion (λ x. (middle ≤ x.start) × (range_end x ≤ high)) ys → byte_at (ys ++ (xs ++ memory)) a ≡ byte_at (xs ++ (ys ++ memory)) a
 all_swapped first middle high [] ys memory a before behind = refl

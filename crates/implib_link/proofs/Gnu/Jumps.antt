@@ -25,7 +25,7 @@ unfolding u32_bytes
 i386_jumps image_base position entry linked p fits small target =
     rw target (ap Some (number-u32 ((0 + (image_base + entry)) % 2 ^ 32) ∙ i386_field image_base entry fits small))
 
--- AMD64: the field is the entry's address behind the jump.
+-- AMD64: the field is the entry's address after the jump.
 
 pub amd64_field : (image_base position entry : ℕ) → position + 16 ≤ 2 ^ 31 → entry < 2 ^ 31 →
     plus_signed 32 1 ((0 + entry + (2 ^ 32 - (position + 2 + 4) % 2 ^ 32)) % 2 ^ 32 % 2 ^ 32) (image_base + position + 6) ≡ image_base + entry

@@ -49,7 +49,7 @@ past_end a r past =
     let below = ltb-true a (range_end r) (and_parts (nat_le r.start a) (nat_lt a (range_end r)) within).1 in
     omega arith)
 
--- bytes behind the end of the first range are as they are without it
+-- bytes after the end of the first range are as they are without it
 behind_front : (r : Range) (rs : List Range) (bytes : List ℕ) (a : ℕ) → range_end r ≤ a → BytesAt rs a bytes → BytesAt (r ∷ rs) a bytes
 unfolding BytesAt
 behind_front r rs [] a past located = tt
@@ -108,7 +108,7 @@ module _ (width : ℕ) where
       let product : a + width + width * length asks ≡ a + width * length (x ∷ asks) = times_next a width (length asks) in
       ((above, omega arith), entries_within gives wide asks (a + width) low high (omega arith) (omega arith))
 
--- The tables of all DLLs, one behind another.
+-- The tables of all DLLs, one after another.
 
 -- the thunks in the tables of the first few DLLs, with the null thunks that end them
 abbrev pub thunks_asked : ℕ → List Imported → ℕ

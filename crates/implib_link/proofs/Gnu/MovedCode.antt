@@ -144,7 +144,7 @@ beside_field a address beside =
     elim beside [ inl before ↦ omega arith | inr behind ↦ omega arith ]) in
     rw clear refl
 
--- what becomes of an instruction of I386 with a field behind its first two bytes
+-- what becomes of an instruction of I386 with a field after its first two bytes
 record FieldMoved (memory : List Range) (address from to number : ℕ) (first second : ℕ) (tail : List ℕ) : Type 0 where
   pub field : List ℕ
   pub four : length field ≡ 4

@@ -91,7 +91,7 @@ own_descriptors machine b (p ∷ inputs) =
     ∙ ap (λ n. n + 20 * length inputs) (sym (descriptors_after machine dll b exports))
     ∙ plus_row b.descriptors (length inputs)
 
--- descriptors, and a directory behind them
+-- descriptors, and a directory after them
 descriptors_first : (image : List Range) (width a : ℕ) (imports others : List Imported) → DescriptorsAt image width a imports →
     DirectoryAt image width (a + 20 * length imports) others → DirectoryAt image width a (imports ++ others)
 unfolding DescriptorsAt DirectoryAt
@@ -113,7 +113,7 @@ blocks_descriptors machine linked image (p ∷ inputs) b links =
           (blocks_descriptors machine linked image inputs (ends_of_block machine dll b exports) links.1),
     )
 
--- what is known of runs that are placed from bases on, with other objects behind them
+-- what is known of runs that are placed from bases on, with other objects after them
 record RunsLink (machine : MachineType) (linked : List Placed) (image : List Range) (b : Bases) (runs : List Run) (last : List Object) : Type 0 where
   pub members : (k : ℕ) (r : Run) → slice_get runs k ≡ Some r → RunLinks machine image linked (members_from machine b k runs) r
   pub rows : (k : ℕ) (r : Run) → slice_get runs k ≡ Some r → (members_from machine b k runs).descriptors ≡ b.descriptors + 20 * rows_before k runs

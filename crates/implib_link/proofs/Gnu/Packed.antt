@@ -39,7 +39,7 @@ same_base HintNames HintNames b is = refl
 same_base DllNames DllNames b is = refl
 same_base group other b is = cc
 
--- the end of a group behind a section
+-- the end of a group after a section
 pub end_of_section : (group : Group) (b : Bases) (s : ObjectSection) (named : Option Group) →
     base_of group (end_after b (address_after b s.flags named) (length s.bytes)) ≡ end_with group (base_of group b) s named
 end_of_section group b s None = refl
@@ -160,7 +160,7 @@ ends_rise group n (o ∷ objects) =
     let rest = ends_rise group (sections_end group n o.sections) objects in
     omega arith
 
--- Ranges one behind another, from an address to another.
+-- Ranges one after another, from an address to another.
 Rising : ℕ → ℕ → List Range → Type 0
 Rising low high [] = low ≤ high
 Rising low high (r ∷ rs) = (low ≤ r.start) × Rising (range_end r) high rs
@@ -210,7 +210,7 @@ unfolding Rising
 rising_apart low high [] rise = tt
 rising_apart low high (r ∷ rs) rise = (apart_from r (range_end r) high rs (omega arith) rise.1, rising_apart (range_end r) high rs rise.1)
 
--- a group's range, if it has one, and others behind its end
+-- a group's range, if it has one, and others after its end
 rising_group : (base end high : ℕ) (cs : List Contribution) (rs : List Range) → span base cs ≡ end → Rising end high rs → Rising base high (range_of base cs ++ rs)
 unfolding Rising span
 rising_group base end high [] rs is rise = rising_from_below base end high rs (omega arith) rise
@@ -248,7 +248,7 @@ module _ (machine : MachineType) (first : ℕ) (objects : List Object) (sized : 
       ∙ span_objects machine linked group bases (filter has_tables objects) sized
       ∙ sym (end_kept group (base_of group bases) objects)
 
-  -- a group's range, and the others behind the next base
+  -- a group's range, and the others after the next base
   rising_next : (distance : ℕ) (group : Group) (rs : List Range) → Rising (next_multiple distance (group_end group (base_of group bases) objects)) (packed_end first objects) rs →
       Rising (base_of group bases) (packed_end first objects) (range_of (base_of group bases) (contributions machine linked group linked) ++ rs)
   rising_next distance group rs rise =

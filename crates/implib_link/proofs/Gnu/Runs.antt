@@ -1,4 +1,4 @@
--- Objects behind others, of which is known only that their relocations are within their sections.
+-- Objects after others, of which is known only that their relocations are within their sections.
 use Rattle.std.proofs.Common.{◌≡◌, ℕ, ◌+◌, ◌-◌, List, [], ◌∷◌, ◌++◌, length, Option, Some, None, refl, ap, sym, ◌∙◌, subst, inl, inr, false, arith}
 use Rattle.std.specs.Prelude.{bytes_eq}
 use Rattle.std.specs.List.{AllByRecursion, filter_map, list_any}
@@ -99,7 +99,7 @@ module _ (machine : MachineType) (linked : List Placed) (group : Group) where
       ∙ finish_objects (ends_after b o.sections) objects sized.1
       ∙ ap (λ n. group_end group n objects) (end_of_sections group b o.sections)
 
--- the end of a group behind objects
+-- the end of a group after objects
 pub end_behind : (group : Group) (b : Bases) (objects : List Object) → base_of group (ends_behind b objects) ≡ group_end group (base_of group b) objects
 unfolding ends_behind group_end
 end_behind group b [] = refl
@@ -159,7 +159,7 @@ none_defined name b (o ∷ objects) none =
     ∙ ap (λ ds. ds ++ definitions_of name (placed_from (ends_after b o.sections) objects)) (defines_none name (section_addresses_of b o.sections) o.entries none.0)
     ∙ none_defined name (ends_after b o.sections) objects none.1
 
--- The ends behind members.
+-- The ends after members.
 
 plus_none : (n : ℕ) → n + 0 ≡ n
 plus_none n = omega arith

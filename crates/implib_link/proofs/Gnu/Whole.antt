@@ -1,4 +1,4 @@
--- What the objects of other libraries leave behind them, by their own contributions.
+-- What the objects of other libraries leave after them, by their own contributions.
 use Rattle.std.proofs.Common.{◌≡◌, ℕ, ◌+◌, ◌*◌, ◌%◌, true, List, [], ◌∷◌, length, Option, Some, None, ap, sym, ◌∙◌, inl, inr, arith}
 use Rattle.std.specs.Prelude.{◌==◌, ◌||◌}
 use Rattle.std.specs.List.{list_all}
@@ -23,7 +23,7 @@ stays step n one even =
       ]
     ]
 
--- the next multiple of 1, 2, 4 or 8 behind a multiple of 4 is one
+-- the next multiple of 1, 2, 4 or 8 after a multiple of 4 is one
 goes_on : (step n : ℕ) → (((step == 1) || ((step == 2) || ((step == 4) || (step == 8)))) ≡ true) → n % 4 ≡ 0 → next_multiple step n % 4 ≡ 0
 unfolding next_multiple
 goes_on step n one even =

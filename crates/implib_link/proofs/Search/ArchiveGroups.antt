@@ -36,7 +36,7 @@ members_of_groups groups = flat_map (λ (g : Group). g.members) groups
 abbrev pub symbols_of_groups : List Group → List (List ℕ)
 symbols_of_groups groups = flat_map (λ (g : Group). g.symbols) groups
 
--- a name that no member is listed for is looked up behind
+-- a name that no member is listed for is looked up after
 pub first_behind : (name : List ℕ) (members rest : List MemberView) → first_listed members name ≡ None → first_listed (members ++ rest) name ≡ first_listed rest name
 first_behind name [] rest none = refl
 first_behind name (m ∷ members) rest none =

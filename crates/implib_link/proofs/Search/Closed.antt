@@ -211,7 +211,7 @@ module _ (machine : MachineType) (libraries : List Library) (archive : IsArchive
   made_of : (l : Library) → Among l libraries → IsLibrary machine l
   made_of l held = all_among (IsLibrary machine) l libraries held archive.made
 
-  -- a member with just one symbol, or several
+  -- a member with exactly one symbol, or several
   is_first : (m x : MemberView) (o : Object) (names : List (List ℕ)) → m ≡ x → object_in x.bytes ≡ Some o → claimed_names o ≡ names → x.symbols ≡ names →
       ((name : List ℕ) → Among name names → first_listed (archive_of libraries) name ≡ Some x) → IsFirst m
   is_first m x o names same read claims listed first = record {

@@ -1,4 +1,4 @@
--- How often a name is in a list: names differ just where each is there once at most. So names that differ do so in
+-- How often a name is in a list: names differ exactly where each is there once at most. So names that differ do so in
 -- any order, and where some are left out.
 use Rattle.std.proofs.Common.{◌≡◌, ℕ, ◌+◌, ◌≤◌, Bool, true, false, List, [], ◌∷◌, ◌++◌, refl, sym, ◌∙◌, subst, inl, inr, arith, if◌then◌else◌}
 use Rattle.std.specs.Prelude.{IsPermutation, bytes_eq}

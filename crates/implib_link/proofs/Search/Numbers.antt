@@ -51,7 +51,7 @@ listed_later machine dll exports start k e name is listed =
     (numbered_in machine dll exports start k e (export_spec machine dll (start + k) e) is
     (among_back (export_spec machine dll (start + k) e) (alias_specs machine dll (start + k) e) (export_spec machine dll (start + k) e ∷ []) (among_first _ _))) listed
 
--- the names of one export's specifications and of those behind
+-- the names of one export's specifications and of those after
 member_specs_apart : (machine : MachineType) (dll : List ℕ) (x : ExportView) (exports : List ExportView) (start k : ℕ) (e : ExportView) (name : List ℕ) →
     IsDistinct bytes_eq (flat_map (λ (p : MemberSpec). p.symbols) (numbered_specs machine dll start (x ∷ exports))) → slice_get exports k ≡ Some e →
     Among name (archive_symbols x) → Among name (archive_symbols e) → ⊥

@@ -309,7 +309,7 @@ module _ (d : DefinitionView) (machine : MachineType) (members : List MemberView
 
 -- What is linked of chosen exports.
 
--- numbers are of just the wanted exports
+-- numbers are of exactly the wanted exports
 pub record AreWanted (exports : List ExportView) (wanted : List (List ℕ)) (chosen : List ℕ) : Type 0 where
   pub only : (k : ℕ) → Among k chosen → (e : ExportView) × (slice_get exports k ≡ Some e) × (is_wanted wanted e ≡ true)
   pub all : (k : ℕ) (e : ExportView) → slice_get exports k ≡ Some e → is_wanted wanted e ≡ true → Among k chosen

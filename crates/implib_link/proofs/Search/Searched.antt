@@ -1,4 +1,4 @@
--- What a linker takes of the members links to a program that imports just the wanted exports.
+-- What a linker takes of the members links to a program that imports exactly the wanted exports.
 use Rattle.std.proofs.Common.{◌≡◌, ℕ, List, [], ◌∷◌, ◌++◌, map, Some, refl, ap, sym, ◌∙◌, subst, inl, inr, true}
 use Rattle.std.specs.Prelude.{bytes_eq, not, slice_get}
 use Rattle.std.specs.List.{AllByRecursion, IsDistinct, filter, filter_map}

@@ -40,7 +40,7 @@ rest_rises : (x : MemberView) (members : List MemberView) → IsAscending (names
 rest_rises x [] rise = tt
 rest_rises x (y ∷ members) rise = rise.1
 
--- a member comes before all behind it
+-- a member comes before all after it
 first_before : (x m : MemberView) (members : List MemberView) → IsAscending (names (x ∷ members)) → Among m members → ComesBefore x.name m.name
 unfolding Among
 first_before x m [] rise held = absurd held
@@ -62,7 +62,7 @@ unfolding IsDistinct
 rising_differ [] rise = tt
 rising_differ (x ∷ members) rise = (all_apart x members (λ m held. first_before x m members rise held), rising_differ members (rest_rises x members rise))
 
--- the member that no other one comes behind is the last
+-- the member that no other one comes after is the last
 last_of : (last : MemberView) (members : List MemberView) → IsAscending (names members) → Among last members →
     ((m : MemberView) → Among m members → (m ≡ last) ⊎ ComesBefore m.name last.name) → (between : List MemberView) × (members ≡ between ++ last ∷ [])
 unfolding Among

@@ -55,7 +55,7 @@ dll_of_group (r ∷ group) = r.dll
 abbrev pub is_of_group : ShortImport → List ShortImport → Bool
 is_of_group r group = bytes_eq (in_small r.dll) (in_small (dll_of_group group))
 
--- a short import put into the group of its DLL, or into a new one behind all others
+-- a short import put into the group of its DLL, or into a new one after all others
 unfoldable pub put_into : ShortImport → List (List ShortImport) → List (List ShortImport)
 put_into r [] = (r ∷ []) ∷ []
 put_into r (group ∷ groups) =
@@ -157,7 +157,7 @@ pub record IsImportedBy (machine : MachineType) (descriptors addresses : ℕ) (t
   pub gets : GetsAddress linked (imp_symbol r.symbol) (loads.plain.addresses + thunk_width machine * j)
 
 -- What lld's tables give:
--- `directory`: at the descriptors is a directory of just these imports;
+-- `directory`: at the descriptors is a directory of exactly these imports;
 -- `imported`: each short import is one of them, at an entry of its own;
 -- `only`: each of them is a short import, of the group's DLL;
 -- `apart`: no two groups are of one DLL.

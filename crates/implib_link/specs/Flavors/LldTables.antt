@@ -93,7 +93,7 @@ pub record ArePiecesAt (machine : MachineType) (image : List Range)
   pub hint_names : BytesAt image hints (all_hints imports)
   pub dll_names : BytesAt image names (all_names imports)
 
--- Where the pieces are if nothing else has import tables: one behind another from a base on, the lookup tables at the
+-- Where the pieces are if nothing else has import tables: one after another from a base on, the lookup tables at the
 -- first multiple of a thunk's width.
 abbrev pub directory_end : ℕ → List Imported → ℕ
 directory_end base imports = base + 20 * (length imports + 1)

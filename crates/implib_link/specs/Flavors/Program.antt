@@ -114,7 +114,7 @@ IsFoundByName Gnu dll = Unit {0}
 -- `null_from`: an input for Microsoft's linker, whose null descriptor is linked, put in anywhere (`before`,
 -- `behind`) among the members (`members`);
 -- `tables`: the objects with import tables are what these are taken for;
--- `others`: the other objects are anywhere before, between and behind, and claim none of the members'
+-- `others`: the other objects are anywhere before, between and after, and claim none of the members'
 -- symbols;
 -- `found`: linkers find each descriptor by its DLL's name.
 pub record AreFlavorObjects (machine : MachineType) (inputs : List FlavorInput) (objects : List Object)
@@ -192,8 +192,8 @@ thunks_of i inputs = thunks_before i (map (λ p. p.input) inputs)
 -- What a link of a program gives, of objects placed at bases:
 -- `linked`: what is linked of each definition are its members;
 -- `imports`: the i-th DLL's descriptor is the i-th from the descriptors' base, its address table is
--- behind those of the DLLs before it, and its imports are as above;
--- `directory`: at the base is a directory of just these imports;
+-- after those of the DLLs before it, and its imports are as above;
+-- `directory`: at the base is a directory of exactly these imports;
 -- `null`: it is the null descriptor that ends it, whose symbol has this address (`ended`);
 -- `targets`: every relocation of a member finds its target;
 -- `defined`: every symbol that a member leaves to others is defined once, at an address;

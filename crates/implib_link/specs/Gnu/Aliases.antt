@@ -14,7 +14,7 @@ abbrev pub name_of : Entry → Option (List ℕ)
 name_of (Auxiliary bytes) = None
 name_of (ASymbol s) = Some s.name
 
--- what a weak external is replaced by: the record behind its symbol has the index of another symbol of the
+-- what a weak external is replaced by: the record after its symbol has the index of another symbol of the
 -- object
 abbrev pub replaced_by : List Entry → List Entry → Option (List ℕ)
 replaced_by entries [] = None

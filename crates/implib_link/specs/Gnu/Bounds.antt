@@ -14,7 +14,7 @@ use Rattle.implib.specs.Members.ImportTables.{thunk_width}
 use Rattle.implib_link.specs.Gnu.Program.{thunks_before, with_tables}
 
 -- An address is in an entry of the address tables: that of a number of a DLL of a number. A DLL has an entry
--- for each chosen export, and behind them the null thunk.
+-- for each chosen export, and after them the null thunk.
 pub record IsInEntry (machine : MachineType) (bases : Bases) (inputs : List LinkInput) (address : ℕ)
     : Type 0 where
   pub dll : ℕ
@@ -40,7 +40,7 @@ pub record BeginsWith (linked : List Placed) (name : List ℕ) (address : ℕ) :
 -- 2^31, has the entries of all DLLs and their null thunks, and nothing else;
 -- `entries`: each chosen export's `__imp_` symbol is at an entry in it;
 -- `tiled`: each address in it is in an entry of a DLL;
--- `directory`: one range has just the descriptors, one for each DLL, and the null descriptor.
+-- `directory`: one range has exactly the descriptors, one for each DLL, and the null descriptor.
 pub record AreBounded (machine : MachineType) (bases : Bases) (inputs : List LinkInput) (objects : List Object)
     : Type 0 where
   pub table : Range
@@ -65,7 +65,7 @@ pub record AreBounded (machine : MachineType) (bases : Bases) (inputs : List Lin
 abbrev pub IsEven : Contribution → Type 0
 IsEven c = c.address % 2 ≡ 0
 
--- Every hint, with the name behind it, begins at an even address (PE/COFF specification, "Hint/Name Table":
+-- Every hint, with the name after it, begins at an even address (PE/COFF specification, "Hint/Name Table":
 -- a byte of padding "to align the next entry on an even boundary").
 abbrev pub HaveEvenHints : MachineType → Bases → List Object → Type 0
 HaveEvenHints machine bases objects =

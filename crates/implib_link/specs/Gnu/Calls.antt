@@ -22,7 +22,7 @@ pub record PlacedCode : Type 0 where
   pub code : ObjectSection
   pub position : ℕ
 
--- I386's relocation by 32 bits relative to the byte behind the field (PE/COFF specification, "Type Indicators":
+-- I386's relocation by 32 bits relative to the byte after the field (PE/COFF specification, "Type Indicators":
 -- IMAGE_REL_I386_REL32)
 abbrev pub i386_rel32 : ℕ
 i386_rel32 = 0x14
@@ -31,7 +31,7 @@ i386_rel32 = 0x14
 abbrev pub arm64_branch26 : ℕ
 arm64_branch26 = 3
 
--- a word that a relocation changes in code: as in a stub's, on I386 relative to the byte behind the field too, and
+-- a word that a relocation changes in code: as in a stub's, on I386 relative to the byte after the field too, and
 -- on ARM64 in a branch
 abbrev pub word_in_code : MachineType → ℕ → ℕ → ℕ → ℕ → ℕ → ℕ
 word_in_code I386 type image_base position target word =
@@ -161,7 +161,7 @@ abbrev pub HasCall : MachineType → PlacedCode → ℕ → List ℕ → Type 0
 HasCall machine c offset name = HasInstructions machine c offset name (call_bytes machine) (call_relocations machine)
 
 -- Where a call through a pointer at an address reads its target, by the rule of its instructions: I386 at the
--- displacement; AMD64 that far behind the call; ARM64 at the offset in the page.
+-- displacement; AMD64 that far after the call; ARM64 at the offset in the page.
 abbrev pub call_reads : MachineType → ℕ → List ℕ → Option ℕ
 call_reads I386 address bytes =
     if bytes_eq (take 2 bytes) (0xFF ∷ 0x15 ∷ []) then Some (word_at bytes 2) else None
@@ -215,7 +215,7 @@ CanBranch ARMNT from to = ⊥
 CanBranch AMD64 from to = Unit {0}
 CanBranch ARM64 from to = (from % 4 ≡ 0) × (to % 4 ≡ 0) × (from ≤ to + 2 ^ 27) × (to < from + 2 ^ 27)
 
--- where `call rel32` at an address leads: so far behind it
+-- where `call rel32` at an address leads: so far after it
 abbrev pub rel32_leads : ℕ → List ℕ → Option ℕ
 rel32_leads address bytes =
     if bytes_eq (take 1 bytes) (0xE8 ∷ []) then Some (plus_signed 32 1 (word_at bytes 1) (address + 5)) else None

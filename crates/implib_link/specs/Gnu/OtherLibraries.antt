@@ -1,5 +1,5 @@
 -- Members among the objects of other import libraries, which have parts of the import tables of their own: whole
--- libraries stand one behind another, as linkers leave them that order contributions by archive.
+-- libraries stand one after another, as linkers leave them that order contributions by archive.
 use Rattle.std.specs.Prelude.{◌≡◌, ℕ, zero, suc, ◌+◌, ◌*◌, ◌≤◌, ◌%◌, ◌⊎◌, Bool, ◌&&◌, ◌||◌, ◌==◌, not, true, List, [], ◌∷◌, ◌++◌, bytes_eq, length, map, slice_get, Option, Some, None, if◌then◌else◌}
 use Rattle.std.specs.List.{AllByRecursion, IsDistinct, filter, flat_map, list_all}
 use Rattle.implib.specs.declared.machine.MachineType.{MachineType}
@@ -15,7 +15,7 @@ use Rattle.implib_link.specs.Gnu.Program.{ClaimsNone, ImportsBy, has_tables, lin
 use Rattle.implib.specs.LibraryName.{names_for}
 use Rattle.implib.specs.declared.flavor.Flavor.TheVariants.{Gnu}
 
--- The objects of other import libraries, what their descriptors import, and behind them the members of these
+-- The objects of other import libraries, what their descriptors import, and after them the members of these
 -- inputs. Either part may be empty.
 pub record Run : Type 0 where
   pub objects : List Object
@@ -26,7 +26,7 @@ pub record Run : Type 0 where
 abbrev pub members_of_run : MachineType → Run → List Object
 members_of_run machine r = objects_in (all_linked machine r.inputs)
 
--- the objects of runs, and others behind them
+-- the objects of runs, and others after them
 abbrev pub objects_of_runs : MachineType → List Run → List Object → List Object
 objects_of_runs machine [] rest = rest
 objects_of_runs machine (r ∷ runs) rest =
@@ -44,12 +44,12 @@ abbrev pub imports_of_runs : MachineType → List Run → List Imported
 imports_of_runs machine [] = []
 imports_of_runs machine (r ∷ runs) = r.imports ++ (map (imported machine) r.inputs ++ imports_of_runs machine runs)
 
--- the ends behind objects that are placed one after another
+-- the ends after objects that are placed one after another
 unfoldable pub ends_behind : Bases → List Object → Bases
 ends_behind b [] = b
 ends_behind b (o ∷ objects) = ends_behind (ends_after b o.sections) objects
 
--- the ends behind a run
+-- the ends after a run
 abbrev pub behind_run : MachineType → Bases → Run → Bases
 behind_run machine b r = ends_behind (ends_behind b r.objects) (members_of_run machine r)
 
@@ -75,7 +75,7 @@ keeps_table s =
     ((alignment s.flags == 1) || ((alignment s.flags == 2) || ((alignment s.flags == 4) || (alignment s.flags == 8))))
     && (length s.bytes % 4 == 0)
 
--- Whether a section leaves a multiple of 4 behind it, where it is placed at one: descriptors without padding in
+-- Whether a section leaves a multiple of 4 after it, where it is placed at one: descriptors without padding in
 -- front of them, and tables. Of hints, names and ends nothing is asked.
 abbrev pub keeps_fours : ObjectSection → Option Group → Bool
 keeps_fours s None = true
@@ -103,7 +103,7 @@ rows_of_objects (o ∷ objects) = rows_of_sections o.sections + rows_of_objects 
 
 -- What is asked of the objects of other libraries, by their own contributions, wherever they are placed:
 -- `sized`: their relocations are within their sections;
--- `fours`: their sections leave multiples of 4 behind them;
+-- `fours`: their sections leave multiples of 4 after them;
 -- `rows`: they bring a descriptor of 20 bytes for each of these DLLs, and no more.
 pub record AreWhole (objects : List Object) (imports : List Imported) : Type 0 where
   pub sized : AllByRecursion HoldsFields objects
@@ -123,8 +123,8 @@ AllTaken image width address (r ∷ runs) =
     DescriptorsAt image width address r.imports
     × AllTaken image width (address + 20 * length r.imports + 20 * length r.inputs) runs
 
--- What may be linked with the members of these runs' inputs. Behind the runs is a last part: the linker's null
--- descriptor, or any objects by which there are 20 zero bytes behind all descriptors (`ended`).
+-- What may be linked with the members of these runs' inputs. After the runs is a last part: the linker's null
+-- descriptor, or any objects by which there are 20 zero bytes after all descriptors (`ended`).
 -- `tables`: the objects with parts of import tables are those of the runs and of the last part;
 -- `claimed`, `others`: no object but the members claims one of their symbols;
 -- `whole`, `taken`: what is asked of other libraries' objects and of their descriptors in the image.
@@ -146,7 +146,7 @@ pub record IsProgramBeside (machine : MachineType) (bases : Bases) (runs : List 
       bases.descriptors runs
 
 -- What is known of the members of a run that are placed from these bases on:
--- `imports`: the i-th DLL's descriptor is the i-th, its address table is behind those of the DLLs before it;
+-- `imports`: the i-th DLL's descriptor is the i-th, its address table is after those of the DLLs before it;
 -- `targets`: every relocation of a member finds its target;
 -- `defined`: every symbol that a member leaves undefined is defined once, at an address.
 pub record RunLinks (machine : MachineType) (image : List Range) (linked : List Placed) (b : Bases) (r : Run)
@@ -160,9 +160,9 @@ pub record RunLinks (machine : MachineType) (image : List Range) (linked : List 
 
 -- What a link of such a program gives:
 -- `linked`: what is linked of each definition are its members;
--- `members`: the members of each run link, behind the other libraries' objects of their run;
--- `rows`: their descriptors are behind those of all DLLs in front of them, theirs and ours;
--- `directory`: at the base is a directory of just these imports, theirs and ours;
+-- `members`: the members of each run link, after the other libraries' objects of their run;
+-- `rows`: their descriptors are after those of all DLLs in front of them, theirs and ours;
+-- `directory`: at the base is a directory of exactly these imports, theirs and ours;
 -- `listed`: every symbol that a member is listed for is defined once.
 pub record LinksBeside (machine : MachineType) (bases : Bases) (runs : List Run) (objects : List Object)
     : Type 0 where

@@ -1,16 +1,16 @@
--- Packed placement: the groups of the import tables one behind another, each at the first multiple of 8, and
--- what ends the descriptors right behind them, at the first multiple of 4.
+-- Packed placement: the groups of the import tables one after another, each at the first multiple of 8, and
+-- what ends the descriptors right after them, at the first multiple of 4.
 use Rattle.std.specs.Prelude.{ℕ, ◌+◌, List, [], ◌∷◌, length, Option, Some, None, if◌then◌else◌}
 use Rattle.implib.specs.Formats.Object.{Object, ObjectSection}
 use Rattle.implib.specs.Link.Placement.{Addresses, Bases, Descriptors, DirectoryEnds, DllNames, Group, HintNames, Lookups, alignment, group_named, next_multiple, same_group}
 
--- the end of a group behind an end and a section of this group or of another one or of none
+-- the end of a group after an end and a section of this group or of another one or of none
 abbrev pub end_with : Group → ℕ → ObjectSection → Option Group → ℕ
 end_with group end s None = end
 end_with group end s (Some other) =
     if same_group group other then next_multiple (alignment s.flags) end + length s.bytes else end
 
--- the end of a group behind an end and sections
+-- the end of a group after an end and sections
 unfoldable pub sections_end : Group → ℕ → List ObjectSection → ℕ
 sections_end group end [] = end
 sections_end group end (s ∷ sections) =
@@ -21,7 +21,7 @@ unfoldable pub group_end : Group → ℕ → List Object → ℕ
 group_end group base [] = base
 group_end group base (o ∷ objects) = group_end group (sections_end group base o.sections) objects
 
--- the base behind a group that begins at a base
+-- the base after a group that begins at a base
 abbrev pub base_behind : Group → ℕ → List Object → ℕ
 base_behind group base objects = next_multiple 8 (group_end group base objects)
 

@@ -33,7 +33,7 @@ abbrev pub HasLoad : MachineType → PlacedCode → ℕ → List ℕ → Type 0
 HasLoad machine c offset name = HasInstructions machine c offset name (load_bytes machine) (load_relocations machine)
 
 -- Where such instructions at an address read the pointer, by their rule: I386 at the displacement; AMD64 that far
--- behind the instruction; ARM64 at the offset in the page.
+-- after the instruction; ARM64 at the offset in the page.
 abbrev pub load_reads : MachineType → ℕ → List ℕ → Option ℕ
 load_reads I386 address bytes =
     if bytes_eq (take 1 bytes) (0xA1 ∷ []) then Some (word_at bytes 1) else None

@@ -18,7 +18,7 @@ use Rattle.implib_link.specs.Directory.{DirectoryAt, imported}
 use Rattle.implib.specs.LibraryName.{NamesOfDll, names_for}
 use Rattle.implib.specs.declared.flavor.Flavor.TheVariants.{Gnu}
 
--- the descriptor of zeros that ends the import directory: linkers add it behind all others
+-- the descriptor of zeros that ends the import directory: linkers add it after all others
 abbrev pub null_descriptor : Object
 null_descriptor = record {
   machine = 0;
@@ -66,7 +66,7 @@ linked_symbols machine inputs = flat_map (λ m. m.symbols) (all_linked machine i
 
 -- What may be linked with the members of these inputs, objects with the full names of their sections, as
 -- `object_by_full_names` reads them: the objects with import tables are the members and,
--- behind them, the null descriptor; the others may be anywhere before, between and behind, and claim
+-- after them, the null descriptor; the others may be anywhere before, between and after, and claim
 -- none of the members' symbols; no two members are listed for one symbol; the bases are admissible.
 pub record IsProgram (machine : MachineType) (bases : Bases) (inputs : List LinkInput) (objects : List Object)
     : Type 0 where
@@ -116,8 +116,8 @@ names_claimed_in linked = flat_map (λ p. claimed_names p.object) linked
 -- What a link of a program gives, of objects placed at bases:
 -- `linked`: what is linked of each definition are its members;
 -- `imports`: the i-th DLL's descriptor is the i-th from the descriptors' base, its address table is
--- behind those of the DLLs before it, and its imports are as above;
--- `directory`: at the base is a directory of just these imports;
+-- after those of the DLLs before it, and its imports are as above;
+-- `directory`: at the base is a directory of exactly these imports;
 -- `targets`: every relocation of a member finds its target;
 -- `defined`: every symbol that a member leaves to others is defined once, at an address;
 -- `listed`: every symbol that a member is listed for is defined once;

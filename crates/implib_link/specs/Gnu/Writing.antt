@@ -31,7 +31,7 @@ pub record FillsBy (width : ℕ) (gives : List ℕ → Ask → List ℕ) (descri
   pub lookups_field : NumberAt memory 4 descriptor lookups
   pub fills : FillsTable width (gives found.dll) lookups addresses memory found.asks after
 
--- A loader from a descriptor on: by these it goes on, one behind another, and at the next it stops (PE/COFF
+-- A loader from a descriptor on: by these it goes on, one after another, and at the next it stops (PE/COFF
 -- specification, "Import Directory Table", "Import Address Table"). What it found, in its order, and the
 -- memory that it leaves.
 unfoldable pub WritesAsItGoes : ℕ → (List ℕ → Ask → List ℕ) → ℕ → List Range → List Imported → List Range → Type 0

@@ -105,7 +105,7 @@ pub record IsWeakData (libraries : List Library) (names : List (List ℕ)) (m : 
   pub named : Contains names export.name
   pub listed : m.symbols ≡ export.name ∷ []
 
--- What a linker takes of such an archive: apart from weak externals, just what is linked of the libraries, of
+-- What a linker takes of such an archive: apart from weak externals, exactly what is linked of the libraries, of
 -- each the exports that are wanted, by the program or by a weak external that is taken; and weak externals of
 -- data alone.
 pub record TakesOfLibraries (machine : MachineType) (libraries : List Library) (wanted : List (List ℕ))

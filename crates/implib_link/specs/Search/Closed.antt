@@ -68,7 +68,7 @@ inputs_in arranged own taken = inputs_wanted arranged (wanted_in own taken)
 -- What is linked for given objects and members that are taken of libraries:
 -- `order`: the libraries are linked in this order, which may be another than that of the archive;
 -- `others`: the objects without import tables are those that are given and the weak externals that are taken;
--- `tables`: those with import tables are the other members that are taken and, behind them, the null descriptor;
+-- `tables`: those with import tables are the other members that are taken and, after them, the null descriptor;
 -- `admissible`: the bases are.
 pub record AreLinkedFor (machine : MachineType) (libraries : List Library) (own : List Object)
     (taken : List MemberView) (arranged : List Library) (bases : Bases) (objects : List Object)
@@ -121,7 +121,7 @@ abbrev pub IsUsed : List (List ℕ) → ExportView → Type 0
 IsUsed wanted e = (name : List ℕ) × Contains (archive_symbols e) name × Contains wanted name
 
 -- What a closed program links to:
--- `taken_is`: what is taken is just what the names want that the given objects leave unresolved;
+-- `taken_is`: what is taken is exactly what the names want that the given objects leave unresolved;
 -- `program`, `links`: what is linked is a program, and links as such;
 -- `used`: each import in its directory is used: a given object or an alias that is taken names it;
 -- `resolved`: each name that is wanted and that the libraries list is that of an import, or an alias;

@@ -117,7 +117,7 @@ pub record IsWeakShort (libraries : List Library) (names : List (List ℕ)) (m :
   pub named : Contains names name
   pub listed : m.symbols ≡ name ∷ []
 
--- What a linker takes of such an archive: apart from weak externals, just what is linked of the libraries,
+-- What a linker takes of such an archive: apart from weak externals, exactly what is linked of the libraries,
 -- of each the exports that are wanted, by the program or by a weak external that is taken, and that are no
 -- aliases, and one null descriptor; and weak externals of aliases alone.
 pub record TakesOfShorts (machine : MachineType) (libraries : List Library) (wanted : List (List ℕ))

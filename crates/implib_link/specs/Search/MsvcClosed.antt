@@ -125,7 +125,7 @@ abbrev pub IsUsedShort : List (List ℕ) → ExportView → Type 0
 IsUsedShort wanted e = (name : List ℕ) × Contains (short_import_symbols e) name × Contains wanted name
 
 -- What a closed program links to:
--- `taken_is`: what is taken is just what the names want that the given objects leave unresolved;
+-- `taken_is`: what is taken is exactly what the names want that the given objects leave unresolved;
 -- `program`, `links`: what is linked is a program of several DLLs, and links as such;
 -- `used`: each import in its directory is used: a given object or an alias that is taken names it;
 -- `resolved`: each name that is wanted and that the libraries list is that of an import, or an alias;

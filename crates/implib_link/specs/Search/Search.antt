@@ -100,7 +100,7 @@ pub record IsArranged (machine : MachineType) (dll : NamesOfDll) (taken arranged
   pub same : HaveSame taken arranged
   pub once : IsDistinct bytes_eq (map (λ m. m.name) arranged)
 
--- members are what is linked of just the wanted exports, in some order
+-- members are what is linked of exactly the wanted exports, in some order
 pub record IsLinkedOfWanted (machine : MachineType) (d : DefinitionView) (wanted : List (List ℕ))
     (arranged : List MemberView) : Type 0 where
   pub chosen : List ℕ
@@ -108,7 +108,7 @@ pub record IsLinkedOfWanted (machine : MachineType) (d : DefinitionView) (wanted
   pub linked : arranged ≡ linked_members d machine chosen
 
 -- A program of what a linker took of an archive, in such an order, and of other objects: the objects with
--- import tables are those members and, behind them, the null descriptor; the others claim no symbol of
+-- import tables are those members and, after them, the null descriptor; the others claim no symbol of
 -- theirs.
 pub record IsLinkedWith (machine : MachineType) (dll : NamesOfDll) (bases : Bases) (taken : List MemberView)
     (objects : List Object) : Type 0 where
@@ -119,7 +119,7 @@ pub record IsLinkedWith (machine : MachineType) (dll : NamesOfDll) (bases : Base
       (filter (λ o. not (has_tables o)) objects)
   pub admissible : IsAdmissible machine bases objects
 
--- the objects link to a program that imports just the wanted exports, in some order
+-- the objects link to a program that imports exactly the wanted exports, in some order
 pub record ImportsWanted (machine : MachineType) (d : DefinitionView) (members : List MemberView)
     (wanted : List (List ℕ)) (bases : Bases) (objects : List Object) : Type 0 where
   pub chosen : List ℕ

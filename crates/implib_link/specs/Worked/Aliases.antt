@@ -62,7 +62,7 @@ alias_at = record {
   position = 0x1000;
 }
 
--- the reading code at 0x1010, behind the calling code at 0x1000
+-- the reading code at 0x1010, after the calling code at 0x1000
 abbrev pub alias_load_at : PlacedCode
 alias_load_at = record {
   from = record { object = alias_loading; section_addresses = Unplaced ∷ [] };

@@ -24,5 +24,5 @@ pub record WorkedBounds : Type 0 where
   pub arm64 : WorkedBound ARM64 touching_8 120 56 (176 ∷ 176 ∷ 184 ∷ 192 ∷ 200 ∷ [])
   pub i386 : WorkedBound I386 touching_4 92 28 (120 ∷ 120 ∷ 128 ∷ 136 ∷ 144 ∷ [])
   pub armnt : WorkedBound ARMNT touching_4 92 28 (120 ∷ 120 ∷ 128 ∷ 136 ∷ 144 ∷ [])
-  -- a hint right behind the 7 bytes of that of `open`, at 176, without padding, is not at an even address
+  -- a hint right after the 7 bytes of that of `open`, at 176, without padding, is not at an even address
   pub refused : IsEven (record { address = 183; bytes = [] }) → ⊥

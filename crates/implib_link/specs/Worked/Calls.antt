@@ -84,7 +84,7 @@ calling_at machine position = record {
 abbrev pub table_targets : MachineType → Bases → PlacedCode → ℕ → ℕ
 table_targets machine bases c index = target_address (calling_placed machine bases) c.from index
 
--- the image with the code behind it
+-- the image with the code after it
 abbrev pub calling_memory : MachineType → ℕ → Bases → List Range
 calling_memory machine image_base bases =
     image_of machine bases (calling_placed machine bases)

@@ -23,7 +23,7 @@ claiming = code_object (
     ∷ symbol_of_class (codes "local") 1 3
     ∷ [])
 
--- the first four are claimed; just the fifth is left to others, of the external ones without a value
+-- the first four are claimed; exactly the fifth is left to others, of the external ones without a value
 pub record WorkedClaims : Type 0 where
   pub claimed : claimed_names claiming ≡ codes "main" ∷ codes "block" ∷ codes "fixed" ∷ codes "weak" ∷ []
 
@@ -37,7 +37,7 @@ amd64_call = record { offset = 1; symbol = 3; kind = 4 }
 abbrev pub arm64_call : Relocation
 arm64_call = record { offset = 0; symbol = 3; kind = 3 }
 
--- Direct calls at 0x1000 to code at 0x2000 and at 0x800: their fields are relative to the byte behind them, and ARM64's to
+-- Direct calls at 0x1000 to code at 0x2000 and at 0x800: their fields are relative to the byte after them, and ARM64's to
 -- the instruction itself, in words. In an
 -- image with the base 0x400000 they lead there.
 pub record WorkedDirectCalls : Type 0 where

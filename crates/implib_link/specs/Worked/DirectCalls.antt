@@ -66,7 +66,7 @@ stub_of machine linked index = record {
 abbrev pub branch_codes : List PlacedCode
 branch_codes = branch_at ∷ stub_of ARM64 branching_placed 3 ∷ []
 
--- the image with this code behind it, as it was linked
+-- the image with this code after it, as it was linked
 abbrev pub branch_memory : List Range
 branch_memory =
     image_of ARM64 touching_8 branching_placed
@@ -108,7 +108,7 @@ mixed_placed = placed_from flavor_bases_8 mixed_objects
 abbrev pub mixed_codes : List PlacedCode
 mixed_codes = direct_at ∷ stub_of AMD64 mixed_placed 4 ∷ []
 
--- the image with this code behind it, as it was linked
+-- the image with this code after it, as it was linked
 abbrev pub mixed_memory : List Range
 mixed_memory =
     image_of AMD64 flavor_bases_8 mixed_placed

@@ -60,7 +60,7 @@ zed_input machine = record {
 abbrev pub both_inputs : MachineType → List FlavorInput
 both_inputs machine = foo_input machine ∷ zed_input machine ∷ []
 
--- the members with foo.dll's null descriptor put in behind the first few
+-- the members with foo.dll's null descriptor put in after the first few
 abbrev pub members_with_null : MachineType → ℕ → List MemberView
 members_with_null machine count =
     take count (all_members machine (both_inputs machine))
@@ -92,7 +92,7 @@ flavor_bases_4 = record {
   dll_names = 160;
 }
 
--- the DLL's name, hints and names, some with a byte filled in behind
+-- the DLL's name, hints and names, some with a byte filled in after
 abbrev pub flavor_hints : List ℕ
 flavor_hints =
     codes "foo.dll" ++ 0
@@ -132,7 +132,7 @@ flavor_placed machine count bases = placed_from bases (flavor_objects machine co
 abbrev pub flavor_image : MachineType → ℕ → Bases → List Range
 flavor_image machine count bases = image_of machine bases (flavor_placed machine count bases)
 
--- The program of a machine, with the null descriptor behind the first few members, meets all that the law
+-- The program of a machine, with the null descriptor after the first few members, meets all that the law
 -- asks for, and its image holds what is expected.
 pub record WorkedFlavorProgram (machine : MachineType) (count : ℕ) (bases : Bases) (expected : FlavorExpected)
     : Type 0 where
@@ -156,7 +156,7 @@ pub record WorkedFlavorProgram (machine : MachineType) (count : ℕ) (bases : Ba
       (ASymbol (symbol_of_class (imp_symbol (symbol_on machine (codes "open"))) 0 class_external))
       ≡ expected.named
 
--- on all four machines: the null descriptor in front of all members, between those of foo.dll, and behind all
+-- on all four machines: the null descriptor in front of all members, between those of foo.dll, and after all
 pub record WorkedFlavors : Type 0 where
   pub amd64 : WorkedFlavorProgram AMD64 0 flavor_bases_8 flavor_expected_8
   pub i386 : WorkedFlavorProgram I386 2 flavor_bases_4 flavor_expected_4

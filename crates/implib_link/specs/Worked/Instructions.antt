@@ -93,7 +93,7 @@ IsBeside position = AreBeside AMD64 0x1_4000_0000 touching_8 (calling_objects AM
 abbrev pub aliased : ExportView
 aliased = record empty_export { name = codes "a"; alias_target = codes "b" }
 
--- Conditions that are met, just so or at their bounds, and what is not within them.
+-- Conditions that are met, exactly so or at their bounds, and what is not within them.
 pub record Conditions : Type 0 where
   pub i386_jumps : CanJump I386 0x8000_0000 far_4
   pub i386_jumps_not : CanJump I386 0x8000_0001 far_4 → ⊥

@@ -65,9 +65,9 @@ lld_linked = placed_by_lld AMD64 0x2068 three_taken ∷ []
 abbrev pub IsOnceAt : List ℕ → ℕ → Type 0
 IsOnceAt name address = definitions_of name lld_linked ≡ record { name = name; address = Some address } ∷ []
 
--- Of the short imports' bytes, the definitions give just the bytes that lld wrote, and the premises of the law hold;
--- by the laws it has five pieces at these addresses, and its directory is this one. The calls in lld's code go through these entries: `call [rip + 0x106A]` behind
--- 0x1006, `[rip + 0x1074]` behind 0x100C and `[rip + 0x1056]` behind 0x1012. Short imports that are taken in another
+-- Of the short imports' bytes, the definitions give exactly the bytes that lld wrote, and the premises of the law hold;
+-- by the laws it has five pieces at these addresses, and its directory is this one. The calls in lld's code go through these entries: `call [rip + 0x106A]` after
+-- 0x1006, `[rip + 0x1074]` after 0x100C and `[rip + 0x1056]` after 0x1012. Short imports that are taken in another
 -- order, or a DLL's in another order, have other tables.
 pub record WorkedLld : Type 0 where
   pub imports : imports_of_lld three_taken ≡ two_dlls

@@ -15,7 +15,7 @@ abbrev pub main_record : List ℕ
 main_record = codes "main" ++ (zeros 8 ++ 1 ∷ 0 ∷ 0 ∷ 0 ∷ 2 ∷ 0 ∷ [])
 
 -- a file with one empty section whose header has these 8 bytes for its name, one symbol, and a string table
--- of these bytes behind its size
+-- of these bytes after its size
 abbrev pub file_with_symbol : List ℕ → List ℕ → List ℕ
 file_with_symbol name strings =
     zeros 2 ++ (u16_bytes 1 ++ (zeros 4 ++ (u32_bytes 60 ++ (u32_bytes 1 ++ (zeros 4
@@ -31,8 +31,8 @@ names_in name strings =
     option_map (λ o. map (λ (s : ObjectSection). s.name) o.sections)
     (object_by_full_names (file_with_symbol name strings))
 
--- The digits are decimal, all ten of them, and the string table is behind the symbol's record: `/10` is the second text and
--- `/16` its end. Behind the last text there is no name, nor where a sign is no digit, nor where a text has no
+-- The digits are decimal, all ten of them, and the string table is after the symbol's record: `/10` is the second text and
+-- `/16` its end. After the last text there is no name, nor where a sign is no digit, nor where a text has no
 -- NUL. The nine members of Worked/Programs read the same with full names.
 pub record WorkedLongNames : Type 0 where
   pub digits : decimal_in (codes "1029384756") ≡ Some 1029384756

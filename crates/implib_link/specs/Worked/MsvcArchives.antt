@@ -28,7 +28,7 @@ abbrev pub msvc_zed : Library
 msvc_zed =
     msvc_library (of_dll (codes "zed.dll") (plain_export (codes "queue") ∷ plain_export (codes "stack") ∷ []))
 
--- foo.dll with data `bar`, an alias of the function `baz`; behind it zed.dll with two functions
+-- foo.dll with data `bar`, an alias of the function `baz`; after it zed.dll with two functions
 abbrev pub two_msvc : List Library
 two_msvc = msvc_foo ∷ msvc_zed ∷ []
 

@@ -306,7 +306,7 @@ mid_dll = of_dll (codes "mid.dll") (plain_export (codes "mone") ∷ plain_export
 abbrev pub mid_input : LinkInput
 mid_input = chosen_input AMD64 mid_dll (0 ∷ 1 ∷ [])
 
--- dlltool's members for aaa.dll, ours behind them, and dlltool's for zzz.dll
+-- dlltool's members for aaa.dll, ours after them, and dlltool's for zzz.dll
 abbrev pub both_runs : List Run
 both_runs = record { objects = aaa_objects; imports = aaa ∷ []; inputs = mid_input ∷ [] }
     ∷ record { objects = zzz_objects; imports = zzz ∷ []; inputs = [] }
@@ -338,7 +338,7 @@ image_written = range_written 0 80 ∷ range_written 0x50 64 ∷ range_written 0
 abbrev pub beside_image : List Range
 beside_image = image_of AMD64 linker_bases (placed_from linker_bases beside_objects)
 
--- the same, but that the last member for aaa.dll, with the null thunks, is behind ours
+-- the same, but that the last member for aaa.dll, with the null thunks, is after ours
 abbrev pub torn_objects : List Object
 torn_objects = objects_of (caller_bytes ∷ aaa_head_bytes ∷ aone_bytes ∷ atwo_bytes ∷ [])
     ++ (input_objects AMD64 mid_input ++ (objects_of (aaa_tail_bytes ∷ []) ++ (zzz_objects ++ null_descriptor ∷ [])))

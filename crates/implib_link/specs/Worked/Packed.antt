@@ -12,7 +12,7 @@ use Rattle.implib_link.specs.Gnu.Program.{IsProgram, null_descriptor}
 use Rattle.implib_link.specs.Worked.Programs.{both_inputs, program_objects, touching_8}
 
 -- the bases of the programs packed from 0x1001 on, for thunks of 8 and of 4 bytes: the descriptors from the
--- first multiple of 8 on, the others behind one another
+-- first multiple of 8 on, the others after one another
 abbrev pub packed_8 : Bases
 packed_8 = record {
   descriptors = 0x1008;

@@ -68,14 +68,14 @@ pub record WorkedPages : Type 0 where
       (0x40 ∷ 0 ∷ 0 ∷ 0x10 ∷ 0 ∷ 0 ∷ 0 ∷ 0 ∷ [])
 
 -- what is linked of both flavours: this object, what the members of foo.dll for Microsoft's linker, those of zed.dll
--- for GNU's and behind them the null descriptor are taken for, and another object
+-- for GNU's and after them the null descriptor are taken for, and another object
 abbrev pub paging_flavors : List Object
 paging_flavors = paging ∷ (objects_taken ARM64 (members_with_null ARM64 9) ++ another ARM64 ∷ [])
 
 abbrev pub paging_flavors_placed : List Placed
 paging_flavors_placed = placed_from flavor_bases_8 paging_flavors
 
--- the image with the code behind it, as it was linked
+-- the image with the code after it, as it was linked
 abbrev pub paging_flavors_memory : List Range
 paging_flavors_memory =
     image_of ARM64 flavor_bases_8 paging_flavors_placed

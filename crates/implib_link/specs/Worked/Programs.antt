@@ -132,7 +132,7 @@ pub record Expected : Type 0 where
   pub entries : List (List (Option ℕ))
   pub named : Option ℕ
 
--- the hints and names, two of them with a byte filled in behind
+-- the hints and names, two of them with a byte filled in after
 abbrev pub expected_hints : List ℕ
 expected_hints =
     2 ∷ 1 ∷ (codes "open" ++ 0 ∷ 0

@@ -59,7 +59,7 @@ dll_of dll = dll_by_names (export_asking hint_and_bar) head_by_hand (tail_naming
 abbrev pub import_read : List ℕ → List ℕ → Option Import
 import_read hint_name dll = import_of (export_asking hint_name) head_by_hand (tail_naming dll)
 
--- The import is read where both names have their NUL, whatever is behind it. Without the NUL of the one,
+-- The import is read where both names have their NUL, whatever is after it. Without the NUL of the one,
 -- nothing is asked for; without that of the other there is no DLL; and without either no import is read.
 pub record WorkedReadings : Type 0 where
   pub read : import_read hint_and_bar foo_ended

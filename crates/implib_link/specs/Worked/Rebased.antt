@@ -39,7 +39,7 @@ open_stub machine bases = record {
 abbrev pub moving_codes : MachineType → Bases → List PlacedCode
 moving_codes machine bases = calling_at machine 0x1000 ∷ open_stub machine bases ∷ []
 
--- the image with this code behind it, as it was linked for a base
+-- the image with this code after it, as it was linked for a base
 abbrev pub linked_memory : MachineType → ℕ → Bases → List Range
 linked_memory machine image_base bases =
     image_of machine bases (calling_placed machine bases)
@@ -123,7 +123,7 @@ pub record WorkedFlavorMove : Type 0 where
       (0x40 ∷ 0 ∷ 0 ∷ 0x10 ∷ 0 ∷ 0 ∷ 0 ∷ 0 ∷ [])
 
 -- what is linked of both flavours on I386: the calling object, what the members of foo.dll for Microsoft's linker,
--- its null descriptor behind two of them, and those of zed.dll for GNU's are taken for, and another object
+-- its null descriptor after two of them, and those of zed.dll for GNU's are taken for, and another object
 abbrev pub moving_flavors : List Object
 moving_flavors = calling I386 ∷ (objects_taken I386 (members_with_null I386 2) ++ another I386 ∷ [])
 

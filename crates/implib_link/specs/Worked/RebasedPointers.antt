@@ -17,7 +17,7 @@ use Rattle.implib_link.specs.Worked.Pages.{paging_at, paging_objects, paging_pla
 use Rattle.implib_link.specs.Worked.Pointers.{loading_at, loading_flavors, loading_flavors_placed, loading_objects, loading_placed, tables_of}
 use Rattle.implib_link.specs.Worked.Programs.{touching_4, touching_8}
 
--- the image with the reading code behind it, as it was linked for a base
+-- the image with the reading code after it, as it was linked for a base
 abbrev pub loading_memory : MachineType → ℕ → Bases → List Range
 loading_memory machine image_base bases =
     image_of machine bases (loading_placed machine bases)

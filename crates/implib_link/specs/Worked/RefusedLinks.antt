@@ -32,7 +32,7 @@ image_by_hand descriptor lookups addresses dll =
     ∷ record { start = 0x1058; bytes = dll ++ 0 ∷ [] }
     ∷ []
 
--- thunks for ordinals, of 8 bytes, and of 4 bytes with 4 behind that do not belong there
+-- thunks for ordinals, of 8 bytes, and of 4 bytes with 4 after that do not belong there
 abbrev pub ordinal_8 : ℕ → List ℕ
 ordinal_8 n = n ∷ 0 ∷ 0 ∷ 0 ∷ 0 ∷ 0 ∷ 0 ∷ 0x80 ∷ []
 

@@ -21,7 +21,7 @@ abbrev pub hints_and_names : List Range
 hints_and_names = record { start = 0x2000; bytes = 2 ∷ 1 ∷ (codes "open" ++ 0 ∷ (3 ∷ 0 ∷ codes "stat")) } ∷ []
 
 -- The DLL's name with its NUL is a text; it is none at the end of its bytes, nor where another letter is
--- behind it, and it is not a part of itself. A thunk asks for a name that has its NUL alone.
+-- after it, and it is not a part of itself. A thunk asks for a name that has its NUL alone.
 pub record RefusedTexts : Type 0 where
   pub right : TextAt (image_named (foo ++ 0 ∷ [])) 0x1058 foo
   pub no_nul : TextAt (image_named foo) 0x1058 foo → ⊥

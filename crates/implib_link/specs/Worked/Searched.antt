@@ -47,7 +47,7 @@ searched_objects =
     code_object (symbol_of_class (codes "main") 1 class_external ∷ symbol_of_class (codes "bar") 0 class_external ∷ [])
     ∷ (objects_in by_name ++ null_descriptor ∷ [])
 
--- What was taken for the wanted names is just what the law says; by names it is in order, and in no order
+-- What was taken for the wanted names is exactly what the law says; by names it is in order, and in no order
 -- where the tail is in front, or where the tail or an export's member lacks; a program of it imports `bar` and
 -- `qux` alone. A search ends, and this one took no more members than there are.
 pub record WorkedSearched : Type 0 where
@@ -73,7 +73,7 @@ libraries_objects taken =
     objects_in (all_linked AMD64 (inputs_wanted two_libraries (wanted_with both_wanted taken)))
     ++ null_descriptor ∷ []
 
--- What was taken of the two libraries is just what the law says, and a program of it imports just the wanted
+-- What was taken of the two libraries is exactly what the law says, and a program of it imports exactly the wanted
 -- exports.
 pub record WorkedLibraries : Type 0 where
   pub taken : List MemberView

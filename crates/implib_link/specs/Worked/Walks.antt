@@ -1,5 +1,5 @@
 -- Walks by hand of a loader that is strict about nothing: where it stops, and what it finds whose texts and
--- tables are behind the directory or in front of it.
+-- tables are after the directory or in front of it.
 use Rattle.std.specs.Prelude.{List, [], ◌∷◌, ◌++◌}
 use Rattle.implib.specs.Link.Image.{Range}
 use Rattle.implib.specs.Members.ImportTables.{zeros}
@@ -17,7 +17,7 @@ without_name = image_by_hand (descriptor_bytes 0x1028 0 0 0x1040) table_8 table_
 abbrev pub without_addresses : List Range
 without_addresses = image_by_hand (descriptor_bytes 0x1028 0 0x1058 0) table_8 table_8 foo
 
--- the name and both tables, and behind them the directory
+-- the name and both tables, and after them the directory
 abbrev pub directory_last : List Range
 directory_last =
     record { start = 0x1000; bytes = foo ++ 0 ∷ [] }

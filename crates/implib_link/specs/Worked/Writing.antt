@@ -83,7 +83,7 @@ pub record WorkedWritings : Type 0 where
   -- of the tables one on another, a loader that reads first asks for both ordinals
   pub reads_both : ReadsAndWrites overlapping 8 gives_zeros 1 0x1000
       (record { start = 0x1030; bytes = zeros 8 } ∷ record { start = 0x1038; bytes = zeros 8 } ∷ [])
-  -- one that writes as it goes finds its own zeros behind the first
+  -- one that writes as it goes finds its own zeros after the first
   pub ends_early : WritesAsItGoes 8 gives_zeros 0x1000 overlapping
       (record { dll = foo; asks = Ordinal 5 ∷ [] } ∷ [])
       (record { start = 0x1030; bytes = zeros 8 } ∷ overlapping)
@@ -93,7 +93,7 @@ pub record WorkedWritings : Type 0 where
   -- or it asks for what the DLL gave
   pub not_given : (after : List Range) →
       WritesAsItGoes 8 gives_nine 0x1000 overlapping (record { dll = foo; asks = five_and_six } ∷ []) after → ⊥
-  -- without the null descriptor no loader stops behind the DLL
+  -- without the null descriptor no loader stops after the DLL
   pub never_stops : (after : List Range) →
       WritesAsItGoes 8 gives_zeros 0x1000 without_null (record { dll = foo; asks = five_and_six } ∷ []) after → ⊥
   -- I386's program of Worked/Rebased, linked for 0x400000 and in memory at 0x10000000: at 0x60 is what
@@ -105,7 +105,7 @@ pub record WorkedWritings : Type 0 where
   pub moved_end : (after : List Range)
       × WritesAsItGoes 4 (given_on I386) touching_4.descriptors (i386_memory (0x60 ∷ 0 ∷ 0 ∷ 0x10 ∷ []))
       (map (imported I386) (both_inputs I386)) after
-  -- the program of both flavours: of both DLLs just the imports
+  -- the program of both flavours: of both DLLs exactly the imports
   pub flavors : (found : List Imported) (after : List Range) →
       WritesAsItGoes 8 (given_on AMD64) 8 (image_of AMD64 flavor_bases_8 flavors_placed) found after →
       found ≡ map (imported_in AMD64) (flavor_inputs AMD64)
@@ -122,7 +122,7 @@ pub record WorkedWritings : Type 0 where
   pub flavors_moved_end : (after : List Range)
       × WritesAsItGoes 4 (given_on I386) 8 (moving_memory (0x64 ∷ 0 ∷ 0 ∷ 0x10 ∷ []))
       (map (imported_in I386) (flavor_inputs I386)) after
-  -- it does not stop behind foo.dll, at the second descriptor
+  -- it does not stop after foo.dll, at the second descriptor
   pub flavors_not_one : (after : List Range) →
       WritesAsItGoes 4 (given_on I386) 8 (moving_memory (0x64 ∷ 0 ∷ 0 ∷ 0x10 ∷ []))
       (imported_in I386 (msvc_input I386) ∷ []) after → ⊥

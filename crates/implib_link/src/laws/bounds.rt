@@ -10,8 +10,8 @@ ghost use Rattle.implib_link.specs.Worked.Bounds.{WorkedBounds};
 ghost use Rattle.std.specs.List.{AllByRecursion};
 ghost use Rattle.std.specs.Prelude.{◌<◌, ℕ, List, length};
 
-/// The address tables of a program with a DLL are just one range of its image, from the symbol
-/// `.idata$5` of the first member on, and its directory is just another; each hint is at an even
+/// The address tables of a program with a DLL are exactly one range of its image, from the symbol
+/// `.idata$5` of the first member on, and its directory is exactly another; each hint is at an even
 /// address.
 pub fn tables_are_bounded()
     ensures bounds { (machine : MachineType) (bases : Bases) (inputs : List LinkInput)

@@ -11,7 +11,7 @@ ghost use Rattle.implib_link.specs.Worked.Closed.{WorkedClosed, WorkedGiven};
 ghost use Rattle.std.specs.Prelude.{List};
 
 /// Given objects, what a linker takes for them of an archive of several libraries, and the null
-/// descriptor are a program, which imports just the exports that are named by symbols that the
+/// descriptor are a program, which imports exactly the exports that are named by symbols that the
 /// given objects, or the aliases that are taken for them, leave unresolved; and no name is left
 /// unresolved that the archive lists.
 ///

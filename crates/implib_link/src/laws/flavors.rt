@@ -22,9 +22,9 @@ ghost use Rattle.std.specs.Prelude.{◌≡◌, ◌<◌, ◌+◌, ◌*◌, ◌^�
 ghost use Rattle.std.specs.Prelude.{slice_get};
 
 /// The chosen members of several DLLs, each for Microsoft's linker or for GNU's, and a null
-/// descriptor link among any other objects: the import directory lists just these DLLs with just
-/// the chosen exports, ended by the null descriptor, and each `__imp_` symbol is its export's own
-/// entry, from whichever object it is named.
+/// descriptor link among any other objects: the import directory lists exactly these DLLs with
+/// exactly the chosen exports, ended by the null descriptor, and each `__imp_` symbol is its
+/// export's own entry, from whichever object it is named.
 ///
 /// One DLL for Microsoft's linker at least is among them, since its members bring the null
 /// descriptor.
@@ -37,8 +37,8 @@ pub fn links_in_both_flavors()
 {}
 
 /// The members of texts, each in its flavour, link among any other objects to a program whose
-/// import directory lists just their DLLs, each with just its chosen exports, each by the word of
-/// its own statement.
+/// import directory lists exactly their DLLs, each with exactly its chosen exports, each by the
+/// word of its own statement.
 pub fn flavored_texts_link()
     ensures links { (machine : MachineType) (bases : Bases) (sources : List FlavorSource)
         (objects : List Object) →

@@ -20,8 +20,8 @@ ghost use Rattle.implib_link.specs.Worked.Lld.{WorkedLld};
 ghost use Rattle.std.specs.List.{AllByRecursion, Contains};
 ghost use Rattle.std.specs.Prelude.{◌<◌, ◌^◌, ℕ, List};
 
-/// The five pieces that lld makes of DLLs and what is asked of them are a directory of just these
-/// imports, wherever each piece stands.
+/// The five pieces that lld makes of DLLs and what is asked of them are a directory of exactly
+/// these imports, wherever each piece stands.
 pub fn pieces_are_a_directory()
     ensures directory { (machine : MachineType) (image : List Range)
         (descriptors lookups addresses hints names : ℕ) (imports : List Imported) →
@@ -44,8 +44,9 @@ pub fn one_piece_is_five()
         (names_at machine base imports) imports }
 {}
 
-/// Of the short imports that lld took, its tables are a directory of just these, by DLL and symbol,
-/// and each `__imp_` symbol is its short import's own entry, from whichever object it is named.
+/// Of the short imports that lld took, its tables are a directory of exactly these, by DLL and
+/// symbol, and each `__imp_` symbol is its short import's own entry, from whichever object it is
+/// named.
 pub fn lld_links()
     ensures links { (machine : MachineType) (descriptors addresses : ℕ)
         (taken : List ShortImport) (image : List Range) (linked : List Placed) →

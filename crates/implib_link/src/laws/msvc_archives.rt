@@ -9,10 +9,10 @@ ghost use Rattle.implib_link.specs.Search.MsvcArchives.{TakesOfShorts, wanted_wi
 ghost use Rattle.implib_link.specs.Worked.MsvcArchives.{WorkedMsvcArchives};
 ghost use Rattle.std.specs.Prelude.{ℕ, List};
 
-/// A linker takes of an archive of several libraries' members for Microsoft's linker just the short
-/// imports that are wanted, the import descriptors and the null thunks of their libraries, and one
-/// null descriptor, the first library's, whether anything else of that library is wanted or not;
-/// and for names of aliases their weak externals, whose targets are wanted then, too.
+/// A linker takes of an archive of several libraries' members for Microsoft's linker exactly the
+/// short imports that are wanted, the import descriptors and the null thunks of their libraries,
+/// and one null descriptor, the first library's, whether anything else of that library is wanted or
+/// not; and for names of aliases their weak externals, whose targets are wanted then, too.
 ///
 /// The listed symbols are distinct, but for the null descriptor's and for those that the members of
 /// one export share. Each DLL's name leads linkers to its descriptor.

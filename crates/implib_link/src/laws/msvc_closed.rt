@@ -11,8 +11,8 @@ ghost use Rattle.implib_link.specs.Worked.MsvcClosed.{WorkedMsvcClosed};
 ghost use Rattle.std.specs.Prelude.{List};
 
 /// Given objects and what Microsoft's linker takes for them of an archive of several libraries are
-/// a program of these DLLs, which imports just the exports that are named by symbols that the given
-/// objects, or the aliases that are taken for them, leave unresolved; and no name is left
+/// a program of these DLLs, which imports exactly the exports that are named by symbols that the
+/// given objects, or the aliases that are taken for them, leave unresolved; and no name is left
 /// unresolved that the archive lists.
 ///
 /// The given objects may claim symbols of the libraries, but for those of the members that are

@@ -16,9 +16,9 @@ ghost use Rattle.implib_link.specs.Worked.Found.{WorkedFound};
 ghost use Rattle.std.specs.List.{IsDistinct, flat_map};
 ghost use Rattle.std.specs.Prelude.{◌≡◌, ◌≤◌, ℕ, List, Some, bytes_eq, length};
 
-/// A linker takes of an archive of the members for Microsoft's linker just the short imports that
-/// are wanted, the import descriptor, the null descriptor and the null thunk, which are found by
-/// the symbols that they are listed for; nothing, where no export is wanted.
+/// A linker takes of an archive of the members for Microsoft's linker exactly the short imports
+/// that are wanted, the import descriptor, the null descriptor and the null thunk, which are found
+/// by the symbols that they are listed for; nothing, where no export is wanted.
 ///
 /// All listed symbols differ, so no export has an alias. The DLL's name leads linkers to its
 /// descriptor.

@@ -14,7 +14,7 @@ ghost use Rattle.std.specs.List.{AllByRecursion, IsDistinct};
 ghost use Rattle.std.specs.Prelude.{◌≡◌, ◌++◌, ◌∷◌, ℕ, List, Some, [], bytes_eq, map};
 
 /// The head, the chosen exports' members and the tail of each DLL, DLLs and exports in any order,
-/// link at any admissible bases, for each DLL to an import of just the chosen exports from it.
+/// link at any admissible bases, for each DLL to an import of exactly the chosen exports from it.
 pub fn links_in_any_order()
     ensures links { (machine : MachineType) (bases : Bases) (inputs : List LinkInput) →
         AllByRecursion (IsMade machine) inputs →
@@ -24,7 +24,7 @@ pub fn links_in_any_order()
 {}
 
 /// Members and the null descriptor link among any other objects that hold no import tables and
-/// claim no symbol of theirs: the import directory lists just these DLLs with just the chosen
+/// claim no symbol of theirs: the import directory lists exactly these DLLs with exactly the chosen
 /// exports, and each `__imp_` symbol is its export's own entry, from whichever object it is named.
 pub fn links_among_others()
     ensures links { (machine : MachineType) (bases : Bases) (inputs : List LinkInput)

@@ -22,8 +22,8 @@ ghost use Rattle.implib_link.specs.Search.Search.{linked_if_any};
 ghost use Rattle.std.specs.List.{Contains, IsDistinct, flat_map};
 ghost use Rattle.std.specs.Prelude.{◌≤◌, ℕ, List, bytes_eq, length, map};
 
-/// A linker takes of an archive of the members just the head, the members of the exports that are
-/// wanted and the tail, whichever undefined name it takes up first; nothing, where no export is
+/// A linker takes of an archive of the members exactly the head, the members of the exports that
+/// are wanted and the tail, whichever undefined name it takes up first; nothing, where no export is
 /// wanted.
 ///
 /// Names that no member is listed for may be wanted, too. All listed symbols differ, so no export
@@ -37,9 +37,9 @@ pub fn search_takes_wanted()
         HaveSame taken (linked_if_any d machine (exports_wanted d wanted)) }
 {}
 
-/// What a linker takes of the archive for wanted names is, in its order, what is linked of just the
-/// wanted exports; a program of it and of any other objects imports just these exports. The order
-/// of the members' names is such an order.
+/// What a linker takes of the archive for wanted names is, in its order, what is linked of exactly
+/// the wanted exports; a program of it and of any other objects imports exactly these exports. The
+/// order of the members' names is such an order.
 pub fn searched_program_links()
     ensures chosen { (machine : MachineType) (d : DefinitionView)
         (members taken arranged : List MemberView)
@@ -71,10 +71,10 @@ pub fn searched_program_links()
         ImportsWanted machine d members wanted bases objects }
 {}
 
-/// Of an archive of several libraries, whose exports may have aliases, a linker takes just what is
-/// linked of the wanted exports of each library, and weak externals, whose targets are then wanted,
-/// too; and a program of what the wanted exports link, in the libraries' order, and of any other
-/// objects imports just these exports from these DLLs.
+/// Of an archive of several libraries, whose exports may have aliases, a linker takes exactly what
+/// is linked of the wanted exports of each library, and weak externals, whose targets are then
+/// wanted, too; and a program of what the wanted exports link, in the libraries' order, and of any
+/// other objects imports exactly these exports from these DLLs.
 ///
 /// The weak externals are those of data whose bare name is undefined. In a program they are among
 /// the other objects.

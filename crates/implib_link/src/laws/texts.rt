@@ -9,8 +9,8 @@ ghost use Rattle.std.specs.List.{AllByRecursion};
 ghost use Rattle.std.specs.Prelude.{List, map};
 
 /// The members of texts, one or several, link among any other objects to a program whose import
-/// directory lists just their DLLs, each with just its chosen exports, each by the word of its own
-/// statement.
+/// directory lists exactly their DLLs, each with exactly its chosen exports, each by the word of
+/// its own statement.
 pub fn texts_link()
     ensures links { (machine : MachineType) (bases : Bases) (sources : List Source)
         (objects : List Object) →

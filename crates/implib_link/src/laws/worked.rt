@@ -68,8 +68,8 @@ pub fn worked_long_names()
     ensures { WorkedLongNames }
 {}
 
-/// On each machine, a search by hand of the members for Microsoft's linker takes just what the law
-/// says.
+/// On each machine, a search by hand of the members for Microsoft's linker takes exactly what the
+/// law says.
 pub fn worked_msvc_searches()
     ensures { WorkedMsvcSearches }
 {}
@@ -95,7 +95,7 @@ pub fn worked_flavor_loads()
     ensures calls { WorkedFlavorCalls }
 {}
 
-/// The programs that were linked by hand, packed, are as the law says; too far behind they are
+/// The programs that were linked by hand, packed, are as the law says; too far after they are
 /// none.
 pub fn worked_packings()
     ensures { WorkedPackings }
@@ -119,7 +119,8 @@ pub fn worked_claims()
 {}
 
 /// Single rules: how lld compares names and where its tables begin, which fields need base
-/// relocations, where a symbol is in code, and that what arrives does so at the bytes that are said.
+/// relocations, where a symbol is in code, and that what arrives does so at the bytes that are
+/// said.
 pub fn worked_rules()
     ensures lld { LldRules }
     ensures moving { MovingRules }

@@ -22,7 +22,7 @@ ghost use Rattle.std.specs.List.{AllByRecursion};
 ghost use Rattle.std.specs.Prelude.{◌≡◌, ◌++◌, ℕ, List, length, map};
 
 /// A loader that reads a program's image by the lookup tables, and writes each entry of the address
-/// tables before it reads on, stops at the null descriptor. It has asked for just the imports of
+/// tables before it reads on, stops at the null descriptor. It has asked for exactly the imports of
 /// the program, each once and in their order, and it leaves, byte for byte, what a loader leaves
 /// that first reads and then writes. There is such a loader.
 ///
@@ -132,8 +132,8 @@ pub fn loader_of_flavors_writes_at_base()
         memory (map (imported_in machine) inputs) after }
 {}
 
-/// Such a loader leaves just this of the programs that were linked by hand, on each machine, and of
-/// those in memory at another base. Of an image whose address table lies on its lookup table it
+/// Such a loader leaves exactly this of the programs that were linked by hand, on each machine, and
+/// of those in memory at another base. Of an image whose address table lies on its lookup table it
 /// asks less than one that first reads, and without a null descriptor it does not stop.
 pub fn worked_writings()
     ensures { WorkedWritings }

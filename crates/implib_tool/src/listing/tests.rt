@@ -76,7 +76,7 @@ fn members_are_shown(rt: HostRuntime) -> Result<(), Fail> {
 }
 
 // The buffer has 65,536 bytes. The listing of the first member ends a byte before its end, at its
-// end and a byte behind it; that of the second is three buffers long, and the third's name is
+// end and a byte after it; that of the second is three buffers long, and the third's name is
 // longer than the buffer.
 #[test]
 fn long_listings_are_written_whole(rt: HostRuntime) -> Result<(), Fail> {

@@ -3,7 +3,7 @@ use Rattle.std.specs.List.{fold}
 use Rattle.implib.specs.Text.Position.{after_byte}
 use Rattle.implib_dlltool.proofs.places.advanced.Given as goal
 
--- line and column behind the bytes so far
+-- line and column after the bytes so far
 abbrev pub invariant-loop-byte : goal.invariant-loop-byte
 invariant-loop-byte l = record {
   place : (l.line, l.column) ≡ fold after_byte (l.fn.from.line, l.fn.from.column) (take l.byte-index l.rest);
