@@ -1,5 +1,5 @@
 -- The members that `implib` makes for Microsoft's linker, as this reader has them.
-use Rattle.std.proofs.Common.{◌≡◌, ◌∙◌, ℕ, zero, suc, ◌-◌, ◌==◌, Bool, true, false, not, ◌&&◌, List, [], ◌∷◌, ◌++◌, Option, None, Some, ap, append_assoc, bytes_eq, codes, drop, if◌then◌else◌, length, map, nat_le, refl, sym, take, is_some}
+use Rattle.std.proofs.Common.{◌≡◌, ◌∙◌, ℕ, ◌-◌, ◌==◌, Bool, true, false, not, ◌&&◌, List, [], ◌∷◌, ◌++◌, Option, None, Some, ap, append_assoc, bytes_eq, drop, if◌then◌else◌, length, map, nat_le, refl, sym, take, is_some}
 use Rattle.std.specs.List.{cons_option, filter_map, flat_map, list_all}
 use Rattle.std.specs.Option.{option_and_then, option_map}
 use Rattle.std.proofs.lemmas.Bool.{true≢false}
@@ -8,11 +8,11 @@ use Rattle.implib.specs.declared.machine.MachineType.{MachineType}
 use Rattle.implib.specs.declared.machine.MachineType.TheVariants.{I386, ARMNT, AMD64, ARM64}
 use Rattle.implib.specs.Ascii.{begins_with, at_sign, holds, underscore}
 use Rattle.implib.specs.Definition.{DefinitionView, ExportView, given_name}
-use Rattle.implib.specs.Formats.File.{File, ShortImportFile, ObjectFile, Meaning, alias_of_object, file_in, meaning_in, meaning_of, short_import_or_object}
+use Rattle.implib.specs.Formats.File.{File, ShortImportFile, ObjectFile, Meaning, alias_of_object, file_in, meaning_of, short_import_or_object}
 use Rattle.implib.specs.Formats.File.{AnAlias as MeansAlias, AnImport as MeansImport}
 use Rattle.implib.specs.Formats.Bytes.{u32_bytes}
 use Rattle.implib.specs.Formats.Layout.{object_of, entries_of, name_text}
-use Rattle.implib.specs.Formats.Object.{Entry, Object, ObjectSection, bytes_at, each_at, entries_at, object_in, object_of_header, object_with, section_at, strings_at, u16_at, u32_at}
+use Rattle.implib.specs.Formats.Object.{Entry, Object, ObjectSection, bytes_at, object_in, object_of_header, object_with, u16_at, u32_at}
 use Rattle.implib.specs.Formats.ShortImport.{ShortImport, ask_of_short_import, import_data, is_short_import, short_import_header_size, short_import_in, text_in, without_prefix}
 use Rattle.implib.specs.Import.{Alias, Ask, Import, imp_symbol, import_symbols, is_alias, public_exports}
 use Rattle.implib.specs.LibraryName.{NamesOfDll, names_for}
@@ -31,7 +31,7 @@ use Rattle.implib_read.specs.Files.{short_import_or_object as found_or_object}
 use Rattle.implib_read.specs.Following.{Place}
 use Rattle.implib_read.specs.Imports.{dll_of_object, import_of_object}
 use Rattle.implib_read.specs.Objects.{SameObjects, object_found}
-use Rattle.implib_read.specs.ShortImports.{SameShortImports, WithExported, arm64ec, found_from, import_of_found, short_import_found}
+use Rattle.implib_read.specs.ShortImports.{SameShortImports, arm64ec, found_from, short_import_found}
 use Rattle.implib_read.specs.OwnLibraries.{expected_kind, import_of_class, meaning_of_class}
 use Rattle.implib_read.specs.declared.import.ImportKind.TheVariants.{Code, Const, Data}
 

@@ -1,9 +1,9 @@
 -- Libraries beside definitions, computed.
-use Rattle.std.proofs.Common.{◌≡◌, ◌∙◌, ℕ, Bool, true, false, List, [], ◌∷◌, Option, None, Some, ap, bytes_eq, codes, map, refl, sym}
+use Rattle.std.proofs.Common.{◌≡◌, ◌∙◌, ℕ, Bool, true, false, List, [], ◌∷◌, None, Some, ap, bytes_eq, codes, map, refl, sym}
 use Rattle.std.specs.List.{filter_map}
 use Rattle.std.specs.Option.{option_map}
 use Rattle.std.proofs.lemmas.Bool.{true≢false}
-use Rattle.implib.specs.Formats.File.{Meaning, AnAlias as MeansAlias, AnImport as MeansImport}
+use Rattle.implib.specs.Formats.File.{Meaning}
 use Rattle.implib.specs.Import.{Ask, Import, Name, Ordinal}
 use Rattle.implib.specs.Members.ReadBack.{alias_among, import_among}
 use Rattle.implib_read.specs.Classes.{MemberRead}

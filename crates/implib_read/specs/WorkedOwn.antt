@@ -1,5 +1,5 @@
 -- Libraries beside definitions, worked by hand.
-use Rattle.std.specs.Prelude.{◌≡◌, ℕ, true, List, [], ◌∷◌, ◌++◌, Some, codes}
+use Rattle.std.specs.Prelude.{ℕ, true, List, [], ◌∷◌, ◌++◌, codes}
 use Rattle.implib.specs.declared.machine.MachineType.TheVariants.{AMD64, ARM64, I386}
 use Rattle.implib.specs.Definition.{DefinitionView}
 use Rattle.implib.specs.Import.{Ask, Name, Ordinal}
