@@ -1,10 +1,10 @@
 -- A key tells what it is of.
-use Rattle.std.proofs.Common.{◌≡◌, ◌∙◌, ℕ, zero, suc, ◌+◌, ◌*◌, ◌/◌, ◌%◌, List, [], ◌∷◌, ◌++◌, ap, append_assoc, arith, refl, sym}
+use Rattle.std.proofs.Common.{◌≡◌, ◌∙◌, ℕ, zero, suc, ◌+◌, ◌/◌, ◌%◌, List, [], ◌∷◌, ◌++◌, ap, append_assoc, arith, refl, sym}
 use Rattle.std.specs.List.{flat_map}
 use Rattle.implib.specs.Import.{Alias}
 use Rattle.implib_read.specs.declared.import.ImportKind.{ImportKind}
 use Rattle.implib_read.specs.declared.import.ImportKind.TheVariants.{Code, CodeOrConst, Const, Data}
-use Rattle.implib_check.specs.Facts.{Asked, ByName, ByOrdinal, Fact, Imports, Aliases, ImportFact, asked_key, byte_key, bytes_key, fact_key, kind_number, listed_key, number_key, text_key, texts_key}
+use Rattle.implib_check.specs.Facts.{Asked, ByName, ByOrdinal, Fact, Imports, Aliases, ImportFact, asked_key, bytes_key, fact_key, kind_number, listed_key, number_key, text_key, texts_key}
 
 head_of : List ℕ → ℕ
 head_of [] = 0

@@ -1,13 +1,13 @@
 -- Keys that all have partners are those of others, in another order.
-use Rattle.std.proofs.Common.{◌≡◌, ◌∙◌, ◌⊎◌, inl, inr, ℕ, zero, suc, ◌+◌, ◌<◌, ◌≤◌, Bool, true, false, not, ◌&&◌, ◌||◌, List, [], ◌∷◌, ◌++◌, Option, None, Some, ap, append-nil, append_assoc, arith, bytes_eq, map, nat_le, refl, sym, if◌then◌else◌, subst}
-use Rattle.std.specs.List.{cons_option, filter_map, list_any}
+use Rattle.std.proofs.Common.{◌≡◌, ◌∙◌, inl, inr, ℕ, ◌+◌, ◌<◌, ◌≤◌, Bool, true, false, not, ◌&&◌, ◌||◌, List, [], ◌∷◌, ◌++◌, Option, None, Some, ap, append-nil, append_assoc, arith, bytes_eq, map, nat_le, refl, sym, if◌then◌else◌, subst}
+use Rattle.std.specs.List.{cons_option}
 use Rattle.std.specs.Option.{option_map_or}
 use Rattle.std.proofs.lemmas.Bool.{true≢false}
 use Rattle.std.proofs.lemmas.List.{map-append}
 use Rattle.std.proofs.lemmas.List.Sums.{sum_by-append, sum_by-cons, sum_by_push}
 use Rattle.std.proofs.lemmas.Slice.Eq.{bytes_eq-Decides}
 use Rattle.implib_read.specs.Classes.{MemberRead}
-use Rattle.implib_check.specs.Comparison.{AreTheSame, Differ, Means, Rearranged, SayTheSame, differing, has_other, has_unread, is_some_set, verdict, verdict_of}
+use Rattle.implib_check.specs.Comparison.{Means, Rearranged, SayTheSame, differing, has_other, has_unread, is_some_set, verdict, verdict_of}
 use Rattle.implib_check.specs.Facts.{Fact, Aliases, Imports, both_tell, fact_key, fact_of, facts_of, keys_of, member_key}
 use Rattle.implib_check.specs.Partners.{has_no_byte, how_many, lack_partners, lacks_partner}
 use Rattle.implib_check.proofs.Counting.{one_if}

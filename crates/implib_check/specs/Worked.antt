@@ -1,5 +1,5 @@
 -- Comparisons, names of DLLs, statuses and command lines, worked by hand.
-use Rattle.std.specs.Prelude.{◌≡◌, ℕ, Bool, true, false, List, [], ◌∷◌, Option, None, Some, codes}
+use Rattle.std.specs.Prelude.{◌≡◌, ℕ, true, false, List, [], ◌∷◌, None, Some, codes}
 use Rattle.implib.specs.Import.{Ask, Name, Ordinal}
 use Rattle.implib_read.specs.Classes.{Class, AnImport, AnAlias, Descriptor, NullThunk, DelayImport, Other, NotUnderstood, MemberRead}
 use Rattle.implib_read.specs.declared.import.ImportKind.{ImportKind}

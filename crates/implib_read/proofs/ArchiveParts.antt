@@ -48,7 +48,7 @@ unfolding joined
 parts_from-stop offset [] some none = absurd (omega (arith, some))
 parts_from-stop offset (x ∷ rest) some none = first_of offset x rest ∙ ap (joined offset rest) none
 
--- where the next part is, by how much is left; behind a missing padding there is none, wherever that is
+-- where the next part is, by how much is left; after a missing padding there is none, wherever that is
 place_behind : (total n : ℕ) (bytes : List ℕ) (within : Bool) → nat_le n (length bytes) ≡ within → length bytes ≤ total
     → parts_from 0 (total - length bytes + n) (drop n bytes) ≡ parts_from 0 (total - length (drop n bytes)) (drop n bytes)
 place_behind total n bytes true is whole =

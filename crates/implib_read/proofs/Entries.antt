@@ -6,7 +6,7 @@ use Rattle.implib.specs.Formats.Object.{Entry, ASymbol, Auxiliary, ObjectSymbol,
 use Rattle.implib_read.specs.Objects.{entry_at}
 use Rattle.implib_read.proofs.Gathering.{Gathers, gathers-more}
 
--- the entries from an entry on, with how many of those behind it are its auxiliary records
+-- the entries from an entry on, with how many of those after it are its auxiliary records
 joined : List ℕ → List ℕ → ℕ → ℕ → Option (Entry × ℕ) → Option (List Entry)
 joined bytes strings later n None = None
 joined bytes strings later n (Some (e, auxiliary)) = option_map (λ es. e ∷ es) (entries_at bytes strings later auxiliary n)

@@ -6,7 +6,7 @@ use Rattle.std.specs.List.{cons_option, filter_map}
 use Rattle.std.specs.Option.{option_and_then, option_map}
 use Rattle.implib.specs.Formats.Object.{each_at}
 
--- the whole is what has been gathered, and behind it what is left
+-- the whole is what has been gathered, and after it what is left
 abbrev pub Gathers : {X : Type 0} → Option (List X) → List X → Option (List X) → Type 0
 Gathers whole done rest = whole ≡ option_map (λ more. done ++ more) rest
 

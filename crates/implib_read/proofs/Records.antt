@@ -1,4 +1,4 @@
--- Records one behind the other: relocations.
+-- Records one after the other: relocations.
 use Rattle.std.proofs.Common.{◌≡◌, ℕ, zero, suc, ◌+◌, ◌-◌, ◌*◌, ◌/◌, ◌<◌, ◌≤◌, Bool, true, false, List, ◌∷◌, Option, Some, None, length, take, drop, nat_le, if◌then◌else◌, cond, ◌==◌, slice_get, refl, ap, ◌∙◌, sym, arith, Bor}
 use Rattle.std.specs.List.{find}
 use Rattle.std.specs.Option.{option_and_then, option_map}

@@ -45,7 +45,7 @@ up_to_nul-at [] = refl
 up_to_nul-at (zero ∷ rest) = refl
 up_to_nul-at (suc n ∷ rest) = ap (λ k. take k (suc n ∷ rest)) (nul_place-suc n rest) ∙ ap (λ text. suc n ∷ text) (up_to_nul-at rest)
 
--- the text before a place, and what is behind it
+-- the text before a place, and what is after it
 abbrev split_at : List ℕ → ℕ → List ℕ × List ℕ
 split_at bytes k = (take k bytes, drop (suc k) bytes)
 

@@ -6,7 +6,7 @@ use Rattle.std.specs.Option.{option_map}
 use Rattle.implib_archive.specs.Reader.{Stored, stored_at, stored_in}
 use Rattle.implib_read.specs.MemberNames.{MemberName, LinkerMember, LongNamesMember, NameAt, Named, Special, long_name_of, member_name}
 
--- a part of an archive: the offset of its header in the file, its name, and the data behind the header
+-- a part of an archive: the offset of its header in the file, its name, and the data after the header
 pub record Part : Type 0 where
   pub offset : ℕ
   pub name : MemberName
@@ -35,7 +35,7 @@ parts_from zero offset (x ∷ rest) = option_and_then
     (parts_from (59 + length s.contents + length s.contents % 2) (suc offset) rest))
     (stored_at (x ∷ rest) 0)
 
--- the parts of an archive, behind its signature of 8 bytes
+-- the parts of an archive, after its signature of 8 bytes
 unfoldable pub parts_in : List ℕ → Option (List Part)
 parts_in bytes = if bytes_eq (take 8 bytes) (codes "!<arch>\n") then parts_from 0 8 (drop 8 bytes) else None
 

@@ -22,7 +22,7 @@ abbrev pub place_in : Bool → List ℕ → ℕ
 place_in true places = u16_at places 0
 place_in false places = from_be_bytes w32 (take 4 places)
 
--- `count` entries, with their places one behind the other, and so their symbols, each ended by a NUL
+-- `count` entries, with their places one after the other, and so their symbols, each ended by a NUL
 unfoldable pub entries_from : Bool → ℕ → List ℕ → List ℕ → Option (List IndexEntry)
 entries_from second zero places symbols = Some []
 entries_from second (suc count) places symbols = option_and_then

@@ -21,7 +21,7 @@ begins_with_byte byte (c ∷ text) = nat_eq c byte
 unfoldable pub without_slash : List ℕ → List ℕ
 without_slash text = if begins_with_byte 47 (drop (length text - 1) text) then take (length text - 1) text else text
 
--- a name that begins with a slash, and the number behind that
+-- a name that begins with a slash, and the number after that
 abbrev pub slash_name : List ℕ → Option ℕ → MemberName
 slash_name text (Some offset) = NameAt offset
 slash_name text None = Special text

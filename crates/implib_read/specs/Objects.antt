@@ -4,7 +4,7 @@ use Rattle.std.specs.Option.{option_and_then, option_map}
 use Rattle.implib.specs.declared.coff.object.Relocation.{Relocation}
 use Rattle.implib.specs.Formats.Object.{Entry, ASymbol, Auxiliary, Object, bytes_at, each_at, entries_at, object_in, object_with, relocation_of, section_at, strings_at, symbol_of, u16_at, u32_at}
 
--- `count` records of a width, one behind the other
+-- `count` records of a width, one after the other
 unfoldable pub records_in : {X : Type 0} → (List ℕ → X) → ℕ → ℕ → List ℕ → List X
 records_in read width zero bytes = []
 records_in read width (suc count) bytes = read (take width bytes) ∷ records_in read width count (drop width bytes)
@@ -18,7 +18,7 @@ abbrev pub begins_with_zeros : List ℕ → Bool
 begins_with_zeros field =
     (slice_index field 0 == 0) && (slice_index field 1 == 0) && (slice_index field 2 == 0) && (slice_index field 3 == 0)
 
--- the entry of the symbol table at an offset, and how many of those behind it are its auxiliary records; given
+-- the entry of the symbol table at an offset, and how many of those after it are its auxiliary records; given
 -- how many are still those of the symbol before
 unfoldable pub entry_at : List ℕ → List ℕ → ℕ → ℕ → Option (Entry × ℕ)
 entry_at bytes strings offset (suc auxiliary) =

@@ -1,6 +1,6 @@
 -- A short import with the third text that name type 4 has. The PE/COFF specification knows name types 0 to 3
 -- and two texts ("Import Library Format"); IMPORT_NAME_EXPORTAS of Microsoft's headers is the fourth, and gives
--- behind the DLL the name that is asked for. `implib`'s reader has no value where a third text stands.
+-- after the DLL the name that is asked for. `implib`'s reader has no value where a third text stands.
 use Rattle.std.specs.Prelude.{◌≡◌, ℕ, ◌/◌, ◌%◌, ◌==◌, false, nat_le, ◌&&◌, not, List, [], ◌∷◌, drop, Option, Some, None, if◌then◌else◌}
 use Rattle.std.specs.Option.{option_map}
 use Rattle.implib.specs.Formats.Object.{u16_at, u32_at}
@@ -41,7 +41,7 @@ abbrev pub no_text : List ℕ → Option (Option (List ℕ))
 no_text [] = Some None
 no_text (byte ∷ rest) = None
 
--- what stands behind the DLL's name: a third text by name type 4, and nothing by any other
+-- what stands after the DLL's name: a third text by name type 4, and nothing by any other
 abbrev pub exported_in : ℕ → List ℕ → Option (Option (List ℕ))
 exported_in name_type rest = if name_type == import_name_exportas then last_text (text_in rest) else no_text rest
 

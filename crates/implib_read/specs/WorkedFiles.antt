@@ -45,7 +45,7 @@ pub record WorkedShortImports : Type 0 where
   -- a third text by name type 1, and none by name type 4
   pub third_text : short_import_found (changed 18 4 worked_exported) ≡ None
   pub no_third_text : short_import_found (changed 18 16 worked_by_name) ≡ None
-  -- a size that is one too small; a byte behind; the last NUL missing
+  -- a size that is one too small; a byte after; the last NUL missing
   pub size : short_import_found (changed 12 11 worked_by_name) ≡ None
   pub byte_more : short_import_found (worked_by_name ++ 0 ∷ []) ≡ None
   pub no_nul : short_import_found (changed 31 65 worked_by_name) ≡ None

@@ -34,7 +34,7 @@ fn weak_symbol<'a>(entry: &Entry<'a>) -> Option<Symbol<'a>>
     }
 }
 
-/// The first weak external, and the entries behind it.
+/// The first weak external, and the entries after it.
 fn first_weak<'e, 'a>(entries: &'e [Entry<'a>]) -> Option<(Symbol<'a>, &'e [Entry<'a>])>
     ensures { MatchOption result (weak_symbols (map entry_view entries.now) ≡ []) (λ found. weak_symbols (map entry_view entries.now) ≡ (found.0.name.now, tag_index (map entry_view found.1.now)) ∷ weak_symbols (map entry_view found.1.now)) }
 {
@@ -109,7 +109,7 @@ fn alias_among<'a>(entries: &[Entry<'a>]) -> Option<AliasFound<'a>>
     }
 }
 
-/// The alias that an object makes, where just one of its symbols is a weak external.
+/// The alias that an object makes, where exactly one of its symbols is a weak external.
 pub(crate) fn alias_of_object<'a>(object: &Object<'a>) -> Option<AliasFound<'a>>
     ensures { option_map alias_view result ≡ alias_of_object (object_view object.now) }
 {

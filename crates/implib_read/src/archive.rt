@@ -62,7 +62,7 @@ fn is_header(header: &[u8]) -> bool
     is_text(behind(header, 58), b"`\n")
 }
 
-/// The name and the data of the header at the front, and behind it.
+/// The name and the data of the header at the front, and after it.
 #[tactic(auto, unfolding(implib_archive::specs::Reader::stored_at))]
 fn stored_at(bytes: &[u8]) -> Option<(MemberName<'_>, &[u8])>
     ensures found { option_map (λ found. (name_view found.0, found.1.now)) result ≡ option_map said (stored_at bytes.now 0) }
@@ -83,7 +83,7 @@ fn stored_at(bytes: &[u8]) -> Option<(MemberName<'_>, &[u8])>
     }
 }
 
-/// The parts behind the signature.
+/// The parts after the signature.
 fn parts_behind<'a>(alloc: Global, bytes: &'a [u8]) -> Result<Option<Vec<Part<'a>>>, AllocError>
     requires { 8 ≤ length bytes.now }
     ensures { IfOk result (λ found. option_map (λ v. map part_view v.items) found ≡ parts_from 0 8 (drop 8 bytes.now)) }

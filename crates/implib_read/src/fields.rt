@@ -61,7 +61,7 @@ fn nul_or_len(bytes: &[u8]) -> usize
     }
 }
 
-/// The text before the first NUL, and what is behind that.
+/// The text before the first NUL, and what is after that.
 #[tactic(auto, using(crate::proofs::Texts::texts))]
 pub(crate) fn text_in(bytes: &[u8]) -> Option<(&[u8], &[u8])>
     ensures { option_map (λ found. (found.0.now, found.1.now)) result ≡ text_in bytes.now }
@@ -95,7 +95,7 @@ pub(crate) fn up_to_nul(bytes: &[u8]) -> &[u8]
     &bytes[..nul_or_len(bytes)]
 }
 
-/// The bytes behind the first `count`, or none where there are fewer.
+/// The bytes after the first `count`, or none where there are fewer.
 pub(crate) fn behind(bytes: &[u8], count: usize) -> &[u8]
     ensures { result.now ≡ drop count bytes.now }
 {

@@ -55,7 +55,7 @@ fn place_in(second: bool, places: &[u8]) -> u32
     }
 }
 
-/// Entries, with their places one behind the other, and so their symbols.
+/// Entries, with their places one after the other, and so their symbols.
 fn entries_from<'a>(
     alloc: Global,
     second: bool,

@@ -225,7 +225,7 @@ fn symbol_of<'a>(strings: &'a [u8], record_bytes: &'a [u8]) -> Option<Symbol<'a>
 }
 
 /// The entry at an offset, given how many of the records from there on are auxiliary ones; and how many of those
-/// behind it are.
+/// after it are.
 #[tactic(auto, unfolding(crate::specs::Objects::entry_at))]
 fn entry_at<'a>(
     bytes: &'a [u8],
@@ -278,7 +278,7 @@ fn entries_at<'a>(
     Ok(Some(entries))
 }
 
-/// The entries of the symbol table at an offset, if any, and of the string table behind it.
+/// The entries of the symbol table at an offset, if any, and of the string table after it.
 #[tactic(auto, unfolding(crate::specs::Objects::entries_found))]
 fn entries_found(
     alloc: Global,

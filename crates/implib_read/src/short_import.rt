@@ -42,7 +42,7 @@ fn is_short_import(bytes: &[u8]) -> bool
         && u32_at(bytes, 12) as usize == bytes.len() - HEADER_SIZE
 }
 
-/// What stands behind the DLL's name, where that may stand there.
+/// What stands after the DLL's name, where that may stand there.
 fn exported_in(name_type: u16, behind: &[u8]) -> Option<Option<&[u8]>>
     ensures { option_map (option_map (λ text. text.now)) result ≡ exported_in name_type behind.now }
 {

@@ -1,5 +1,5 @@
 use Rattle.std.proofs.Common.{◌∙◌, ◌-◌, ap, map, take}
-use Rattle.implib_check.specs.Partners.{counted, how_many, lack_partners}
+use Rattle.implib_check.specs.Partners.{counted, how_many}
 use Rattle.implib_check.proofs.Counting.{flags_more, taken-more}
 use Rattle.implib_check.proofs.partners.lack_partners.Goals as goal
 

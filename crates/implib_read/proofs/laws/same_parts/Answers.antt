@@ -4,7 +4,7 @@ use Rattle.implib_archive.specs.Reader.{Stored, stored_at, stored_from, stored_i
 use Rattle.implib_read.specs.Archives.{Part, part_of, parts_from, parts_in, said, said_by_part}
 use Rattle.implib_read.proofs.laws.same_parts.Goals as goal
 
--- the bytes that a part takes behind its first
+-- the bytes that a part takes after its first
 abbrev behind_first : Stored → ℕ
 behind_first s = 59 + length s.contents + length s.contents % 2
 
