@@ -23,8 +23,9 @@ use Rattle.implib_dlltool.specs.declared.request.Task.{Task}
 use Rattle.implib_dlltool.specs.declared.request.Task.TheVariants as task
 use Rattle.implib_dlltool.specs.Arguments.{OccurrenceView, is_last, is_switched, last_given}
 use Rattle.implib.specs.Machine.{has_leading_underscore}
-use Rattle.implib_dlltool.specs.Linked.{NamingView, naming_view}
-use Rattle.implib_dlltool.specs.Names.{last_part}
+use Rattle.implib_rules.specs.Linked.{NamingView}
+use Rattle.implib_rules.specs.Names.{last_part}
+use Rattle.implib_rules.specs.Options.{LibraryOptionsView, library_options_view}
 use Rattle.implib_dlltool.specs.Options.{machine_called}
 
 -- the library that is asked for
@@ -33,12 +34,8 @@ pub record RequestView : Type 0 where
   pub definition : List ℕ
   -- the file of the library
   pub output : Option (List ℕ)
-  pub machine : MachineType
-  pub flavor : Flavor
-  -- the DLL's name, before the definition's own
-  pub dll : Option (List ℕ)
-  -- how names are read on I386
-  pub naming : NamingView
+  -- what it is made for
+  pub library : LibraryOptionsView
   -- whether warnings are written
   pub is_verbose : Bool
 
@@ -47,10 +44,7 @@ abbrev pub request_view : Request → RequestView
 request_view r = record {
   definition = r.definition.now;
   output = option_map (λ text. text.now) r.output;
-  machine = r.machine;
-  flavor = r.flavor;
-  dll = option_map (λ text. text.now) r.dll;
-  naming = naming_view r.naming;
+  library = library_options_view r.library;
   is_verbose = r.is_verbose;
 }
 
@@ -311,10 +305,7 @@ request_of caller options (Some definition) =
     Ok (record {
       definition = definition;
       output = output;
-      machine = machine;
-      flavor = flavor;
-      dll = dll;
-      naming = naming;
+      library = record { machine = machine; flavor = flavor; dll = dll; naming = naming };
       is_verbose = is_switched Verbose options;
     }))))))
 

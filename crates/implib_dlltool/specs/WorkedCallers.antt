@@ -10,7 +10,8 @@ use Rattle.implib_dlltool.specs.declared.request.CalledAs.{CalledAs}
 use Rattle.implib_dlltool.specs.declared.request.CalledAs.TheVariants as called
 use Rattle.implib_dlltool.specs.Arguments.{Given, OccurrenceView, Switched}
 use Rattle.implib_dlltool.specs.Request.{Asked, AsksHelp, AsksVersion, GoesToStandard, HasEmptyDll, HasEmptyOutput, HasNoUnderscore, ReplacesDefinition, IsOtherArchitecture, IsUnknownFlavor, IsUnknownMachine, LacksDefinition, caller_of, default_flavor, flavor_in, machine_in, naming_in, task_of}
-use Rattle.implib_dlltool.specs.WorkedNames.{itself, plain, usual}
+use Rattle.implib_dlltool.specs.WorkedCalls.{itself}
+use Rattle.implib_rules.specs.WorkedNames.{plain, usual}
 
 -- the machine of a program's name
 abbrev pub machine_for : List ℕ → Option MachineType

@@ -1,26 +1,18 @@
 //! Makes the import library of a module definition: a program in place of `dlltool`.
 //!
-//! What the words of the command line ask for, which name the DLL has, and which bytes a library
-//! has, or why there is none, are decided by functions with contracts ([`arguments`], [`request`],
-//! [`name`], [`repeats`], [`linked`], [`aliases`], [`library_name`], [`library`]). What then
-//! is read and written are files ([`output`], [`program`]).
+//! What the words of the command line ask for is decided here ([`arguments`], [`request`]), which
+//! bytes a library has, or why there is none, by the crate `implib_rules`; what then is read and
+//! written are files ([`output`], [`program`]).
 #![tactic(auto)]
 
-pub mod aliases;
 pub mod arguments;
 pub mod laws;
-pub mod library;
-pub mod library_name;
-pub mod linked;
 mod message;
-pub mod name;
 pub mod options;
 mod output;
-mod places;
 pub mod program;
-pub mod repeats;
 pub mod request;
-pub mod warnings;
+pub mod verbose;
 
 use crate::program::perform;
 use std::process;

@@ -1,17 +1,18 @@
 //! The program: its arguments, its run over files, and its exit status.
 
-ghost use Rattle.implib_dlltool.specs.Library.{status_of};
+ghost use Rattle.implib_rules.specs.Library.{status_of};
 ghost use Rattle.std.specs.Prelude.{◌≡◌};
 
 use crate::arguments::{ReadWordsError, read_words};
-use crate::library::{LibraryError, Refusal, members_for, text_in, write_library};
-use crate::message::position_of;
 use crate::output::NewFile;
-use crate::places::read_with_places;
 use crate::request::{CallError, Request, Task, caller_of, task_of};
-use crate::warnings::{Told, export_lines, warnings_for};
+use crate::verbose::warnings_for;
 use implib::def::Position;
 use implib::{Flavor, ParseError};
+use implib_rules::library::{LibraryError, Refusal, members_for, text_in, write_library};
+use implib_rules::places::read_with_places;
+use implib_rules::position_of;
+use implib_rules::warnings::{NoticeMessage, export_lines};
 use std::alloc::{AllocError, Global};
 use std::env::Env;
 use std::fmt::Write as _;
@@ -126,10 +127,10 @@ fn bytes_of<R: Files + AllocGlobal, I: Read>(
 
 // The number of members for Microsoft's linker; 0 for GNU's, where no warning needs it.
 fn member_count(alloc: Global, bytes: &[u8], request: &Request<'_>) -> usize {
-    if let Flavor::Gnu = request.flavor {
+    if let Flavor::Gnu = request.library.flavor {
         return 0;
     }
-    match members_for(alloc, bytes, request) {
+    match members_for(alloc, bytes, &request.library) {
         Ok(members) => members.len(),
         Err(_) => 0,
     }
@@ -160,7 +161,7 @@ fn warn<E: Write>(
     let path = request.definition;
     let mut lines = Lines { writer: faults };
     for warning in warnings.iter() {
-        let told = Told(warning.notice, export_lines.as_slice());
+        let told = NoticeMessage(warning.notice, export_lines.as_slice());
         let _ = writeln!(lines, "{path}:{}: warning: {told}", warning.position);
     }
     Ok(())
@@ -174,11 +175,11 @@ fn put<R: Files + AllocGlobal>(
     request: &Request<'_>,
 ) -> Result<(), LibraryError> {
     let Some(path) = request.output else {
-        return write_library(rt.alloc(), bytes, request, &mut io::sink());
+        return write_library(rt.alloc(), bytes, &request.library, &mut io::sink());
     };
     let file = NewFile::new(rt, path, id);
     let mut writer = BufWriter::with_capacity(rt.alloc(), BUFFER, file)?;
-    let written = write_library(rt.alloc(), bytes, request, &mut writer);
+    let written = write_library(rt.alloc(), bytes, &request.library, &mut writer);
     let written = match written {
         Ok(()) => writer.flush().map_err(LibraryError::from),
         refused => refused,

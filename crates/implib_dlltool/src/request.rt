@@ -1,7 +1,7 @@
 //! What the options of a command line ask for.
 
 ghost use Rattle.implib_dlltool.specs.Arguments.{occurrence_view};
-ghost use Rattle.implib_dlltool.specs.Linked.{naming_view};
+ghost use Rattle.implib_rules.specs.Linked.{naming_view};
 ghost use Rattle.implib_dlltool.specs.Request.{IsCallRefusal, architecture_named, call_fault_view, called_as};
 ghost use Rattle.implib_dlltool.specs.Request.{caller_of};
 ghost use Rattle.implib_dlltool.specs.Request.{default_flavor, dll_in, flavor_by_ending, flavor_called};
@@ -15,10 +15,11 @@ ghost use Rattle.std.specs.Option.{option_map};
 ghost use Rattle.std.specs.Prelude.{◌≡◌, Err, IfErr, IfOk, Ok, map};
 
 use crate::arguments::{Occurrence, is_last, is_switched, last_given};
-use crate::linked::Naming;
-use crate::name::last_part;
 use crate::options::{Setting, Switch, machine_called};
 use implib::{Flavor, MachineType};
+use implib_rules::linked::Naming;
+use implib_rules::name::last_part;
+use implib_rules::options::LibraryOptions;
 use std::alloc::{AllocError, Global};
 
 /// What is to be made.
@@ -28,14 +29,8 @@ pub struct Request<'a> {
     pub definition: &'a str,
     /// The file of the import library; none is written without it.
     pub output: Option<&'a str>,
-    /// The machine.
-    pub machine: MachineType,
-    /// The linker that the library is for.
-    pub flavor: Flavor,
-    /// The DLL's name, before the definition's own.
-    pub dll: Option<&'a str>,
-    /// How names are read on I386.
-    pub naming: Naming,
+    /// What the library is made for.
+    pub library: LibraryOptions<'a>,
     /// Whether warnings are written (`-v`).
     pub is_verbose: bool,
 }
@@ -408,10 +403,12 @@ fn request_in<'a>(
     Ok(Request {
         definition,
         output,
-        machine,
-        flavor,
-        dll,
-        naming,
+        library: LibraryOptions {
+            machine,
+            flavor,
+            dll,
+            naming,
+        },
         is_verbose: is_switched(options, Switch::Verbose),
     })
 }

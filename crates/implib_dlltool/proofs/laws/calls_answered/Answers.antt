@@ -1,6 +1,6 @@
 use Rattle.std.proofs.Common.{refl}
-use Rattle.implib_dlltool.specs.Names.{part_behind}
-use Rattle.implib_dlltool.specs.WorkedNames.{CallsAnswered}
+use Rattle.implib_rules.specs.Names.{part_behind}
+use Rattle.implib_dlltool.specs.WorkedCalls.{CallsAnswered}
 use Rattle.implib_dlltool.proofs.laws.calls_answered.Goals as goal
 
 worked : CallsAnswered

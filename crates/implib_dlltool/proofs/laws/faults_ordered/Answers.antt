@@ -1,5 +1,5 @@
 use Rattle.std.proofs.Common.{refl}
-use Rattle.implib_dlltool.specs.Names.{part_behind}
+use Rattle.implib_rules.specs.Names.{part_behind}
 use Rattle.implib_dlltool.specs.WorkedCallers.{FaultsOrdered}
 use Rattle.implib_dlltool.proofs.laws.faults_ordered.Goals as goal
 

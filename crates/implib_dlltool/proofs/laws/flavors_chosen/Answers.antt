@@ -1,5 +1,5 @@
 use Rattle.std.proofs.Common.{refl}
-use Rattle.implib_dlltool.specs.Names.{part_behind}
+use Rattle.implib_rules.specs.Names.{part_behind}
 use Rattle.implib_dlltool.specs.WorkedCallers.{FlavorsChosen}
 use Rattle.implib_dlltool.proofs.laws.flavors_chosen.Goals as goal
 

@@ -1,5 +1,0 @@
-use Rattle.implib_dlltool.proofs.PlacesHeard.{at_words}
-use Rattle.implib_dlltool.proofs.laws.exports_at_words.Goals as goal
-
-pub returns : goal.returns
-returns c = at_words

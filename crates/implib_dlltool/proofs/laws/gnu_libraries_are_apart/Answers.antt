@@ -1,5 +1,0 @@
-use Rattle.implib_dlltool.proofs.LibrariesApart.{apart}
-use Rattle.implib_dlltool.proofs.laws.gnu_libraries_are_apart.Goals as goal
-
-pub returns : goal.returns
-returns c = apart

@@ -1,5 +1,0 @@
-use Rattle.implib_dlltool.proofs.LeftOut.{left_out_at}
-use Rattle.implib_dlltool.proofs.laws.repeats_are_left_out.Goals as goal
-
-pub returns : goal.returns
-returns c = left_out_at

@@ -1,5 +1,0 @@
-use Rattle.implib_dlltool.proofs.Symbols.{one_word}
-use Rattle.implib_dlltool.proofs.laws.symbols_are_of_words.Goals as goal
-
-pub returns : goal.returns
-returns c = one_word

@@ -1,5 +1,0 @@
-use Rattle.implib_dlltool.proofs.Accepted.{target_accepted}
-use Rattle.implib_dlltool.proofs.laws.targets_accepted.Goals as goal
-
-pub returns : goal.returns
-returns c = target_accepted

@@ -1,5 +1,0 @@
-use Rattle.implib_dlltool.proofs.InOrder.{in_order}
-use Rattle.implib_dlltool.proofs.laws.warnings_in_order.Goals as goal
-
-pub returns : goal.returns
-returns c = in_order

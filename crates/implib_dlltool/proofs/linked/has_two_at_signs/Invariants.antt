@@ -1,7 +1,0 @@
-use Rattle.std.proofs.Common.{◌≡◌, drop}
-use Rattle.implib_dlltool.specs.Linked.{has_two_at_signs, two_at_signs}
-use Rattle.implib_dlltool.proofs.linked.has_two_at_signs.Given as goal
-
--- what is left tells it, with what stands before
-abbrev pub invariant-loop-byte : goal.invariant-loop-byte
-invariant-loop-byte l = has_two_at_signs l.word ≡ two_at_signs l.is_behind (drop l.byte-index l.word)

@@ -1,0 +1,17 @@
+pub mod Parts
+pub mod Asked
+pub mod Targets
+pub mod LeftOut
+pub mod Rising
+pub mod LibraryNames
+pub mod Symbols
+pub mod LibrariesApart
+pub mod Accepted
+pub mod OrderedReadings
+pub mod PlainNames
+pub mod Made
+pub mod Positions
+pub mod Firsts
+pub mod Warned
+pub mod InOrder
+pub mod PlacesHeard

@@ -1,0 +1,64 @@
+-- The name of a library.
+use Rattle.std.proofs.Common.{◌≡◌, ◌≢◌, ◌∙◌, ℕ, ◌+◌, ◌-◌, ◌<◌, Bool, true, false, not, List, [], ◌∷◌, ◌++◌, ap, append-nil, arith, get_or, if◌then◌else◌, length, map, sym, take}
+use Rattle.std.specs.List.{before_last, filter, flat_map, list_any, suffix_len}
+use Rattle.std.proofs.lemmas.Bool.{eqb-true, false_from_ne_true}
+use Rattle.std.proofs.lemmas.List.Elements.{filter-append}
+use Rattle.std.proofs.lemmas.List.{get_or_default}
+use Rattle.std.proofs.lemmas.List.Folds.{Any-from_list_any, list_any_at}
+use Rattle.std.proofs.lemmas.Grind.{flat_map-append}
+use Rattle.std.proofs.lemmas.List.Sums.{suffix_len_is}
+use Rattle.implib.specs.declared.def.definition.ShortExport.{ShortExport}
+use Rattle.implib.specs.Definition.{export_view}
+use Rattle.implib_rules.proofs.LeftOut.{one_more}
+use Rattle.implib_rules.specs.LibraryName.{export_taken, exports_taken, is_full_stop, without_ending}
+
+-- a name is cut before its last full stop
+pub ending_cut : (name : List ℕ) (at : ℕ) → at < length name → get_or name at 0 ≡ 0x2E
+    → ((i : ℕ) → at < i → i < length name → get_or name i 0 ≢ 0x2E) → take at name ≡ without_ending name
+ending_cut name at within is last =
+    let other : ℕ → Bool = λ b. not (is_full_stop b) in
+    let some : list_any is_full_stop name ≡ true = list_any_at is_full_stop name at 0 within (ap is_full_stop is) in
+    let behind : suffix_len other name ≡ length name - (at + 1) =
+    suffix_len_is other name (at + 1) 0 (omega (arith, within))
+    (λ i after inside. ap not (false_from_ne_true (is_full_stop (get_or name i 0)) (λ same. last i (omega (arith, after)) inside (eqb-true (get_or name i 0) 0x2E same))))
+    (λ _. ap (λ n. other (get_or name n 0)) (omega arith) ∙ ap other is) in
+    let count : length name - suffix_len other name - 1 ≡ at = omega (arith, behind, within) in
+    sym (ap (λ b. if b then before_last is_full_stop name else name) some ∙ ap (λ n. take n name) count)
+
+-- a name without a full stop is not cut
+pub ending_kept : (name : List ℕ) → ((i : ℕ) → i < length name → get_or name i 0 ≢ 0x2E) → name ≡ without_ending name
+ending_kept name free =
+    let none : list_any is_full_stop name ≡ false =
+    false_from_ne_true (list_any is_full_stop name) (λ some.
+    let found = Any-from_list_any is_full_stop name some in
+    free found.0 found.2 (get_or_default name found.0 0 found.1 found.2 ∙ found.3 ∙ eqb-true found.1 0x2E found.4)) in
+    sym (ap (λ b. if b then before_last is_full_stop name else name) none)
+
+one_taken : (items : List ShortExport) (index : ℕ) (d : ShortExport) → index < length items
+    → exports_taken (map export_view (take (index + 1) items))
+    ≡ exports_taken (map export_view (take index items)) ++ flat_map export_taken (if not (export_view (get_or items index d)).private then export_view (get_or items index d) ∷ [] else [])
+one_taken items index d within =
+    let old = map export_view (take index items) in
+    let e = export_view (get_or items index d) in
+    ap exports_taken (one_more items index d within)
+    ∙ ap (flat_map export_taken) (filter-append (λ x. not x.private) old (e ∷ []))
+    ∙ flat_map-append export_taken (filter (λ x. not x.private) old) (filter (λ x. not x.private) (e ∷ []))
+
+-- a private export is passed over
+pub taken-private : (items : List ShortExport) (index : ℕ) (d : ShortExport) → index < length items → (export_view (get_or items index d)).private ≡ true
+    → exports_taken (map export_view (take (index + 1) items)) ≡ exports_taken (map export_view (take index items))
+taken-private items index d within private =
+    let e = export_view (get_or items index d) in
+    one_taken items index d within
+    ∙ ap (λ b. exports_taken (map export_view (take index items)) ++ flat_map export_taken (if not b then e ∷ [] else [])) private
+    ∙ append-nil (exports_taken (map export_view (take index items)))
+
+-- another is taken in
+pub taken-public : (items : List ShortExport) (index : ℕ) (d : ShortExport) → index < length items → (export_view (get_or items index d)).private ≡ false
+    → exports_taken (map export_view (take (index + 1) items))
+    ≡ exports_taken (map export_view (take index items)) ++ export_taken (export_view (get_or items index d))
+taken-public items index d within public =
+    let e = export_view (get_or items index d) in
+    one_taken items index d within
+    ∙ ap (λ b. exports_taken (map export_view (take index items)) ++ flat_map export_taken (if not b then e ∷ [] else [])) public
+    ∙ ap (λ t. exports_taken (map export_view (take index items)) ++ t) (append-nil (export_taken e))

@@ -1,0 +1,130 @@
+-- From the definition of bytes to its members and its library.
+use Rattle.std.proofs.Common.{◌≡◌, ◌++◌, ◌∙◌, ℕ, Err, List, Ok, Result, Some, ap, append_assoc, map, refl, subst, sym}
+use Rattle.std.specs.Prelude.{IfOk}
+use Rattle.std.proofs.lemmas.List.{map-append}
+use Rattle.std.specs.List.{AllByRecursion}
+use Rattle.std.specs.Str.{IsUtf8}
+use Rattle.implib.specs.declared.flavor.Flavor.{Flavor}
+use Rattle.implib.specs.declared.flavor.Flavor.TheVariants.{Msvc, Gnu}
+use Rattle.implib.specs.declared.machine.MachineType.{MachineType}
+use Rattle.implib.specs.Definition.{DefinitionView}
+use Rattle.implib.specs.Fault.{Cause}
+use Rattle.implib.specs.Import.{public_exports}
+use Rattle.implib.specs.Library.{LibraryView}
+use Rattle.implib.specs.LibraryName.{names_for}
+use Rattle.implib.specs.declared.error.Error.{Error}
+use Rattle.implib.specs.Members.MemberLists.{AreListsOf, ListsView, all_alias_specs, all_import_specs}
+use Rattle.implib.specs.Members.MsvcMembers.{header_specs}
+use Rattle.implib.proofs.Members.MemberMeanings.{reads_as_msvc}
+use Rattle.implib.specs.Members.Members.{AreMembersOf, member_specs, refusal}
+use Rattle.implib.specs.Members.MemberSpec.{MemberView, member_of}
+use Rattle.implib.specs.Members.ReadBack.{ReadBack}
+use Rattle.implib.specs.Renaming.{renamed}
+use Rattle.implib.proofs.Members.Renaming.{renamed_twice}
+use Rattle.implib_rules.specs.Library.{DefinitionFor, MembersFor, RefusesMembers, without_mark}
+use Rattle.implib_rules.specs.Order.{AreInOrder, LibraryReads, library_specs, msvc_specs}
+use Rattle.implib_rules.specs.Options.{LibraryOptionsView}
+use Rattle.implib_rules.proofs.OrderedReadings.{reads_in_order}
+use Rattle.implib_rules.proofs.PlainNames.{IsPlain, plain_of}
+
+module _ (d : DefinitionView) (machine : MachineType) where
+  -- all members of a definition that has lists of members
+  all_made : (lists : ListsView) → AreListsOf d machine lists → AreMembersOf d machine Msvc (map member_of (member_specs (renamed d) machine Msvc))
+  all_made lists are = record { accepted = are.accepted; made = refl; ordinals = are.ordinals }
+
+  -- the lists one after another are the members in order
+  in_order_of_lists : (lists : ListsView) (members : List MemberView) → renamed d ≡ d → AreListsOf d machine lists
+      → members ≡ lists.header ++ (lists.imports ++ lists.aliases) → AreInOrder d machine Msvc members
+  in_order_of_lists lists members once are is =
+      let header = header_specs machine (names_for Msvc (renamed d)) in
+      let imports = all_import_specs machine (renamed d) in
+      let aliases = all_alias_specs machine (renamed d) in
+      let tail : lists.imports ++ lists.aliases ≡ map member_of (imports ++ aliases) =
+      ap (λ t. t ++ lists.aliases) are.imports ∙ (ap (λ t. map member_of imports ++ t) are.aliases ∙ sym (map-append member_of imports aliases)) in
+      record {
+        all = map member_of (member_specs (renamed d) machine Msvc);
+        made = all_made lists are;
+        reads = reads_as_msvc d machine (map member_of (member_specs (renamed d) machine Msvc)) (all_made lists are);
+        is =
+            is
+            ∙ (ap (λ t. t ++ (lists.imports ++ lists.aliases)) are.header
+            ∙ (ap (λ t. map member_of header ++ t) tail
+            ∙ (sym (map-append member_of header (imports ++ aliases))
+            ∙ ap (λ (x : DefinitionView). map member_of (msvc_specs machine x)) once)));
+      }
+
+  -- the members for GNU's linker are in order
+  in_order_for_gnu : (members : List MemberView) → renamed d ≡ d → AreMembersOf d machine Gnu members → ReadBack d machine Gnu members
+      → AreInOrder d machine Gnu members
+  in_order_for_gnu members once made reads = record {
+    all = members;
+    made = made;
+    reads = reads;
+    is = made.made ∙ ap (λ (x : DefinitionView). map member_of (member_specs x machine Gnu)) once;
+  }
+
+-- lists that are joined one after another
+pub joined : {X : Type 0} (view : X → MemberView) (header imports aliases both all : List X) → both ≡ header ++ imports → all ≡ both ++ aliases
+    → map view all ≡ map view header ++ (map view imports ++ map view aliases)
+joined view header imports aliases both all first second =
+    ap (map view) (second ∙ (ap (λ t. t ++ aliases) first ∙ append_assoc header imports aliases))
+    ∙ (map-append view header (imports ++ aliases)
+    ∙ ap (λ t. map view header ++ t) (map-append view imports aliases))
+
+-- what a library of one flavour holds
+abbrev held_by : DefinitionView → MachineType → Flavor → LibraryView
+held_by d machine flavor = record { definition = renamed d; machine = machine; flavor = flavor }
+
+-- the lists of a library are those of its definition
+pub in_order_of_library : (d : DefinitionView) (machine : MachineType) (library : LibraryView) (lists : ListsView) (members : List MemberView)
+    → library ≡ held_by d machine Msvc → AreListsOf library.definition library.machine lists
+    → members ≡ lists.header ++ (lists.imports ++ lists.aliases) → AreInOrder (renamed d) machine Msvc members
+in_order_of_library d machine library lists members held are is =
+    in_order_of_lists (renamed d) machine lists members (renamed_twice d)
+    (subst (λ (l : LibraryView). AreListsOf l.definition l.machine lists) held are) is
+
+-- and so are the members of one for GNU's linker
+pub in_order_of_gnu : {T : Type 0} (shown : T → List MemberView) (d : DefinitionView) (machine : MachineType) (library : LibraryView) (result : Result T Error)
+    → library ≡ held_by d machine Gnu
+    → IfOk result (λ members. AreMembersOf library.definition library.machine Gnu (shown members))
+    → IfOk result (λ members. ReadBack library.definition library.machine Gnu (shown members))
+    → IfOk result (λ members. AreInOrder (renamed d) machine Gnu (shown members))
+in_order_of_gnu shown d machine library (Err error) held made reads = tt
+in_order_of_gnu shown d machine library (Ok members) held made reads =
+    in_order_for_gnu (renamed d) machine (shown members) (renamed_twice d)
+    (subst (λ (l : LibraryView). AreMembersOf l.definition l.machine Gnu (shown members)) held made)
+    (subst (λ (l : LibraryView). ReadBack l.definition l.machine Gnu (shown members)) held reads)
+
+read_in : (d : DefinitionView) (machine : MachineType) (flavor : Flavor) (all members : List MemberView)
+    → AreMembersOf (renamed d) machine flavor all → ReadBack (renamed d) machine flavor all
+    → AllByRecursion IsPlain (public_exports (renamed d))
+    → members ≡ map member_of (library_specs (renamed d) machine flavor) → LibraryReads (renamed d) machine flavor members
+read_in d machine Msvc all members made reads plain is =
+    reads_in_order (renamed d) machine all members made reads.files (renamed_twice d) plain is
+read_in d machine Gnu all members made reads plain is = tt
+
+-- the members of the library, in order, are those for the options
+pub members_made : (bytes text : List ℕ) (options : LibraryOptionsView) (d : DefinitionView) (members : List MemberView)
+    → (text ≡ without_mark bytes) × IsUtf8 (without_mark bytes) → DefinitionFor text options d
+    → AreInOrder (renamed d) options.machine options.flavor members → MembersFor bytes options members
+members_made bytes text options d members found meant ordered = record {
+  utf8 = found.1;
+  definition = d;
+  of_text = subst (λ (t : List ℕ). DefinitionFor t options d) found.0 meant;
+  all = ordered.all;
+  made = ordered.made;
+  reads = ordered.reads;
+  is = ordered.is;
+  library_reads = read_in d options.machine options.flavor ordered.all members ordered.made ordered.reads (plain_of text options d meant) ordered.is;
+}
+
+-- a refusal of its members is one for the options
+pub members_refused : (bytes text : List ℕ) (options : LibraryOptionsView) (d : DefinitionView) (cause : Cause)
+    → (text ≡ without_mark bytes) × IsUtf8 (without_mark bytes) → DefinitionFor text options d
+    → refusal (renamed d) options.machine options.flavor ≡ Some cause → RefusesMembers bytes options cause
+members_refused bytes text options d cause found meant refused = record {
+  utf8 = found.1;
+  definition = d;
+  of_text = subst (λ (t : List ℕ). DefinitionFor t options d) found.0 meant;
+  refused = refused;
+}

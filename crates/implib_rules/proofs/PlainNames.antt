@@ -1,0 +1,86 @@
+-- Exports as they are linked have no symbol names.
+use Rattle.std.proofs.Common.{◌≡◌, ◌∙◌, ap, drop, ℕ, Bool, true, false, List, [], ◌∷◌, ◌++◌, if◌then◌else◌, map, refl, sym, subst}
+use Rattle.std.specs.Prelude.{◌&&◌, not}
+use Rattle.std.specs.List.{AllByRecursion, filter, list_all}
+use Rattle.std.proofs.lemmas.Bool.{and_parts}
+use Rattle.implib.specs.declared.flavor.Flavor.{Flavor}
+use Rattle.implib.specs.declared.machine.MachineType.{MachineType}
+use Rattle.implib.specs.declared.machine.MachineType.TheVariants.{AMD64}
+use Rattle.implib.specs.Definition.{DefinitionView, ExportView}
+use Rattle.implib.specs.Import.{is_empty_text, public_exports}
+use Rattle.implib.specs.Renaming.{renamed, renamed_export}
+use Rattle.implib.proofs.Members.MemberReadings.{all_append}
+use Rattle.implib.proofs.Text.SymbolNames.{parsed_lacks}
+use Rattle.implib_rules.specs.Library.{DefinitionFor}
+use Rattle.implib_rules.specs.Linked.{NamingView, is_among, is_linked_alias, linked_alias, linked_export, linked_import, new_target, target_import, target_symbol, targets_added, targets_beside, with_target}
+use Rattle.implib_rules.specs.Repeats.{left_out, left_out_by, repeats_behind, without_repeated}
+use Rattle.implib_rules.specs.Options.{LibraryOptionsView}
+
+-- the export has no symbol name
+abbrev pub IsPlain : ExportView → Type 0
+IsPlain e = e.symbol_name ≡ []
+
+empty_text : (text : List ℕ) → is_empty_text text ≡ true → text ≡ []
+empty_text [] empty = refl
+empty_text (b ∷ text) empty = cc
+
+module _ (machine : MachineType) (naming : NamingView) (flavor : Flavor) where
+  either : (b : Bool) (e : ExportView) → e.symbol_name ≡ [] → IsPlain (if b then linked_alias machine naming e else linked_import machine naming e)
+  either true e plain = plain
+  either false e plain = plain
+
+  plain_linked : (exports : List ExportView) → list_all (λ e. is_empty_text e.symbol_name) exports ≡ true → AllByRecursion IsPlain (map (linked_export machine naming flavor) exports)
+  plain_linked [] plain = tt
+  plain_linked (e ∷ exports) plain =
+      let parts = and_parts (is_empty_text e.symbol_name) (list_all (λ (x : ExportView). is_empty_text x.symbol_name) exports) plain in
+      (either (is_linked_alias machine naming flavor e) e (empty_text e.symbol_name parts.0), plain_linked exports parts.1)
+
+  plain_target : (b : Bool) (e : ExportView) → AllByRecursion IsPlain (if b then target_import machine naming e ∷ [] else [])
+  plain_target true e = (refl, tt)
+  plain_target false e = tt
+
+  plain_targets : (symbols : List (List ℕ)) (exports : List ExportView) → AllByRecursion IsPlain (targets_beside machine naming flavor symbols exports)
+  plain_targets symbols [] = tt
+  plain_targets symbols (e ∷ exports) =
+      all_append IsPlain (new_target machine naming flavor symbols e) (targets_beside machine naming flavor (with_target machine naming flavor symbols e) exports)
+      (plain_target (is_linked_alias machine naming flavor e && not (is_among symbols (target_symbol machine naming e))) e)
+      (plain_targets (with_target machine naming flavor symbols e) exports)
+
+kept_plain : (private : Bool) (e : ExportView) (exports : List ExportView) → IsPlain e → AllByRecursion IsPlain exports
+    → AllByRecursion IsPlain (if not private then renamed_export e ∷ exports else exports)
+kept_plain true e exports plain others = others
+kept_plain false e exports plain others = (plain, others)
+
+plain_public : (exports : List ExportView) → AllByRecursion IsPlain exports → AllByRecursion IsPlain (filter (λ e. not e.private) (map renamed_export exports))
+plain_public [] plain = tt
+plain_public (e ∷ exports) plain =
+    kept_plain e.private e (filter (λ x. not x.private) (map renamed_export exports)) plain.0 (plain_public exports plain.1)
+
+plain_by : (flags : List Bool) (e : ExportView) → is_empty_text (left_out_by flags e).symbol_name ≡ is_empty_text e.symbol_name
+plain_by [] e = refl
+plain_by (flag ∷ flags) e = refl
+
+plain_flagged : (flags : List Bool) (exports : List ExportView) → list_all (λ e. is_empty_text e.symbol_name) exports ≡ true
+    → list_all (λ e. is_empty_text e.symbol_name) (left_out flags exports) ≡ true
+plain_flagged flags [] plain = plain
+plain_flagged flags (e ∷ exports) plain =
+    let parts = and_parts (is_empty_text e.symbol_name) (list_all (λ (x : ExportView). is_empty_text x.symbol_name) exports) plain in
+    ap (λ b. b && list_all (λ (x : ExportView). is_empty_text x.symbol_name) (left_out (drop 1 flags) exports)) (plain_by flags e ∙ parts.0)
+    ∙ plain_flagged (drop 1 flags) exports parts.1
+
+plain_left_out : (exports : List ExportView) → list_all (λ e. is_empty_text e.symbol_name) exports ≡ true
+    → list_all (λ e. is_empty_text e.symbol_name) (without_repeated exports) ≡ true
+unfolding without_repeated
+plain_left_out exports plain = plain_flagged (repeats_behind [] exports) exports plain
+
+-- no export of the definition of a text has a symbol name
+pub plain_of : (text : List ℕ) (options : LibraryOptionsView) (d : DefinitionView) → DefinitionFor text options d → AllByRecursion IsPlain (public_exports (renamed d))
+plain_of text options d meant =
+    let lacks = parsed_lacks text AMD64 meant.parsed meant.parses in
+    let exports = without_repeated meant.parsed.exports in
+    let linked = map (linked_export options.machine options.naming options.flavor) exports in
+    let targets = targets_added options.machine options.naming options.flavor exports in
+    let plain : AllByRecursion IsPlain (linked ++ targets) =
+    all_append IsPlain linked targets (plain_linked options.machine options.naming options.flavor exports (plain_left_out meant.parsed.exports lacks.parsed))
+    (plain_targets options.machine options.naming options.flavor _ exports) in
+    subst (λ (x : DefinitionView). AllByRecursion IsPlain (public_exports (renamed x))) (sym meant.is) (plain_public (linked ++ targets) plain)

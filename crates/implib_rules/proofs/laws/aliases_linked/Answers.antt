@@ -1,0 +1,27 @@
+use Rattle.std.proofs.Common.{refl}
+use Rattle.implib_rules.specs.WorkedNames.{AliasesLinked}
+use Rattle.implib_rules.proofs.laws.aliases_linked.Goals as goal
+
+worked : AliasesLinked
+worked = record {
+  target_added = refl;
+  underscored = refl;
+  killed = refl;
+  exported = refl;
+  exported_killed = refl;
+  shared = refl;
+  chained = refl;
+  private_target = refl;
+  of_data = refl;
+  of_constant = refl;
+  itself = refl;
+  without_prefix = refl;
+  undecorated = refl;
+  as_symbol = refl;
+  by_ordinal = refl;
+  private = refl;
+  gnu = refl;
+}
+
+pub returns : goal.returns
+returns c = worked

@@ -1,0 +1,15 @@
+pub mod Options
+pub mod Names
+pub mod Linked
+pub mod Repeats
+pub mod LibraryName
+pub mod Order
+pub mod Library
+pub mod Places
+pub mod Heard
+pub mod Warnings
+pub mod Views
+pub mod WorkedNames
+pub mod WorkedWarnings
+pub mod LibraryLaws
+pub mod WorkedLibraryNames

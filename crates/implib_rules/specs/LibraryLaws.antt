@@ -1,0 +1,31 @@
+-- What the names of libraries are for: a linker finds a library, and keeps it apart from others of its DLL.
+use Rattle.std.specs.Prelude.{◌≡◌, ◌≢◌, ℕ, false, List, ◌++◌, codes}
+use Rattle.implib.specs.declared.flavor.Flavor.TheVariants.{Msvc, Gnu}
+use Rattle.implib.specs.Definition.{DefinitionView}
+use Rattle.implib.specs.Import.{is_empty_text}
+use Rattle.implib.specs.LibraryName.{linked_dll}
+use Rattle.implib.specs.Link.LinkedMembers.{IsPrefixOf, member_prefix}
+use Rattle.implib.specs.Members.MsvcObjects.{descriptor_symbol}
+use Rattle.implib_rules.specs.Library.{DefinitionFor}
+use Rattle.implib_rules.specs.LibraryName.{gnu_library_name, with_library_name, without_ending}
+use Rattle.implib_rules.specs.Options.{LibraryOptionsView}
+
+-- GNU `ld` finds a library of Microsoft's: its members are named `B.dll` and its import descriptor
+-- `__IMPORT_DESCRIPTOR_B`, where B is the DLL's name without its ending.
+pub record IsFoundByGnu (d : DefinitionView) : Type 0 where
+  pub members : linked_dll d ≡ without_ending d.import_name ++ codes ".dll"
+  pub descriptor : descriptor_symbol (linked_dll d) ≡ codes "__IMPORT_DESCRIPTOR_" ++ without_ending d.import_name
+
+-- The library for Microsoft's linker of each text is one that GNU `ld` finds, but for a DLL whose name has nothing
+-- before its last full stop.
+abbrev pub MsvcLibrariesAreFound : Type 0
+MsvcLibrariesAreFound =
+    (text : List ℕ) (options : LibraryOptionsView) (d : DefinitionView) → DefinitionFor text options d → options.flavor ≡ Msvc →
+    is_empty_text (without_ending d.import_name) ≡ false → IsFoundByGnu d
+
+-- Of two libraries of one DLL for GNU's linker that have different names, the names of the members of neither begin
+-- with what those of the other do.
+abbrev pub GnuLibrariesAreApart : Type 0
+GnuLibrariesAreApart =
+    (first second : DefinitionView) → first.import_name ≡ second.import_name → gnu_library_name first ≢ gnu_library_name second →
+    IsPrefixOf (member_prefix (with_library_name Gnu first)) (member_prefix (with_library_name Gnu second)) → ⊥

@@ -1,0 +1,204 @@
+-- By which symbols exports are linked, and what they ask the DLL for: the rules of GNU dlltool and llvm-dlltool
+-- (docs/DECISIONS.md). A word is one of the definition as it is written.
+use Rattle.std.specs.Prelude.{ℕ, ◌≡◌, ◌==◌, Bool, true, false, not, ◌&&◌, ◌||◌, List, [], ◌∷◌, ◌++◌, Option, Some, None, if◌then◌else◌, bytes_eq, fold, length, map, nat_lt}
+use Rattle.implib.specs.declared.flavor.Flavor.{Flavor}
+use Rattle.implib.specs.declared.flavor.Flavor.TheVariants.{Msvc, Gnu}
+use Rattle.implib.specs.declared.machine.MachineType.{MachineType}
+use Rattle.implib.specs.Ascii.{at_sign, begins_with, question_mark, underscore}
+use Rattle.implib.specs.Definition.{DefinitionView, ExportView, empty_export}
+use Rattle.implib.specs.Formats.ShortImport.{before_at_sign, without_prefix}
+use Rattle.implib.specs.Import.{is_empty_text, name_asked}
+use Rattle.implib.specs.Machine.{has_leading_underscore}
+use Rattle.implib.specs.Renaming.{name_to_link}
+use Rattle.std.specs.List.{after_first, before_first, filter, list_any, position_or_len}
+use Rattle.implib_rules.specs.declared.linked.Naming.{Naming}
+
+-- how names are read on I386
+pub record NamingView : Type 0 where
+  -- symbols are as written
+  pub is_plain : Bool
+  -- names are asked for without their `@` and the number after it
+  pub kills_at : Bool
+
+-- the view of the rules of the program
+abbrev pub naming_view : Naming → NamingView
+naming_view n = record { is_plain = n.is_plain; kills_at = n.kills_at }
+
+-- whether two `@` stand side by side in a word, before which one may stand
+abbrev pub two_at_signs : Bool → List ℕ → Bool
+two_at_signs before [] = false
+two_at_signs before (b ∷ rest) = if before && b == at_sign then true else two_at_signs (b == at_sign) rest
+
+-- whether two `@` stand side by side, as in vectorcall's `f@@8`
+abbrev pub has_two_at_signs : List ℕ → Bool
+has_two_at_signs word = two_at_signs false word
+
+-- whether a word is a symbol of I386 as it is: of fastcall (`@f@8`), C++ (`?f@@YAXXZ`) or vectorcall (`f@@8`)
+abbrev pub keeps_word : List ℕ → Bool
+keeps_word word = begins_with at_sign word || begins_with question_mark word || has_two_at_signs word
+
+-- whether a word gets the underscore of I386's C symbols
+abbrev pub gets_underscore : MachineType → NamingView → List ℕ → Bool
+gets_underscore machine naming word = has_leading_underscore machine && not naming.is_plain && not (keeps_word word)
+
+-- The symbol that a word names. For example, on I386 `f` names `_f`, `f@8` `_f@8`, and `@g@8` itself.
+abbrev pub symbol_of : MachineType → NamingView → List ℕ → List ℕ
+symbol_of machine naming word = if gets_underscore machine naming word then underscore ∷ word else word
+
+-- the byte is `@`
+abbrev pub is_at_sign : ℕ → Bool
+is_at_sign b = b == at_sign
+
+-- whether a word has an `@`
+abbrev pub has_at_sign : List ℕ → Bool
+has_at_sign word = nat_lt (position_or_len is_at_sign word) (length word)
+
+-- a fastcall name without its leading `@` and from its second one on, if it has both; the text after the first is
+-- given
+abbrev pub killed_fastcall : List ℕ → List ℕ → List ℕ
+killed_fastcall behind word = if has_at_sign behind then before_first is_at_sign behind else word
+
+-- A word without its `@` and the number after it, and without the `@` of fastcall in front. For example,
+-- `f@8` and `@f@8` give f, `_f@8` gives `_f`, and C++'s names stay.
+abbrev pub killed : List ℕ → List ℕ
+killed word =
+    if begins_with question_mark word then word
+    else if not (has_at_sign word) then word
+    else if length (before_first is_at_sign word) == 0 then killed_fastcall (after_first is_at_sign word) word
+    else before_first is_at_sign word
+
+-- what the DLL is asked for, for a word
+abbrev pub word_asked : MachineType → NamingView → List ℕ → List ℕ
+word_asked machine naming word = if has_leading_underscore machine && naming.kills_at then killed word else word
+
+-- what the DLL is asked for, for a word and the one after `==`, which is asked for as it is written
+abbrev pub asked_of : MachineType → NamingView → List ℕ → List ℕ → List ℕ
+asked_of machine naming word target = if is_empty_text target then word_asked machine naming word else target
+
+-- the word by which an export is linked
+abbrev pub word_of : ExportView → List ℕ
+word_of e = name_to_link e.ext_name e.name
+
+-- the symbol by which an export is linked
+abbrev pub symbol_linked : MachineType → NamingView → ExportView → List ℕ
+symbol_linked machine naming e = symbol_of machine naming (word_of e)
+
+-- The asked name that an import gives. Where symbols have no underscore, an export without one asks for its symbol,
+-- so a name that is the symbol is not given.
+abbrev pub name_given : MachineType → List ℕ → List ℕ → Option (List ℕ)
+name_given machine symbol asked =
+    if not (has_leading_underscore machine) && bytes_eq symbol asked then None else Some asked
+
+-- An import: the export under its symbol, and with what it asks for. For example, of `f == g` the symbol is f
+-- and the name asked for g.
+abbrev pub linked_import : MachineType → NamingView → ExportView → ExportView
+linked_import machine naming e = record e {
+  name = symbol_linked machine naming e;
+  ext_name = None;
+  alias_target = [];
+  asked_name = name_given machine (symbol_linked machine naming e) (asked_of machine naming (word_of e) e.alias_target);
+}
+
+-- An export that is linked as an import asks for the word after `==`, or else for what its own word says, given or
+-- not.
+abbrev pub AsksAsLinked : Type 0
+AsksAsLinked =
+    (machine : MachineType) (naming : NamingView) (e : ExportView)
+    → name_asked machine (linked_import machine naming e) ≡ asked_of machine naming (word_of e) e.alias_target
+
+-- Whether a name type, which is name, no prefix or undecorate, makes a name of the symbol. For example, of
+-- `_f@8` they make `_f@8`, `f@8` and f.
+abbrev pub makes : List ℕ → List ℕ → Bool
+makes symbol name =
+    bytes_eq symbol name
+    || (bytes_eq (without_prefix symbol) name || bytes_eq (before_at_sign (without_prefix symbol)) name)
+
+-- whether an export has a word after `==`
+abbrev pub has_target : ExportView → Bool
+has_target e = not (is_empty_text e.alias_target)
+
+-- Whether an export of this symbol is an alias in a flavour: it has a word after `==` that Microsoft's short
+-- import of the symbol cannot ask for. One that is private is left out, and one by ordinal asks for no name.
+abbrev pub is_alias_under : Flavor → List ℕ → ExportView → Bool
+is_alias_under Gnu symbol e = false
+is_alias_under Msvc symbol e =
+    has_target e && (not e.private && (not e.no_name && not (makes symbol e.alias_target)))
+
+-- whether an export is an alias
+abbrev pub is_linked_alias : MachineType → NamingView → Flavor → ExportView → Bool
+is_linked_alias machine naming flavor e = is_alias_under flavor (symbol_linked machine naming e) e
+
+-- the symbol that the word after `==` names
+abbrev pub target_symbol : MachineType → NamingView → ExportView → List ℕ
+target_symbol machine naming e = symbol_of machine naming e.alias_target
+
+-- An alias: its symbol is weak for its target's. What it asks for is its own symbol, so that no rule on names
+-- refuses what no member asks for.
+abbrev pub linked_alias : MachineType → NamingView → ExportView → ExportView
+linked_alias machine naming e = record e {
+  name = symbol_linked machine naming e;
+  ext_name = None;
+  alias_target = target_symbol machine naming e;
+  asked_name = Some (symbol_linked machine naming e);
+}
+
+-- the export as it is linked
+abbrev pub linked_export : MachineType → NamingView → Flavor → ExportView → ExportView
+linked_export machine naming flavor e =
+    if is_linked_alias machine naming flavor e then linked_alias machine naming e
+    else linked_import machine naming e
+
+-- the import of an alias's target, which asks for the word after `==` as it is written
+abbrev pub target_import : MachineType → NamingView → ExportView → ExportView
+target_import machine naming e = record empty_export {
+  name = target_symbol machine naming e;
+  asked_name = Some e.alias_target;
+  is_data = e.is_data;
+  constant = e.constant;
+}
+
+-- whether a symbol is among these
+abbrev pub is_among : List (List ℕ) → List ℕ → Bool
+is_among symbols symbol = list_any (bytes_eq symbol) symbols
+
+-- the symbols, and this one after them unless it is among them
+abbrev pub with_symbol : List (List ℕ) → List ℕ → List (List ℕ)
+with_symbol symbols symbol = if is_among symbols symbol then symbols else symbols ++ symbol ∷ []
+
+-- the symbols of the exports that are not private, each once
+abbrev pub symbols_linked : MachineType → NamingView → List ExportView → List (List ℕ)
+symbols_linked machine naming exports =
+    fold with_symbol [] (map (symbol_linked machine naming) (filter (λ e. not e.private) exports))
+
+-- the symbols, with that of an alias's target
+abbrev pub with_target : MachineType → NamingView → Flavor → List (List ℕ) → ExportView → List (List ℕ)
+with_target machine naming flavor symbols e =
+    if is_linked_alias machine naming flavor e then with_symbol symbols (target_symbol machine naming e) else symbols
+
+-- the import of an alias's target, if its symbol is not among these
+abbrev pub new_target : MachineType → NamingView → Flavor → List (List ℕ) → ExportView → List ExportView
+new_target machine naming flavor symbols e =
+    if is_linked_alias machine naming flavor e && not (is_among symbols (target_symbol machine naming e))
+    then target_import machine naming e ∷ [] else []
+
+-- the imports of the targets of aliases whose symbols are not among these, in the order of their first use
+abbrev pub targets_beside : MachineType → NamingView → Flavor → List (List ℕ) → List ExportView → List ExportView
+targets_beside machine naming flavor symbols [] = []
+targets_beside machine naming flavor symbols (e ∷ exports) =
+    new_target machine naming flavor symbols e
+    ++ targets_beside machine naming flavor (with_target machine naming flavor symbols e) exports
+
+-- The imports that aliases add: of each target once, if no export that is not private has its symbol. For
+-- example, `a == b` and `c == b` add b.
+abbrev pub targets_added : MachineType → NamingView → Flavor → List ExportView → List ExportView
+targets_added machine naming flavor exports =
+    targets_beside machine naming flavor (symbols_linked machine naming exports) exports
+
+-- exports as they are linked, and after them the targets that aliases add
+abbrev pub linked_exports : MachineType → NamingView → Flavor → List ExportView → List ExportView
+linked_exports machine naming flavor exports =
+    map (linked_export machine naming flavor) exports ++ targets_added machine naming flavor exports
+
+-- the definition with each export as it is linked, and with the targets of its aliases
+abbrev pub linked : MachineType → NamingView → Flavor → DefinitionView → DefinitionView
+linked machine naming flavor d = record d { exports = linked_exports machine naming flavor d.exports }

@@ -1,0 +1,24 @@
+-- View: what a library is made for, as a record.
+use Rattle.std.specs.Prelude.{ℕ, List, Option, option_map}
+use Rattle.implib.specs.declared.flavor.Flavor.{Flavor}
+use Rattle.implib.specs.declared.machine.MachineType.{MachineType}
+use Rattle.implib_rules.specs.declared.options.LibraryOptions.{LibraryOptions}
+use Rattle.implib_rules.specs.Linked.{NamingView, naming_view}
+
+-- for which machine, linker and DLL a library is made, and how names are read
+pub record LibraryOptionsView : Type 0 where
+  pub machine : MachineType
+  pub flavor : Flavor
+  -- the DLL's name, before the definition's own
+  pub dll : Option (List ℕ)
+  -- how names are read on I386
+  pub naming : NamingView
+
+-- the view of the options
+abbrev pub library_options_view : LibraryOptions → LibraryOptionsView
+library_options_view o = record {
+  machine = o.machine;
+  flavor = o.flavor;
+  dll = option_map (λ text. text.now) o.dll;
+  naming = naming_view o.naming;
+}

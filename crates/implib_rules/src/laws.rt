@@ -1,0 +1,111 @@
+//! Laws: what is proved of the definitions.
+
+ghost use Rattle.implib.specs.Definition.{ExportView};
+ghost use Rattle.implib.specs.Import.{holds, is_empty_text};
+ghost use Rattle.implib.specs.Members.NameRules.{name_refusal};
+ghost use Rattle.implib.specs.declared.flavor.Flavor.TheVariants.{Msvc};
+ghost use Rattle.implib.specs.declared.machine.MachineType.{MachineType};
+ghost use Rattle.implib_rules.specs.Linked.{AsksAsLinked, NamingView, target_import};
+ghost use Rattle.implib_rules.specs.LibraryLaws.{GnuLibrariesAreApart, MsvcLibrariesAreFound};
+ghost use Rattle.implib_rules.specs.Places.{AreAtWords};
+ghost use Rattle.implib_rules.specs.Repeats.{AreLeftOut, SymbolsAreOfWords};
+ghost use Rattle.implib_rules.specs.Warnings.{AreInOrder, RepeatsStandBefore};
+ghost use Rattle.implib_rules.specs.WorkedLibraryNames.{LibrariesWorked};
+ghost use Rattle.implib_rules.specs.WorkedNames.{AliasesLinked, DllsNamed};
+ghost use Rattle.implib_rules.specs.WorkedNames.{ExportsLinked, MembersInOrder};
+ghost use Rattle.implib_rules.specs.WorkedWarnings.{PlacesWorked, WarningsWorked, WordsJudged};
+ghost use Rattle.std.specs.Prelude.{◌≡◌, ℕ, None, false};
+
+/// Exports are linked by the symbols that were worked by hand, and ask for the names.
+pub fn exports_linked()
+    ensures { ExportsLinked }
+{}
+
+/// An export that is linked as an import asks for what its words say, whether it gives the name or
+/// not.
+pub fn asks_as_linked()
+    ensures { AsksAsLinked }
+{}
+
+/// Two exports have one symbol only where they have one word.
+pub fn symbols_are_of_words()
+    ensures { SymbolsAreOfWords }
+{}
+
+/// Of the exports of one word the first that is not private stays, and later ones are left out.
+pub fn repeats_are_left_out()
+    ensures { AreLeftOut }
+{}
+
+/// The library of a text for Microsoft's linker is one that GNU `ld` finds, whatever the ending of
+/// the DLL's name.
+pub fn msvc_libraries_are_found()
+    ensures { MsvcLibrariesAreFound }
+{}
+
+/// Two libraries of one DLL for GNU's linker are kept apart where they have different names: the
+/// names of the members of neither begin with what those of the other do.
+pub fn gnu_libraries_are_apart()
+    ensures { GnuLibrariesAreApart }
+{}
+
+/// Libraries have the names that were worked by hand, and those exports are left out.
+pub fn libraries_worked()
+    ensures { LibrariesWorked }
+{}
+
+/// Exports with `==` are in Microsoft's flavour the aliases and imports that were worked by hand,
+/// and add the targets; in GNU's they are imports.
+pub fn aliases_linked()
+    ensures { AliasesLinked }
+{}
+
+/// A target that an alias adds breaks no rule on names if its word is not empty and has no null
+/// byte: with a null byte the alias itself is refused, before it. So a refused export of a name is
+/// one of the text.
+pub fn targets_accepted()
+    ensures { (machine : MachineType) (naming : NamingView) (index : ℕ) (e : ExportView)
+        → is_empty_text e.alias_target ≡ false → holds 0 e.alias_target ≡ false
+        → name_refusal Msvc machine index (target_import machine naming e) ≡ None }
+{}
+
+/// The members for Microsoft's linker are in the order that was worked by hand: weak externals
+/// last, and no short import of an alias.
+pub fn members_in_order()
+    ensures { MembersInOrder }
+{}
+
+/// DLLs have the names that were worked by hand.
+pub fn dlls_named()
+    ensures { DllsNamed }
+{}
+
+/// Words that may be meant for something else are told from others as was worked by hand.
+pub fn words_judged()
+    ensures { WordsJudged }
+{}
+
+/// The tokens of a text have the places that were worked by hand.
+pub fn places_worked()
+    ensures { PlacesWorked }
+{}
+
+/// Definitions have the warnings that were worked by hand, in this order, and none without `-v`.
+pub fn warnings_worked()
+    ensures { WarningsWorked }
+{}
+
+/// An export repeats a word or an ordinal exactly where one before it has that.
+pub fn repeats_stand_before()
+    ensures { RepeatsStandBefore }
+{}
+
+/// The warnings of a text are in the order of their offsets.
+pub fn warnings_in_order()
+    ensures { AreInOrder }
+{}
+
+/// The tokens that are taken for names of exports are the words of the definition's exports.
+pub fn exports_at_words()
+    ensures { AreAtWords }
+{}

@@ -1,0 +1,323 @@
+//! From the bytes of a definition to those of its import library.
+
+ghost use Rattle.implib.specs.Definition.{definition_view};
+ghost use Rattle.implib.specs.Fault.{IfInvalid};
+ghost use Rattle.implib.specs.Library.{member_view};
+ghost use Rattle.implib.specs.Members.Members.{refusal};
+ghost use Rattle.implib.specs.Renaming.{renamed};
+ghost use Rattle.implib.specs.declared.flavor.Flavor.TheVariants.{Gnu, Msvc};
+ghost use Rattle.implib_archive.specs.Refusal.{refusal_of};
+ghost use Rattle.implib_rules.specs.Library.{BreaksOff, DefinitionFor, IsRefusalOfArchive};
+ghost use Rattle.implib_rules.specs.Library.{IsRefusalOfBytes, IsRefusalOfMembers};
+ghost use Rattle.implib_rules.specs.Library.{IfBrokenOff, IfRefused, IsRefusalOfText};
+ghost use Rattle.implib_rules.specs.Library.{MembersFor, WritesLibrary};
+ghost use Rattle.implib_rules.specs.Library.{kind_for, kind_of, without_mark};
+ghost use Rattle.implib_rules.specs.Order.{AreInOrder};
+ghost use Rattle.implib_rules.specs.Options.{library_options_view};
+ghost use Rattle.std.specs.Prelude.{◌≡◌, IfErr, IfOk, MatchOption, None, OnOk, Some, length, map};
+ghost use Rattle.std.specs.Str.{IsUtf8};
+
+use crate::aliases::link_with_targets;
+use crate::library_name::library_name_for;
+use crate::name::{LastHeading, dll_name, lacks_name};
+use crate::options::LibraryOptions;
+use crate::places::position_of_fault;
+use crate::repeats::leave_out_repeats;
+use implib::def::{ModuleDef, Position};
+use implib::gnu::GnuImportLibrary;
+use implib::msvc::{MemberLists, MsvcImportLibrary};
+use implib::{Error, Fault, Flavor, MachineType, Member, ParseError};
+use implib_archive::{Archive, Kind, WriteError};
+use std::alloc::{AllocError, Global};
+use std::{io, mem};
+
+/// Why a definition has no import library here.
+#[derive(Debug, Drop)]
+pub enum Refusal {
+    /// The definition is not UTF-8.
+    NotUtf8,
+    /// This is no module definition.
+    Syntax(Fault, Position),
+    /// No name of the DLL is given.
+    NoName,
+    /// An export, which begins here, or the name of the DLL is refused.
+    Members(Fault, Position),
+    /// The archive's format cannot carry the members.
+    Archive(implib_archive::Fault),
+    /// An allocation failed.
+    OutOfMemory,
+}
+
+impl From<AllocError> for Refusal {
+    ghost use Rattle.implib_rules.specs.declared.library.Refusal.TheVariants.{OutOfMemory};
+    ghost use Rattle.std.specs.Prelude.{◌≡◌};
+
+    ghost from_gives = { λ _ error. error ≡ OutOfMemory };
+
+    fn from(_refused: AllocError) -> Refusal {
+        Refusal::OutOfMemory
+    }
+}
+
+impl From<implib_archive::Error> for Refusal {
+    ghost use Rattle.implib_rules.specs.Library.{archive_refusal};
+    ghost use Rattle.std.specs.Prelude.{◌≡◌};
+
+    ghost from_gives = { λ cause error. error ≡ archive_refusal cause };
+
+    fn from(cause: implib_archive::Error) -> Refusal {
+        match cause {
+            implib_archive::Error::Invalid(fault) => Refusal::Archive(fault),
+            implib_archive::Error::OutOfMemory(_) => Refusal::OutOfMemory,
+        }
+    }
+}
+
+impl From<ParseError> for Refusal {
+    ghost use Rattle.implib_rules.specs.Library.{parse_refusal};
+    ghost use Rattle.std.specs.Prelude.{◌≡◌};
+
+    ghost from_gives = { λ cause error. error ≡ parse_refusal cause };
+
+    fn from(cause: ParseError) -> Refusal {
+        match cause {
+            ParseError::Invalid(fault, position) => Refusal::Syntax(fault, position),
+            ParseError::OutOfMemory(_) => Refusal::OutOfMemory,
+        }
+    }
+}
+
+/// Why a library was not written whole.
+#[derive(Debug, Drop)]
+pub enum LibraryError {
+    /// There is none.
+    Refused(Refusal),
+    /// Writing it failed.
+    Writing(WriteError),
+}
+
+impl From<Refusal> for LibraryError {
+    ghost use Rattle.implib_rules.specs.declared.library.LibraryError.TheVariants.{Refused};
+    ghost use Rattle.std.specs.Prelude.{◌≡◌};
+
+    ghost from_gives = { λ refusal error. error ≡ Refused refusal };
+
+    fn from(refusal: Refusal) -> LibraryError {
+        LibraryError::Refused(refusal)
+    }
+}
+
+impl From<WriteError> for LibraryError {
+    ghost use Rattle.implib_rules.specs.declared.library.LibraryError.TheVariants.{Writing};
+    ghost use Rattle.std.specs.Prelude.{◌≡◌};
+
+    ghost from_gives = { λ cause error. error ≡ Writing cause };
+
+    fn from(cause: WriteError) -> LibraryError {
+        LibraryError::Writing(cause)
+    }
+}
+
+impl From<io::Error> for LibraryError {
+    ghost use Rattle.implib_archive.specs.declared.error.WriteError.TheVariants.{Writer};
+    ghost use Rattle.implib_rules.specs.declared.library.LibraryError.TheVariants.{Writing};
+    ghost use Rattle.std.specs.Prelude.{◌≡◌};
+
+    ghost from_gives = { λ cause error. error ≡ Writing (Writer cause) };
+
+    fn from(cause: io::Error) -> LibraryError {
+        LibraryError::Writing(WriteError::Writer(cause))
+    }
+}
+
+// The bytes without a leading byte order mark of UTF-8.
+fn without_mark(bytes: &[u8]) -> &[u8]
+    ensures { result.now ≡ without_mark bytes.now }
+{
+    if bytes.starts_with(&[0xEF, 0xBB, 0xBF]) {
+        return &bytes[3..];
+    }
+    bytes
+}
+
+/// The text of a definition: its bytes without a byte order mark, if they are UTF-8.
+pub fn text_in(bytes: &[u8]) -> Option<&str>
+    ensures { MatchOption result (¬ (IsUtf8 (without_mark bytes.now)))
+        (λ text. (text.now ≡ without_mark bytes.now) × IsUtf8 (without_mark bytes.now)) }
+{
+    str::from_utf8(without_mark(bytes)).ok()
+}
+
+/// The definition that a text means for a DLL of the name that is given, or of its own: of the
+/// exports of one word the first alone, each as it is linked on the machine, and with the name of
+/// its library for the linker.
+///
+/// # Errors
+///
+/// A syntax error; else that no name is given.
+pub fn definition_for(
+    alloc: Global,
+    text: &str,
+    options: &LibraryOptions,
+) -> Result<ModuleDef, Refusal>
+    ensures meant { IfOk result
+        (λ def. DefinitionFor text.now (library_options_view options.now) (definition_view def)) }
+    ensures refused { IfErr result (IsRefusalOfText text.now (library_options_view options.now)) }
+{
+    // The words are read as they are written, as on a machine without an underscore.
+    let mut heading = LastHeading { is_program: false };
+    let mut def = ModuleDef::parse_with(alloc, text, MachineType::AMD64, &mut heading)?;
+    let own = def.import_name.as_str();
+    if lacks_name(options.dll, own) {
+        return Err(Refusal::NoName);
+    }
+    def.import_name = dll_name(alloc, options.dll, own, heading.is_program)?;
+    leave_out_repeats(alloc, &mut def.exports)?;
+    link_with_targets(
+        alloc,
+        options.machine,
+        options.naming,
+        options.flavor,
+        &mut def.exports,
+    )?;
+    def.library_name = library_name_for(alloc, options.flavor, &def)?;
+    Ok(def)
+}
+
+// The members for Microsoft's linker, weak externals last, and without the short imports of
+// aliases.
+fn msvc_members_in_order(def: ModuleDef, machine: MachineType) -> Result<Vec<Member>, Error>
+    ensures ok { IfOk result (λ members. AreInOrder (renamed (definition_view def)) machine Msvc
+        (map member_view members.items)) }
+    ensures refused { IfInvalid result
+        (λ cause. refusal (renamed (definition_view def)) machine Msvc ≡ Some cause) }
+{
+    let lists = MsvcImportLibrary::new(def, machine).member_lists()?;
+    let MemberLists {
+        header: mut members,
+        mut imports,
+        mut aliases,
+    } = lists;
+    members.append(&mut imports)?;
+    members.append(&mut aliases)?;
+    Ok(members)
+}
+
+// The members for GNU's linker.
+fn gnu_members(def: ModuleDef, machine: MachineType) -> Result<Vec<Member>, Error>
+    ensures ok { IfOk result (λ members. AreInOrder (renamed (definition_view def)) machine Gnu
+        (map member_view members.items)) }
+    ensures refused { IfInvalid result
+        (λ cause. refusal (renamed (definition_view def)) machine Gnu ≡ Some cause) }
+{
+    GnuImportLibrary::new(def, machine).members()
+}
+
+// The members of a definition in the order in which an archive is to have them.
+fn members_in_order(
+    def: ModuleDef,
+    machine: MachineType,
+    flavor: Flavor,
+) -> Result<Vec<Member>, Error>
+    ensures ok { IfOk result (λ members. AreInOrder (renamed (definition_view def)) machine flavor
+        (map member_view members.items)) }
+    ensures refused { IfInvalid result
+        (λ cause. refusal (renamed (definition_view def)) machine flavor ≡ Some cause) }
+{
+    match flavor {
+        Flavor::Msvc => msvc_members_in_order(def, machine),
+        Flavor::Gnu => gnu_members(def, machine),
+    }
+}
+
+/// The members of the library that is asked for.
+///
+/// # Errors
+///
+/// What [`definition_for`] refuses; bytes that are not UTF-8; an export that is refused.
+pub fn members_for(
+    alloc: Global,
+    bytes: &[u8],
+    options: &LibraryOptions,
+) -> Result<Vec<Member>, Refusal>
+    ensures made { IfOk result (λ members. MembersFor bytes.now (library_options_view options.now)
+        (map member_view members.items)) }
+    ensures refused { IfErr result (IsRefusalOfMembers bytes.now (library_options_view options.now)) }
+{
+    let Some(text) = text_in(bytes) else {
+        return Err(Refusal::NotUtf8);
+    };
+    let def = definition_for(alloc, text, options)?;
+    match members_in_order(def, options.machine, options.flavor) {
+        Ok(members) => Ok(members),
+        Err(Error::Invalid(fault)) => {
+            // The export is one of the text: the targets after them break no rule on names that
+            // their aliases keep.
+            let position = position_of_fault(alloc, text, &fault)?;
+            Err(Refusal::Members(fault, position))
+        }
+        Err(Error::OutOfMemory(_)) => Err(Refusal::OutOfMemory),
+    }
+}
+
+/// The kind of archive for a number of members: Microsoft's for its linker, if the index can number
+/// them, and else GNU's.
+pub fn kind_for(flavor: Flavor, count: usize) -> Kind
+    ensures { result ≡ kind_for flavor count }
+{
+    match flavor {
+        Flavor::Msvc if count < 65535 => Kind::Coff,
+        Flavor::Msvc | Flavor::Gnu => Kind::Gnu,
+    }
+}
+
+// The archive of members for a flavour.
+fn archive_for<'a>(
+    alloc: Global,
+    members: &'a [Member],
+    flavor: Flavor,
+) -> Result<Archive<'a>, Refusal>
+    ensures holds { IfOk result (λ archive. archive ≡ record {
+      kind = kind_of flavor (map member_view members.now);
+      members = map member_view members.now;
+    }) }
+    ensures accepted { OnOk result (refusal_of (kind_of flavor (map member_view members.now))
+        (map member_view members.now) ≡ None) }
+    ensures refused { IfErr result (IsRefusalOfArchive flavor (map member_view members.now)) }
+{
+    let kind = kind_for(flavor, members.len());
+    Ok(Archive::new(alloc, members, kind)?)
+}
+
+/// Writes the import library that is asked for. It is never held beside its members.
+///
+/// It calls `write` a few times for each member, so a writer to a file wants a `BufWriter` before
+/// it. It does not flush.
+///
+/// # Errors
+///
+/// `Refused`: what [`members_for`] refuses, and what an archive cannot carry; nothing was written.
+/// `Writing`: the writer failed, or an allocation; it has a beginning of the library, where its
+/// bytes are known.
+pub fn write_library<W: io::Write>(
+    alloc: Global,
+    bytes: &[u8],
+    options: &LibraryOptions,
+    writer: &mut W,
+) -> Result<(), LibraryError>
+    ensures written { OnOk result (WritesLibrary bytes.now (library_options_view options.now)
+        (W.contents writer.old) (W.contents writer.new)) }
+    ensures refused { IfRefused result (λ refusal.
+        IsRefusalOfBytes bytes.now (library_options_view options.now) refusal
+        × (writer.new ≡ writer.old)) }
+    ensures failed { IfBrokenOff result (BreaksOff bytes.now (library_options_view options.now)
+        (W.contents writer.old) (W.contents writer.new)) }
+{
+    let members = members_for(alloc, bytes, options)?;
+    let archive = archive_for(alloc, members.as_slice(), options.flavor)?;
+    archive.write_to(alloc, writer)?;
+    drop(archive);
+    // The program ends now. Freeing each name and symbol would take a fifth of its time.
+    mem::forget(members);
+    Ok(())
+}

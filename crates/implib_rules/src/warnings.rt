@@ -1,0 +1,481 @@
+//! What is doubtful in a definition.
+
+ghost use Rattle.implib.specs.Definition.{ExportView, export_view};
+ghost use Rattle.implib_rules.specs.Linked.{naming_view};
+ghost use Rattle.implib_rules.specs.Options.{library_options_view};
+ghost use Rattle.implib_rules.specs.Warnings.{AreFirstDeclared, AreFirstOrdinals, AreFirstWords};
+ghost use Rattle.implib_rules.specs.Warnings.{asked_warnings, earlier};
+ghost use Rattle.implib_rules.specs.Warnings.{export_notices, heading_notice, is_asked_by_word};
+ghost use Rattle.implib_rules.specs.Warnings.{index_after, lowered_notice, notice_view};
+ghost use Rattle.implib_rules.specs.Warnings.{ordinal_like_notice, ordinal_notice};
+ghost use Rattle.implib_rules.specs.Warnings.{other_kind_notice, no_export_notice};
+ghost use Rattle.implib_rules.specs.Warnings.{repeat_notice, stdcall_notice, target_notice};
+ghost use Rattle.implib_rules.specs.Warnings.{warned, warning_view, warnings_at};
+ghost use Rattle.implib_rules.specs.Warnings.{warnings_of, word_before};
+ghost use Rattle.std.specs.Option.{option_map};
+ghost use Rattle.std.specs.Prelude.{◌≡◌, ◌++◌, ◌-◌, ◌<◌, ◌^◌, IfOk, List, OnOk, map};
+
+pub mod firsts;
+pub mod words;
+
+use crate::linked::{Naming, word_of};
+use crate::options::LibraryOptions;
+use crate::places::{Place, Site};
+use crate::warnings::firsts::{first_declared, first_ordinals, first_words};
+use crate::warnings::words::{Attribute, is_ordinal_like, is_stdcall_word, lowered_attribute};
+use implib::def::{Position, ShortExport};
+use implib::{Flavor, MachineType};
+use std::alloc::{AllocError, Global};
+use std::collections::HashMap;
+use std::fmt;
+
+/// What a warning says.
+#[derive(Clone, Copy, Debug, PartialEq, Eq)]
+pub enum Notice<'a> {
+    /// There is no export.
+    NoExport,
+    /// There are too many members for an archive of Microsoft's kind.
+    OtherKind,
+    /// The export of this index has the same word, so this one is left out.
+    Repeated(&'a str, usize),
+    /// The export of this index has the same ordinal.
+    RepeatedOrdinal(u16, usize),
+    /// An attribute of the export of this word is the first word of a line.
+    OpensLine(Attribute, &'a str),
+    /// The name would be an attribute in capitals.
+    Lowered(&'a str, Attribute),
+    /// The name begins as an ordinal.
+    OrdinalLike(&'a str),
+    /// The DLL is asked for a name of stdcall.
+    Stdcall(&'a str),
+    /// The word after `==` is no export.
+    NotExported(&'a str),
+    /// A second `LIBRARY` or `NAME`.
+    SecondHeading,
+}
+
+/// A warning.
+#[derive(Clone, Copy, Debug, PartialEq, Eq)]
+pub struct Warning<'a> {
+    /// What it says.
+    pub notice: Notice<'a>,
+    /// Where it is.
+    pub position: Position,
+}
+
+// The position of warnings about a whole text.
+const WHOLE: Position = Position {
+    offset: 0,
+    line: 1,
+    column: 1,
+};
+
+// An index, if it is before another.
+fn earlier(first: Option<usize>, index: usize) -> Option<usize>
+    ensures { result ≡ earlier first index }
+{
+    match first {
+        Some(first) if first < index => Some(first),
+        _ => None,
+    }
+}
+
+// That an export has the word of an earlier one, and is left out; `first` is the first of its word
+// that is not private.
+fn repeat_notice<'a>(
+    export: &'a ShortExport,
+    first: Option<usize>,
+    index: usize,
+) -> Option<Notice<'a>>
+    ensures { option_map notice_view result ≡ repeat_notice (export_view export.now) first index }
+{
+    if export.private {
+        return None;
+    }
+    match earlier(first, index) {
+        Some(first) => Some(Notice::Repeated(word_of(export), first)),
+        None => None,
+    }
+}
+
+// That an export has the ordinal of an earlier one; `first` is the first of its ordinal.
+fn ordinal_notice<'a>(ordinal: u16, first: Option<usize>, index: usize) -> Option<Notice<'a>>
+    ensures { option_map notice_view result ≡ ordinal_notice ordinal first index }
+{
+    if ordinal == 0 {
+        return None;
+    }
+    match earlier(first, index) {
+        Some(first) => Some(Notice::RepeatedOrdinal(ordinal, first)),
+        None => None,
+    }
+}
+
+// That a name would be an attribute in capitals.
+fn lowered_notice(word: &str) -> Option<Notice<'_>>
+    ensures { option_map notice_view result ≡ lowered_notice word.now }
+{
+    match lowered_attribute(word) {
+        Some(attribute) => Some(Notice::Lowered(word, attribute)),
+        None => None,
+    }
+}
+
+// That a name begins as an ordinal.
+fn ordinal_like_notice(word: &str) -> Option<Notice<'_>>
+    ensures { option_map notice_view result ≡ ordinal_like_notice word.now }
+{
+    if is_ordinal_like(word) {
+        Some(Notice::OrdinalLike(word))
+    } else {
+        None
+    }
+}
+
+// Whether the DLL is asked for a word by an export's import.
+fn is_asked_by_word(export: &ShortExport) -> bool
+    ensures { result ≡ is_asked_by_word (export_view export.now) }
+{
+    !export.private && !export.no_name
+}
+
+// That the DLL is asked for a name of stdcall.
+fn stdcall_notice<'a>(
+    machine: MachineType,
+    naming: Naming,
+    export: &'a ShortExport,
+) -> Option<Notice<'a>>
+    ensures { option_map notice_view result
+        ≡ stdcall_notice machine (naming_view naming) (export_view export.now) }
+{
+    if !machine.has_leading_underscore() || naming.kills_at {
+        return None;
+    }
+    let word = word_of(export);
+    if is_asked_by_word(export) && export.alias_target.is_empty() && is_stdcall_word(word) {
+        Some(Notice::Stdcall(word))
+    } else {
+        None
+    }
+}
+
+// That the word after `==` is no export; `first` is the first export of that word.
+fn target_notice<'a>(
+    flavor: Flavor,
+    export: &'a ShortExport,
+    first: Option<usize>,
+) -> Option<Notice<'a>>
+    ensures { option_map notice_view result
+        ≡ target_notice flavor (export_view export.now) first }
+{
+    match flavor {
+        Flavor::Gnu => None,
+        Flavor::Msvc => {
+            if first.is_none() && is_asked_by_word(export) && !export.alias_target.is_empty() {
+                Some(Notice::NotExported(export.alias_target.as_str()))
+            } else {
+                None
+            }
+        }
+    }
+}
+
+// That there is a second `LIBRARY` or `NAME`, unless the name is given otherwise.
+fn heading_notice<'a>(dll: Option<&str>) -> Option<Notice<'a>>
+    ensures { option_map notice_view result
+        ≡ heading_notice (option_map (λ text. text.now) dll.entry) }
+{
+    match dll {
+        Some(_) => None,
+        None => Some(Notice::SecondHeading),
+    }
+}
+
+// That there is no export.
+fn no_export_notice<'a>(exports: &[ShortExport]) -> Option<Notice<'a>>
+    ensures { option_map notice_view result ≡ no_export_notice (map export_view exports.now) }
+{
+    if exports.is_empty() {
+        Some(Notice::NoExport)
+    } else {
+        None
+    }
+}
+
+// That there are too many members for an archive of Microsoft's kind.
+fn other_kind_notice<'a>(flavor: Flavor, count: usize) -> Option<Notice<'a>>
+    ensures { option_map notice_view result ≡ other_kind_notice flavor count }
+{
+    match flavor {
+        Flavor::Msvc if count >= 65535 => Some(Notice::OtherKind),
+        Flavor::Msvc | Flavor::Gnu => None,
+    }
+}
+
+// Appends a warning, if there is one.
+fn push_notice<'a>(
+    warnings: &mut Vec<Warning<'a>>,
+    notice: Option<Notice<'a>>,
+    position: Position,
+) -> Result<(), AllocError>
+    ensures { OnOk result (map warning_view warnings.new.items
+        ≡ map warning_view warnings.old.items ++ warned (option_map notice_view notice.entry) position) }
+{
+    if let Some(notice) = notice {
+        warnings.push(Warning { notice, position })?;
+    }
+    Ok(())
+}
+
+// Appends the warnings of what an export asks for, unless it is left out.
+fn push_asked<'a>(
+    warnings: &mut Vec<Warning<'a>>,
+    words: &HashMap<&'a str, usize>,
+    export: &'a ShortExport,
+    options: &LibraryOptions<'_>,
+    is_left_out: bool,
+    position: Position,
+) -> Result<(), AllocError>
+    ensures { (exports : List ExportView) → AreFirstWords words.now exports →
+        OnOk result (map warning_view warnings.new.items ≡ map warning_view warnings.old.items
+        ++ asked_warnings (library_options_view options.now) exports is_left_out position
+        (export_view export.now)) }
+{
+    if is_left_out {
+        return Ok(());
+    }
+    push_notice(
+        warnings,
+        stdcall_notice(options.machine, options.naming, export),
+        position,
+    )?;
+    let first = words.get(export.alias_target.as_str()).copied();
+    push_notice(
+        warnings,
+        target_notice(options.flavor, export, first),
+        position,
+    )
+}
+
+// Appends the warnings of an export by its index.
+fn push_export<'a>(
+    warnings: &mut Vec<Warning<'a>>,
+    words: &HashMap<&'a str, usize>,
+    declared: &HashMap<&'a str, usize>,
+    ordinals: &HashMap<u16, usize>,
+    exports: &'a [ShortExport],
+    options: &LibraryOptions<'_>,
+    index: usize,
+    position: Position,
+) -> Result<(), AllocError>
+    requires words { AreFirstWords words.now (map export_view exports.now) }
+    requires declared { AreFirstDeclared declared.now (map export_view exports.now) }
+    requires ordinals { AreFirstOrdinals ordinals.now (map export_view exports.now) }
+    ensures { OnOk result (map warning_view warnings.new.items
+        ≡ map warning_view warnings.old.items
+        ++ export_notices (library_options_view options.now) (map export_view exports.now) index position) }
+{
+    let Some(export) = exports.get(index) else {
+        return Ok(());
+    };
+    let word = word_of(export);
+    let first = declared.get(word).copied();
+    let repeated = repeat_notice(export, first, index);
+    push_notice(warnings, repeated, position)?;
+    let first = ordinals.get(&export.ordinal).copied();
+    push_notice(
+        warnings,
+        ordinal_notice(export.ordinal, first, index),
+        position,
+    )?;
+    push_notice(warnings, lowered_notice(word), position)?;
+    push_notice(warnings, ordinal_like_notice(word), position)?;
+    push_asked(
+        warnings,
+        words,
+        export,
+        options,
+        repeated.is_some(),
+        position,
+    )?;
+    Ok(())
+}
+
+// The word of the export before an index.
+fn word_before(exports: &[ShortExport], index: usize) -> &str
+    ensures { result.now ≡ word_before (map export_view exports.now) index }
+{
+    if index == 0 {
+        return "";
+    }
+    match exports.get(index - 1) {
+        Some(export) => word_of(export),
+        None => "",
+    }
+}
+
+// Appends the warnings at a place; `index` counts the exports before it.
+fn push_place<'a>(
+    warnings: &mut Vec<Warning<'a>>,
+    words: &HashMap<&'a str, usize>,
+    declared: &HashMap<&'a str, usize>,
+    ordinals: &HashMap<u16, usize>,
+    exports: &'a [ShortExport],
+    options: &LibraryOptions<'_>,
+    index: usize,
+    place: Place,
+) -> Result<(), AllocError>
+    requires words { AreFirstWords words.now (map export_view exports.now) }
+    requires declared { AreFirstDeclared declared.now (map export_view exports.now) }
+    requires ordinals { AreFirstOrdinals ordinals.now (map export_view exports.now) }
+    ensures { OnOk result (map warning_view warnings.new.items
+        ≡ map warning_view warnings.old.items
+        ++ warnings_at (library_options_view options.now) (map export_view exports.now) index place) }
+{
+    match place.site {
+        Site::Export => push_export(
+            warnings,
+            words,
+            declared,
+            ordinals,
+            exports,
+            options,
+            index,
+            place.position,
+        ),
+        Site::Attribute(attribute) => {
+            let notice = Notice::OpensLine(attribute, word_before(exports, index));
+            push_notice(warnings, Some(notice), place.position)
+        }
+        Site::Heading => push_notice(warnings, heading_notice(options.dll), place.position),
+    }
+}
+
+// The number of exports up to and including a place.
+fn index_after(site: Site, index: usize) -> usize
+    requires { index < 2 ^ 64 - 1 }
+    ensures { result ≡ index_after site index }
+{
+    match site {
+        Site::Export => index + 1,
+        Site::Attribute(_) | Site::Heading => index,
+    }
+}
+
+/// The warnings of a definition of these exports and places and this number of members, in the order
+/// of their places; those about the whole text come first.
+///
+/// # Errors
+///
+/// An allocation failed.
+pub fn warnings_of<'a>(
+    alloc: Global,
+    exports: &'a [ShortExport],
+    places: &[Place],
+    options: &LibraryOptions<'_>,
+    count: usize,
+) -> Result<Vec<Warning<'a>>, AllocError>
+    ensures { IfOk result (λ warnings. map warning_view warnings.items
+        ≡ warnings_of (library_options_view options.now) (map export_view exports.now) places.now count) }
+{
+    let words = first_words(alloc, exports)?;
+    let declared = first_declared(alloc, exports)?;
+    let ordinals = first_ordinals(alloc, exports)?;
+    let mut warnings = Vec::new(alloc);
+    push_notice(&mut warnings, no_export_notice(exports), WHOLE)?;
+    push_notice(
+        &mut warnings,
+        other_kind_notice(options.flavor, count),
+        WHOLE,
+    )?;
+    let mut index = 0;
+    for place in places {
+        push_place(
+            &mut warnings,
+            &words,
+            &declared,
+            &ordinals,
+            exports,
+            options,
+            index,
+            *place,
+        )?;
+        index = index_after(place.site, index);
+    }
+    Ok(warnings)
+}
+
+/// The lines of exports among the places, in order.
+///
+/// # Errors
+///
+/// An allocation failed.
+pub fn export_lines(alloc: Global, places: &[Place]) -> Result<Vec<usize>, AllocError> {
+    let mut lines = Vec::new(alloc);
+    for place in places {
+        if let Site::Export = place.site {
+            lines.push(place.position.line)?;
+        }
+    }
+    Ok(lines)
+}
+
+impl fmt::Display for Attribute {
+    fn fmt<W: fmt::Write>(&self, f: &mut fmt::Formatter<W>) -> fmt::Result {
+        f.write_str(match self {
+            Attribute::Data => "DATA",
+            Attribute::Constant => "CONSTANT",
+            Attribute::Private => "PRIVATE",
+            Attribute::NoName => "NONAME",
+        })
+    }
+}
+
+/// A notice in a user's words, with the lines of the exports.
+#[derive(Drop)]
+pub struct NoticeMessage<'a>(pub Notice<'a>, pub &'a [usize]);
+
+impl<'a> fmt::Display for NoticeMessage<'a> {
+    fn fmt<W: fmt::Write>(&self, f: &mut fmt::Formatter<W>) -> fmt::Result {
+        match self.0 {
+            Notice::NoExport => f.write_str("no export"),
+            Notice::OtherKind => f.write_str(
+                "the archive is of GNU's kind: Microsoft's has fewer than 65,535 members here",
+            ),
+            Notice::Repeated(word, first) => {
+                let line = self.1.get(first).copied().unwrap_or(0);
+                write!(
+                    f,
+                    "`{word}` is exported twice, first in line {line}; this one is left out",
+                )
+            }
+            Notice::RepeatedOrdinal(ordinal, first) => {
+                let line = self.1.get(first).copied().unwrap_or(0);
+                write!(f, "ordinal {ordinal} is given twice, first in line {line}")
+            }
+            Notice::OpensLine(attribute, word) => write!(
+                f,
+                "{attribute} is an attribute of `{word}`; quote it to name an export",
+            ),
+            Notice::Lowered(word, attribute) => write!(
+                f,
+                "`{word}` is an export's name here, not the attribute {attribute}",
+            ),
+            Notice::OrdinalLike(word) => write!(
+                f,
+                "`{word}` is an export's name here: an ordinal is a number from 0 to 65535, \
+                 behind a name",
+            ),
+            Notice::Stdcall(word) => {
+                let killed = word.split_once('@').map_or(word, |(name, _)| name);
+                write!(f, "the DLL is asked for `{word}`; -k asks for `{killed}`")
+            }
+            Notice::NotExported(word) => {
+                write!(f, "`{word}` is no export here; the DLL is asked for it")
+            }
+            Notice::SecondHeading => {
+                f.write_str("the name of the DLL is given twice; the last counts")
+            }
+        }
+    }
+}
