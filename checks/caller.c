@@ -8,7 +8,9 @@
  * writes it.
  *
  * With the argument `library` it calls implib_library in its stead, and what follows is the archive. With the
- * argument `texts` it writes a line with the text of each status from 0 to 99 instead.
+ * argument `with` it calls implib_library_with in the same way; then a case begins with four numbers more, the
+ * size of the options, the flags, whether a name of the DLL is given, and its length, and the name is before the
+ * text. With the argument `texts` it writes a line with the text of each status from 0 to 99 instead.
  *
  * The linker puts __wrap_malloc and its kin in the place of malloc (--wrap).
  */
@@ -77,11 +79,11 @@ static void demand(int holds, const char *what)
 typedef uint32_t callee(const uint8_t *text, size_t text_length, uint16_t machine, uint32_t flavor,
                         uint8_t *buffer, size_t buffer_length, size_t *length, size_t *place);
 
+/* A call of the function, or, where this is null, of implib_library_with. */
 struct call {
     callee *function;
     struct slice text;
-    uint16_t machine;
-    uint32_t flavor;
+    struct implib_options options;
 };
 
 struct answer {
@@ -90,6 +92,16 @@ struct answer {
     size_t place;
     uint8_t *buffer; /* exactly as long as the call is given */
 };
+
+/* The status of a call for this text, which may be null. */
+static uint32_t status_of(struct call call, const uint8_t *text, uint8_t *buffer, size_t room, size_t *length,
+                          size_t *place)
+{
+    if (call.function == NULL)
+        return implib_library_with(&call.options, text, call.text.length, buffer, room, length, place);
+    return call.function(text, call.text.length, call.options.machine, call.options.flavor, buffer, room, length,
+                         place);
+}
 
 static int is_untouched(const uint8_t *bytes, size_t from, size_t to)
 {
@@ -106,8 +118,7 @@ static struct answer called(struct call call, size_t room)
     demand(answer.buffer != NULL, "no memory for a buffer");
     memset(answer.buffer, PATTERN, room);
     long before = held;
-    answer.status = call.function(call.text.bytes, call.text.length, call.machine, call.flavor, answer.buffer,
-                                  room, &answer.length, &answer.place);
+    answer.status = status_of(call, call.text.bytes, answer.buffer, room, &answer.length, &answer.place);
     demand(held == before, "memory is not freed");
     size_t written = answer.status == IMPLIB_SUCCESS ? answer.length : 0;
     demand(written <= room, "more is written than there is room");
@@ -129,14 +140,12 @@ static void call_null(struct call call, struct answer expected)
 {
     const uint8_t *text = call.text.length == 0 ? NULL : call.text.bytes;
     struct answer answer = {0, 12345, 67890, NULL};
-    answer.status = call.function(text, call.text.length, call.machine, call.flavor, NULL, 0, &answer.length,
-                                  &answer.place);
+    answer.status = status_of(call, text, NULL, 0, &answer.length, &answer.place);
     demand_same(expected, answer);
     answer.length = 12345;
-    answer.status = call.function(text, call.text.length, call.machine, call.flavor, NULL, 0, &answer.length,
-                                  NULL);
+    answer.status = status_of(call, text, NULL, 0, &answer.length, NULL);
     demand_same(expected, answer);
-    answer.status = call.function(text, call.text.length, call.machine, call.flavor, NULL, 0, NULL, NULL);
+    answer.status = status_of(call, text, NULL, 0, NULL, NULL);
     demand_same(expected, answer);
 }
 
@@ -182,8 +191,7 @@ static void call_refused(struct call call, struct answer expected)
         has_failed = 0;
         long before = held;
         until_failure = number;
-        answer.status = call.function(call.text.bytes, call.text.length, call.machine, call.flavor,
-                                      answer.buffer, room, &answer.length, &answer.place);
+        answer.status = status_of(call, call.text.bytes, answer.buffer, room, &answer.length, &answer.place);
         until_failure = -1;
         demand(held == before, "memory is not freed after a failed allocation");
         if (!has_failed) {
@@ -281,7 +289,7 @@ static void run(struct call call, int refuses)
     implib_position(call.text.bytes, call.text.length, answer.place, NULL, NULL);
     if (answer.status == IMPLIB_SUCCESS && call.function == implib_members)
         listing = listing_of(answer);
-    if (answer.status == IMPLIB_SUCCESS && call.function == implib_library) {
+    if (answer.status == IMPLIB_SUCCESS && call.function != implib_members) {
         listing.bytes = (char *)answer.buffer;
         listing.length = answer.length;
         answer.buffer = NULL;
@@ -299,16 +307,30 @@ static int number_read(size_t *number)
     return fread(bytes, 1, 8, stdin) == 8 && read_number(&reader, number);
 }
 
+/* The next bytes of a case, exactly as long. */
+static uint8_t *bytes_read(size_t length)
+{
+    uint8_t *bytes = malloc(length);
+    demand(bytes != NULL && fread(bytes, 1, length, stdin) == length, "a case is cut short");
+    return bytes;
+}
+
 static int run_next(callee *function)
 {
+    size_t size = sizeof(struct implib_options), flags = 0, has_dll = 0, dll_length = 0;
     size_t machine, flavor, refuses, length;
+    if (function == NULL
+        && (!number_read(&size) || !number_read(&flags) || !number_read(&has_dll) || !number_read(&dll_length)))
+        return 0;
     if (!number_read(&machine) || !number_read(&flavor) || !number_read(&refuses) || !number_read(&length))
         return 0;
-    uint8_t *text = malloc(length);
-    demand(text != NULL && fread(text, 1, length, stdin) == length, "a case is cut short");
-    struct call call = {function, {text, length}, (uint16_t)machine, (uint32_t)flavor};
+    uint8_t *dll = has_dll ? bytes_read(dll_length) : NULL;
+    uint8_t *text = bytes_read(length);
+    struct call call = {
+        function, {text, length}, {size, (uint16_t)machine, (uint32_t)flavor, (uint32_t)flags, dll, dll_length}};
     run(call, refuses != 0);
     free(text);
+    free(dll);
     return 1;
 }
 
@@ -342,6 +364,8 @@ int main(int count, char *arguments[])
     callee *function = implib_members;
     if (count == 2 && strcmp(arguments[1], "library") == 0)
         function = implib_library;
+    if (count == 2 && strcmp(arguments[1], "with") == 0)
+        function = NULL;
     while (run_next(function))
         ;
     return 0;

@@ -48,6 +48,23 @@ uint32_t implib_members_nonnull(const uint8_t *text, size_t text_length, uint16_
     return pass(text, text_length, machine, flavor, buffer, buffer_length, length, place) + 1;
 }
 
+/* What a call with options passed on beside. */
+static const uint8_t *passed_dll;
+static size_t passed_dll_length;
+static uint32_t passed_has_dll, passed_flags;
+
+uint32_t implib_library_with_nonnull(const uint8_t *text, size_t text_length, const uint8_t *dll, size_t dll_length,
+                                     uint32_t has_dll, uint16_t machine, uint32_t flavor, uint32_t flags,
+                                     uint8_t *buffer, size_t buffer_length, size_t *length, size_t *place)
+{
+    hold(dll != NULL, "a null pointer is passed on for a name");
+    passed_dll = dll;
+    passed_dll_length = dll_length;
+    passed_has_dll = has_dll;
+    passed_flags = flags;
+    return pass(text, text_length, machine, flavor, buffer, buffer_length, length, place) + 2;
+}
+
 void implib_position_nonnull(const uint8_t *text, size_t text_length, size_t offset, size_t *line, size_t *column)
 {
     hold(text != NULL && line != NULL && column != NULL, "a null pointer is passed on for a position");
@@ -65,6 +82,43 @@ size_t implib_status_text_nonnull(uint32_t status, char *buffer, size_t buffer_l
     hold(status == IMPLIB_NO_NAME_TYPE && buffer_length <= 3, "another status or length is passed on");
     passed_buffer = buffer;
     return 31;
+}
+
+/* Calls with options of each size, with and without a name of the DLL, of three lengths. */
+static void hold_options(const uint8_t *text, size_t text_length, uint8_t *buffer, size_t buffer_length, size_t *first,
+                         size_t *second)
+{
+    static const uint8_t name[] = {'c', 'd'};
+    for (unsigned given = 0; given < 4; given++) {
+        for (size_t size = 0; size < sizeof(struct implib_options) + 9; size++) {
+            struct implib_options options = {size, IMPLIB_MACHINE_ARM64, IMPLIB_FLAVOR_GNU, 0x80000003,
+                                             given == 0 ? NULL : name, given == 0 ? 2 : given - 1};
+            int is_known = size >= 16 && size <= 40, has_name = size == 40 && given != 0;
+            passed_text = NULL;
+            if (first != NULL)
+                *first = 5;
+            if (second != NULL)
+                *second = 5;
+            uint32_t status =
+                implib_library_with(&options, text, text_length, buffer, buffer_length, first, second);
+            if (!is_known) {
+                hold(status == IMPLIB_UNKNOWN_OPTIONS && passed_text == NULL, "options of another size are taken");
+                hold((first == NULL || *first == 0) && (second == NULL || *second == 0), "unknown options tell more");
+                continue;
+            }
+            hold(status == IMPLIB_BUFFER_TOO_SMALL + 2, "another status is returned with options");
+            hold(text == NULL || passed_text == text, "another text is passed on with options");
+            hold(buffer == NULL || passed_buffer == (const void *)buffer, "another buffer is passed on with options");
+            hold(first == NULL || (passed_first == first && *first == 11), "another length is given with options");
+            hold(second == NULL || (passed_second == second && *second == 12), "another place is given with options");
+            hold(passed_flags == (size < 20 ? 0 : 0x80000003), "other flags are passed on");
+            hold(passed_has_dll == (uint32_t)has_name, "a name is passed on, or is not");
+            hold(passed_dll_length == (has_name ? given - 1 : 0), "another length of the name is passed on");
+            hold(passed_dll_length == 0 || passed_dll == name, "another name is passed on");
+        }
+    }
+    hold(implib_library_with(NULL, text, text_length, buffer, buffer_length, first, second) == IMPLIB_UNKNOWN_OPTIONS,
+         "null options are taken");
 }
 
 int main(void)
@@ -94,6 +148,8 @@ int main(void)
             hold(some_first == NULL || (passed_first == &first && first == 11), "another length is given");
             hold(some_second == NULL || (passed_second == &second && second == 12), "another place is given");
         }
+
+        hold_options(some_text, text_length, some_buffer, buffer_length, some_first, some_second);
 
         first = second = 0;
         implib_position(some_text, text_length, 5, some_first, some_second);

@@ -1,8 +1,10 @@
 /*
  * implib.h: import libraries for Windows DLLs, from module definition files (.def).
  *
- * implib_library takes the text of a definition, and puts the DLL's import library, a .lib or .a, into a
- * buffer of the caller. implib_members puts the members of this archive there one by one: objects and short
+ * implib_library_with takes the text of a definition, and puts the DLL's import library, a .lib or .a, into a
+ * buffer of the caller: the one that the program implib_dlltool makes, with its options. implib_library does so
+ * by the rules of the crate `implib`, which has other names for the DLL and its exports; docs/DECISIONS.md says
+ * where the two differ. implib_members puts the members of this archive there one by one: objects and short
  * imports, as files, with their names and the symbols that the index lists for them. examples/c has callers.
  *
  * Linking
@@ -23,8 +25,9 @@
  *
  * A text or a buffer of length 0 may be null, and so may length, place, line and column where the caller does
  * not want what they get. What a call writes to (the buffer and what these four point to) must overlap
- * neither each other nor the text, and the four are aligned as a size_t. Nothing else may write to the text,
- * or read or write the rest, during a call. What is written to may hold anything before a call.
+ * neither each other nor the text or the options, and the four are aligned as a size_t. Nothing else may write
+ * to the text or the options, or read or write the rest, during a call. What is written to may hold anything
+ * before a call.
  *
  * The library's own functions, which end in _nonnull, take no null pointer, also where a length is 0. Those
  * without this ending are inline functions of this header, which put a variable of their own in its place.
@@ -57,10 +60,10 @@ extern "C" {
 
 /* The version of this header, which grows with every change of what it declares or says. implib_version()
  * gives that of the library. */
-#define IMPLIB_VERSION 1
+#define IMPLIB_VERSION 2
 uint32_t implib_version(void);
 
-/* What a call answers. New statuses get new numbers; those of faults of the input are 16 and above. */
+/* What a call answers. New statuses get new numbers. Those of faults of the input are 16 to 39. */
 enum implib_status {
     IMPLIB_SUCCESS = 0,
     IMPLIB_BUFFER_TOO_SMALL = 1, /* *length is the length that is needed */
@@ -70,7 +73,8 @@ enum implib_status {
     IMPLIB_UNKNOWN_FLAVOR = 5,
 
     /* The text is no definition. *place is the offset in bytes, from 0, of the token at which it is
-     * refused; of a name in quotes, that of its value, behind the quote and white space. */
+     * refused; of a name in quotes, that of its value, behind the quote and white space. A byte order mark at
+     * the text's beginning, which implib_library_with allows, counts. */
     IMPLIB_UNKNOWN_DIRECTIVE = 16,   /* a statement begins with something that is no directive */
     IMPLIB_EXPECTED_IDENTIFIER = 17, /* something else is where an identifier was expected */
     IMPLIB_EXPECTED_EQUAL = 18,      /* something else is where `=` was expected */
@@ -79,7 +83,7 @@ enum implib_status {
     IMPLIB_LONE_AT = 21,             /* the target of an export, after `=`, is `@` */
 
     /* The definition has no members. Where the status is of an export, *place is its index among all exports
-     * of the text, private ones counted, from 0. */
+     * of the text, private ones counted, from 0; after implib_library_with it is the offset of its name. */
     IMPLIB_EMPTY_IMPORT_NAME = 22,  /* the name of the DLL is empty, or there is none */
     IMPLIB_NUL_IN_IMPORT_NAME = 23, /* the name of the DLL holds a NUL */
     IMPLIB_EMPTY_NAME = 24,         /* of an export: its name is empty */
@@ -97,11 +101,58 @@ enum implib_status {
     IMPLIB_TOO_MANY_MEMBERS = 34,        /* 65,535 members or more; for Microsoft's linker */
     IMPLIB_ARCHIVE_TOO_LONG = 35,        /* a member would begin at an offset of 2^32 or more */
 
-    /* The library has a name of its own that no library can have; of no text. */
-    IMPLIB_EMPTY_LIBRARY_NAME = 36,      /* it is empty */
-    IMPLIB_NUL_IN_LIBRARY_NAME = 37,     /* it holds a NUL */
-    IMPLIB_LINE_END_IN_LIBRARY_NAME = 38 /* it holds a line feed */
+    /* The library has a name of its own that no library can have: implib_library_with makes one of the name of
+     * the DLL. *place is 0. */
+    IMPLIB_EMPTY_LIBRARY_NAME = 36,       /* it is empty; of no text */
+    IMPLIB_NUL_IN_LIBRARY_NAME = 37,      /* it holds a NUL; of no text */
+    IMPLIB_LINE_END_IN_LIBRARY_NAME = 38, /* it holds a line feed, as the name of the DLL does */
+
+    /* Of implib_library_with alone; *place is 0. */
+    IMPLIB_NO_DLL_NAME = 39,     /* no name of the DLL is given, but for a directory */
+    IMPLIB_UNKNOWN_OPTIONS = 40, /* the size of the options is of none that this header knows */
+    IMPLIB_UNKNOWN_FLAGS = 41,   /* an unknown flag is set */
+    IMPLIB_DLL_NOT_UTF8 = 42     /* the name of the DLL in the options is not UTF-8 */
 };
+
+/* The flags of the options, and the options of the program that they stand for. */
+#define IMPLIB_KILL_AT 1u               /* -k: on I386 the DLL is asked for names without `@` and the rest */
+#define IMPLIB_NO_LEADING_UNDERSCORE 2u /* --no-leading-underscore: on I386 symbols are as they are written */
+
+/*
+ * For which machine, linker and DLL a library is made.
+ *
+ * size is the size of the struct, by which a later header tells what the caller knows of: a field that it does
+ * not cover whole counts as 0, but the machine and the flavour have to be covered. A struct in which all other
+ * bytes are 0 has no flags, and the definition's own name of the DLL.
+ */
+struct implib_options {
+    size_t size;        /* sizeof(struct implib_options) */
+    uint16_t machine;   /* an IMPLIB_MACHINE_.. */
+    uint32_t flavor;    /* an IMPLIB_FLAVOR_.. */
+    uint32_t flags;     /* a sum of the flags above, or 0 */
+    const uint8_t *dll; /* the name of the DLL, in UTF-8, as -D; null for the definition's own */
+    size_t dll_length;  /* the length of this name in bytes; of no effect where it is null */
+};
+
+/*
+ * Puts the import library that the program implib_dlltool makes of a definition with these options at the
+ * beginning of the buffer, and returns a status. The program's rules are in docs/DLLTOOL.md: a name of the DLL
+ * without an ending gets one, of the exports of one name the first counts, what follows `==` is what the DLL is
+ * asked for, and for Microsoft's linker an archive of more members than its kind can number is of GNU's kind.
+ *
+ * options      as above
+ * text         the definition, in UTF-8, with a byte order mark or none, without a NUL at its end
+ * length       gets the length of the library in bytes, where the status is IMPLIB_SUCCESS or
+ *              IMPLIB_BUFFER_TOO_SMALL; else 0
+ * place        gets an offset in the text, for implib_position: where it is not UTF-8, the token at which it is
+ *              refused, or the name of the export that is at fault; else 0
+ *
+ * The buffer is as of implib_library. Options are refused before the text, the machine first, then the flavour,
+ * the flags and the name.
+ */
+static inline uint32_t implib_library_with(const struct implib_options *options, const uint8_t *text,
+                                           size_t text_length, uint8_t *buffer, size_t buffer_length,
+                                           size_t *length, size_t *place);
 
 /*
  * Puts the import library of a definition at the beginning of the buffer, and returns a status: the archive of
@@ -161,7 +212,12 @@ static inline void implib_position(const uint8_t *text, size_t text_length, size
  */
 static inline size_t implib_status_text(uint32_t status, char *buffer, size_t buffer_length);
 
-/* The library's own functions: the same, but for null pointers. */
+/* The library's own functions: the same, but for null pointers. The options are single arguments; has_dll is 0
+ * where no name of the DLL is given. */
+uint32_t implib_library_with_nonnull(const uint8_t *text, size_t text_length, const uint8_t *dll,
+                                     size_t dll_length, uint32_t has_dll, uint16_t machine, uint32_t flavor,
+                                     uint32_t flags, uint8_t *buffer, size_t buffer_length, size_t *length,
+                                     size_t *place);
 uint32_t implib_library_nonnull(const uint8_t *text, size_t text_length, uint16_t machine, uint32_t flavor,
                                 uint8_t *buffer, size_t buffer_length, size_t *length, size_t *place);
 uint32_t implib_members_nonnull(const uint8_t *text, size_t text_length, uint16_t machine, uint32_t flavor,
@@ -169,6 +225,27 @@ uint32_t implib_members_nonnull(const uint8_t *text, size_t text_length, uint16_
 void implib_position_nonnull(const uint8_t *text, size_t text_length, size_t offset, size_t *line,
                              size_t *column);
 size_t implib_status_text_nonnull(uint32_t status, char *buffer, size_t buffer_length);
+
+static inline uint32_t implib_library_with(const struct implib_options *options, const uint8_t *text,
+                                           size_t text_length, uint8_t *buffer, size_t buffer_length,
+                                           size_t *length, size_t *place)
+{
+    uint8_t no_text = 0, no_dll = 0, no_buffer = 0;
+    size_t no_length, no_place;
+    size_t *own_length = length == NULL ? &no_length : length, *own_place = place == NULL ? &no_place : place;
+    size_t size = options == NULL ? 0 : options->size;
+    *own_length = *own_place = 0;
+    if (size < offsetof(struct implib_options, flags) || size > sizeof(struct implib_options))
+        return IMPLIB_UNKNOWN_OPTIONS;
+    uint32_t flags = size < offsetof(struct implib_options, flags) + sizeof(uint32_t) ? 0 : options->flags;
+    const uint8_t *dll = size < sizeof(struct implib_options) ? NULL : options->dll;
+    size_t dll_length = dll == NULL ? 0 : options->dll_length;
+    return implib_library_with_nonnull(text_length == 0 ? &no_text : text, text_length,
+                                       dll_length == 0 ? &no_dll : dll, dll_length, dll != NULL,
+                                       options->machine, options->flavor, flags,
+                                       buffer_length == 0 ? &no_buffer : buffer, buffer_length, own_length,
+                                       own_place);
+}
 
 static inline uint32_t implib_library(const uint8_t *text, size_t text_length, uint16_t machine,
                                       uint32_t flavor, uint8_t *buffer, size_t buffer_length,

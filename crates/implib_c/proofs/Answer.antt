@@ -13,9 +13,9 @@ use Rattle.implib_archive.specs.declared.kind.Kind.{Kind}
 use Rattle.implib_archive.specs.Refusal.{refusal_of}
 use Rattle.implib_c.specs.declared.outcome.Failure.{Failure}
 use Rattle.implib_c.specs.declared.outcome.Failure.TheVariants as failure
-use Rattle.implib_c.specs.Answer.{Answers, BufferReads, EndsSo, IsFailure, Outcome, Success, BufferTooSmall, OutOfMemory, NotUtf8, Refused, SyntaxError, UnknownFlavor, UnknownMachine, WithInput, buffer_of, flavor_numbered, length_of, place_of}
+use Rattle.implib_c.specs.Answer.{Answers, BufferReads, IsFailure, Outcome, Success, BufferTooSmall, OutOfMemory, NotUtf8, Refused, SyntaxError, UnknownFlavor, UnknownMachine, WithInput, buffer_of, flavor_numbered, length_of}
 use Rattle.implib_c.specs.Encoding.{encoded_members}
-use Rattle.implib_c.specs.Given.{FailsSo, HasMembers, OnTextFault, PacksInto, PutsInto, failure_status, length_given, place_given, status_given}
+use Rattle.implib_c.specs.Given.{FailsSo, HasMembers, OnTextFault, PacksInto, PutsInto, length_given, place_given, status_given}
 use Rattle.implib_c.specs.Library.{Failed, LibraryAnswers, Packed, Packs, TooLong, Unpacked, kind_for}
 use Rattle.implib_c.specs.Status.{status_number}
 use Rattle.implib_c.proofs.ReadBack.{members_back}
@@ -66,6 +66,10 @@ module _ (text : List ℕ) (machine flavor : ℕ) (m : MachineType) (f : Flavor)
     fails_by_text (failure.SyntaxError fault offset) h = record { outcome = SyntaxError (cause_of fault) offset; is_failure = tt; ends = λ room. with_input _ h; status_is = refl; length_is = refl; place_is = refl }
     fails_by_text (failure.Refused fault) h = record { outcome = Refused (cause_of fault); is_failure = tt; ends = λ room. with_input _ h; status_is = refl; length_is = refl; place_is = refl }
     fails_by_text (failure.NoArchive fault) h = absurd h
+    fails_by_text failure.UnknownFlags h = absurd h
+    fails_by_text failure.DllNotUtf8 h = absurd h
+    fails_by_text failure.NoDllName h = absurd h
+    fails_by_text (failure.RefusedAt fault offset) h = absurd h
 
     -- the text has members
     pub has_members : (members : List MemberView) → MembersOf text m f members → HasMembers text machine flavor f members
@@ -177,6 +181,10 @@ module _ (text old : List ℕ) (machine flavor : ℕ) (f : Flavor) (members : Li
   answers_put new (Err (failure.SyntaxError fault offset)) puts = absurd puts
   answers_put new (Err (failure.Refused fault)) puts = absurd puts
   answers_put new (Err (failure.NoArchive fault)) puts = absurd puts
+  answers_put new (Err failure.UnknownFlags) puts = absurd puts
+  answers_put new (Err failure.DllNotUtf8) puts = absurd puts
+  answers_put new (Err failure.NoDllName) puts = absurd puts
+  answers_put new (Err (failure.RefusedAt fault offset)) puts = absurd puts
 
   -- what their archive is refused for, if anything
   packs : (kind : Kind) → kind ≡ kind_for f → (cause : _) → refusal_of kind members ≡ cause → MembersOf text has.machine_found has.flavor_found members
@@ -219,6 +227,10 @@ module _ (text old : List ℕ) (machine flavor : ℕ) (f : Flavor) (members : Li
   answers_packed kind kind_is new (Err failure.UnknownFlavor) puts = absurd puts
   answers_packed kind kind_is new (Err (failure.SyntaxError fault offset)) puts = absurd puts
   answers_packed kind kind_is new (Err (failure.Refused fault)) puts = absurd puts
+  answers_packed kind kind_is new (Err failure.UnknownFlags) puts = absurd puts
+  answers_packed kind kind_is new (Err failure.DllNotUtf8) puts = absurd puts
+  answers_packed kind kind_is new (Err failure.NoDllName) puts = absurd puts
+  answers_packed kind kind_is new (Err (failure.RefusedAt fault offset)) puts = absurd puts
   answers_packed kind kind_is new (Err (failure.NoArchive fault)) puts = record {
     ending = Unpacked kind members fault;
     ends = has_with _ (λ made. packs kind kind_is (Some fault) puts.0 made);

@@ -7,3 +7,6 @@ pub mod WorkedGaps
 pub mod WorkedStatus
 pub mod WorkedPlace
 pub mod Answer
+pub mod Within
+pub mod AnswerWith
+pub mod WrittenAlike

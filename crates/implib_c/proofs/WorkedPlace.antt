@@ -17,5 +17,9 @@ worked_places = record {
   no_text = refl;
   bad_byte = refl;
   behind_a_bad_byte = refl;
+  marked = refl;
+  mark_alone = refl;
+  half_a_mark = refl;
+  unmarked = refl;
   within_a_letter = refl;
 }

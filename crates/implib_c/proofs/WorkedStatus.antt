@@ -43,6 +43,18 @@ worked_statuses = record {
     too_many_members = λ kind members. refl;
     archive_too_long = λ kind members. refl;
   };
+  numbers_with = record {
+    made = λ file. refl;
+    too_long = λ file. refl;
+    out_of_memory = refl;
+    not_utf8 = refl;
+    unknown_machine = refl;
+    unknown_flavor = refl;
+    line_end_in_member_name = refl;
+    no_dll_name = refl;
+    unknown_flags = refl;
+    dll_not_utf8 = refl;
+  };
   texts = record {
     text_0 = refl;
     text_1 = refl;
@@ -74,6 +86,10 @@ worked_statuses = record {
     text_37 = refl;
     text_38 = refl;
     text_39 = refl;
+    text_40 = refl;
+    text_41 = refl;
+    text_42 = refl;
+    text_43 = refl;
     text_6 = refl;
     text_15 = refl;
   };
@@ -88,6 +104,11 @@ worked_statuses = record {
     no_flavor = refl;
     msvc_kind = refl;
     gnu_kind = refl;
+    no_flags = refl;
+    kill_at = refl;
+    no_leading_underscore = refl;
+    both_flags = refl;
+    unknown_flag = refl;
     version_is = refl;
   };
 }

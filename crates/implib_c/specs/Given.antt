@@ -13,7 +13,7 @@ use Rattle.implib.specs.Text.Parses.{RefusesAt}
 use Rattle.implib_c.specs.declared.outcome.Failure.{Failure}
 use Rattle.implib_c.specs.declared.outcome.Failure.TheVariants.{BufferTooSmall, OutOfMemory, NotUtf8}
 use Rattle.implib_c.specs.declared.outcome.Failure.TheVariants.{UnknownMachine, UnknownFlavor, SyntaxError, Refused}
-use Rattle.implib_c.specs.declared.outcome.Failure.TheVariants.{NoArchive}
+use Rattle.implib_c.specs.declared.outcome.Failure.TheVariants.{NoArchive, UnknownFlags, DllNotUtf8, NoDllName, RefusedAt}
 use Rattle.implib_archive.specs.declared.error.Error.{Error as ArchiveError}
 use Rattle.implib_archive.specs.declared.error.Error.TheVariants as archive_error
 use Rattle.implib_archive.specs.declared.kind.Kind.{Kind}
@@ -51,6 +51,10 @@ failure_status UnknownFlavor = status.UnknownFlavor
 failure_status (SyntaxError fault offset) = cause_status (cause_of fault)
 failure_status (Refused fault) = cause_status (cause_of fault)
 failure_status (NoArchive fault) = archive_status fault
+failure_status UnknownFlags = status.UnknownFlags
+failure_status DllNotUtf8 = status.DllNotUtf8
+failure_status NoDllName = status.NoDllName
+failure_status (RefusedAt fault offset) = cause_status (cause_of fault)
 
 -- the status of an answer
 abbrev pub status_given : Result ℕ Failure → Status
@@ -68,6 +72,10 @@ length_given (Err UnknownFlavor) = 0
 length_given (Err (SyntaxError fault offset)) = 0
 length_given (Err (Refused fault)) = 0
 length_given (Err (NoArchive fault)) = 0
+length_given (Err UnknownFlags) = 0
+length_given (Err DllNotUtf8) = 0
+length_given (Err NoDllName) = 0
+length_given (Err (RefusedAt fault offset)) = 0
 
 -- the place that an answer tells
 abbrev pub place_given : Result ℕ Failure → ℕ
@@ -80,6 +88,10 @@ place_given (Err UnknownFlavor) = 0
 place_given (Err (SyntaxError fault offset)) = offset
 place_given (Err (Refused fault)) = unwrap_or (export_index (cause_of fault)) 0
 place_given (Err (NoArchive fault)) = 0
+place_given (Err UnknownFlags) = 0
+place_given (Err DllNotUtf8) = 0
+place_given (Err NoDllName) = 0
+place_given (Err (RefusedAt fault offset)) = offset
 
 -- the text is refused, or memory was
 abbrev pub OnTextFault : List ℕ → MachineType → Flavor → Failure → Type 0
@@ -91,6 +103,10 @@ OnTextFault text machine flavor UnknownFlavor = ⊥
 OnTextFault text machine flavor (SyntaxError fault offset) = RefusesAt text (cause_of fault) offset
 OnTextFault text machine flavor (Refused fault) = HasNoMembers text machine flavor (cause_of fault)
 OnTextFault text machine flavor (NoArchive fault) = ⊥
+OnTextFault text machine flavor UnknownFlags = ⊥
+OnTextFault text machine flavor DllNotUtf8 = ⊥
+OnTextFault text machine flavor NoDllName = ⊥
+OnTextFault text machine flavor (RefusedAt fault offset) = ⊥
 
 -- the text has these members for this flavour, by the numbers of a machine and of the flavour
 abbrev pub HasMembers : List ℕ → ℕ → ℕ → Flavor → List MemberView → Type 0
@@ -120,6 +136,10 @@ PutsInto members old new (Err UnknownFlavor) = ⊥
 PutsInto members old new (Err (SyntaxError fault offset)) = ⊥
 PutsInto members old new (Err (Refused fault)) = ⊥
 PutsInto members old new (Err (NoArchive fault)) = ⊥
+PutsInto members old new (Err UnknownFlags) = ⊥
+PutsInto members old new (Err DllNotUtf8) = ⊥
+PutsInto members old new (Err NoDllName) = ⊥
+PutsInto members old new (Err (RefusedAt fault offset)) = ⊥
 
 -- the members' archive is put at the beginning of the buffer, where there is one and room for it; else nothing
 -- is
@@ -137,3 +157,7 @@ PacksInto kind members old new (Err UnknownFlavor) = ⊥
 PacksInto kind members old new (Err (SyntaxError fault offset)) = ⊥
 PacksInto kind members old new (Err (Refused fault)) = ⊥
 PacksInto kind members old new (Err (NoArchive fault)) = (refusal_of kind members ≡ Some fault) × (new ≡ old)
+PacksInto kind members old new (Err UnknownFlags) = ⊥
+PacksInto kind members old new (Err DllNotUtf8) = ⊥
+PacksInto kind members old new (Err NoDllName) = ⊥
+PacksInto kind members old new (Err (RefusedAt fault offset)) = ⊥

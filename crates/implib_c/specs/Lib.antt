@@ -3,10 +3,13 @@ pub mod Encoding
 pub mod Fill
 pub mod Answer
 pub mod Library
+pub mod LibraryWith
 pub mod Place
 pub mod Version
 pub mod Given
+pub mod GivenWith
 pub mod WorkedEncoding
 pub mod WorkedGaps
 pub mod WorkedStatus
 pub mod WorkedPlace
+pub mod WrittenAlike

@@ -17,8 +17,9 @@ use Rattle.implib_c.specs.declared.status.Status.TheVariants.{EmptyMemberName, N
 use Rattle.implib_c.specs.declared.status.Status.TheVariants.{LineEndInMemberName, EmptySymbol, NulInSymbol}
 use Rattle.implib_c.specs.declared.status.Status.TheVariants.{TooManyMembers, ArchiveTooLong}
 use Rattle.implib_c.specs.declared.status.Status.TheVariants.{EmptyLibraryName, LineEndInLibraryName, NulInLibraryName}
+use Rattle.implib_c.specs.declared.status.Status.TheVariants.{NoDllName, UnknownOptions, UnknownFlags, DllNotUtf8}
 
--- the number of a status: those of the call first, and from 16 on those of the input's faults
+-- the number of a status: those of a call first, from 16 to 39 those of the input's faults, then those of options
 abbrev pub status_number : Status → ℕ
 status_number Success = 0
 status_number BufferTooSmall = 1
@@ -49,6 +50,10 @@ status_number ArchiveTooLong = 35
 status_number EmptyLibraryName = 36
 status_number NulInLibraryName = 37
 status_number LineEndInLibraryName = 38
+status_number NoDllName = 39
+status_number UnknownOptions = 40
+status_number UnknownFlags = 41
+status_number DllNotUtf8 = 42
 
 -- the status with a number
 abbrev pub status_numbered : ℕ → Option Status
@@ -82,6 +87,10 @@ status_numbered number =
     else if number == 36 then Some EmptyLibraryName
     else if number == 37 then Some NulInLibraryName
     else if number == 38 then Some LineEndInLibraryName
+    else if number == 39 then Some NoDllName
+    else if number == 40 then Some UnknownOptions
+    else if number == 41 then Some UnknownFlags
+    else if number == 42 then Some DllNotUtf8
     else None
 
 -- the text of a status
@@ -115,6 +124,10 @@ status_text ArchiveTooLong = codes "archive too long"
 status_text EmptyLibraryName = codes "library name is empty"
 status_text NulInLibraryName = codes "library name contains null byte"
 status_text LineEndInLibraryName = codes "library name contains line end"
+status_text NoDllName = codes "no name of the DLL"
+status_text UnknownOptions = codes "unknown options"
+status_text UnknownFlags = codes "unknown flags"
+status_text DllNotUtf8 = codes "name of the DLL is not UTF-8"
 
 -- the status of a fault of the input
 abbrev pub cause_status : Cause → Status

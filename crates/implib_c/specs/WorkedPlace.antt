@@ -1,11 +1,12 @@
--- Lines and columns for C, worked by hand.
-use Rattle.std.specs.Prelude.{◌≡◌, List, [], ◌∷◌, ◌++◌, codes}
+-- Lines and columns for C, and byte order marks, worked by hand.
+use Rattle.std.specs.Prelude.{◌≡◌, [], codes}
 use Rattle.implib.specs.Text.Position.{line_and_column}
 use Rattle.implib.specs.Worked.Digits.{hex}
+use Rattle.implib_c.specs.LibraryWith.{mark_length}
 use Rattle.implib_c.specs.Place.{text_before}
 
 -- Offsets in `a`, a line feed and `bc`; in the same with a byte that no text in UTF-8 has before `c`; and in
--- a letter of two bytes, `é`.
+-- a letter of two bytes, `é`; and how many bytes are a byte order mark.
 pub record WorkedPlaces : Type 0 where
   pub beginning : line_and_column (text_before (codes "a\nbc") 0) ≡ (1, 1)
   pub line_feed : line_and_column (text_before (codes "a\nbc") 1) ≡ (1, 2)
@@ -15,4 +16,8 @@ pub record WorkedPlaces : Type 0 where
   pub no_text : line_and_column (text_before [] 7) ≡ (1, 1)
   pub bad_byte : line_and_column (text_before (hex "61 0a 62 ff 63") 3) ≡ (2, 2)
   pub behind_a_bad_byte : line_and_column (text_before (hex "61 0a 62 ff 63") 5) ≡ (2, 2)
+  pub marked : mark_length (hex "ef bb bf 4e 41") ≡ 3
+  pub mark_alone : mark_length (hex "ef bb bf") ≡ 3
+  pub half_a_mark : mark_length (hex "ef bb") ≡ 0
+  pub unmarked : mark_length (codes "NAME a") ≡ 0
   pub within_a_letter : line_and_column (text_before (hex "c3 a9") 1) ≡ (1, 2)

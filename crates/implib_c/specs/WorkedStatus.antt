@@ -1,7 +1,7 @@
 -- Statuses, machines, flavours and the version by their numbers, worked by hand: the numbers and texts are those of
 -- include/implib.h, written out once more (this project's choice; machines: PE/COFF specification, "Machine
 -- Types").
-use Rattle.std.specs.Prelude.{◌≡◌, ℕ, List, None, Some, codes}
+use Rattle.std.specs.Prelude.{◌≡◌, ℕ, List, None, Some, codes, true, false}
 use Rattle.implib.specs.declared.flavor.Flavor.TheVariants.{Msvc, Gnu}
 use Rattle.implib.specs.declared.machine.MachineType.TheVariants.{I386, ARMNT, AMD64, ARM64}
 use Rattle.implib.specs.declared.def.lexer.TokenKind.{TokenKind}
@@ -15,7 +15,10 @@ use Rattle.implib_c.specs.Answer.{Outcome, Success, BufferTooSmall, OutOfMemory,
 use Rattle.implib_c.specs.Answer.{UnknownFlavor, SyntaxError, Refused, flavor_numbered, status_of}
 use Rattle.implib_c.specs.Library.{Ending, Failed, Packed, TooLong, Unpacked, kind_for}
 use Rattle.implib_c.specs.Library as library
+use Rattle.implib_c.specs.LibraryWith.{EndingWith, naming_numbered, status_with}
+use Rattle.implib_c.specs.LibraryWith as options
 use Rattle.implib_c.specs.Status.{status_number, text_for}
+use Rattle.implib_rules.specs.declared.library.Refusal.TheVariants as refusal
 use Rattle.implib_c.specs.Version.{version}
 
 -- the number with which a call ends so
@@ -67,7 +70,24 @@ pub record WorkedLibraryNumbers : Type 0 where
   pub too_many_members : (kind : Kind) (members : List MemberView) → library_number (Unpacked kind members archive.TooManyMembers) ≡ 34
   pub archive_too_long : (kind : Kind) (members : List MemberView) → library_number (Unpacked kind members archive.ArchiveTooLong) ≡ 35
 
--- what the texts of numbers are; the last four numbers are no statuses
+-- the number with which a call with options ends so
+abbrev pub number_with : EndingWith → ℕ
+number_with ending = status_number (status_with ending)
+
+-- what the numbers of these calls are, beside those that they share with the other calls
+pub record WorkedNumbersWith : Type 0 where
+  pub made : (file : List ℕ) → number_with (options.Made file) ≡ 0
+  pub too_long : (file : List ℕ) → number_with (options.TooLong file) ≡ 1
+  pub out_of_memory : number_with (options.Refused refusal.OutOfMemory) ≡ 2
+  pub not_utf8 : number_with (options.Refused refusal.NotUtf8) ≡ 3
+  pub unknown_machine : number_with (options.NoOptions options.UnknownMachine) ≡ 4
+  pub unknown_flavor : number_with (options.NoOptions options.UnknownFlavor) ≡ 5
+  pub line_end_in_member_name : number_with (options.Refused (refusal.Archive archive.LineEndInName)) ≡ 31
+  pub no_dll_name : number_with (options.Refused refusal.NoName) ≡ 39
+  pub unknown_flags : number_with (options.NoOptions options.UnknownFlags) ≡ 41
+  pub dll_not_utf8 : number_with (options.NoOptions options.DllNotUtf8) ≡ 42
+
+-- what the texts of numbers are; the last three numbers are no statuses
 pub record WorkedTexts : Type 0 where
   pub text_0 : text_for 0 ≡ codes "success"
   pub text_1 : text_for 1 ≡ codes "buffer too small"
@@ -98,7 +118,11 @@ pub record WorkedTexts : Type 0 where
   pub text_36 : text_for 36 ≡ codes "library name is empty"
   pub text_37 : text_for 37 ≡ codes "library name contains null byte"
   pub text_38 : text_for 38 ≡ codes "library name contains line end"
-  pub text_39 : text_for 39 ≡ codes "unknown status"
+  pub text_39 : text_for 39 ≡ codes "no name of the DLL"
+  pub text_40 : text_for 40 ≡ codes "unknown options"
+  pub text_41 : text_for 41 ≡ codes "unknown flags"
+  pub text_42 : text_for 42 ≡ codes "name of the DLL is not UTF-8"
+  pub text_43 : text_for 43 ≡ codes "unknown status"
   pub text_6 : text_for 6 ≡ codes "unknown status"
   pub text_15 : text_for 15 ≡ codes "unknown status"
 
@@ -114,11 +138,17 @@ pub record WorkedArguments : Type 0 where
   pub no_flavor : flavor_numbered 2 ≡ None
   pub msvc_kind : kind_for Msvc ≡ Coff
   pub gnu_kind : kind_for Gnu ≡ GnuKind
-  pub version_is : version ≡ 1
+  pub no_flags : naming_numbered 0 ≡ Some (record { is_plain = false; kills_at = false })
+  pub kill_at : naming_numbered 1 ≡ Some (record { is_plain = false; kills_at = true })
+  pub no_leading_underscore : naming_numbered 2 ≡ Some (record { is_plain = true; kills_at = false })
+  pub both_flags : naming_numbered 3 ≡ Some (record { is_plain = true; kills_at = true })
+  pub unknown_flag : naming_numbered 4 ≡ None
+  pub version_is : version ≡ 2
 
 -- all of them
 pub record WorkedStatuses : Type 0 where
   pub numbers : WorkedNumbers
   pub library_numbers : WorkedLibraryNumbers
+  pub numbers_with : WorkedNumbersWith
   pub texts : WorkedTexts
   pub arguments : WorkedArguments

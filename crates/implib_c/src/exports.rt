@@ -8,18 +8,20 @@ ghost use Rattle.implib.specs.Text.Position.{line_and_column};
 ghost use Rattle.implib_c.specs.Answer.{Answers};
 ghost use Rattle.implib_c.specs.Given.{length_given, place_given, status_given};
 ghost use Rattle.implib_c.specs.Library.{LibraryAnswers};
+ghost use Rattle.implib_c.specs.LibraryWith.{LibraryWithAnswers};
 ghost use Rattle.implib_c.specs.Place.{text_before};
 ghost use Rattle.implib_c.specs.Status.{status_number, text_for, with_text};
 ghost use Rattle.implib_c.specs.Version.{version};
 ghost use Rattle.std.specs.Prelude.{◌<◌, ◌≡◌, length};
 
+use crate::library_with::library_with_into;
 use crate::outcome::{Failure, length_of, library_into, members_into, place_of, status_of};
 use crate::place::position_of;
 use crate::status::status_text;
 use std::alloc::Global;
 
 // `IMPLIB_VERSION` of the header.
-const VERSION: u32 = 1;
+const VERSION: u32 = 2;
 
 // Tells the length and the place of an answer. Gives its status.
 fn tell(answer: &Result<usize, Failure>, length: &mut usize, place: &mut usize) -> u32
@@ -80,6 +82,39 @@ pub extern "C" fn implib_library_nonnull(
         result }
 {
     let answer = library_into(alloc, text, machine, flavor, buffer);
+    tell(&answer, length, place)
+}
+
+/// Puts the import library that the program `implib_dlltool` makes of a text under these options at
+/// the beginning of `buffer`. Gives a status: 0 where it is done.
+///
+/// `dll` is the name of the DLL, before the text's own, unless `has_dll` is 0. `machine` and
+/// `flavor` are as for `implib_members_nonnull`; in `flags`, 1 stands for the program's option
+/// `-k`, and 2 for `--no-leading-underscore`.
+///
+/// `length` gets the length of the library in bytes, where the status is 0 or 1 (the buffer is too
+/// small), and otherwise 0. `place` gets an offset in the text: the length of the longest beginning
+/// that is UTF-8, where the text is not; that of the token at which it is refused; that of the name
+/// of the export that is at fault; and otherwise 0. Where the status is not 0 the buffer is as it
+/// was, and where it is 0, what follows the library.
+#[unsafe(no_mangle)]
+pub extern "C" fn implib_library_with_nonnull(
+    alloc: Global,
+    text: &[u8],
+    dll: &[u8],
+    has_dll: u32,
+    machine: u16,
+    flavor: u32,
+    flags: u32,
+    buffer: &mut [u8],
+    length: &mut usize,
+    place: &mut usize,
+) -> u32
+    ensures { LibraryWithAnswers text.now
+        (record { machine = machine; flavor = flavor; flags = flags; has_dll = has_dll; dll = dll.now })
+        buffer.old buffer.new length.new place.new result }
+{
+    let answer = library_with_into(alloc, text, dll, has_dll, machine, flavor, flags, buffer);
     tell(&answer, length, place)
 }
 

@@ -7,6 +7,8 @@ ghost use Rattle.implib_c.specs.Status.{NumbersReturn};
 ghost use Rattle.implib_c.specs.WorkedEncoding.{WorkedEncodings};
 ghost use Rattle.implib_c.specs.WorkedPlace.{WorkedPlaces};
 ghost use Rattle.implib_c.specs.WorkedStatus.{WorkedStatuses};
+ghost use Rattle.implib_c.specs.WrittenAlike.{OneLibrary, PutsWhatIsWritten};
+ghost use Rattle.implib_rules.specs.Options.{LibraryOptionsView};
 ghost use Rattle.std.specs.Prelude.{List, ℕ};
 
 /// An encoding of fewer than 2^64 bytes is read as its members, whatever follows it.
@@ -32,4 +34,15 @@ pub fn worked_places()
 /// Statuses, their texts, machines, flavours and the version have these numbers, each written out.
 pub fn worked_statuses()
     ensures { WorkedStatuses }
+{}
+
+/// A text has one library for some options, by the rules of the program.
+pub fn one_library()
+    ensures { (text : List ℕ) (options : LibraryOptionsView) → OneLibrary text options }
+{}
+
+/// Where `implib_library_with` succeeds, it puts what the program's `write_library` writes for the
+/// same text and options.
+pub fn puts_what_is_written()
+    ensures { PutsWhatIsWritten }
 {}

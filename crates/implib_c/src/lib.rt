@@ -7,6 +7,7 @@ mod encoding;
 mod exports;
 mod gaps;
 mod laws;
+mod library_with;
 mod outcome;
 mod place;
 mod status;

@@ -35,6 +35,14 @@ pub enum Failure {
     Refused(Fault),
     /// The members have no archive.
     NoArchive(implib_archive::Fault),
+    /// No options have these flags.
+    UnknownFlags,
+    /// The name of the DLL that is given is not UTF-8.
+    DllNotUtf8,
+    /// No name of the DLL is given.
+    NoDllName,
+    /// The definition has no members: the fault, and the offset of the export's name in bytes, or 0.
+    RefusedAt(Fault, usize),
 }
 
 impl From<ParseError> for Failure {
@@ -97,8 +105,13 @@ impl Failure {
             Failure::NotUtf8(_) => Status::NotUtf8,
             Failure::UnknownMachine => Status::UnknownMachine,
             Failure::UnknownFlavor => Status::UnknownFlavor,
-            Failure::SyntaxError(fault, _) | Failure::Refused(fault) => Status::of_fault(fault),
+            Failure::SyntaxError(fault, _)
+            | Failure::Refused(fault)
+            | Failure::RefusedAt(fault, _) => Status::of_fault(fault),
             Failure::NoArchive(fault) => Status::of_archive(*fault),
+            Failure::UnknownFlags => Status::UnknownFlags,
+            Failure::DllNotUtf8 => Status::DllNotUtf8,
+            Failure::NoDllName => Status::NoDllName,
         }
     }
 }
@@ -128,21 +141,25 @@ pub fn place_of(answer: &Result<usize, Failure>) -> usize
     ensures { result ≡ place_given answer.now }
 {
     match answer {
-        Err(Failure::NotUtf8(offset) | Failure::SyntaxError(_, offset)) => *offset,
+        Err(
+            Failure::NotUtf8(offset)
+            | Failure::SyntaxError(_, offset)
+            | Failure::RefusedAt(_, offset),
+        ) => *offset,
         Err(Failure::Refused(fault)) => fault.export_index().unwrap_or(0),
         _ => 0,
     }
 }
 
-// The machine with a number.
-fn machine_with(number: u16) -> Option<MachineType>
+/// The machine with a number.
+pub fn machine_with(number: u16) -> Option<MachineType>
     ensures { result ≡ machine_numbered number }
 {
     MachineType::try_from(number).ok()
 }
 
-// The flavour with a number.
-fn flavor_with(number: u32) -> Option<Flavor>
+/// The flavour with a number.
+pub fn flavor_with(number: u32) -> Option<Flavor>
     ensures { result ≡ flavor_numbered number }
 {
     match number {
@@ -182,10 +199,14 @@ fn put_into(buffer: &mut [u8], members: &[Member]) -> Result<usize, Failure>
     Ok(put_members(buffer, members))
 }
 
-// Puts the members' archive at the beginning of the buffer, where there is room. Gives its length.
-//
-// The archive is made beside the buffer, which a failed allocation so leaves as it was.
-fn pack_into(
+/// Puts the members' archive at the beginning of the buffer, where there is room. Gives its length.
+///
+/// The archive is made beside the buffer, which a failed allocation so leaves as it was.
+///
+/// # Errors
+///
+/// `NoArchive`, `BufferTooSmall`, `OutOfMemory`.
+pub fn pack_into(
     alloc: Global,
     buffer: &mut [u8],
     members: &[Member],

@@ -67,6 +67,14 @@ pub enum Status {
     NulInLibraryName,
     /// [`Fault::LineEndInLibraryName`].
     LineEndInLibraryName,
+    /// By the rules of the program, no name of the DLL is given.
+    NoDllName,
+    /// The size of the options is that of none that the header knows.
+    UnknownOptions,
+    /// No options have these flags.
+    UnknownFlags,
+    /// The name of the DLL that is given is not UTF-8.
+    DllNotUtf8,
 }
 
 impl Status {
@@ -104,6 +112,10 @@ impl Status {
             Status::EmptyLibraryName => 36,
             Status::NulInLibraryName => 37,
             Status::LineEndInLibraryName => 38,
+            Status::NoDllName => 39,
+            Status::UnknownOptions => 40,
+            Status::UnknownFlags => 41,
+            Status::DllNotUtf8 => 42,
         }
     }
 
@@ -141,6 +153,10 @@ impl Status {
             36 => Some(Status::EmptyLibraryName),
             37 => Some(Status::NulInLibraryName),
             38 => Some(Status::LineEndInLibraryName),
+            39 => Some(Status::NoDllName),
+            40 => Some(Status::UnknownOptions),
+            41 => Some(Status::UnknownFlags),
+            42 => Some(Status::DllNotUtf8),
             _ => None,
         }
     }
@@ -181,6 +197,10 @@ impl Status {
             Status::EmptyLibraryName => "library name is empty",
             Status::NulInLibraryName => "library name contains null byte",
             Status::LineEndInLibraryName => "library name contains line end",
+            Status::NoDllName => "no name of the DLL",
+            Status::UnknownOptions => "unknown options",
+            Status::UnknownFlags => "unknown flags",
+            Status::DllNotUtf8 => "name of the DLL is not UTF-8",
         }
     }
 

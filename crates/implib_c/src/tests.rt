@@ -2,11 +2,14 @@
 //! `include/implib.h`.
 
 use crate::exports::{
-    implib_library_nonnull, implib_members_nonnull, implib_position_nonnull,
-    implib_status_text_nonnull, implib_version,
+    implib_library_nonnull, implib_library_with_nonnull, implib_members_nonnull,
+    implib_position_nonnull, implib_status_text_nonnull, implib_version,
 };
 use implib::{Flavor, ImportLibrary, MachineType};
 use implib_archive::{Archive, Kind};
+use implib_rules::library::write_library;
+use implib_rules::linked::Naming;
+use implib_rules::options::LibraryOptions;
 use std::alloc::{AllocError, Global};
 use std::process::Abort;
 use std::test::Fail;
@@ -341,6 +344,65 @@ fn faults_have_their_statuses_and_places(rt: HostRuntime) -> Result<(), Fail> {
     Ok(())
 }
 
+// The library that the program writes of a text.
+fn written(
+    alloc: Global,
+    text: &[u8],
+    machine: MachineType,
+    flavor: Flavor,
+    naming: Naming,
+) -> Result<Vec<u8>, Fail> {
+    let options = LibraryOptions {
+        machine,
+        flavor,
+        dll: Some("other"),
+        naming,
+    };
+    let mut file = Vec::new(alloc);
+    match write_library(alloc, text, &options, &mut file) {
+        Ok(()) => Ok(file),
+        Err(_) => Err(Fail::from("the program writes no library")),
+    }
+}
+
+// A text whose names the flags change.
+const DECORATED: &[u8] = b"LIBRARY zoo\nEXPORTS\nfeed@8\n@count@4\nnight == day\nday";
+
+#[test]
+fn a_call_with_options_puts_the_library_that_the_program_writes(
+    rt: HostRuntime,
+) -> Result<(), Fail> {
+    for machine in MACHINES {
+        for (flavor, number, _) in FLAVORS {
+            for (flags, kills_at, is_plain) in [
+                (0, false, false),
+                (1, true, false),
+                (2, false, true),
+            ] {
+                let naming = Naming { is_plain, kills_at };
+                let want = written(rt.alloc(), DECORATED, machine.0, flavor, naming)?;
+                let mut buffer = room(rt.alloc(), want.len())?;
+                let mut answer = (12_345, 67_890);
+                let status = implib_library_with_nonnull(
+                    rt.alloc(),
+                    DECORATED,
+                    b"other",
+                    1,
+                    machine.1,
+                    number,
+                    flags,
+                    buffer.as_mut_slice(),
+                    &mut answer.0,
+                    &mut answer.1,
+                );
+                assert_eq!(rt; (status, answer), (0, (want.len(), 0)));
+                assert!(rt; buffer.as_slice() == want.as_slice());
+            }
+        }
+    }
+    Ok(())
+}
+
 // How a linker member begins in an archive.
 const LINKER_MEMBER: &[u8] = b"/               0           0     0     0       ";
 
@@ -403,12 +465,12 @@ fn offsets_have_lines_and_columns(rt: HostRuntime) -> Result<(), Fail> {
 
 #[test]
 fn the_version_is_that_of_the_header(rt: HostRuntime) -> Result<(), Fail> {
-    assert_eq!(rt; implib_version(), 1);
+    assert_eq!(rt; implib_version(), 2);
     Ok(())
 }
 
 // The statuses with their texts, and numbers that are none.
-const TEXTS: [(u32, &str); 33] = [
+const TEXTS: [(u32, &str); 37] = [
     (0, "success"),
     (1, "buffer too small"),
     (2, "out of memory"),
@@ -440,7 +502,11 @@ const TEXTS: [(u32, &str); 33] = [
     (36, "library name is empty"),
     (37, "library name contains null byte"),
     (38, "library name contains line end"),
-    (39, "unknown status"),
+    (39, "no name of the DLL"),
+    (40, "unknown options"),
+    (41, "unknown flags"),
+    (42, "name of the DLL is not UTF-8"),
+    (43, "unknown status"),
     (0xFFFF_FFFF, "unknown status"),
 ];
 

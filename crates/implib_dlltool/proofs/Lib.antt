@@ -1,2 +1,4 @@
 pub mod Reading
 pub mod Letters
+pub mod Saying
+pub mod Calls

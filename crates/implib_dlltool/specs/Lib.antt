@@ -2,6 +2,10 @@ pub mod Options
 pub mod Arguments
 pub mod Request
 pub mod Verbose
+pub mod Disk
+pub mod Reports
+pub mod Placing
+pub mod Program
 pub mod Worked
 pub mod WorkedCallers
 pub mod WorkedOptions

@@ -1,7 +1,8 @@
-//! What the program says of a call that it refuses.
+//! What the program says of a call that it refuses, or that failed.
 
 use crate::arguments::WordFault;
 use crate::options::Setting;
+use crate::reporter::Complaint;
 use crate::request::CallFault;
 use std::fmt;
 
@@ -125,6 +126,19 @@ impl<'a> fmt::Display for CallFault<'a> {
             CallFault::NoUnderscore => {
                 f.write_str("--leading-underscore: C's symbols have one on i386 alone")
             }
+        }
+    }
+}
+
+impl<'a> fmt::Display for Complaint<'a> {
+    fn fmt<W: fmt::Write>(&self, f: &mut fmt::Formatter<W>) -> fmt::Result {
+        match self {
+            Complaint::Word(fault) => write!(f, "{fault}"),
+            Complaint::Call(fault) => write!(f, "{fault}"),
+            Complaint::NotUtf8 => f.write_str("an argument is not UTF-8"),
+            Complaint::OutOfMemory => f.write_str("out of memory"),
+            Complaint::System(cause) => write!(f, "{cause}"),
+            Complaint::Writing(cause) => write!(f, "{cause}"),
         }
     }
 }

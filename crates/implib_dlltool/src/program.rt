@@ -1,24 +1,39 @@
 //! The program: its arguments, its run over files, and its exit status.
 
+ghost use Rattle.implib.specs.Definition.{definition_view};
+ghost use Rattle.implib_dlltool.specs.Arguments.{occurrence_view};
+ghost use Rattle.implib_dlltool.specs.Program.{CountsMembers, DoesOptions, DoesWords, Finishes};
+ghost use Rattle.implib_dlltool.specs.Program.{HasMembers, HasNoMembers};
+ghost use Rattle.implib_dlltool.specs.Program.{IsUncalled, KeepsFiles, Makes, Prints, Runs};
+ghost use Rattle.implib_dlltool.specs.Program.{SaysWarnings, Warned, answer_status, definition_in};
+ghost use Rattle.implib_dlltool.specs.Program.{devices, export_lines, is_export, own_name, texts};
+ghost use Rattle.implib_dlltool.specs.Program.{verdict, warning_lines};
+ghost use Rattle.implib_dlltool.specs.Reports.{Complains, Says, complaint_view};
+ghost use Rattle.implib_dlltool.specs.Request.{request_view};
 ghost use Rattle.implib_rules.specs.Library.{status_of};
-ghost use Rattle.std.specs.Prelude.{◌≡◌};
+ghost use Rattle.implib_rules.specs.Options.{library_options_view};
+ghost use Rattle.implib_rules.specs.Warnings.{warning_view};
+ghost use Rattle.std.specs.IoError.{error_kind};
+ghost use Rattle.std.specs.Prelude.{◌≡◌, ◌⊎◌, [], ◌∷◌, IfErr, IfOk, IfSome, None, OnErr, OnOk, map};
+ghost use Rattle.std.specs.String.{string_bytes};
+ghost use Rattle.std.specs.Vec.Iter.{into_iter_items};
 
-use crate::arguments::{ReadWordsError, read_words};
-use crate::output::NewFile;
+use crate::arguments::{Occurrence, ReadWordsError, read_words};
+use crate::disk::Disk;
+use crate::placing::put;
+use crate::reporter::{Complaint, Reporter};
 use crate::request::{CallError, Request, Task, caller_of, task_of};
 use crate::verbose::warnings_for;
-use implib::def::Position;
+use implib::def::ModuleDef;
 use implib::{Flavor, ParseError};
-use implib_rules::library::{LibraryError, Refusal, members_for, text_in, write_library};
-use implib_rules::places::read_with_places;
-use implib_rules::position_of;
-use implib_rules::warnings::{NoticeMessage, export_lines};
+use implib_rules::library::{LibraryError, Refusal, members_for, text_in};
+use implib_rules::options::LibraryOptions;
+use implib_rules::places::{Place, Site, read_with_places};
+use implib_rules::warnings::Warning;
 use std::alloc::{AllocError, Global};
-use std::env::Env;
-use std::fmt::Write as _;
-use std::fs::Files;
-use std::io::{BufWriter, Read, Write};
-use std::{env, fmt, fs, io};
+use std::env::Args;
+use std::io;
+use std::io::{ErrorKind, Read, Write};
 
 // What the program prints for `--help`.
 const HELP: &str = "\
@@ -58,217 +73,393 @@ Status: 0 made; 1 FILE is refused; 2 wrong call; 3 a file or memory failed.
 // What the program prints for `--version`.
 const VERSION: &str = "implib_dlltool 0.1.0\n";
 
-// How many bytes are written to a file at once.
-const BUFFER: usize = 1 << 16;
-
-// A writer that text is written to.
-#[derive(Drop)]
-struct Lines<'a, E> {
-    writer: &'a mut E,
-}
-
-impl<'a, E: Write> fmt::Write for Lines<'a, E> {
-    fn write_str(&mut self, text: &str) -> fmt::Result {
-        self.writer
-            .write_all(text.as_bytes())
-            .map_err(|_| fmt::Error)
-    }
-}
-
-// Writes a line, and gives an exit status. A failure of the writer is ignored.
-fn complain<E: Write, D: fmt::Display + Drop>(
-    faults: &mut E,
-    subject: &str,
-    message: D,
-    status: u8,
-) -> u8
-    ensures { result ≡ status }
-{
-    let mut lines = Lines { writer: faults };
-    let _ = writeln!(lines, "{subject}: {message}");
-    status
-}
+// The name of the program in what it says.
+const NAME: &str = "implib_dlltool";
 
 // Prints a text. A failure is status 3.
-fn print<O: Write, E: Write>(printer: &mut O, faults: &mut E, text: &str) -> u8 {
+fn print<O: Write, T: Reporter>(printer: &mut O, reporter: &mut T, text: &str) -> u8
+    ensures { Prints text.now (T.said reporter.old) (T.said reporter.new)
+        (O.contents printer.old) (O.contents printer.new) result }
+{
     match printer.write_all(text.as_bytes()) {
         Ok(()) => 0,
-        Err(error) => complain(faults, "implib_dlltool", error, 3),
+        Err(error) => {
+            reporter.complain(NAME, Complaint::System(error));
+            3
+        }
     }
 }
 
-// Says why a definition is refused, and gives the exit status.
-fn refuse<E: Write>(faults: &mut E, path: &str, refusal: &Refusal) -> u8
+// Whether the name of an export is there.
+fn is_export(site: Site) -> bool
+    ensures { result ≡ is_export site }
+{
+    match site {
+        Site::Export => true,
+        Site::Attribute(_) | Site::Heading => false,
+    }
+}
+
+// The lines of exports among the places, in order.
+fn export_lines(alloc: Global, places: &[Place]) -> Result<Vec<usize>, AllocError>
+    ensures { IfOk result (λ lines. lines.items ≡ export_lines places.now) }
+{
+    places
+        .iter()
+        .filter(|place| is_export(place.site))
+        .map(|place| place.position.line)
+        .collect(alloc)
+}
+
+// The exit status for a refusal.
+fn refusal_status(refusal: &Refusal) -> u8
     ensures { result ≡ status_of refusal.now }
 {
-    let Position { line, column, .. } = position_of(refusal);
-    let status = match refusal {
+    match refusal {
         Refusal::OutOfMemory => 3,
         _ => 1,
-    };
-    let mut lines = Lines { writer: faults };
-    let _ = writeln!(lines, "{path}:{line}:{column}: {refusal}");
-    status
+    }
 }
 
-// The bytes of the definition.
-fn bytes_of<R: Files + AllocGlobal, I: Read>(
-    rt: &R,
-    input: &mut I,
-    path: &str,
-) -> io::Result<Vec<u8>> {
-    if path != "-" {
-        return fs::read(rt, path);
+// The number of members, or 0 where there are none.
+fn count_members(
+    alloc: Global,
+    bytes: &[u8],
+    options: &LibraryOptions<'_>,
+) -> Result<usize, AllocError>
+    ensures { IfOk result (λ count. HasMembers bytes.now (library_options_view options.now) count
+        ⊎ HasNoMembers bytes.now (library_options_view options.now) count) }
+{
+    match members_for(alloc, bytes, options) {
+        Ok(members) => Ok(members.len()),
+        Err(refusal) => {
+            if refusal_status(&refusal) == 1 {
+                Ok(0)
+            } else {
+                Err(AllocError)
+            }
+        }
     }
-    let mut bytes = Vec::new(rt.alloc());
-    input.read_to_end(&mut bytes)?;
-    Ok(bytes)
 }
 
 // The number of members for Microsoft's linker; 0 for GNU's, where no warning needs it.
-fn member_count(alloc: Global, bytes: &[u8], request: &Request<'_>) -> usize {
-    if let Flavor::Gnu = request.library.flavor {
-        return 0;
-    }
-    match members_for(alloc, bytes, &request.library) {
-        Ok(members) => members.len(),
-        Err(_) => 0,
+fn member_count(
+    alloc: Global,
+    bytes: &[u8],
+    options: &LibraryOptions<'_>,
+) -> Result<usize, AllocError>
+    ensures { IfOk result (CountsMembers bytes.now (library_options_view options.now)
+        options.now.flavor) }
+{
+    match options.flavor {
+        Flavor::Gnu => Ok(0),
+        Flavor::Msvc => count_members(alloc, bytes, options),
     }
 }
 
-// Writes the warnings of a definition that is read, where they are asked for.
-fn warn<E: Write>(
+// Says warnings of the definition of a path, whose exports are in these lines.
+fn say_warnings<T: Reporter>(
+    reporter: &mut T,
+    path: &str,
+    warnings: &[Warning<'_>],
+    lines: &[usize],
+)
+    ensures { Says (T.said reporter.old) (T.said reporter.new)
+        (warning_lines path.now lines.now (map warning_view warnings.now)) }
+{
+    for warning in warnings {
+        reporter.warn(path, warning, lines);
+    }
+}
+
+// Says the warnings of a definition, of which these are the places.
+fn warn_of<T: Reporter>(
+    alloc: Global,
+    bytes: &[u8],
+    def: &ModuleDef,
+    places: &[Place],
+    request: &Request<'_>,
+    reporter: &mut T,
+) -> Result<(), AllocError>
+    ensures warned { OnOk result (SaysWarnings bytes.now (definition_view def.now) places.now
+        (request_view request.now) (T.said reporter.old) (T.said reporter.new)) }
+    ensures silent { OnErr result (T.said reporter.new ≡ T.said reporter.old) }
+{
+    let count = member_count(alloc, bytes, &request.library)?;
+    let exports = def.exports.as_slice();
+    let warnings = warnings_for(alloc, exports, places, request, count)?;
+    let lines = export_lines(alloc, places)?;
+    say_warnings(
+        reporter,
+        request.definition,
+        warnings.as_slice(),
+        lines.as_slice(),
+    );
+    Ok(())
+}
+
+// Says the warnings of a definition, where they are asked for. What is no definition has none.
+fn warn<T: Reporter>(
     alloc: Global,
     bytes: &[u8],
     request: &Request<'_>,
-    faults: &mut E,
-) -> Result<(), AllocError> {
+    reporter: &mut T,
+) -> Result<(), AllocError>
+    ensures warned { OnOk result (Warned request.now.is_verbose bytes.now
+        (request_view request.now) (T.said reporter.old) (T.said reporter.new)) }
+    ensures silent { OnErr result (T.said reporter.new ≡ T.said reporter.old) }
+{
     if !request.is_verbose {
         return Ok(());
     }
     let Some(text) = text_in(bytes) else {
         return Ok(());
     };
-    let (def, places) = match read_with_places(alloc, text) {
-        Ok(read) => read,
-        Err(ParseError::Invalid(..)) => return Ok(()),
-        Err(ParseError::OutOfMemory(refused)) => return Err(refused),
-    };
-    let exports = def.exports.as_slice();
-    let count = member_count(alloc, bytes, request);
-    let warnings = warnings_for(alloc, exports, places.as_slice(), request, count)?;
-    let export_lines = export_lines(alloc, places.as_slice())?;
-    let path = request.definition;
-    let mut lines = Lines { writer: faults };
-    for warning in warnings.iter() {
-        let told = NoticeMessage(warning.notice, export_lines.as_slice());
-        let _ = writeln!(lines, "{path}:{}: warning: {told}", warning.position);
+    match read_with_places(alloc, text) {
+        Ok((def, places)) => warn_of(alloc, bytes, &def, places.as_slice(), request, reporter),
+        Err(ParseError::Invalid(..)) => Ok(()),
+        Err(ParseError::OutOfMemory(refused)) => Err(refused),
     }
-    Ok(())
 }
 
-// Writes a library to the file that is asked for, whole or not at all; or checks that there is one.
-fn put<R: Files + AllocGlobal>(
-    rt: &R,
-    id: u32,
-    bytes: &[u8],
+// The bytes of the definition.
+fn bytes_of<D: Disk, I: Read>(
+    alloc: Global,
+    disk: &mut D,
+    input: &mut I,
+    path: &str,
+) -> io::Result<Vec<u8>>
+    ensures bytes { IfOk result (λ bytes.
+        IfSome (definition_in (I.remaining input.old) (D.view disk.old) path.now)
+        (λ file. bytes.items ≡ file)) }
+    ensures same { OnOk result (D.view disk.new ≡ D.view disk.old) }
+    ensures failed { OnErr result (KeepsFiles (D.view disk.old) (D.view disk.new)) }
+{
+    if path != "-" {
+        return disk.read(alloc, path);
+    }
+    let mut bytes = Vec::new(alloc);
+    input.read_to_end(&mut bytes)?;
+    Ok(bytes)
+}
+
+// Says what came of a definition, and gives the exit status.
+fn conclude<T: Reporter>(
+    reporter: &mut T,
     request: &Request<'_>,
-) -> Result<(), LibraryError> {
-    let Some(path) = request.output else {
-        return write_library(rt.alloc(), bytes, &request.library, &mut io::sink());
-    };
-    let file = NewFile::new(rt, path, id);
-    let mut writer = BufWriter::with_capacity(rt.alloc(), BUFFER, file)?;
-    let written = write_library(rt.alloc(), bytes, &request.library, &mut writer);
-    let written = match written {
-        Ok(()) => writer.flush().map_err(LibraryError::from),
-        refused => refused,
-    };
-    // What a failed write left in the buffer is not written again.
-    let (file, _) = writer.into_parts();
-    match written {
-        Ok(()) => Ok(file.finish()?),
-        refused => {
-            file.discard();
-            refused
+    answer: Result<(), LibraryError>,
+) -> u8
+    ensures said { Says (T.said reporter.old) (T.said reporter.new)
+        (verdict (request_view request.now) answer) }
+    ensures status { result ≡ answer_status answer }
+{
+    match answer {
+        Ok(()) => 0,
+        Err(LibraryError::Refused(refusal)) => {
+            reporter.refuse(request.definition, &refusal);
+            refusal_status(&refusal)
+        }
+        Err(LibraryError::Writing(cause)) => {
+            let path = request.output.unwrap_or("-");
+            reporter.complain(path, Complaint::Writing(cause));
+            3
+        }
+    }
+}
+
+// Warns of a definition that is read, and puts its library; gives the exit status.
+fn answer<D: Disk, T: Reporter>(
+    alloc: Global,
+    bytes: &[u8],
+    disk: &mut D,
+    request: &Request<'_>,
+    reporter: &mut T,
+) -> u8
+    requires { (D.view disk.old).left ≡ None }
+    ensures { Finishes D.is_known bytes.now (request_view request.now)
+        (D.view disk.old) (D.view disk.new) (T.said reporter.old) (T.said reporter.new) result }
+{
+    match warn(alloc, bytes, request, reporter) {
+        Ok(()) => {
+            let put = put(alloc, disk, bytes, request);
+            conclude(reporter, request, put)
+        }
+        Err(_) => {
+            reporter.refuse(request.definition, &Refusal::OutOfMemory);
+            3
         }
     }
 }
 
 // Makes a library, and gives the exit status.
-fn make<R: Files + AllocGlobal, I: Read, E: Write>(
-    rt: &R,
-    id: u32,
+fn make<D: Disk, I: Read, T: Reporter>(
+    alloc: Global,
+    disk: &mut D,
     request: &Request<'_>,
     input: &mut I,
-    faults: &mut E,
-) -> u8 {
-    let bytes = match bytes_of(rt, input, request.definition) {
-        Ok(bytes) => bytes,
-        Err(error) => return complain(faults, request.definition, error, 3),
-    };
-    if warn(rt.alloc(), bytes.as_slice(), request, faults).is_err() {
-        return refuse(faults, request.definition, &Refusal::OutOfMemory);
-    }
-    match put(rt, id, bytes.as_slice(), request) {
-        Ok(()) => 0,
-        Err(LibraryError::Refused(refusal)) => refuse(faults, request.definition, &refusal),
-        Err(LibraryError::Writing(cause)) => {
-            complain(faults, request.output.unwrap_or("-"), cause, 3)
+    reporter: &mut T,
+) -> u8
+    requires { (D.view disk.old).left ≡ None }
+    ensures { Makes D.is_known (request_view request.now)
+        (devices (I.remaining input.old) (D.view disk.old) (T.said reporter.old))
+        (devices (I.remaining input.new) (D.view disk.new) (T.said reporter.new)) result }
+{
+    match bytes_of(alloc, disk, input, request.definition) {
+        Ok(bytes) => answer(alloc, bytes.as_slice(), disk, request, reporter),
+        Err(error) => {
+            reporter.complain(request.definition, Complaint::System(error));
+            3
         }
+    }
+}
+
+// Says a complaint of the command line, and gives the exit status.
+fn complain<T: Reporter>(reporter: &mut T, complaint: Complaint<'_>, status: u8) -> u8
+    ensures said { Says (T.said reporter.old) (T.said reporter.new)
+        (Complains own_name (complaint_view complaint.entry) ∷ []) }
+    ensures status { result ≡ status }
+{
+    reporter.complain(NAME, complaint);
+    status
+}
+
+// Does what options ask for, where the program is called so; gives the exit status.
+fn perform_options<D: Disk, I: Read, O: Write, T: Reporter>(
+    alloc: Global,
+    program: &str,
+    options: &[Occurrence<'_>],
+    disk: &mut D,
+    input: &mut I,
+    printer: &mut O,
+    reporter: &mut T,
+) -> u8
+    requires { (D.view disk.old).left ≡ None }
+    ensures { DoesOptions D.is_known (texts HELP.now VERSION.now) program.now
+        (map occurrence_view options.now)
+        (devices (I.remaining input.old) (D.view disk.old) (T.said reporter.old))
+        (devices (I.remaining input.new) (D.view disk.new) (T.said reporter.new))
+        (O.contents printer.old) (O.contents printer.new) result }
+{
+    match task_of(alloc, options, caller_of(program)) {
+        Ok(Task::Help) => print(printer, reporter, HELP),
+        Ok(Task::Version) => print(printer, reporter, VERSION),
+        Ok(Task::Make(request)) => make(alloc, disk, &request, input, reporter),
+        Err(CallError::Refused(fault)) => complain(reporter, Complaint::Call(fault), 2),
+        Err(CallError::OutOfMemory) => complain(reporter, Complaint::OutOfMemory, 3),
     }
 }
 
 // Does what the words after the program's name ask for, and gives the exit status.
-fn run<R: Files + AllocGlobal, I: Read, O: Write, E: Write>(
-    rt: &R,
-    id: u32,
-    arguments: &[String],
+fn perform_words<D: Disk, I: Read, O: Write, T: Reporter>(
+    alloc: Global,
+    program: &str,
+    words: &[String],
+    disk: &mut D,
     input: &mut I,
     printer: &mut O,
-    faults: &mut E,
-) -> u8 {
-    let name = "implib_dlltool";
-    let (program, words) = match arguments {
-        [] => (name, arguments),
-        [program, words @ ..] => (program.as_str(), words),
-    };
-    let options = match read_words(rt.alloc(), words) {
-        Ok(options) => options,
-        Err(ReadWordsError::Refused(fault)) => return complain(faults, name, fault, 2),
-        Err(ReadWordsError::OutOfMemory) => return complain(faults, name, "out of memory", 3),
-    };
-    match task_of(rt.alloc(), options.as_slice(), caller_of(program)) {
-        Ok(Task::Help) => print(printer, faults, HELP),
-        Ok(Task::Version) => print(printer, faults, VERSION),
-        Ok(Task::Make(request)) => make(rt, id, &request, input, faults),
-        Err(CallError::Refused(fault)) => complain(faults, name, fault, 2),
-        Err(CallError::OutOfMemory) => complain(faults, name, "out of memory", 3),
+    reporter: &mut T,
+) -> u8
+    requires { (D.view disk.old).left ≡ None }
+    ensures { DoesWords D.is_known (texts HELP.now VERSION.now) program.now
+        (map string_bytes words.now)
+        (devices (I.remaining input.old) (D.view disk.old) (T.said reporter.old))
+        (devices (I.remaining input.new) (D.view disk.new) (T.said reporter.new))
+        (O.contents printer.old) (O.contents printer.new) result }
+{
+    match read_words(alloc, words) {
+        Ok(options) => {
+            let options = options.as_slice();
+            perform_options(alloc, program, options, disk, input, printer, reporter)
+        }
+        Err(ReadWordsError::Refused(fault)) => complain(reporter, Complaint::Word(fault), 2),
+        Err(ReadWordsError::OutOfMemory) => complain(reporter, Complaint::OutOfMemory, 3),
     }
 }
 
-/// Runs the program with the command line of the process, and gives the exit status: 0 where the
-/// library is made, 1 where the definition is refused, 2 where the call is, and 3 where a file or
-/// an allocation failed. `id` is a number for the name of a new file.
-pub fn perform<R: Files + Env + AllocGlobal, I: Read, O: Write, E: Write>(
-    rt: &R,
-    id: u32,
+/// Does what a command line asks for, and gives the exit status: 0 where that is done, 1 where the
+/// definition is refused, 2 where the call is, and 3 where a file or an allocation failed. The
+/// first argument is the name that the program is called by.
+pub fn run<D: Disk, I: Read, O: Write, T: Reporter>(
+    alloc: Global,
+    arguments: &[String],
+    disk: &mut D,
     input: &mut I,
     printer: &mut O,
-    faults: &mut E,
-) -> u8 {
-    let name = "implib_dlltool";
-    let command_line = match env::args(rt) {
-        Ok(command_line) => command_line,
-        Err(error) if error.kind() == io::ErrorKind::InvalidData => {
-            return complain(faults, name, "an argument is not UTF-8", 2);
-        }
-        Err(error) => return complain(faults, name, error, 3),
-    };
-    let arguments: Result<Vec<String>, AllocError> = command_line.collect(rt.alloc());
+    reporter: &mut T,
+) -> u8
+    requires { (D.view disk.old).left ≡ None }
+    ensures { Runs D.is_known (texts HELP.now VERSION.now) (map string_bytes arguments.now)
+        (devices (I.remaining input.old) (D.view disk.old) (T.said reporter.old))
+        (devices (I.remaining input.new) (D.view disk.new) (T.said reporter.new))
+        (O.contents printer.old) (O.contents printer.new) result }
+{
     match arguments {
-        Ok(arguments) => run(rt, id, arguments.as_slice(), input, printer, faults),
-        Err(_) => complain(faults, name, "out of memory", 3),
+        [] => perform_words(alloc, NAME, arguments, disk, input, printer, reporter),
+        [program, words @ ..] => {
+            let program = program.as_str();
+            perform_words(alloc, program, words, disk, input, printer, reporter)
+        }
+    }
+}
+
+// The arguments of a command line.
+fn arguments_in(alloc: Global, list: Args) -> Result<Vec<String>, AllocError>
+    ensures { IfOk result (λ arguments. arguments.items ≡ into_iter_items list) }
+{
+    list.collect(alloc)
+}
+
+// Runs the program with the arguments of a command line.
+fn perform_list<D: Disk, I: Read, O: Write, T: Reporter>(
+    alloc: Global,
+    list: Args,
+    disk: &mut D,
+    input: &mut I,
+    printer: &mut O,
+    reporter: &mut T,
+) -> u8
+    requires { (D.view disk.old).left ≡ None }
+    ensures { Runs D.is_known (texts HELP.now VERSION.now) (map string_bytes (into_iter_items list))
+        (devices (I.remaining input.old) (D.view disk.old) (T.said reporter.old))
+        (devices (I.remaining input.new) (D.view disk.new) (T.said reporter.new))
+        (O.contents printer.old) (O.contents printer.new) result }
+{
+    match arguments_in(alloc, list) {
+        Ok(arguments) => {
+            let arguments = arguments.as_slice();
+            run(alloc, arguments, disk, input, printer, reporter)
+        }
+        Err(_) => complain(reporter, Complaint::OutOfMemory, 3),
+    }
+}
+
+/// Runs the program with a command line, as [`run`] does. Arguments that are not UTF-8 are a wrong
+/// call, and others that cannot be read a failure.
+pub fn perform<D: Disk, I: Read, O: Write, T: Reporter>(
+    alloc: Global,
+    command_line: io::Result<Args>,
+    disk: &mut D,
+    input: &mut I,
+    printer: &mut O,
+    reporter: &mut T,
+) -> u8
+    requires { (D.view disk.old).left ≡ None }
+    ensures runs { IfOk command_line (λ list. Runs D.is_known (texts HELP.now VERSION.now)
+        (map string_bytes (into_iter_items list))
+        (devices (I.remaining input.old) (D.view disk.old) (T.said reporter.old))
+        (devices (I.remaining input.new) (D.view disk.new) (T.said reporter.new))
+        (O.contents printer.old) (O.contents printer.new) result) }
+    ensures unread { IfErr command_line (λ cause. IsUncalled (error_kind cause)
+        (devices (I.remaining input.old) (D.view disk.old) (T.said reporter.old))
+        (devices (I.remaining input.new) (D.view disk.new) (T.said reporter.new))
+        (O.contents printer.old) (O.contents printer.new) result) }
+{
+    match command_line {
+        Ok(list) => perform_list(alloc, list, disk, input, printer, reporter),
+        Err(error) => match error.kind() {
+            ErrorKind::InvalidData => complain(reporter, Complaint::NotUtf8, 2),
+            _ => complain(reporter, Complaint::System(error), 3),
+        },
     }
 }
 

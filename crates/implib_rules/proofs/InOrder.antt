@@ -17,7 +17,8 @@ use Rattle.implib_rules.specs.declared.places.Site.TheVariants as site
 use Rattle.implib_rules.specs.Linked.{word_of}
 use Rattle.implib_rules.specs.Places.{Walked, is_heading, placed, places_in, site_at, started, walked, walked_on}
 use Rattle.implib_rules.specs.Options.{LibraryOptionsView}
-use Rattle.implib_rules.specs.Warnings.{Ascends, NoticeView, OpensLine, WarningView, asked_warnings, first_declared, first_of_ordinal, first_of_word, heading_notice, if_export, index_after}
+use Rattle.implib_rules.specs.Firsts.{first_declared, first_of_ordinal, first_of_word}
+use Rattle.implib_rules.specs.Warnings.{Ascends, NoticeView, OpensLine, WarningView, asked_warnings, heading_notice, if_export, index_after}
 use Rattle.implib_rules.specs.Warnings.{lowered_notice, no_export_notice, ordinal_like_notice, ordinal_notice, other_kind_notice, repeat_notice, stdcall_notice}
 use Rattle.implib_rules.specs.Warnings.{target_notice, warned, warnings_at, warnings_at_site, warnings_from, warnings_of, whole, word_before}
 

@@ -11,7 +11,8 @@ use Rattle.std.proofs.lemmas.Slice.Eq.{bytes_eq-Decides}
 use Rattle.implib.specs.declared.def.definition.ShortExport.{ShortExport}
 use Rattle.implib.specs.Definition.{ExportView, export_view}
 use Rattle.implib_rules.proofs.Targets.{neither}
-use Rattle.implib_rules.specs.Repeats.{declares, is_declared, left_out, left_out_by, left_out_if, repeats, repeats_behind, without_repeated}
+use Rattle.implib_rules.specs.Linked.{declares, is_declared}
+use Rattle.implib_rules.specs.Repeats.{left_out, left_out_by, left_out_if, repeats, repeats_behind, without_repeated}
 
 pub or_false : (b : Bool) → (b || false) ≡ b
 or_false true = refl

@@ -7,11 +7,12 @@ pub mod LibraryNames
 pub mod Symbols
 pub mod LibrariesApart
 pub mod Accepted
+pub mod BothFlavors
 pub mod OrderedReadings
 pub mod PlainNames
 pub mod Made
 pub mod Positions
-pub mod Firsts
+pub mod FirstExports
 pub mod Warned
 pub mod InOrder
 pub mod PlacesHeard

@@ -23,7 +23,7 @@ use Rattle.implib_rules.specs.Library.{DefinitionFor}
 use Rattle.implib_rules.specs.LibraryLaws.{IsFoundByGnu}
 use Rattle.implib_rules.specs.LibraryName.{exports_taken, gnu_library_name, if_filled, library_name_for, with_library_name, without_ending}
 use Rattle.implib_rules.specs.Linked.{linked}
-use Rattle.implib_rules.specs.Names.{dll_name, is_program}
+use Rattle.implib_rules.specs.Names.{dll_name, is_program, own_name}
 use Rattle.implib_rules.specs.Repeats.{without_repeats}
 use Rattle.implib_rules.specs.Options.{LibraryOptionsView}
 
@@ -51,7 +51,7 @@ named_of flavor d whole msvc is text =
 pub found_of_text : (text : List ℕ) (options : LibraryOptionsView) (d : DefinitionView) → DefinitionFor text options d → options.flavor ≡ Msvc
     → is_empty_text (without_ending d.import_name) ≡ false → IsFoundByGnu d
 found_of_text text options d meant msvc filled =
-    let plain = record meant.parsed { import_name = dll_name options.dll meant.parsed.import_name (is_program meant.heard) } in
+    let plain = record meant.parsed { import_name = dll_name options.dll (own_name meant.heard) (is_program meant.heard) } in
     let before = linked options.machine options.naming options.flavor (without_repeats plain) in
     found_named d (without_ending d.import_name) (named_of options.flavor before d msvc meant.is filled) refl
 
@@ -96,9 +96,9 @@ prefix_of d =
     ap (λ t. t ++ codes "_a_") (map-append without_full_stop d.import_name (0x5F ∷ digits_of d) ∙ ap (λ t. dll ++ (0x5F ∷ t)) (digits_kept (take 8 (md5 (exports_taken d.exports)))))
     ∙ append_assoc dll (0x5F ∷ digits_of d) (codes "_a_")
 
-abbrev behind_first : List ℕ → List ℕ
-behind_first [] = []
-behind_first (b ∷ rest) = rest
+abbrev after_first_of : List ℕ → List ℕ
+after_first_of [] = []
+after_first_of (b ∷ rest) = rest
 
 -- the first sixteen bytes of digits and more
 first_sixteen : (d : DefinitionView) (more : List ℕ) → take 16 (digits_of d ++ more) ≡ digits_of d
@@ -118,7 +118,7 @@ apart first second dll other begins =
     let joined : front ++ two ≡ front ++ (one ++ begins.0) =
     ap (λ n. mangled_name n ++ two) dll ∙ sym (prefix_of second) ∙ begins.1 ∙ ap (λ p. p ++ begins.0) (prefix_of first) ∙ append_assoc front one begins.0 in
     let digits : digits_of second ++ codes "_a_" ≡ digits_of first ++ (codes "_a_" ++ begins.0) =
-    ap behind_first (append_cancel_left front two (one ++ begins.0) joined) ∙ append_assoc (digits_of first) (codes "_a_") begins.0 in
+    ap after_first_of (append_cancel_left front two (one ++ begins.0) joined) ∙ append_assoc (digits_of first) (codes "_a_") begins.0 in
     let same : digits_of first ≡ digits_of second =
     sym (first_sixteen first (codes "_a_" ++ begins.0)) ∙ ap (take 16) (sym digits) ∙ first_sixteen second (codes "_a_") in
     other (named_by first ∙ ap (λ n. n ++ (0x5F ∷ digits_of first)) dll ∙ ap (λ t. second.import_name ++ (0x5F ∷ t)) same ∙ sym (named_by second))

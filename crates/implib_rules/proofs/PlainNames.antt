@@ -1,9 +1,10 @@
 -- Exports as they are linked have no symbol names.
-use Rattle.std.proofs.Common.{◌≡◌, ◌∙◌, ap, drop, ℕ, Bool, true, false, List, [], ◌∷◌, ◌++◌, if◌then◌else◌, map, refl, sym, subst}
+use Rattle.std.proofs.Common.{◌≡◌, ◌∙◌, ap, drop, ℕ, Bool, true, false, List, [], ◌∷◌, ◌++◌, Option, None, Some, if◌then◌else◌, map, refl, sym, subst}
 use Rattle.std.specs.Prelude.{◌&&◌, not}
 use Rattle.std.specs.List.{AllByRecursion, filter, list_all}
 use Rattle.std.proofs.lemmas.Bool.{and_parts}
 use Rattle.implib.specs.declared.flavor.Flavor.{Flavor}
+use Rattle.implib.specs.declared.flavor.Flavor.TheVariants.{Gnu, Msvc}
 use Rattle.implib.specs.declared.machine.MachineType.{MachineType}
 use Rattle.implib.specs.declared.machine.MachineType.TheVariants.{AMD64}
 use Rattle.implib.specs.Definition.{DefinitionView, ExportView}
@@ -12,7 +13,7 @@ use Rattle.implib.specs.Renaming.{renamed, renamed_export}
 use Rattle.implib.proofs.Members.MemberReadings.{all_append}
 use Rattle.implib.proofs.Text.SymbolNames.{parsed_lacks}
 use Rattle.implib_rules.specs.Library.{DefinitionFor}
-use Rattle.implib_rules.specs.Linked.{NamingView, is_among, is_linked_alias, linked_alias, linked_export, linked_import, new_target, target_import, target_symbol, targets_added, targets_beside, with_target}
+use Rattle.implib_rules.specs.Linked.{NamingView, adds_target, alias_symbol, is_among, linked_export, linked_to, new_target, symbol_of, target_import, targets_added, targets_beside, with_target}
 use Rattle.implib_rules.specs.Repeats.{left_out, left_out_by, repeats_behind, without_repeated}
 use Rattle.implib_rules.specs.Options.{LibraryOptionsView}
 
@@ -24,27 +25,31 @@ empty_text : (text : List ℕ) → is_empty_text text ≡ true → text ≡ []
 empty_text [] empty = refl
 empty_text (b ∷ text) empty = cc
 
-module _ (machine : MachineType) (naming : NamingView) (flavor : Flavor) where
-  either : (b : Bool) (e : ExportView) → e.symbol_name ≡ [] → IsPlain (if b then linked_alias machine naming e else linked_import machine naming e)
-  either true e plain = plain
-  either false e plain = plain
+module _ (machine : MachineType) (naming : NamingView) (all : List ExportView) where
+  either : (symbol : Option (List ℕ)) (e : ExportView) → e.symbol_name ≡ [] → IsPlain (linked_to machine naming symbol e)
+  either (Some target) e plain = plain
+  either None e plain = plain
 
-  plain_linked : (exports : List ExportView) → list_all (λ e. is_empty_text e.symbol_name) exports ≡ true → AllByRecursion IsPlain (map (linked_export machine naming flavor) exports)
-  plain_linked [] plain = tt
-  plain_linked (e ∷ exports) plain =
+  plain_linked : (flavor : Flavor) (exports : List ExportView) → list_all (λ e. is_empty_text e.symbol_name) exports ≡ true → AllByRecursion IsPlain (map (linked_export machine naming flavor all) exports)
+  plain_linked flavor [] plain = tt
+  plain_linked flavor (e ∷ exports) plain =
       let parts = and_parts (is_empty_text e.symbol_name) (list_all (λ (x : ExportView). is_empty_text x.symbol_name) exports) plain in
-      (either (is_linked_alias machine naming flavor e) e (empty_text e.symbol_name parts.0), plain_linked exports parts.1)
+      (either (alias_symbol machine naming flavor all e) e (empty_text e.symbol_name parts.0), plain_linked flavor exports parts.1)
 
   plain_target : (b : Bool) (e : ExportView) → AllByRecursion IsPlain (if b then target_import machine naming e ∷ [] else [])
   plain_target true e = (refl, tt)
   plain_target false e = tt
 
-  plain_targets : (symbols : List (List ℕ)) (exports : List ExportView) → AllByRecursion IsPlain (targets_beside machine naming flavor symbols exports)
-  plain_targets symbols [] = tt
-  plain_targets symbols (e ∷ exports) =
-      all_append IsPlain (new_target machine naming flavor symbols e) (targets_beside machine naming flavor (with_target machine naming flavor symbols e) exports)
-      (plain_target (is_linked_alias machine naming flavor e && not (is_among symbols (target_symbol machine naming e))) e)
-      (plain_targets (with_target machine naming flavor symbols e) exports)
+  plain_beside : (symbols : List (List ℕ)) (exports : List ExportView) → AllByRecursion IsPlain (targets_beside machine naming all symbols exports)
+  plain_beside symbols [] = tt
+  plain_beside symbols (e ∷ exports) =
+      all_append IsPlain (new_target machine naming all symbols e) (targets_beside machine naming all (with_target machine naming all symbols e) exports)
+      (plain_target (adds_target machine naming all e && not (is_among symbols (symbol_of machine naming e.alias_target))) e)
+      (plain_beside (with_target machine naming all symbols e) exports)
+
+  plain_added : (flavor : Flavor) → AllByRecursion IsPlain (targets_added machine naming flavor all)
+  plain_added Gnu = tt
+  plain_added Msvc = plain_beside [] all
 
 kept_plain : (private : Bool) (e : ExportView) (exports : List ExportView) → IsPlain e → AllByRecursion IsPlain exports
     → AllByRecursion IsPlain (if not private then renamed_export e ∷ exports else exports)
@@ -78,9 +83,9 @@ pub plain_of : (text : List ℕ) (options : LibraryOptionsView) (d : DefinitionV
 plain_of text options d meant =
     let lacks = parsed_lacks text AMD64 meant.parsed meant.parses in
     let exports = without_repeated meant.parsed.exports in
-    let linked = map (linked_export options.machine options.naming options.flavor) exports in
+    let linked = map (linked_export options.machine options.naming options.flavor exports) exports in
     let targets = targets_added options.machine options.naming options.flavor exports in
     let plain : AllByRecursion IsPlain (linked ++ targets) =
-    all_append IsPlain linked targets (plain_linked options.machine options.naming options.flavor exports (plain_left_out meant.parsed.exports lacks.parsed))
-    (plain_targets options.machine options.naming options.flavor _ exports) in
+    all_append IsPlain linked targets (plain_linked options.machine options.naming exports options.flavor exports (plain_left_out meant.parsed.exports lacks.parsed))
+    (plain_added options.machine options.naming exports options.flavor) in
     subst (λ (x : DefinitionView). AllByRecursion IsPlain (public_exports (renamed x))) (sym meant.is) (plain_public (linked ++ targets) plain)

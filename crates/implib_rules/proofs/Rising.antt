@@ -10,7 +10,8 @@ use Rattle.std.proofs.lemmas.List.Folds.{list_any-append}
 use Rattle.std.proofs.lemmas.Slice.Eq.{bytes_eq-Decides}
 use Rattle.implib.specs.Definition.{ExportView}
 use Rattle.implib_rules.specs.Linked.{word_of}
-use Rattle.implib_rules.specs.Repeats.{declares, is_declared, repeats, repeats_behind, without_repeated}
+use Rattle.implib_rules.specs.Linked.{declares, is_declared}
+use Rattle.implib_rules.specs.Repeats.{repeats, repeats_behind, without_repeated}
 use Rattle.implib_rules.specs.Views.{comes_before, rise_from}
 use Rattle.implib_rules.proofs.LeftOut.{none_left_out, or_false}
 

@@ -1,19 +1,32 @@
--- The targets that aliases add.
-use Rattle.std.proofs.Common.{◌≡◌, ℕ, Bool, true, false, ◌||◌, List, [], ◌∷◌, ◌++◌, bytes_eq, fold, if◌then◌else◌, map, refl, ap, ◌∙◌}
-use Rattle.std.specs.Prelude.{not, ◌&&◌}
-use Rattle.std.specs.List.{filter, list_any}
+-- Which exports are aliases, of which symbols, and the targets that they add.
+use Rattle.std.proofs.Common.{◌≡◌, ◌∙◌, ℕ, Bool, true, false, ◌||◌, List, [], ◌∷◌, ◌++◌, Option, None, Some, ap, bytes_eq, cond, if◌then◌else◌, map, refl, sym}
+use Rattle.std.specs.Prelude.{not, ◌&&◌, is_some, slice_get, suc}
+use Rattle.std.specs.List.{find, list_any}
+use Rattle.std.specs.Option.{option_and_then, option_map, option_or}
 use Rattle.std.proofs.lemmas.Bool.{true≢false}
 use Rattle.std.proofs.lemmas.List.{map-append}
+use Rattle.std.proofs.lemmas.Option.{slice_get-map}
 use Rattle.indexmap.specs.IndexSet.{insert_key}
-use Rattle.implib.specs.declared.flavor.Flavor.TheVariants.{Msvc, Gnu}
+use Rattle.implib.specs.declared.flavor.Flavor.TheVariants.{Gnu, Msvc}
 use Rattle.implib.specs.declared.machine.MachineType.{MachineType}
-use Rattle.implib.specs.Definition.{ExportView}
-use Rattle.implib_rules.specs.Linked.{NamingView, has_target, is_among, makes, new_target, symbol_linked, target_import, target_symbol, targets_beside, with_symbol, with_target}
+use Rattle.implib.specs.declared.def.definition.ShortExport.{ShortExport}
+use Rattle.implib.specs.Definition.{ExportView, export_view}
+use Rattle.implib_rules.specs.Firsts.{first_asking, first_where}
+use Rattle.implib_rules.specs.Linked.{NamingView, adds_target, alias_symbol, asks_for, has_target, is_among, is_apart, is_asked, is_declared, linked_export, linked_to, makes, new_target, symbol_asking, symbol_linked, symbol_of, target_import, target_symbol, targets_beside, with_symbol, with_target}
+use Rattle.implib_rules.specs.Views.{linked_by}
 
 -- neither of two tests passes
 pub neither : (b c : Bool) → (b || c) ≡ false → (b ≡ false) × (c ≡ false)
 neither true c none = absurd (true≢false none)
 neither false c none = (refl, none)
+
+and_false : (b : Bool) → (b && false) ≡ false
+and_false true = refl
+and_false false = refl
+
+and_true : (b : Bool) → (b && true) ≡ b
+and_true true = refl
+and_true false = refl
 
 -- a set of texts, as the symbols that it shows, by the test that finds one
 module _ {X : Type 0} (text : X → List ℕ) (k : X) (eq : X → X → Bool) (says : (x : X) → eq k x ≡ bytes_eq (text k) (text x)) where
@@ -31,45 +44,135 @@ module _ {X : Type 0} (text : X → List ℕ) (k : X) (eq : X → X → Bool) (s
       pushed (list_any (eq k) keys) keys
       ∙ ap (λ b. if b then map text keys else map text keys ++ text k ∷ []) (among-text keys)
 
--- the symbols of exports, after those of others
-abbrev pub symbols_from : MachineType → NamingView → List (List ℕ) → List ExportView → List (List ℕ)
-symbols_from machine naming symbols exports =
-    fold with_symbol symbols (map (symbol_linked machine naming) (filter (λ e. not e.private) exports))
+found_here : {A : Type 0} (is : Bool) (item : A) (items : List A) (found : Option A) (index : Option ℕ) → found ≡ option_and_then (slice_get items) index
+    → (if is then Some item else found) ≡ option_and_then (slice_get (item ∷ items)) (if is then Some 0 else option_map suc index)
+found_here true item items found index same = refl
+found_here false item items found None same = same
+found_here false item items found (Some i) same = same
 
-module _ (machine : MachineType) (naming : NamingView) (symbols : List (List ℕ)) (e : ExportView) (exports : List ExportView) where
-  -- a private export is passed over
-  pub symbols-private : e.private ≡ true → symbols_from machine naming symbols (e ∷ exports) ≡ symbols_from machine naming symbols exports
-  symbols-private private =
-      ap (λ b. fold with_symbol symbols (map (symbol_linked machine naming) (if not b then e ∷ filter (λ x. not x.private) exports else filter (λ x. not x.private) exports))) private
+-- the first item that passes is the one at the first index at which one does
+pub find-first : {A : Type 0} (test : A → Bool) (items : List A) → find test items ≡ option_and_then (slice_get items) (first_where test items)
+find-first test [] = refl
+find-first test (item ∷ items) = found_here (test item) item items (find test items) (first_where test items) (find-first test items)
 
-  -- the symbol of another is added
-  pub symbols-public : e.private ≡ false → symbols_from machine naming symbols (e ∷ exports) ≡ symbols_from machine naming (with_symbol symbols (symbol_linked machine naming e)) exports
-  symbols-public public =
-      ap (λ b. fold with_symbol symbols (map (symbol_linked machine naming) (if not b then e ∷ filter (λ x. not x.private) exports else filter (λ x. not x.private) exports))) public
+is_some-mapped : {A B : Type 0} (f : A → B) (o : Option A) → is_some (option_map f o) ≡ is_some o
+is_some-mapped f None = refl
+is_some-mapped f (Some x) = refl
 
--- GNU's flavour has no alias
-pub targets_beside-gnu : (machine : MachineType) (naming : NamingView) (symbols : List (List ℕ)) (exports : List ExportView) → targets_beside machine naming Gnu symbols exports ≡ []
-targets_beside-gnu machine naming symbols [] = refl
-targets_beside-gnu machine naming symbols (e ∷ exports) = targets_beside-gnu machine naming symbols exports
+found_any : {A : Type 0} (is any : Bool) (item : A) (found : Option A) → is_some found ≡ any → is_some (cond is (Some item) found) ≡ (is || any)
+found_any true any item found same = refl
+found_any false any item found same = same
 
-no_import : (b c d : Bool) (target : ExportView) → b ≡ false → (if (b && c) && d then target ∷ [] else []) ≡ []
-no_import true c d target none = absurd (true≢false none)
-no_import false c d target none = refl
+-- one item passes exactly where one is found
+some-found : {A : Type 0} (test : A → Bool) (items : List A) → is_some (find test items) ≡ list_any test items
+some-found test [] = refl
+some-found test (item ∷ items) = found_any (test item) (list_any test items) item (find test items) (some-found test items)
 
-same_symbols : (b c : Bool) (symbols more : List (List ℕ)) → b ≡ false → (if b && c then more else symbols) ≡ symbols
-same_symbols true c symbols more none = absurd (true≢false none)
-same_symbols false c symbols more none = refl
+any_here : (is any : Bool) (found : Option ℕ) → is_some found ≡ any → is_some (if is then Some 0 else option_map suc found) ≡ (is || any)
+any_here true any found same = refl
+any_here false any None same = same
+any_here false any (Some i) same = same
 
--- without a word after `==` there is no alias
-pub targets_beside-none : (machine : MachineType) (naming : NamingView) (symbols : List (List ℕ)) (exports : List ExportView) → list_any has_target exports ≡ false → targets_beside machine naming Msvc symbols exports ≡ []
-targets_beside-none machine naming symbols [] none = refl
-targets_beside-none machine naming symbols (e ∷ exports) none =
-    let parts = neither (has_target e) (list_any has_target exports) none in
-    let alias = not e.private && (not e.no_name && not (makes (symbol_linked machine naming e) e.alias_target)) in
-    let first : new_target machine naming Msvc symbols e ≡ [] =
-    no_import (has_target e) alias (not (is_among symbols (target_symbol machine naming e))) (target_import machine naming e) parts.0 in
-    let same : with_target machine naming Msvc symbols e ≡ symbols =
-    same_symbols (has_target e) alias symbols (with_symbol symbols (target_symbol machine naming e)) parts.0 in
-    ap (λ t. t ++ targets_beside machine naming Msvc (with_target machine naming Msvc symbols e) exports) first
-    ∙ (ap (λ k. targets_beside machine naming Msvc k exports) same
-    ∙ targets_beside-none machine naming symbols exports parts.1)
+-- one item passes exactly where there is a first
+pub some-first : {A : Type 0} (test : A → Bool) (items : List A) → is_some (first_where test items) ≡ list_any test items
+some-first test [] = refl
+some-first test (item ∷ items) = any_here (test item) (list_any test items) (first_where test items) (some-first test items)
+
+module _ (machine : MachineType) (naming : NamingView) where
+  -- the symbol that asks for a word, by the index of the first import that does
+  pub symbol_at : (exports : List ExportView) (word : List ℕ) (o : Option ℕ) → o ≡ first_asking machine naming word exports
+      → symbol_asking machine naming exports word ≡ option_map (symbol_linked machine naming) (option_and_then (slice_get exports) o)
+  symbol_at exports word o is =
+      ap (option_map (symbol_linked machine naming)) (find-first (asks_for machine naming word) exports)
+      ∙ ap (λ i. option_map (symbol_linked machine naming) (option_and_then (slice_get exports) i)) (sym is)
+
+  -- the same where one of the exports is given for the index
+  pub symbol_of_one : (items : List ShortExport) (word : List ℕ) (index : ℕ) (export : ShortExport) → Some index ≡ first_asking machine naming word (map export_view items)
+      → slice_get items index ≡ Some export
+      → Some (symbol_linked machine naming (export_view export)) ≡ symbol_asking machine naming (map export_view items) word
+  symbol_of_one items word index export is there =
+      sym (symbol_at (map export_view items) word (Some index) is
+      ∙ ap (option_map (symbol_linked machine naming)) (slice_get-map export_view items index ∙ ap (option_map export_view) there))
+
+  -- and where there is none
+  pub symbol_of_none : (items : List ShortExport) (word : List ℕ) (index : ℕ) → Some index ≡ first_asking machine naming word (map export_view items)
+      → slice_get items index ≡ None → None ≡ symbol_asking machine naming (map export_view items) word
+  symbol_of_none items word index is there =
+      sym (symbol_at (map export_view items) word (Some index) is
+      ∙ ap (option_map (symbol_linked machine naming)) (slice_get-map export_view items index ∙ ap (option_map export_view) there))
+
+  -- a word is asked for exactly where the table has an import for it
+  pub asked-first : (exports : List ExportView) (word : List ℕ) → is_some (first_asking machine naming word exports) ≡ is_asked machine naming exports word
+  asked-first exports word =
+      some-first (asks_for machine naming word) exports ∙ sym (some-found (asks_for machine naming word) exports)
+      ∙ sym (is_some-mapped (symbol_linked machine naming) (find (asks_for machine naming word) exports))
+
+  -- an alias whose word is asked for adds no target
+  pub adds_unless_asked : (exports : List ExportView) (e : ExportView) → is_asked machine naming exports e.alias_target ≡ true → false ≡ adds_target machine naming exports e
+  adds_unless_asked exports e asked =
+      sym (ap (λ b. is_apart machine naming e && (not b && not (is_declared exports e.alias_target))) asked ∙ and_false (is_apart machine naming e))
+
+  -- nor one whose word is declared
+  pub adds_unless_declared : (exports : List ExportView) (e : ExportView) → is_declared exports e.alias_target ≡ true → false ≡ adds_target machine naming exports e
+  adds_unless_declared exports e declared =
+      sym (ap (λ b. is_apart machine naming e && (not (is_asked machine naming exports e.alias_target) && not b)) declared
+      ∙ ap (λ b. is_apart machine naming e && b) (and_false (not (is_asked machine naming exports e.alias_target))) ∙ and_false (is_apart machine naming e))
+
+  -- every other does
+  pub adds_else : (exports : List ExportView) (e : ExportView) → is_asked machine naming exports e.alias_target ≡ false → is_declared exports e.alias_target ≡ false → is_apart machine naming e ≡ adds_target machine naming exports e
+  adds_else exports e unasked undeclared =
+      sym (ap (λ b. is_apart machine naming e && (not b && not (is_declared exports e.alias_target))) unasked
+      ∙ ap (λ b. is_apart machine naming e && not b) undeclared ∙ and_true (is_apart machine naming e))
+
+  -- a word that no import asks for, and an export declares
+  pub target_taken : (exports : List ExportView) (word : List ℕ) → symbol_asking machine naming exports word ≡ None → is_declared exports word ≡ true → None ≡ target_symbol machine naming exports word
+  target_taken exports word none declared =
+      sym (ap (λ o. option_or o (if is_declared exports word then None else Some (symbol_of machine naming word))) none
+      ∙ ap (λ b. if b then None else Some (symbol_of machine naming word)) declared)
+
+  -- or that none declares
+  pub target_free : (exports : List ExportView) (word : List ℕ) → symbol_asking machine naming exports word ≡ None → is_declared exports word ≡ false → Some (symbol_of machine naming word) ≡ target_symbol machine naming exports word
+  target_free exports word none free =
+      sym (ap (λ o. option_or o (if is_declared exports word then None else Some (symbol_of machine naming word))) none
+      ∙ ap (λ b. if b then None else Some (symbol_of machine naming word)) free)
+
+  -- symbols for all exports that these are weak for, each by a test of its own
+  pub linked_by-all : (symbol : ExportView → Option (List ℕ)) (exports : List ExportView)
+      → linked_by machine naming (map symbol exports) exports ≡ map (λ e. linked_to machine naming (symbol e) e) exports
+  linked_by-all symbol [] = refl
+  linked_by-all symbol (e ∷ exports) = ap (λ l. linked_to machine naming (symbol e) e ∷ l) (linked_by-all symbol exports)
+
+  -- without a symbol each export is an import
+  pub linked_by-none : (all exports : List ExportView) → linked_by machine naming [] exports ≡ map (linked_export machine naming Gnu all) exports
+  linked_by-none all [] = refl
+  linked_by-none all (e ∷ exports) = ap (λ l. linked_to machine naming None e ∷ l) (linked_by-none all exports)
+
+  -- an export without a word after `==` is no alias
+  plain : (all : List ExportView) (e : ExportView) → has_target e ≡ false → alias_symbol machine naming Msvc all e ≡ None
+  plain all e none = ap (λ b. if b && (not e.private && (not e.no_name && not (makes (symbol_linked machine naming e) e.alias_target))) then target_symbol machine naming all e.alias_target else None) none
+
+  -- nor adds it a target
+  adds_none : (all : List ExportView) (e : ExportView) → has_target e ≡ false → adds_target machine naming all e ≡ false
+  adds_none all e none = ap (λ b. (b && (not e.private && (not e.no_name && not (makes (symbol_linked machine naming e) e.alias_target)))) && (not (is_asked machine naming all e.alias_target) && not (is_declared all e.alias_target))) none
+
+  -- without a word after `==` each export is an import
+  pub linked_by-plain : (all exports : List ExportView) → list_any has_target exports ≡ false → linked_by machine naming [] exports ≡ map (linked_export machine naming Msvc all) exports
+  linked_by-plain all [] none = refl
+  linked_by-plain all (e ∷ exports) none =
+      let parts = neither (has_target e) (list_any has_target exports) none in
+      ap (λ s. linked_to machine naming s e ∷ linked_by machine naming [] exports) (sym (plain all e parts.0))
+      ∙ ap (λ l. linked_export machine naming Msvc all e ∷ l) (linked_by-plain all exports parts.1)
+
+  -- and no target is added
+  pub targets_beside-plain : (all : List ExportView) (symbols : List (List ℕ)) (exports : List ExportView) → list_any has_target exports ≡ false → targets_beside machine naming all symbols exports ≡ []
+  targets_beside-plain all symbols [] none = refl
+  targets_beside-plain all symbols (e ∷ exports) none =
+      let parts = neither (has_target e) (list_any has_target exports) none in
+      let adds = adds_none all e parts.0 in
+      let first : new_target machine naming all symbols e ≡ [] =
+      ap (λ b. if b && not (is_among symbols (symbol_of machine naming e.alias_target)) then target_import machine naming e ∷ [] else []) adds in
+      let same : with_target machine naming all symbols e ≡ symbols =
+      ap (λ b. if b then with_symbol symbols (symbol_of machine naming e.alias_target) else symbols) adds in
+      ap (λ t. t ++ targets_beside machine naming all (with_target machine naming all symbols e) exports) first
+      ∙ (ap (λ k. targets_beside machine naming all k exports) same
+      ∙ targets_beside-plain all symbols exports parts.1)

@@ -2,7 +2,10 @@
 use Rattle.std.specs.Prelude.{◌≡◌, ℕ, ◌+◌, ◌<◌, List, Option, None, Some, get_or, length, map}
 use Rattle.implib.specs.Text.Heard.{Heard, names_of}
 use Rattle.implib.specs.Text.Token.{TokenView}
+use Rattle.std.specs.String.{string_bytes}
+use Rattle.implib_rules.specs.declared.name.FirstHeading.{FirstHeading}
 use Rattle.implib_rules.specs.declared.places.NameOffset.{NameOffset}
+use Rattle.implib_rules.specs.Names.{Headed, headed_by_all}
 use Rattle.implib_rules.specs.declared.places.Places.{Places}
 use Rattle.implib_rules.specs.Places.{walked}
 
@@ -20,3 +23,11 @@ IsOffsetOf index left (Some offset) names = (index < length names) × (get_or (m
 -- the index is the number of names that were to come at the start
 abbrev pub HasOffsetOf : NameOffset → NameOffset → List Heard → Type 0
 HasOffsetOf start name heard = IsOffsetOf start.left name.left name.offset (names_of heard)
+
+-- the view of a listener of headings
+abbrev pub headed_view : FirstHeading → Headed
+headed_view h = record { opened = h.opened; name = string_bytes h.name; is_program = h.is_program }
+
+-- unless an allocation failed, this is known of the headings among the tokens
+abbrev pub HasHeading : FirstHeading → FirstHeading → List Heard → Type 0
+HasHeading start heading heard = heading.failure ≡ None → headed_view heading ≡ headed_by_all heard

@@ -1,6 +1,7 @@
 pub mod Options
 pub mod Names
 pub mod Linked
+pub mod Firsts
 pub mod Repeats
 pub mod LibraryName
 pub mod Order
@@ -12,4 +13,5 @@ pub mod Views
 pub mod WorkedNames
 pub mod WorkedWarnings
 pub mod LibraryLaws
+pub mod BothFlavors
 pub mod WorkedLibraryNames

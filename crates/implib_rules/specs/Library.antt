@@ -33,7 +33,7 @@ use Rattle.implib_rules.specs.declared.library.Refusal.{Refusal}
 use Rattle.implib_rules.specs.declared.library.Refusal.TheVariants.{NotUtf8, Syntax, NoName, Members, Archive, OutOfMemory}
 use Rattle.implib_rules.specs.LibraryName.{with_library_name}
 use Rattle.implib_rules.specs.Linked.{linked}
-use Rattle.implib_rules.specs.Names.{dll_name, is_program, lacks_name}
+use Rattle.implib_rules.specs.Names.{dll_name, is_program, lacks_name, own_name}
 use Rattle.implib_rules.specs.Order.{LibraryReads, library_specs}
 use Rattle.implib_rules.specs.Places.{IsAtFault}
 use Rattle.implib_rules.specs.Repeats.{without_repeats}
@@ -54,28 +54,30 @@ without_mark bytes = if starts_with nat_eq bytes (0xEF ∷ 0xBB ∷ 0xBF ∷ [])
 
 -- the definition under the name of its DLL, without repeats, each export as it is linked, and with the name of its
 -- library
-abbrev pub definition_for : LibraryOptionsView → DefinitionView → Bool → DefinitionView
-definition_for options parsed program = with_library_name options.flavor (linked options.machine options.naming options.flavor
-    (without_repeats (record parsed { import_name = dll_name options.dll parsed.import_name program })))
+abbrev pub definition_for : LibraryOptionsView → DefinitionView → List ℕ → Bool → DefinitionView
+definition_for options parsed own program = with_library_name options.flavor (linked options.machine options.naming options.flavor
+    (without_repeats (record parsed { import_name = dll_name options.dll own program })))
 
--- The definition of a text for a options: what the text means with its words as they are written, which is what
--- it means on AMD64, under the name of the DLL; of the exports of one word the first alone, each as it is linked on
+-- The definition of a text for these options: what the text means with its words as they are written, which is what
+-- it means on AMD64, under the name of the DLL, which is the one given or that of the first heading with one; of the exports of one word the first alone, each as it is linked on
 -- the machine; and with the name of its library for the linker.
 pub record DefinitionFor (text : List ℕ) (options : LibraryOptionsView) (definition : DefinitionView) : Type 0 where
   pub parsed : DefinitionView
   pub parses : Parses text AMD64 parsed
-  pub named : lacks_name options.dll parsed.import_name ≡ false
   pub heard : List Heard
   pub is_heard : IsHeard text heard
-  pub is : definition ≡ definition_for options parsed (is_program heard)
+  pub named : lacks_name options.dll (own_name heard) ≡ false
+  pub is : definition ≡ definition_for options parsed (own_name heard) (is_program heard)
 
 -- the text is a definition, but neither has it a name of the DLL nor is one given
 pub record LacksName (text : List ℕ) (options : LibraryOptionsView) : Type 0 where
   pub parsed : DefinitionView
   pub parses : Parses text AMD64 parsed
-  pub unnamed : lacks_name options.dll parsed.import_name ≡ true
+  pub heard : List Heard
+  pub is_heard : IsHeard text heard
+  pub unnamed : lacks_name options.dll (own_name heard) ≡ true
 
--- why a text has no definition for a options
+-- why a text has no definition for these options
 abbrev pub IsRefusalOfText : List ℕ → LibraryOptionsView → Refusal → Type 0
 IsRefusalOfText text options NotUtf8 = ⊥
 IsRefusalOfText text options (Syntax fault position) =

@@ -1,6 +1,7 @@
 -- By which symbols exports are linked, and what they ask the DLL for: the rules of GNU dlltool and llvm-dlltool
 -- (docs/DECISIONS.md). A word is one of the definition as it is written.
-use Rattle.std.specs.Prelude.{ℕ, ◌≡◌, ◌==◌, Bool, true, false, not, ◌&&◌, ◌||◌, List, [], ◌∷◌, ◌++◌, Option, Some, None, if◌then◌else◌, bytes_eq, fold, length, map, nat_lt}
+use Rattle.std.specs.Prelude.{ℕ, ◌≡◌, ◌==◌, Bool, true, false, not, ◌&&◌, ◌||◌, List, [], ◌∷◌, ◌++◌, Option, Some, None, if◌then◌else◌, bytes_eq, is_some, length, map, nat_lt}
+use Rattle.std.specs.Option.{option_map, option_or}
 use Rattle.implib.specs.declared.flavor.Flavor.{Flavor}
 use Rattle.implib.specs.declared.flavor.Flavor.TheVariants.{Msvc, Gnu}
 use Rattle.implib.specs.declared.machine.MachineType.{MachineType}
@@ -10,7 +11,7 @@ use Rattle.implib.specs.Formats.ShortImport.{before_at_sign, without_prefix}
 use Rattle.implib.specs.Import.{is_empty_text, name_asked}
 use Rattle.implib.specs.Machine.{has_leading_underscore}
 use Rattle.implib.specs.Renaming.{name_to_link}
-use Rattle.std.specs.List.{after_first, before_first, filter, list_any, position_or_len}
+use Rattle.std.specs.List.{after_first, before_first, find, list_any, position_or_len}
 use Rattle.implib_rules.specs.declared.linked.Naming.{Naming}
 
 -- how names are read on I386
@@ -79,6 +80,18 @@ asked_of machine naming word target = if is_empty_text target then word_asked ma
 abbrev pub word_of : ExportView → List ℕ
 word_of e = name_to_link e.ext_name e.name
 
+-- what the DLL is asked for, for an export that is an import
+abbrev pub export_asked : MachineType → NamingView → ExportView → List ℕ
+export_asked machine naming e = asked_of machine naming (word_of e) e.alias_target
+
+-- whether an export declares a word: it has the word, and is not private
+abbrev pub declares : ExportView → List ℕ → Bool
+declares e word = not e.private && bytes_eq word (word_of e)
+
+-- whether one of these exports declares a word
+abbrev pub is_declared : List ExportView → List ℕ → Bool
+is_declared exports word = list_any (λ e. declares e word) exports
+
 -- the symbol by which an export is linked
 abbrev pub symbol_linked : MachineType → NamingView → ExportView → List ℕ
 symbol_linked machine naming e = symbol_of machine naming (word_of e)
@@ -96,7 +109,7 @@ linked_import machine naming e = record e {
   name = symbol_linked machine naming e;
   ext_name = None;
   alias_target = [];
-  asked_name = name_given machine (symbol_linked machine naming e) (asked_of machine naming (word_of e) e.alias_target);
+  asked_name = name_given machine (symbol_linked machine naming e) (export_asked machine naming e);
 }
 
 -- An export that is linked as an import asks for the word after `==`, or else for what its own word says, given or
@@ -104,7 +117,7 @@ linked_import machine naming e = record e {
 abbrev pub AsksAsLinked : Type 0
 AsksAsLinked =
     (machine : MachineType) (naming : NamingView) (e : ExportView)
-    → name_asked machine (linked_import machine naming e) ≡ asked_of machine naming (word_of e) e.alias_target
+    → name_asked machine (linked_import machine naming e) ≡ export_asked machine naming e
 
 -- Whether a name type, which is name, no prefix or undecorate, makes a name of the symbol. For example, of
 -- `_f@8` they make `_f@8`, `f@8` and f.
@@ -117,41 +130,70 @@ makes symbol name =
 abbrev pub has_target : ExportView → Bool
 has_target e = not (is_empty_text e.alias_target)
 
--- Whether an export of this symbol is an alias in a flavour: it has a word after `==` that Microsoft's short
--- import of the symbol cannot ask for. One that is private is left out, and one by ordinal asks for no name.
-abbrev pub is_alias_under : Flavor → List ℕ → ExportView → Bool
-is_alias_under Gnu symbol e = false
-is_alias_under Msvc symbol e =
-    has_target e && (not e.private && (not e.no_name && not (makes symbol e.alias_target)))
+-- Whether an export of this symbol cannot be an import by name for Microsoft's linker: it has a word after `==`
+-- that no name type makes of the symbol. One that is private is left out, and one by ordinal asks for no name.
+abbrev pub asks_apart : List ℕ → ExportView → Bool
+asks_apart symbol e = has_target e && (not e.private && (not e.no_name && not (makes symbol e.alias_target)))
 
--- whether an export is an alias
-abbrev pub is_linked_alias : MachineType → NamingView → Flavor → ExportView → Bool
-is_linked_alias machine naming flavor e = is_alias_under flavor (symbol_linked machine naming e) e
+-- whether an export cannot be an import by name for Microsoft's linker
+abbrev pub is_apart : MachineType → NamingView → ExportView → Bool
+is_apart machine naming e = asks_apart (symbol_linked machine naming e) e
 
--- the symbol that the word after `==` names
-abbrev pub target_symbol : MachineType → NamingView → ExportView → List ℕ
-target_symbol machine naming e = symbol_of machine naming e.alias_target
+-- whether Microsoft's linker imports an export by name: it is not private, not by ordinal, and not apart
+abbrev pub is_named_import : MachineType → NamingView → ExportView → Bool
+is_named_import machine naming e = not e.private && (not e.no_name && not (is_apart machine naming e))
+
+-- whether Microsoft's linker imports an export by name and asks for this word
+abbrev pub asks_for : MachineType → NamingView → List ℕ → ExportView → Bool
+asks_for machine naming word e = is_named_import machine naming e && bytes_eq word (export_asked machine naming e)
+
+-- the symbol of the first import by name that asks for a word
+abbrev pub symbol_asking : MachineType → NamingView → List ExportView → List ℕ → Option (List ℕ)
+symbol_asking machine naming exports word =
+    option_map (symbol_linked machine naming) (find (asks_for machine naming word) exports)
+
+-- whether an import by name asks for a word
+abbrev pub is_asked : MachineType → NamingView → List ExportView → List ℕ → Bool
+is_asked machine naming exports word = is_some (symbol_asking machine naming exports word)
+
+-- The symbol by which the DLL is asked for a word: that of the first import by name that asks for it; if there is
+-- none, the word's own, unless an export, which asks for something else, declares the word. For example, under `-k`
+-- on I386 that of f is `_f@8` beside an export `f@8`, and `f@8` has none.
+abbrev pub target_symbol : MachineType → NamingView → List ExportView → List ℕ → Option (List ℕ)
+target_symbol machine naming exports word =
+    option_or (symbol_asking machine naming exports word)
+    (if is_declared exports word then None else Some (symbol_of machine naming word))
+
+-- The symbol that an export among others is weak for in a flavour, if it is an alias. One that is apart and whose
+-- word after `==` has no symbol stays an import, which Microsoft's flavour refuses.
+abbrev pub alias_symbol : MachineType → NamingView → Flavor → List ExportView → ExportView → Option (List ℕ)
+alias_symbol machine naming Gnu exports e = None
+alias_symbol machine naming Msvc exports e =
+    if is_apart machine naming e then target_symbol machine naming exports e.alias_target else None
 
 -- An alias: its symbol is weak for its target's. What it asks for is its own symbol, so that no rule on names
 -- refuses what no member asks for.
-abbrev pub linked_alias : MachineType → NamingView → ExportView → ExportView
-linked_alias machine naming e = record e {
+abbrev pub linked_alias : MachineType → NamingView → List ℕ → ExportView → ExportView
+linked_alias machine naming target e = record e {
   name = symbol_linked machine naming e;
   ext_name = None;
-  alias_target = target_symbol machine naming e;
+  alias_target = target;
   asked_name = Some (symbol_linked machine naming e);
 }
 
--- the export as it is linked
-abbrev pub linked_export : MachineType → NamingView → Flavor → ExportView → ExportView
-linked_export machine naming flavor e =
-    if is_linked_alias machine naming flavor e then linked_alias machine naming e
-    else linked_import machine naming e
+-- an export as it is linked: weak for a symbol, or an import
+abbrev pub linked_to : MachineType → NamingView → Option (List ℕ) → ExportView → ExportView
+linked_to machine naming None e = linked_import machine naming e
+linked_to machine naming (Some target) e = linked_alias machine naming target e
+
+-- an export among others as it is linked
+abbrev pub linked_export : MachineType → NamingView → Flavor → List ExportView → ExportView → ExportView
+linked_export machine naming flavor exports e = linked_to machine naming (alias_symbol machine naming flavor exports e) e
 
 -- the import of an alias's target, which asks for the word after `==` as it is written
 abbrev pub target_import : MachineType → NamingView → ExportView → ExportView
 target_import machine naming e = record empty_export {
-  name = target_symbol machine naming e;
+  name = symbol_of machine naming e.alias_target;
   asked_name = Some e.alias_target;
   is_data = e.is_data;
   constant = e.constant;
@@ -165,39 +207,39 @@ is_among symbols symbol = list_any (bytes_eq symbol) symbols
 abbrev pub with_symbol : List (List ℕ) → List ℕ → List (List ℕ)
 with_symbol symbols symbol = if is_among symbols symbol then symbols else symbols ++ symbol ∷ []
 
--- the symbols of the exports that are not private, each once
-abbrev pub symbols_linked : MachineType → NamingView → List ExportView → List (List ℕ)
-symbols_linked machine naming exports =
-    fold with_symbol [] (map (symbol_linked machine naming) (filter (λ e. not e.private) exports))
+-- whether an alias wants an import of its word after `==`, since no export asks for it or declares it
+abbrev pub adds_target : MachineType → NamingView → List ExportView → ExportView → Bool
+adds_target machine naming exports e =
+    is_apart machine naming e && (not (is_asked machine naming exports e.alias_target) && not (is_declared exports e.alias_target))
 
--- the symbols, with that of an alias's target
-abbrev pub with_target : MachineType → NamingView → Flavor → List (List ℕ) → ExportView → List (List ℕ)
-with_target machine naming flavor symbols e =
-    if is_linked_alias machine naming flavor e then with_symbol symbols (target_symbol machine naming e) else symbols
+-- the symbols of the targets that are added, with that of an alias's target
+abbrev pub with_target : MachineType → NamingView → List ExportView → List (List ℕ) → ExportView → List (List ℕ)
+with_target machine naming exports symbols e =
+    if adds_target machine naming exports e then with_symbol symbols (symbol_of machine naming e.alias_target) else symbols
 
--- the import of an alias's target, if its symbol is not among these
-abbrev pub new_target : MachineType → NamingView → Flavor → List (List ℕ) → ExportView → List ExportView
-new_target machine naming flavor symbols e =
-    if is_linked_alias machine naming flavor e && not (is_among symbols (target_symbol machine naming e))
+-- the import of an alias's target, if it is to be added and its symbol is not among these
+abbrev pub new_target : MachineType → NamingView → List ExportView → List (List ℕ) → ExportView → List ExportView
+new_target machine naming exports symbols e =
+    if adds_target machine naming exports e && not (is_among symbols (symbol_of machine naming e.alias_target))
     then target_import machine naming e ∷ [] else []
 
--- the imports of the targets of aliases whose symbols are not among these, in the order of their first use
-abbrev pub targets_beside : MachineType → NamingView → Flavor → List (List ℕ) → List ExportView → List ExportView
-targets_beside machine naming flavor symbols [] = []
-targets_beside machine naming flavor symbols (e ∷ exports) =
-    new_target machine naming flavor symbols e
-    ++ targets_beside machine naming flavor (with_target machine naming flavor symbols e) exports
+-- the imports that some of the exports add, in the order of their first use, if their symbols are not among these
+abbrev pub targets_beside : MachineType → NamingView → List ExportView → List (List ℕ) → List ExportView → List ExportView
+targets_beside machine naming exports symbols [] = []
+targets_beside machine naming exports symbols (e ∷ rest) =
+    new_target machine naming exports symbols e
+    ++ targets_beside machine naming exports (with_target machine naming exports symbols e) rest
 
--- The imports that aliases add: of each target once, if no export that is not private has its symbol. For
+-- The imports that aliases add in a flavour: of each word once, if no export asks for it or declares it. For
 -- example, `a == b` and `c == b` add b.
 abbrev pub targets_added : MachineType → NamingView → Flavor → List ExportView → List ExportView
-targets_added machine naming flavor exports =
-    targets_beside machine naming flavor (symbols_linked machine naming exports) exports
+targets_added machine naming Gnu exports = []
+targets_added machine naming Msvc exports = targets_beside machine naming exports [] exports
 
 -- exports as they are linked, and after them the targets that aliases add
 abbrev pub linked_exports : MachineType → NamingView → Flavor → List ExportView → List ExportView
 linked_exports machine naming flavor exports =
-    map (linked_export machine naming flavor) exports ++ targets_added machine naming flavor exports
+    map (linked_export machine naming flavor exports) exports ++ targets_added machine naming flavor exports
 
 -- the definition with each export as it is linked, and with the targets of its aliases
 abbrev pub linked : MachineType → NamingView → Flavor → DefinitionView → DefinitionView

@@ -1,18 +1,9 @@
 -- Exports of a word that an export before them declares (GNU dlltool's rule: the first export of a symbol stays).
 -- Two exports have one symbol where they have one word (`SymbolsAreOfWords`).
-use Rattle.std.specs.Prelude.{◌≡◌, ℕ, Bool, ◌&&◌, ◌||◌, not, List, [], ◌∷◌, ◌++◌, Some, bytes_eq, drop, slice_get, take}
-use Rattle.std.specs.List.{list_any}
+use Rattle.std.specs.Prelude.{◌≡◌, ℕ, Bool, ◌&&◌, ◌||◌, not, List, [], ◌∷◌, ◌++◌, Some, drop, slice_get, take}
 use Rattle.implib.specs.declared.machine.MachineType.{MachineType}
 use Rattle.implib.specs.Definition.{DefinitionView, ExportView}
-use Rattle.implib_rules.specs.Linked.{NamingView, symbol_of, word_of}
-
--- whether an export declares a word: it has the word, and is not private
-abbrev pub declares : ExportView → List ℕ → Bool
-declares e word = not e.private && bytes_eq word (word_of e)
-
--- whether one of these exports declares a word
-abbrev pub is_declared : List ExportView → List ℕ → Bool
-is_declared exports word = list_any (λ e. declares e word) exports
+use Rattle.implib_rules.specs.Linked.{NamingView, is_declared, symbol_of, word_of}
 
 -- whether an export repeats a word that one of those before it declares; one that is private declares nothing
 abbrev pub repeats : List ExportView → ExportView → Bool

@@ -1,8 +1,6 @@
 -- What the program warns of in a definition (this project's choice).
-use Rattle.std.specs.Prelude.{◌≡◌, ℕ, suc, ◌==◌, ◌+◌, ◌-◌, ◌≤◌, Bool, true, false, not, ◌&&◌, List, [], ◌∷◌, ◌++◌, Option, None, Some, codes, if◌then◌else◌, is_none, is_some, length, nat_eq, nat_lt, slice_get, slice_index, take}
-use denote.Ref.{Bor}
+use Rattle.std.specs.Prelude.{◌≡◌, ℕ, ◌==◌, ◌+◌, ◌-◌, ◌≤◌, Bool, true, false, not, ◌&&◌, List, [], ◌∷◌, ◌++◌, Option, None, Some, codes, if◌then◌else◌, is_none, is_some, length, nat_eq, nat_lt, slice_get, slice_index, take}
 use Rattle.std.specs.Char.{is_ascii_digit}
-use Rattle.std.specs.HashMap.{HashMap, get, get_by}
 use Rattle.std.specs.List.{after_first, before_first, list_all, list_any}
 use Rattle.std.specs.Option.{option_map}
 use Rattle.std.specs.Str.{IsUtf8, bytes_eq, str_eq_ignore_ascii_case}
@@ -23,9 +21,10 @@ use Rattle.implib_rules.specs.declared.warnings.Notice.TheVariants as notice
 use Rattle.implib_rules.specs.declared.warnings.Warning.{Warning}
 use Rattle.implib_rules.specs.declared.warnings.words.Attribute.{Attribute}
 use Rattle.implib_rules.specs.declared.warnings.words.Attribute.TheVariants.{Data, Constant, Private, NoName}
+use Rattle.implib_rules.specs.Firsts.{first_declared, first_of_ordinal, first_of_word}
 use Rattle.implib_rules.specs.Linked.{NamingView, has_at_sign, is_at_sign, word_of}
 use Rattle.implib_rules.specs.Places.{places_in}
-use Rattle.implib_rules.specs.Repeats.{declares, repeats}
+use Rattle.implib_rules.specs.Repeats.{repeats}
 use Rattle.implib_rules.specs.Options.{LibraryOptionsView}
 
 -- whether a word is an attribute, unless it is quoted
@@ -111,35 +110,6 @@ pub record WarningView : Type 0 where
 -- the view of a warning of the program
 abbrev pub warning_view : Warning → WarningView
 warning_view w = record { notice = notice_view w.notice; position = w.position }
-
--- the index of the first item that passes a test
-abbrev pub first_where : {A : Type 0} → (A → Bool) → List A → Option ℕ
-first_where test [] = None
-first_where test (item ∷ items) = if test item then Some 0 else option_map suc (first_where test items)
-
--- the first export of a word
-abbrev pub first_of_word : List ℕ → List ExportView → Option ℕ
-first_of_word word exports = first_where (λ e. bytes_eq word (word_of e)) exports
-
--- the first export of a word that is not private: the one that declares it
-abbrev pub first_declared : List ℕ → List ExportView → Option ℕ
-first_declared word exports = first_where (λ e. declares e word) exports
-
--- the first export of an ordinal; 0 stands for none
-abbrev pub first_of_ordinal : ℕ → List ExportView → Option ℕ
-first_of_ordinal ordinal exports = first_where (λ e. nat_eq ordinal e.ordinal) exports
-
--- a table has the first export of each word
-abbrev pub AreFirstWords : {S : Type 0} → HashMap (Bor (List ℕ)) ℕ S → List ExportView → Type 0
-AreFirstWords firsts exports = (word : List ℕ) → get_by (λ k. bytes_eq word k.now) firsts ≡ first_of_word word exports
-
--- a table has the export that declares each word
-abbrev pub AreFirstDeclared : {S : Type 0} → HashMap (Bor (List ℕ)) ℕ S → List ExportView → Type 0
-AreFirstDeclared firsts exports = (word : List ℕ) → get_by (λ k. bytes_eq word k.now) firsts ≡ first_declared word exports
-
--- a table has the first export of each ordinal
-abbrev pub AreFirstOrdinals : {S : Type 0} → HashMap ℕ ℕ S → List ExportView → Type 0
-AreFirstOrdinals firsts exports = (ordinal : ℕ) → get nat_eq firsts ordinal ≡ first_of_ordinal ordinal exports
 
 -- an index, if it is before another
 abbrev pub earlier : Option ℕ → ℕ → Option ℕ

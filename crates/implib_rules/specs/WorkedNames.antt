@@ -1,12 +1,17 @@
 -- Symbols, asked names, names of DLLs and aliases worked by hand.
 use Rattle.std.specs.Prelude.{◌≡◌, ℕ, List, [], ◌∷◌, true, false, None, Some, codes, map}
+use Rattle.implib.specs.declared.def.lexer.TokenKind.{TokenKind}
+use Rattle.implib.specs.declared.def.lexer.TokenKind.TheVariants.{Identifier, KwExports, KwLibrary, KwName}
+use Rattle.implib.specs.declared.def.listener.Role.TheVariants.{Other}
+use Rattle.implib.specs.declared.flavor.Flavor.{Flavor}
 use Rattle.implib.specs.declared.flavor.Flavor.TheVariants.{Msvc, Gnu}
 use Rattle.implib.specs.declared.machine.MachineType.{MachineType}
 use Rattle.implib.specs.declared.machine.MachineType.TheVariants.{I386, ARMNT, AMD64, ARM64}
 use Rattle.implib.specs.Definition.{DefinitionView, ExportView, empty_definition, empty_export}
 use Rattle.implib.specs.Import.{name_asked}
+use Rattle.implib.specs.Text.Heard.{Heard}
 use Rattle.implib_rules.specs.Linked.{NamingView, linked, linked_export, linked_exports, symbol_linked}
-use Rattle.implib_rules.specs.Names.{dll_name, lacks_name}
+use Rattle.implib_rules.specs.Names.{dll_name, is_program, lacks_name, own_name}
 use Rattle.implib_rules.specs.Order.{library_specs}
 
 -- the rules without an option
@@ -25,12 +30,16 @@ plain = record { is_plain = true; kills_at = false }
 abbrev pub line : List ℕ → List ℕ → ExportView
 line word target = record empty_export { name = word; alias_target = target }
 
+-- an export as it is linked where there is no other
+abbrev pub linked_alone : MachineType → NamingView → Flavor → ExportView → ExportView
+linked_alone machine naming flavor e = linked_export machine naming flavor (e ∷ []) e
+
 -- in GNU's flavour the export of a word, with another after `==` or with an empty one, has this symbol and asks
 -- for this name
 pub record Links (machine : MachineType) (naming : NamingView) (word target symbol asked : List ℕ) : Type 0 where
-  pub symbol_is : (linked_export machine naming Gnu (line word target)).name ≡ symbol
-  pub asked_is : name_asked machine (linked_export machine naming Gnu (line word target)) ≡ asked
-  pub target_gone : (linked_export machine naming Gnu (line word target)).alias_target ≡ []
+  pub symbol_is : (linked_alone machine naming Gnu (line word target)).name ≡ symbol
+  pub asked_is : name_asked machine (linked_alone machine naming Gnu (line word target)) ≡ asked
+  pub target_gone : (linked_alone machine naming Gnu (line word target)).alias_target ≡ []
 
 -- what exports are linked by, and what they ask for
 pub record ExportsLinked : Type 0 where
@@ -51,11 +60,11 @@ pub record ExportsLinked : Type 0 where
   pub other : Links AMD64 usual (codes "a") (codes "b") (codes "a") (codes "b")
   pub other_underscored : Links I386 usual (codes "a") (codes "b") (codes "_a") (codes "b")
   pub other_not_killed : Links I386 killing (codes "a@4") (codes "a@4") (codes "_a@4") (codes "a@4")
-  pub c_given : (linked_export I386 usual Msvc (line (codes "f") [])).asked_name ≡ Some (codes "f")
-  pub plain_given : (linked_export I386 plain Msvc (line (codes "_J") [])).asked_name ≡ Some (codes "_J")
-  pub other_given : (linked_export ARM64 usual Gnu (line (codes "a") (codes "b"))).asked_name ≡ Some (codes "b")
-  pub own_not_given : (linked_export AMD64 killing Msvc (line (codes "F@8") [])).asked_name ≡ None
-  pub target_not_given : (linked_export ARMNT usual Gnu (line (codes "a") (codes "a"))).asked_name ≡ None
+  pub c_given : (linked_alone I386 usual Msvc (line (codes "f") [])).asked_name ≡ Some (codes "f")
+  pub plain_given : (linked_alone I386 plain Msvc (line (codes "_J") [])).asked_name ≡ Some (codes "_J")
+  pub other_given : (linked_alone ARM64 usual Gnu (line (codes "a") (codes "b"))).asked_name ≡ Some (codes "b")
+  pub own_not_given : (linked_alone AMD64 killing Msvc (line (codes "F@8") [])).asked_name ≡ None
+  pub target_not_given : (linked_alone ARMNT usual Gnu (line (codes "a") (codes "a"))).asked_name ≡ None
   pub by_name : symbol_linked I386 usual (line (codes "f") []) ≡ codes "_f"
   pub by_external_name : symbol_linked I386 usual (record (line (codes "f") []) { ext_name = Some (codes "g") }) ≡ codes "_g"
 
@@ -81,12 +90,23 @@ pub record AliasesLinked : Type 0 where
       ≡ an_alias (codes "_a@4") (codes "_F@8") ∷ an_import (codes "_F@8") (codes "F@8") ∷ []
   pub exported : linked_exports AMD64 usual Msvc (line (codes "a") (codes "b") ∷ line (codes "b") [] ∷ [])
       ≡ an_alias (codes "a") (codes "b") ∷ a_plain_import (codes "b") ∷ []
-  pub exported_killed : linked_exports I386 killing Msvc (line (codes "a") (codes "F@8") ∷ line (codes "F@8") [] ∷ [])
-      ≡ an_alias (codes "_a") (codes "_F@8") ∷ an_import (codes "_F@8") (codes "F") ∷ []
+  pub asked_killed : linked_exports I386 killing Msvc (line (codes "a@4") (codes "F") ∷ line (codes "F@8") [] ∷ [])
+      ≡ an_alias (codes "_a@4") (codes "_F@8") ∷ an_import (codes "_F@8") (codes "F") ∷ []
+  pub asked_first : linked_exports I386 killing Msvc (line (codes "F@4") [] ∷ line (codes "a") (codes "F") ∷ line (codes "F@8") [] ∷ [])
+      ≡ an_import (codes "_F@4") (codes "F") ∷ an_alias (codes "_a") (codes "_F@4") ∷ an_import (codes "_F@8") (codes "F") ∷ []
+  pub asked_by_name_type : linked_exports I386 usual Msvc (line (codes "a") (codes "_swab") ∷ line (codes "swab") (codes "_swab") ∷ [])
+      ≡ an_alias (codes "_a") (codes "_swab") ∷ an_import (codes "_swab") (codes "_swab") ∷ []
+  pub taken_killed : linked_exports I386 killing Msvc (line (codes "a") (codes "F@8") ∷ line (codes "F@8") [] ∷ [])
+      ≡ an_import (codes "_a") (codes "F@8") ∷ an_import (codes "_F@8") (codes "F") ∷ []
+  pub taken_by_ordinal : linked_exports AMD64 usual Msvc
+      (line (codes "a") (codes "b") ∷ record (line (codes "b") []) { no_name = true; ordinal = 5 } ∷ [])
+      ≡ an_import (codes "a") (codes "b") ∷ record (a_plain_import (codes "b")) { no_name = true; ordinal = 5 } ∷ []
   pub shared : linked_exports AMD64 usual Msvc (line (codes "a") (codes "b") ∷ line (codes "c") (codes "b") ∷ [])
       ≡ an_alias (codes "a") (codes "b") ∷ an_alias (codes "c") (codes "b") ∷ an_import (codes "b") (codes "b") ∷ []
   pub chained : linked_exports AMD64 usual Msvc (line (codes "a") (codes "b") ∷ line (codes "b") (codes "c") ∷ [])
-      ≡ an_alias (codes "a") (codes "b") ∷ an_alias (codes "b") (codes "c") ∷ an_import (codes "c") (codes "c") ∷ []
+      ≡ an_import (codes "a") (codes "b") ∷ an_alias (codes "b") (codes "c") ∷ an_import (codes "c") (codes "c") ∷ []
+  pub exchanged : linked_exports AMD64 usual Msvc (line (codes "a") (codes "b") ∷ line (codes "b") (codes "a") ∷ [])
+      ≡ an_import (codes "a") (codes "b") ∷ an_import (codes "b") (codes "a") ∷ []
   pub private_target : linked_exports AMD64 usual Msvc
       (line (codes "a") (codes "b") ∷ record (line (codes "b") []) { private = true } ∷ [])
       ≡ an_alias (codes "a") (codes "b") ∷ record (a_plain_import (codes "b")) { private = true }
@@ -138,6 +158,21 @@ pub record MembersInOrder : Type 0 where
       ∷ (codes "__imp_f" ∷ [])
       ∷ []
 
+-- a token that is heard
+abbrev pub heard : TokenKind → List ℕ → Heard
+heard kind value = record { role = Other; token = record { kind = kind; value = value; at = 0 } }
+
+-- what is heard of `LIBRARY`, `NAME a` and `LIBRARY b`, and of `LIBRARY a` and `NAME b`
+abbrev pub three_headings : List Heard
+three_headings =
+    heard KwLibrary (codes "LIBRARY") ∷ heard KwName (codes "NAME") ∷ heard Identifier (codes "a")
+    ∷ heard KwLibrary (codes "LIBRARY") ∷ heard Identifier (codes "b") ∷ []
+
+abbrev pub two_headings : List Heard
+two_headings =
+    heard KwLibrary (codes "LIBRARY") ∷ heard Identifier (codes "a")
+    ∷ heard KwName (codes "NAME") ∷ heard Identifier (codes "b") ∷ []
+
 -- names of DLLs
 pub record DllsNamed : Type 0 where
   pub library : dll_name None (codes "zoo") false ≡ codes "zoo.dll"
@@ -149,3 +184,8 @@ pub record DllsNamed : Type 0 where
   pub none : lacks_name None [] ≡ true
   pub directory : lacks_name None (codes "zoo/") ≡ true
   pub given_for_none : lacks_name (Some (codes "zoo")) [] ≡ false
+  pub first_of_three : own_name three_headings ≡ codes "a"
+  pub program_of_three : is_program three_headings ≡ true
+  pub first_of_two : own_name two_headings ≡ codes "a"
+  pub library_of_two : is_program two_headings ≡ false
+  pub unheaded_text : own_name (heard KwExports (codes "EXPORTS") ∷ heard Identifier (codes "c") ∷ []) ≡ []

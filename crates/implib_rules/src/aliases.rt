@@ -1,20 +1,116 @@
-//! The imports that the aliases of a definition lead to, where no export of it is one.
+//! The imports that the aliases of a definition lead to.
 
-ghost use Rattle.implib.specs.Definition.{export_view};
+ghost use Rattle.implib.specs.Definition.{ExportView, export_view};
 ghost use Rattle.implib.specs.declared.flavor.Flavor.TheVariants.{Msvc};
-ghost use Rattle.implib_rules.specs.Linked.{has_target, is_among, linked_exports, naming_view};
-ghost use Rattle.implib_rules.specs.Linked.{new_target, symbols_linked, target_import};
-ghost use Rattle.implib_rules.specs.Linked.{targets_added, targets_beside, with_symbol};
-ghost use Rattle.implib_rules.specs.Linked.{with_target};
+ghost use Rattle.implib_rules.specs.Firsts.{AreFirstAsking, AreFirstDeclared};
+ghost use Rattle.implib_rules.specs.Linked.{adds_target, alias_symbol, has_target, is_among};
+ghost use Rattle.implib_rules.specs.Linked.{linked_exports, naming_view, new_target};
+ghost use Rattle.implib_rules.specs.Linked.{symbol_asking, target_import, target_symbol};
+ghost use Rattle.implib_rules.specs.Linked.{targets_added, with_symbol, with_target};
+ghost use Rattle.implib_rules.specs.Views.{AreLinks};
 ghost use Rattle.std.specs.List.{list_any};
-ghost use Rattle.std.specs.Prelude.{◌≡◌, ◌++◌, IfOk, OnOk, map, not};
+ghost use Rattle.std.specs.Prelude.{◌≡◌, ◌++◌, IfOk, List, OnOk, map, not, option_map};
 ghost use Rattle.std.specs.String.{string_bytes};
 
-use crate::linked::{Naming, is_alias_under, link_exports, symbol_linked, symbol_of};
+use crate::firsts::{first_asking, first_declared};
+use crate::linked::{Naming, is_apart, link_exports, symbol_linked, symbol_of};
 use implib::def::ShortExport;
 use implib::{Flavor, MachineType};
 use indexmap::IndexSet;
 use std::alloc::{AllocError, Global};
+use std::collections::HashMap;
+
+// The symbol of the first import by name that asks for a word.
+fn symbol_asking(
+    alloc: Global,
+    machine: MachineType,
+    naming: Naming,
+    exports: &[ShortExport],
+    asking: &HashMap<&str, usize>,
+    word: &str,
+) -> Result<Option<String>, AllocError>
+    requires { AreFirstAsking machine (naming_view naming) asking.now (map export_view exports.now) }
+    ensures { IfOk result (λ symbol. option_map string_bytes symbol
+        ≡ symbol_asking machine (naming_view naming) (map export_view exports.now) word.now) }
+{
+    let Some(index) = asking.get(word).copied() else {
+        return Ok(None);
+    };
+    match exports.get(index) {
+        Some(export) => Ok(Some(symbol_linked(alloc, machine, naming, export)?)),
+        None => Ok(None),
+    }
+}
+
+// The symbol by which the DLL is asked for a word, if there is one.
+fn target_symbol(
+    alloc: Global,
+    machine: MachineType,
+    naming: Naming,
+    exports: &[ShortExport],
+    asking: &HashMap<&str, usize>,
+    declared: &HashMap<&str, usize>,
+    word: &str,
+) -> Result<Option<String>, AllocError>
+    requires asking { AreFirstAsking machine (naming_view naming) asking.now
+        (map export_view exports.now) }
+    requires declared { AreFirstDeclared declared.now (map export_view exports.now) }
+    ensures { IfOk result (λ symbol. option_map string_bytes symbol
+        ≡ target_symbol machine (naming_view naming) (map export_view exports.now) word.now) }
+{
+    match symbol_asking(alloc, machine, naming, exports, asking, word)? {
+        Some(symbol) => Ok(Some(symbol)),
+        None if declared.contains_key(word) => Ok(None),
+        None => Ok(Some(symbol_of(alloc, machine, naming, word)?)),
+    }
+}
+
+// The symbol that an export is weak for in Microsoft's flavour, if it is an alias.
+fn alias_symbol(
+    alloc: Global,
+    machine: MachineType,
+    naming: Naming,
+    exports: &[ShortExport],
+    asking: &HashMap<&str, usize>,
+    declared: &HashMap<&str, usize>,
+    export: &ShortExport,
+) -> Result<Option<String>, AllocError>
+    requires asking { AreFirstAsking machine (naming_view naming) asking.now
+        (map export_view exports.now) }
+    requires declared { AreFirstDeclared declared.now (map export_view exports.now) }
+    ensures { IfOk result (λ symbol. option_map string_bytes symbol
+        ≡ alias_symbol machine (naming_view naming) Msvc (map export_view exports.now)
+        (export_view export.now)) }
+{
+    if !is_apart(alloc, machine, naming, export)? {
+        return Ok(None);
+    }
+    let word = export.alias_target.as_str();
+    target_symbol(alloc, machine, naming, exports, asking, declared, word)
+}
+
+// The symbols that the exports are weak for in Microsoft's flavour, one by one.
+fn alias_symbols(
+    alloc: Global,
+    machine: MachineType,
+    naming: Naming,
+    exports: &[ShortExport],
+    asking: &HashMap<&str, usize>,
+    declared: &HashMap<&str, usize>,
+) -> Result<Vec<Option<String>>, AllocError>
+    requires asking { AreFirstAsking machine (naming_view naming) asking.now
+        (map export_view exports.now) }
+    requires declared { AreFirstDeclared declared.now (map export_view exports.now) }
+    ensures { IfOk result (λ symbols. map (option_map string_bytes) symbols.items
+        ≡ map (alias_symbol machine (naming_view naming) Msvc (map export_view exports.now))
+        (map export_view exports.now)) }
+{
+    let mut symbols = Vec::with_capacity(alloc, exports.len())?;
+    for export in exports {
+        symbols.push(alias_symbol(alloc, machine, naming, exports, asking, declared, export)?)?;
+    }
+    Ok(symbols)
+}
 
 // The import of an alias's target.
 fn target_import(
@@ -45,67 +141,90 @@ fn insert_symbol(symbols: &mut IndexSet<String>, symbol: String) -> Result<bool,
     Ok(symbols.insert(symbol)?)
 }
 
-// The symbols of the exports that are not private.
-fn symbols_linked(
+// Whether an alias wants an import of its word after `==`.
+fn adds_target(
     alloc: Global,
     machine: MachineType,
     naming: Naming,
-    exports: &[ShortExport],
-) -> Result<IndexSet<String>, AllocError>
-    ensures { IfOk result (λ symbols. map string_bytes symbols.keys
-        ≡ symbols_linked machine (naming_view naming) (map export_view exports.now)) }
+    asking: &HashMap<&str, usize>,
+    declared: &HashMap<&str, usize>,
+    export: &ShortExport,
+) -> Result<bool, AllocError>
+    ensures { (exports : List ExportView) →
+        AreFirstAsking machine (naming_view naming) asking.now exports →
+        AreFirstDeclared declared.now exports →
+        IfOk result (λ adds. adds
+        ≡ adds_target machine (naming_view naming) exports (export_view export.now)) }
 {
-    let mut symbols = IndexSet::new(alloc);
-    for export in exports {
-        if !export.private {
-            insert_symbol(&mut symbols, symbol_linked(alloc, machine, naming, export)?)?;
-        }
+    let word = export.alias_target.as_str();
+    if asking.contains_key(word) || declared.contains_key(word) {
+        return Ok(false);
     }
-    Ok(symbols)
+    is_apart(alloc, machine, naming, export)
 }
 
-// Adds the import of an alias's target, unless its symbol is there.
+// Adds the import of an alias's target, if it is to be added and its symbol is not there.
 fn push_target(
     alloc: Global,
     machine: MachineType,
     naming: Naming,
+    asking: &HashMap<&str, usize>,
+    declared: &HashMap<&str, usize>,
     export: &ShortExport,
     symbols: &mut IndexSet<String>,
     targets: &mut Vec<ShortExport>,
 ) -> Result<(), AllocError>
-    ensures symbols { OnOk result (map string_bytes symbols.new.keys
-        ≡ with_target machine (naming_view naming) Msvc
+    ensures symbols { (exports : List ExportView) →
+        AreFirstAsking machine (naming_view naming) asking.now exports →
+        AreFirstDeclared declared.now exports →
+        OnOk result (map string_bytes symbols.new.keys
+        ≡ with_target machine (naming_view naming) exports
         (map string_bytes symbols.old.keys) (export_view export.now)) }
-    ensures targets { OnOk result (map export_view targets.new.items
-        ≡ map export_view targets.old.items ++ new_target machine (naming_view naming) Msvc
+    ensures targets { (exports : List ExportView) →
+        AreFirstAsking machine (naming_view naming) asking.now exports →
+        AreFirstDeclared declared.now exports →
+        OnOk result (map export_view targets.new.items
+        ≡ map export_view targets.old.items ++ new_target machine (naming_view naming) exports
         (map string_bytes symbols.old.keys) (export_view export.now)) }
 {
-    let symbol = symbol_linked(alloc, machine, naming, export)?;
-    if !is_alias_under(Flavor::Msvc, symbol.as_str(), export) {
+    if !adds_target(alloc, machine, naming, asking, declared, export)? {
         return Ok(());
     }
-    let target = symbol_of(alloc, machine, naming, export.alias_target.as_str())?;
-    if insert_symbol(symbols, target)? {
+    let symbol = symbol_of(alloc, machine, naming, export.alias_target.as_str())?;
+    if insert_symbol(symbols, symbol)? {
         targets.push(target_import(alloc, machine, naming, export)?)?;
     }
     Ok(())
 }
 
-// The imports of the targets whose symbols are not among these, in the order of their first use.
-fn targets_beside(
+// The imports that aliases add in Microsoft's flavour, in the order of their first use.
+fn msvc_targets(
     alloc: Global,
     machine: MachineType,
     naming: Naming,
-    mut symbols: IndexSet<String>,
     exports: &[ShortExport],
+    asking: &HashMap<&str, usize>,
+    declared: &HashMap<&str, usize>,
 ) -> Result<Vec<ShortExport>, AllocError>
+    requires asking { AreFirstAsking machine (naming_view naming) asking.now
+        (map export_view exports.now) }
+    requires declared { AreFirstDeclared declared.now (map export_view exports.now) }
     ensures { IfOk result (λ targets. map export_view targets.items
-        ≡ targets_beside machine (naming_view naming) Msvc
-        (map string_bytes symbols.keys) (map export_view exports.now)) }
+        ≡ targets_added machine (naming_view naming) Msvc (map export_view exports.now)) }
 {
+    let mut symbols = IndexSet::new(alloc);
     let mut targets = Vec::new(alloc);
     for export in exports {
-        push_target(alloc, machine, naming, export, &mut symbols, &mut targets)?;
+        push_target(
+            alloc,
+            machine,
+            naming,
+            asking,
+            declared,
+            export,
+            &mut symbols,
+            &mut targets,
+        )?;
     }
     Ok(targets)
 }
@@ -122,38 +241,56 @@ fn has_targets(exports: &[ShortExport]) -> bool
     false
 }
 
-// The imports that aliases add in Microsoft's flavour. Without a word after `==` no symbol is made.
-fn msvc_targets(
+// How the exports of a definition are linked: the symbols that they are weak for, one by one, or none
+// where no export is an alias; and the imports that aliases add.
+#[derive(Drop)]
+struct Links {
+    symbols: Vec<Option<String>>,
+    added: Vec<ShortExport>,
+}
+
+// How exports are linked in Microsoft's flavour. Without a word after `==` no symbol is made.
+fn msvc_links(
     alloc: Global,
     machine: MachineType,
     naming: Naming,
     exports: &[ShortExport],
-) -> Result<Vec<ShortExport>, AllocError>
-    ensures { IfOk result (λ targets. map export_view targets.items
-        ≡ targets_added machine (naming_view naming) Msvc (map export_view exports.now)) }
+) -> Result<Links, AllocError>
+    ensures { IfOk result (λ links. AreLinks machine (naming_view naming) Msvc
+        (map export_view exports.now) (map (option_map string_bytes) links.symbols.items)
+        (map export_view links.added.items)) }
 {
     if !has_targets(exports) {
-        return Ok(Vec::new(alloc));
+        return Ok(Links {
+            symbols: Vec::new(alloc),
+            added: Vec::new(alloc),
+        });
     }
-    let symbols = symbols_linked(alloc, machine, naming, exports)?;
-    targets_beside(alloc, machine, naming, symbols, exports)
+    let asking = first_asking(alloc, machine, naming, exports)?;
+    let declared = first_declared(alloc, exports)?;
+    let symbols = alias_symbols(alloc, machine, naming, exports, &asking, &declared)?;
+    let added = msvc_targets(alloc, machine, naming, exports, &asking, &declared)?;
+    Ok(Links { symbols, added })
 }
 
-// The imports that aliases add: of each target once, if no export that is not private has its
-// symbol.
-fn targets_added(
+// How exports are linked in a flavour. For GNU's linker none is an alias.
+fn links_of(
     alloc: Global,
     machine: MachineType,
     naming: Naming,
     flavor: Flavor,
     exports: &[ShortExport],
-) -> Result<Vec<ShortExport>, AllocError>
-    ensures { IfOk result (λ targets. map export_view targets.items
-        ≡ targets_added machine (naming_view naming) flavor (map export_view exports.now)) }
+) -> Result<Links, AllocError>
+    ensures { IfOk result (λ links. AreLinks machine (naming_view naming) flavor
+        (map export_view exports.now) (map (option_map string_bytes) links.symbols.items)
+        (map export_view links.added.items)) }
 {
     match flavor {
-        Flavor::Msvc => msvc_targets(alloc, machine, naming, exports),
-        Flavor::Gnu => Ok(Vec::new(alloc)),
+        Flavor::Msvc => msvc_links(alloc, machine, naming, exports),
+        Flavor::Gnu => Ok(Links {
+            symbols: Vec::new(alloc),
+            added: Vec::new(alloc),
+        }),
     }
 }
 
@@ -174,8 +311,9 @@ pub fn link_with_targets(
         ≡ linked_exports machine (naming_view naming) flavor
         (map export_view exports.old.items)) }
 {
-    let mut targets = targets_added(alloc, machine, naming, flavor, exports.as_slice())?;
-    link_exports(alloc, machine, naming, flavor, exports)?;
-    exports.append(&mut targets)?;
+    let links = links_of(alloc, machine, naming, flavor, exports.as_slice())?;
+    let Links { symbols, mut added } = links;
+    link_exports(alloc, machine, naming, symbols.as_slice(), exports)?;
+    exports.append(&mut added)?;
     Ok(())
 }

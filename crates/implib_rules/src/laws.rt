@@ -6,6 +6,7 @@ ghost use Rattle.implib.specs.Members.NameRules.{name_refusal};
 ghost use Rattle.implib.specs.declared.flavor.Flavor.TheVariants.{Msvc};
 ghost use Rattle.implib.specs.declared.machine.MachineType.{MachineType};
 ghost use Rattle.implib_rules.specs.Linked.{AsksAsLinked, NamingView, target_import};
+ghost use Rattle.implib_rules.specs.BothFlavors.{AsksAlike};
 ghost use Rattle.implib_rules.specs.LibraryLaws.{GnuLibrariesAreApart, MsvcLibrariesAreFound};
 ghost use Rattle.implib_rules.specs.Places.{AreAtWords};
 ghost use Rattle.implib_rules.specs.Repeats.{AreLeftOut, SymbolsAreOfWords};
@@ -25,6 +26,12 @@ pub fn exports_linked()
 /// not.
 pub fn asks_as_linked()
     ensures { AsksAsLinked }
+{}
+
+/// Each export that GNU's flavour imports by name is in Microsoft's flavour the same import, or is
+/// weak for an import that asks the DLL for the same name.
+pub fn flavors_ask_alike()
+    ensures { AsksAlike }
 {}
 
 /// Two exports have one symbol only where they have one word.

@@ -19,7 +19,7 @@ ghost use Rattle.std.specs.Str.{IsUtf8};
 
 use crate::aliases::link_with_targets;
 use crate::library_name::library_name_for;
-use crate::name::{LastHeading, dll_name, lacks_name};
+use crate::name::{FirstHeading, dll_name, lacks_name};
 use crate::options::LibraryOptions;
 use crate::places::position_of_fault;
 use crate::repeats::leave_out_repeats;
@@ -165,13 +165,13 @@ pub fn definition_for(
     ensures refused { IfErr result (IsRefusalOfText text.now (library_options_view options.now)) }
 {
     // The words are read as they are written, as on a machine without an underscore.
-    let mut heading = LastHeading { is_program: false };
+    let mut heading = FirstHeading::new(alloc);
     let mut def = ModuleDef::parse_with(alloc, text, MachineType::AMD64, &mut heading)?;
-    let own = def.import_name.as_str();
-    if lacks_name(options.dll, own) {
+    let (own, is_program) = heading.finish()?;
+    if lacks_name(options.dll, own.as_str()) {
         return Err(Refusal::NoName);
     }
-    def.import_name = dll_name(alloc, options.dll, own, heading.is_program)?;
+    def.import_name = dll_name(alloc, options.dll, own.as_str(), is_program)?;
     leave_out_repeats(alloc, &mut def.exports)?;
     link_with_targets(
         alloc,

@@ -3,19 +3,19 @@
 ghost use Rattle.implib.specs.Ascii.{at_sign};
 ghost use Rattle.implib.specs.Definition.{export_view};
 ghost use Rattle.implib.specs.Formats.ShortImport.{before_at_sign, without_prefix};
-ghost use Rattle.implib_rules.specs.Linked.{asked_of, has_two_at_signs, is_alias_under};
-ghost use Rattle.implib_rules.specs.Linked.{keeps_word, killed, linked_alias, linked_export};
-ghost use Rattle.implib_rules.specs.Linked.{linked_import, makes, name_given, naming_view};
-ghost use Rattle.implib_rules.specs.Views.{is_linked};
-ghost use Rattle.implib_rules.specs.Linked.{symbol_linked};
-ghost use Rattle.implib_rules.specs.Linked.{symbol_of, word_asked, word_of};
+ghost use Rattle.implib_rules.specs.Linked.{asked_of, asks_apart, has_two_at_signs, keeps_word};
+ghost use Rattle.implib_rules.specs.Linked.{is_apart, is_named_import, killed, linked_alias, linked_import, linked_to, makes};
+ghost use Rattle.implib_rules.specs.Linked.{name_given, naming_view, symbol_linked, symbol_of};
+ghost use Rattle.implib_rules.specs.Linked.{word_asked, word_of};
+ghost use Rattle.implib_rules.specs.Views.{first_symbol, is_linked, linked_by};
 ghost use Rattle.std.specs.List.{position};
-ghost use Rattle.std.specs.Prelude.{◌==◌, ◌≡◌, IfOk, OnOk, map, option_map};
+ghost use Rattle.std.specs.Prelude.{◌==◌, ◌≡◌, IfOk, OnOk, drop, map, option_map};
 ghost use Rattle.std.specs.String.{string_bytes};
 
+use implib::MachineType;
 use implib::def::ShortExport;
-use implib::{Flavor, MachineType};
 use std::alloc::{AllocError, Global};
+use std::slice::Iter;
 
 /// How names are read on I386.
 #[derive(Clone, Copy, Debug, PartialEq, Eq)]
@@ -30,12 +30,12 @@ pub struct Naming {
 fn has_two_at_signs(word: &[u8]) -> bool
     ensures { result ≡ has_two_at_signs word.now }
 {
-    let mut is_behind = false;
+    let mut is_after = false;
     for byte in word {
-        if is_behind && *byte == b'@' {
+        if is_after && *byte == b'@' {
             return true;
         }
-        is_behind = *byte == b'@';
+        is_after = *byte == b'@';
     }
     false
 }
@@ -76,13 +76,13 @@ fn killed(word: &str) -> &str
     if word.as_bytes().first() == Some(&b'?') {
         return word;
     }
-    let Some((front, behind)) = word.split_once('@') else {
+    let Some((front, rest)) = word.split_once('@') else {
         return word;
     };
     if !front.is_empty() {
         return front;
     }
-    match behind.split_once('@') {
+    match rest.split_once('@') {
         Some((name, _)) => name,
         None => word,
     }
@@ -99,8 +99,8 @@ fn word_asked(machine: MachineType, naming: Naming, word: &str) -> &str
     }
 }
 
-// What the DLL is asked for: the word after `==`, or else what the export's own word says.
-fn asked_of<'a>(machine: MachineType, naming: Naming, word: &'a str, target: &'a str) -> &'a str
+/// What the DLL is asked for: the word after `==`, or else what the export's own word says.
+pub fn asked_of<'a>(machine: MachineType, naming: Naming, word: &'a str, target: &'a str) -> &'a str
     ensures { result.now ≡ asked_of machine (naming_view naming) word.now target.now }
 {
     if target.is_empty() {
@@ -172,20 +172,53 @@ fn makes(symbol: &[u8], name: &[u8]) -> bool
     symbol == name || plain == name || before_at_sign(plain) == name
 }
 
-/// Whether an export of this symbol is an alias: it has a word after `==` that Microsoft's short
-/// import of the symbol cannot ask for.
-pub fn is_alias_under(flavor: Flavor, symbol: &str, export: &ShortExport) -> bool
-    ensures { result ≡ is_alias_under flavor symbol.now (export_view export.now) }
+// Whether an export of this symbol cannot be an import by name for Microsoft's linker: it has a word
+// after `==` that no short import of the symbol can ask for.
+fn asks_apart(symbol: &str, export: &ShortExport) -> bool
+    ensures { result ≡ asks_apart symbol.now (export_view export.now) }
 {
-    match flavor {
-        Flavor::Gnu => false,
-        Flavor::Msvc => {
-            !export.alias_target.is_empty()
-                && !export.private
-                && !export.no_name
-                && !makes(symbol.as_bytes(), export.alias_target.as_bytes())
-        }
+    !export.alias_target.is_empty()
+        && !export.private
+        && !export.no_name
+        && !makes(symbol.as_bytes(), export.alias_target.as_bytes())
+}
+
+/// Whether an export cannot be an import by name for Microsoft's linker.
+///
+/// # Errors
+///
+/// An allocation failed.
+pub fn is_apart(
+    alloc: Global,
+    machine: MachineType,
+    naming: Naming,
+    export: &ShortExport,
+) -> Result<bool, AllocError>
+    ensures { IfOk result
+        (λ is. is ≡ is_apart machine (naming_view naming) (export_view export.now)) }
+{
+    if export.alias_target.is_empty() {
+        return Ok(false);
     }
+    let symbol = symbol_linked(alloc, machine, naming, export)?;
+    Ok(asks_apart(symbol.as_str(), export))
+}
+
+/// Whether Microsoft's linker imports an export by name.
+///
+/// # Errors
+///
+/// An allocation failed.
+pub fn is_named_import(
+    alloc: Global,
+    machine: MachineType,
+    naming: Naming,
+    export: &ShortExport,
+) -> Result<bool, AllocError>
+    ensures { IfOk result
+        (λ is. is ≡ is_named_import machine (naming_view naming) (export_view export.now)) }
+{
+    Ok(!export.private && !export.no_name && !is_apart(alloc, machine, naming, export)?)
 }
 
 // The asked name that an import gives: none where its members ask for its symbol and that is the
@@ -205,19 +238,29 @@ fn name_given(
     Ok(Some(String::from_str(alloc, asked)?))
 }
 
+// Whether an export that gives no asked name is linked as it is: its word is its symbol, and what it
+// asks for.
+fn is_linked(machine: MachineType, export: &ShortExport) -> bool
+    ensures { result ≡ is_linked machine (export_view export.now) }
+{
+    !machine.has_leading_underscore() && export.ext_name.is_none() && export.alias_target.is_empty()
+}
+
 // Gives an import its symbol, and the name that it asks the DLL for.
 fn link_import(
     alloc: Global,
     machine: MachineType,
     naming: Naming,
-    symbol: String,
     export: &mut ShortExport,
 ) -> Result<(), AllocError>
-    requires { string_bytes symbol
-        ≡ symbol_linked machine (naming_view naming) (export_view export.old) }
     ensures { OnOk result (export_view export.new
         ≡ linked_import machine (naming_view naming) (export_view export.old)) }
 {
+    if is_linked(machine, export) {
+        export.asked_name = None;
+        return Ok(());
+    }
+    let symbol = symbol_linked(alloc, machine, naming, export)?;
     let word = word_of(export);
     let target = export.alias_target.as_str();
     let asked = asked_of(machine, naming, word, target);
@@ -229,21 +272,20 @@ fn link_import(
     Ok(())
 }
 
-// Gives an alias its symbol, and the one that it is weak for.
+// Makes an export an alias: gives it its symbol, and the one that it is weak for.
 fn link_alias(
     alloc: Global,
     machine: MachineType,
     naming: Naming,
-    symbol: String,
+    target: &str,
     export: &mut ShortExport,
 ) -> Result<(), AllocError>
-    requires { string_bytes symbol
-        ≡ symbol_linked machine (naming_view naming) (export_view export.old) }
     ensures { OnOk result (export_view export.new
-        ≡ linked_alias machine (naming_view naming) (export_view export.old)) }
+        ≡ linked_alias machine (naming_view naming) target.now (export_view export.old)) }
 {
+    let symbol = symbol_linked(alloc, machine, naming, export)?;
     let asked = symbol.clone()?;
-    let target = symbol_of(alloc, machine, naming, export.alias_target.as_str())?;
+    let target = String::from_str(alloc, target)?;
     export.name = symbol;
     export.ext_name = None;
     export.asked_name = Some(asked);
@@ -251,39 +293,28 @@ fn link_alias(
     Ok(())
 }
 
-// Whether an export that gives no asked name is linked as it is: its word is its symbol, and what it
-// asks for.
-fn is_linked(machine: MachineType, export: &ShortExport) -> bool
-    ensures { result ≡ is_linked machine (export_view export.now) }
-{
-    !machine.has_leading_underscore() && export.ext_name.is_none() && export.alias_target.is_empty()
-}
-
-// Gives an export its symbol, and what it asks the DLL for or is weak for.
+// Gives an export its symbol, and what it asks the DLL for, or is weak for: the next of the symbols,
+// if there is one and it is given.
 fn link_export(
     alloc: Global,
     machine: MachineType,
     naming: Naming,
-    flavor: Flavor,
     export: &mut ShortExport,
+    left: &mut Iter<'_, Option<String>>,
 ) -> Result<(), AllocError>
-    ensures { OnOk result (export_view export.new
-        ≡ linked_export machine (naming_view naming) flavor (export_view export.old)) }
+    ensures export { OnOk result (export_view export.new ≡ linked_to machine (naming_view naming)
+        (first_symbol (map (option_map string_bytes) left.old.rest.now)) (export_view export.old)) }
+    ensures left { OnOk result (map (option_map string_bytes) left.new.rest.now
+        ≡ drop 1 (map (option_map string_bytes) left.old.rest.now)) }
 {
-    if is_linked(machine, export) {
-        export.asked_name = None;
-        return Ok(());
-    }
-    let symbol = symbol_linked(alloc, machine, naming, export)?;
-    if is_alias_under(flavor, symbol.as_str(), export) {
-        link_alias(alloc, machine, naming, symbol, export)
-    } else {
-        link_import(alloc, machine, naming, symbol, export)
+    match left.next() {
+        Some(Some(target)) => link_alias(alloc, machine, naming, target.as_str(), export),
+        _ => link_import(alloc, machine, naming, export),
     }
 }
 
-/// Gives each export its symbol, and what it asks the DLL for or is weak for, by its words as they
-/// are written.
+/// Gives each export its symbol, and what it asks the DLL for by its words as they are written, or
+/// is weak for: its own of these symbols, if there is one and it is given.
 ///
 /// # Errors
 ///
@@ -292,15 +323,16 @@ pub fn link_exports(
     alloc: Global,
     machine: MachineType,
     naming: Naming,
-    flavor: Flavor,
+    targets: &[Option<String>],
     exports: &mut Vec<ShortExport>,
 ) -> Result<(), AllocError>
     ensures { OnOk result (map export_view exports.new.items
-        ≡ map (linked_export machine (naming_view naming) flavor)
+        ≡ linked_by machine (naming_view naming) (map (option_map string_bytes) targets.now)
         (map export_view exports.old.items)) }
 {
+    let mut left = targets.iter();
     for export in exports.iter_mut() {
-        link_export(alloc, machine, naming, flavor, export)?;
+        link_export(alloc, machine, naming, export, &mut left)?;
     }
     Ok(())
 }

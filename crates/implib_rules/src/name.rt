@@ -1,47 +1,126 @@
 //! The name of the DLL that an import library is for.
 
-ghost use Rattle.implib_rules.specs.Names.{dll_name, ending, heading_after};
-ghost use Rattle.implib_rules.specs.Names.{lacks_name, last_part, part_behind};
+ghost use Rattle.implib_rules.specs.Heard.{headed_view};
+ghost use Rattle.implib_rules.specs.Names.{dll_name, ending, heading_of, is_identifier};
+ghost use Rattle.implib_rules.specs.Names.{lacks_name, last_part, named_by, part_after_last};
+ghost use Rattle.implib_rules.specs.Names.{unheaded};
 ghost use Rattle.std.specs.List.{after_first, position_or_len};
 ghost use Rattle.std.specs.Option.{option_map};
-ghost use Rattle.std.specs.Prelude.{◌==◌, ◌≡◌, ◌<◌, IfOk, List, MatchOption, length};
+ghost use Rattle.std.specs.Prelude.{◌==◌, ◌≡◌, ◌++◌, ◌<◌, IfOk, List, MatchOption, None, length};
 ghost use Rattle.std.specs.String.{string_bytes};
 
 use implib::def::lexer::{Token, TokenKind};
 use implib::def::listener::{Listener, Role};
 use std::alloc::{AllocError, Global};
 
-// Whether the heading is `NAME` once a keyword is read.
-fn heading_after(before: bool, kind: TokenKind) -> bool
-    ensures { result ≡ heading_after before kind }
+// Whether a token is a word that may be a name.
+fn is_identifier(kind: TokenKind) -> bool
+    ensures { result ≡ is_identifier kind }
 {
     match kind {
-        TokenKind::KwName => true,
-        TokenKind::KwLibrary => false,
-        _ => before,
+        TokenKind::Identifier => true,
+        _ => false,
     }
 }
 
-/// Whether the last heading that was heard, `NAME` or `LIBRARY`, is `NAME`.
-#[derive(Clone, Copy, Debug, PartialEq, Eq)]
-pub struct LastHeading {
-    /// Whether it is.
-    pub is_program: bool,
+// Whether a keyword that begins a heading is `NAME`.
+fn heading_of(kind: TokenKind) -> Option<bool>
+    ensures { result ≡ heading_of kind }
+{
+    match kind {
+        TokenKind::KwName => Some(true),
+        TokenKind::KwLibrary => Some(false),
+        _ => None,
+    }
 }
 
-impl Listener for LastHeading {
-    ghost use Rattle.implib_rules.specs.Names.{is_program};
-    ghost use Rattle.std.specs.Prelude.{◌≡◌};
+/// A listener for the first heading of a text, `LIBRARY` or `NAME`, that has a name.
+#[derive(Drop)]
+pub struct FirstHeading {
+    // The name; it is empty where there is none.
+    name: String,
+    // Whether the heading is `NAME`.
+    is_program: bool,
+    // Whether the last token begins a heading, and then whether the heading is `NAME`.
+    opened: Option<bool>,
+    // The allocation that failed, if one did: then the name may be missing.
+    failure: Option<AllocError>,
+}
 
-    ghost has_heard = { λ _ heading heard. heading.is_program ≡ is_program heard };
+// Appends a name, or keeps that an allocation failed.
+fn note_name(name: &mut String, failure: &mut Option<AllocError>, value: &str)
+    ensures { failure.new ≡ None → (failure.old ≡ None)
+        × (string_bytes name.new ≡ string_bytes name.old ++ value.now) }
+{
+    if let Err(refused) = name.push_str(value) {
+        *failure = Some(AllocError::from(refused));
+    }
+}
+
+impl FirstHeading {
+    /// A listener that has heard nothing.
+    pub fn new(alloc: Global) -> FirstHeading
+        ensures view { headed_view result ≡ unheaded }
+        ensures failure { result.failure ≡ None }
+    {
+        FirstHeading {
+            name: String::new(alloc),
+            is_program: false,
+            opened: None,
+            failure: None,
+        }
+    }
+
+    // Whether a token is the name of a heading, the first one with a name, and then whether that is
+    // `NAME`.
+    fn named_by(&self, kind: TokenKind) -> Option<bool>
+        ensures { result ≡ named_by (headed_view self.now) kind }
+    {
+        if self.name.is_empty() && is_identifier(kind) {
+            self.opened
+        } else {
+            None
+        }
+    }
+
+    /// The name, which is empty where there is none, and whether the heading is `NAME`.
+    ///
+    /// # Errors
+    ///
+    /// An allocation failed while the text was heard.
+    pub fn finish(self) -> Result<(String, bool), AllocError>
+        ensures { IfOk result (λ found. (self.failure ≡ None)
+            × (string_bytes found.0 ≡ string_bytes self.name) × (found.1 ≡ self.is_program)) }
+    {
+        let FirstHeading {
+            name,
+            is_program,
+            failure,
+            ..
+        } = self;
+        match failure {
+            Some(refused) => Err(refused),
+            None => Ok((name, is_program)),
+        }
+    }
+}
+
+impl Listener for FirstHeading {
+    ghost use Rattle.implib_rules.specs.Heard.{HasHeading};
+
+    ghost has_heard = { HasHeading };
 
     fn hear(&mut self, _role: Role, token: Token<'_>) {
-        self.is_program = heading_after(self.is_program, token.kind);
+        if let Some(is_program) = self.named_by(token.kind) {
+            note_name(&mut self.name, &mut self.failure, token.value);
+            self.is_program = is_program;
+        }
+        self.opened = heading_of(token.kind);
     }
 }
 
 // The text after the first separator of this kind, if there is one.
-fn behind_first(name: &str, separator: char) -> Option<&str>
+fn after_first_of(name: &str, separator: char) -> Option<&str>
     requires { separator < 128 }
     ensures { MatchOption result (
         position_or_len (λ b. b == separator) name.now ≡ length name.now)
@@ -55,12 +134,12 @@ fn behind_first(name: &str, separator: char) -> Option<&str>
 }
 
 // The text after the last separator of this kind, or all of the name.
-fn part_behind(name: &str, separator: char) -> &str
+fn part_after_last(name: &str, separator: char) -> &str
     requires { separator < 128 }
-    ensures { result.now ≡ part_behind separator name.now }
+    ensures { result.now ≡ part_after_last separator name.now }
 {
     let mut part = name;
-    while let Some(after) = behind_first(part, separator) {
+    while let Some(after) = after_first_of(part, separator) {
         part = after;
     }
     part
@@ -70,7 +149,7 @@ fn part_behind(name: &str, separator: char) -> &str
 pub fn last_part(name: &str) -> &str
     ensures { result.now ≡ last_part name.now }
 {
-    part_behind(part_behind(name, '/'), '\\')
+    part_after_last(part_after_last(name, '/'), '\\')
 }
 
 /// Whether neither a name is given, nor the definition has one, but for a directory.

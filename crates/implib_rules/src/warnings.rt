@@ -3,7 +3,7 @@
 ghost use Rattle.implib.specs.Definition.{ExportView, export_view};
 ghost use Rattle.implib_rules.specs.Linked.{naming_view};
 ghost use Rattle.implib_rules.specs.Options.{library_options_view};
-ghost use Rattle.implib_rules.specs.Warnings.{AreFirstDeclared, AreFirstOrdinals, AreFirstWords};
+ghost use Rattle.implib_rules.specs.Firsts.{AreFirstDeclared, AreFirstOrdinals, AreFirstWords};
 ghost use Rattle.implib_rules.specs.Warnings.{asked_warnings, earlier};
 ghost use Rattle.implib_rules.specs.Warnings.{export_notices, heading_notice, is_asked_by_word};
 ghost use Rattle.implib_rules.specs.Warnings.{index_after, lowered_notice, notice_view};
@@ -15,13 +15,12 @@ ghost use Rattle.implib_rules.specs.Warnings.{warnings_of, word_before};
 ghost use Rattle.std.specs.Option.{option_map};
 ghost use Rattle.std.specs.Prelude.{◌≡◌, ◌++◌, ◌-◌, ◌<◌, ◌^◌, IfOk, List, OnOk, map};
 
-pub mod firsts;
 pub mod words;
 
+use crate::firsts::{first_declared, first_ordinals, first_words};
 use crate::linked::{Naming, word_of};
 use crate::options::LibraryOptions;
 use crate::places::{Place, Site};
-use crate::warnings::firsts::{first_declared, first_ordinals, first_words};
 use crate::warnings::words::{Attribute, is_ordinal_like, is_stdcall_word, lowered_attribute};
 use implib::def::{Position, ShortExport};
 use implib::{Flavor, MachineType};
@@ -474,7 +473,7 @@ impl<'a> fmt::Display for NoticeMessage<'a> {
                 write!(f, "`{word}` is no export here; the DLL is asked for it")
             }
             Notice::SecondHeading => {
-                f.write_str("the name of the DLL is given twice; the last counts")
+                f.write_str("the name of the DLL is given twice; the first counts")
             }
         }
     }

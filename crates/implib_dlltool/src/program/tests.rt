@@ -1,4 +1,6 @@
 use super::run;
+use crate::console::Console;
+use crate::files::SystemDisk;
 use std::test::Fail;
 use std::{env, fs};
 
@@ -11,15 +13,17 @@ fn ran(rt: &HostRuntime, words: &[&str], input: &[u8]) -> Result<(u8, String), F
     }
     let mut input = input;
     let mut printer = Vec::new(rt.alloc());
-    let mut faults = Vec::new(rt.alloc());
+    let mut disk = SystemDisk::new(rt, 1);
+    let mut console = Console::new(Vec::new(rt.alloc()));
     let status = run(
-        rt,
-        1,
+        rt.alloc(),
         arguments.as_slice(),
+        &mut disk,
         &mut input,
         &mut printer,
-        &mut faults,
+        &mut console,
     );
+    let faults = console.into_writer();
     let said = String::from_str(rt.alloc(), str::from_utf8(faults.as_slice()).unwrap_or("?"))?;
     Ok((status, said))
 }
@@ -394,9 +398,9 @@ fn warnings_are_told(rt: HostRuntime) -> Result<(), Fail> {
         (
             amd64,
             "LIBRARY zoo\nEXPORTS a\nNAME zoo\nEXPORTS a\nLIBRARY zoo",
-            "-:3:1: warning: the name of the DLL is given twice; the last counts\n\
+            "-:3:1: warning: the name of the DLL is given twice; the first counts\n\
              -:4:9: warning: `a` is exported twice, first in line 2; this one is left out\n\
-             -:5:1: warning: the name of the DLL is given twice; the last counts\n",
+             -:5:1: warning: the name of the DLL is given twice; the first counts\n",
         ),
         (named, "LIBRARY zoo\nEXPORTS a\nNAME zoo\n", ""),
     ] {

@@ -1,10 +1,10 @@
 use Rattle.std.proofs.Common.{refl}
-use Rattle.implib_rules.specs.Names.{part_behind}
+use Rattle.implib_rules.specs.Names.{part_after_last}
 use Rattle.implib_dlltool.specs.WorkedCallers.{CallersNamed}
 use Rattle.implib_dlltool.proofs.laws.callers_named.Goals as goal
 
 worked : CallersNamed
-unfolding part_behind
+unfolding part_after_last
 worked = record {
   i386 = refl;
   armnt = refl;

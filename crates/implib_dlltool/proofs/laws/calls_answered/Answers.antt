@@ -1,10 +1,10 @@
 use Rattle.std.proofs.Common.{refl}
-use Rattle.implib_rules.specs.Names.{part_behind}
+use Rattle.implib_rules.specs.Names.{part_after_last}
 use Rattle.implib_dlltool.specs.WorkedCalls.{CallsAnswered}
 use Rattle.implib_dlltool.proofs.laws.calls_answered.Goals as goal
 
 worked : CallsAnswered
-unfolding part_behind
+unfolding part_after_last
 worked = record {
   rustc = refl;
   mingw = refl;

@@ -1,10 +1,10 @@
 use Rattle.std.proofs.Common.{refl}
-use Rattle.implib_rules.specs.Names.{part_behind}
+use Rattle.implib_rules.specs.Names.{part_after_last}
 use Rattle.implib_dlltool.specs.WorkedCallers.{FaultsOrdered}
 use Rattle.implib_dlltool.proofs.laws.faults_ordered.Goals as goal
 
 worked : FaultsOrdered
-unfolding part_behind
+unfolding part_after_last
 worked = record {
   help_first = refl;
   version_before_faults = refl;

@@ -1,10 +1,10 @@
 use Rattle.std.proofs.Common.{refl}
-use Rattle.implib_rules.specs.Names.{part_behind}
+use Rattle.implib_rules.specs.Names.{part_after_last}
 use Rattle.implib_dlltool.specs.WorkedCallers.{FlavorsChosen}
 use Rattle.implib_dlltool.proofs.laws.flavors_chosen.Goals as goal
 
 worked : FlavorsChosen
-unfolding part_behind
+unfolding part_after_last
 worked = record {
   own_lib = refl;
   own_capitals = refl;

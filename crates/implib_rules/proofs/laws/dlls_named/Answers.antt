@@ -1,10 +1,10 @@
 use Rattle.std.proofs.Common.{refl}
-use Rattle.implib_rules.specs.Names.{part_behind}
+use Rattle.implib_rules.specs.Names.{part_after_last}
 use Rattle.implib_rules.specs.WorkedNames.{DllsNamed}
 use Rattle.implib_rules.proofs.laws.dlls_named.Goals as goal
 
 worked : DllsNamed
-unfolding part_behind
+unfolding part_after_last
 worked = record {
   library = refl;
   program = refl;
@@ -15,6 +15,11 @@ worked = record {
   none = refl;
   directory = refl;
   given_for_none = refl;
+  first_of_three = refl;
+  program_of_three = refl;
+  first_of_two = refl;
+  library_of_two = refl;
+  unheaded_text = refl;
 }
 
 pub returns : goal.returns

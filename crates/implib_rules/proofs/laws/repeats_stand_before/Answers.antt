@@ -1,4 +1,4 @@
-use Rattle.implib_rules.proofs.Firsts.{ordinal_repeated, word_repeated}
+use Rattle.implib_rules.proofs.FirstExports.{ordinal_repeated, word_repeated}
 use Rattle.implib_rules.proofs.laws.repeats_stand_before.Goals as goal
 
 pub returns : goal.returns

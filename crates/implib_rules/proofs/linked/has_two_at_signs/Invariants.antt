@@ -4,4 +4,4 @@ use Rattle.implib_rules.proofs.linked.has_two_at_signs.Given as goal
 
 -- what is left tells it, with what stands before
 abbrev pub invariant-loop-byte : goal.invariant-loop-byte
-invariant-loop-byte l = has_two_at_signs l.word ≡ two_at_signs l.is_behind (drop l.byte-index l.word)
+invariant-loop-byte l = has_two_at_signs l.word ≡ two_at_signs l.is_after (drop l.byte-index l.word)

@@ -1,7 +1,8 @@
 use Rattle.std.proofs.Common.{◌∙◌, ◌+◌, ◌++◌, ◌&&◌, ◌||◌, ap, drop, map, not, sym, take}
 use Rattle.implib.specs.Definition.{export_view}
 use Rattle.implib_rules.specs.Linked.{word_of}
-use Rattle.implib_rules.specs.Repeats.{declares, is_declared, repeats, repeats_behind}
+use Rattle.implib_rules.specs.Linked.{declares, is_declared}
+use Rattle.implib_rules.specs.Repeats.{repeats, repeats_behind}
 use Rattle.implib_rules.proofs.LeftOut.{declared_more, flags_more}
 use Rattle.implib_rules.proofs.repeats.repeats_in.Goals as goal
 

@@ -1,6 +1,7 @@
 use Rattle.std.proofs.Common.{◌≡◌, ◌++◌, ℕ, List, [], drop, map, take}
 use Rattle.implib.specs.Definition.{export_view}
-use Rattle.implib_rules.specs.Repeats.{is_declared, repeats_behind}
+use Rattle.implib_rules.specs.Linked.{is_declared}
+use Rattle.implib_rules.specs.Repeats.{repeats_behind}
 use Rattle.implib_rules.specs.Views.{has_word}
 use Rattle.implib_rules.proofs.repeats.repeats_in.Given as goal
 

@@ -5,8 +5,9 @@ use Rattle.std.proofs.lemmas.Option.{slice_get-map, slice_get_past, slice_get_re
 use Rattle.implib.specs.Definition.{export_view}
 use Rattle.implib_rules.specs.Linked.{word_of}
 use Rattle.implib_rules.specs.Options.{library_options_view}
-use Rattle.implib_rules.specs.Warnings.{asked_warnings, first_declared, first_of_ordinal, if_export, lowered_notice, notice_view, ordinal_like_notice, ordinal_notice, repeat_notice, warning_view}
-use Rattle.implib_rules.proofs.Firsts.{is_some-map}
+use Rattle.implib_rules.specs.Firsts.{first_declared, first_of_ordinal}
+use Rattle.implib_rules.specs.Warnings.{asked_warnings, if_export, lowered_notice, notice_view, ordinal_like_notice, ordinal_notice, repeat_notice, warning_view}
+use Rattle.implib_rules.proofs.FirstExports.{is_some-map}
 use Rattle.implib_rules.proofs.Warned.{said_as, said_then}
 use Rattle.implib_rules.proofs.warnings.push_export.Goals as goal
 

@@ -1,0 +1,25 @@
+use Rattle.std.proofs.Common.{ap, map, subst, sym, ◌∙◌}
+use Rattle.std.proofs.lemmas.List.{length-map}
+use Rattle.implib.specs.Library.{member_view}
+use Rattle.implib_rules.specs.Library.{kind_for}
+use Rattle.implib_rules.specs.Options.{library_options_view}
+use Rattle.implib_c.specs.Given.{PacksInto}
+use Rattle.implib_c.proofs.AnswerWith.{puts_nothing, puts_packed}
+use Rattle.implib_c.proofs.Within.{refusal_within}
+use Rattle.implib_c.proofs.library_with.put_library.Goals as goal
+
+pub failure_in-requires : goal.failure_in-requires
+failure_in-requires c = refusal_within c.args.text.now (library_options_view c.args.options.now) c.in-Err.refusal c.in-Err.ensures.refused
+
+pub returns-in-Ok : goal.returns-in-Ok
+returns-in-Ok c =
+    puts_packed c.args.text.now (library_options_view c.args.options.now) c.args.buffer.now (map member_view c.in-Ok.members.items) c.in-Ok.ensures.made
+    c.kind_for-kind.result
+    (c.kind_for-kind.ensures ∙ ap (kind_for c.args.options.now.flavor) (c.len.ensures ∙ c.in-Ok.members.ok.0 ∙ sym (length-map c.in-Ok.members.items member_view)))
+    c.pack_into.new.buffer c.pack_into.result
+    (subst (λ items. PacksInto c.kind_for-kind.result (map member_view items) c.args.buffer.now c.pack_into.new.buffer c.pack_into.result) c.as_slice.ensures.value c.pack_into.ensures)
+
+pub returns-in-Err : goal.returns-in-Err
+returns-in-Err c =
+    puts_nothing c.args.text.now (library_options_view c.args.options.now) c.args.buffer.now c.in-Err.refusal c.in-Err.ensures.refused c.failure_in.result
+    c.failure_in.ensures.status c.failure_in.ensures.length c.failure_in.ensures.place

@@ -1,0 +1,171 @@
+//! From a text and options to the library that the program makes of them, or to what is wrong.
+
+ghost use Rattle.implib.specs.Library.{member_view};
+ghost use Rattle.implib_c.specs.Given.{failure_status, length_given, place_given, status_given};
+ghost use Rattle.implib_c.specs.GivenWith.{IsNoOptions, IsWithin, PutsLibrary};
+ghost use Rattle.implib_c.specs.LibraryWith.{AreOptions, LibraryWithAnswers, mark_length, naming_numbered};
+ghost use Rattle.implib_c.specs.LibraryWith.{place_of_refusal, refusal_status};
+ghost use Rattle.implib_c.specs.Status.{status_number};
+ghost use Rattle.implib_rules.specs.Linked.{naming_view};
+ghost use Rattle.implib_rules.specs.Options.{library_options_view};
+ghost use Rattle.std.specs.Option.{option_map};
+ghost use Rattle.std.specs.Prelude.{◌≡◌, ◌+◌, ◌<◌, ◌^◌, Err, IfErr, IfOk};
+ghost use Rattle.std.specs.Str.Lossy.{utf8_valid_len};
+
+use crate::outcome::{Failure, flavor_with, machine_with, pack_into};
+use implib_rules::library::{Refusal, kind_for, members_for};
+use implib_rules::linked::Naming;
+use implib_rules::options::LibraryOptions;
+use std::alloc::Global;
+
+// How names are read with these flags.
+fn naming_with(flags: u32) -> Option<Naming>
+    ensures { option_map naming_view result ≡ naming_numbered flags }
+{
+    let (is_plain, kills_at) = match flags {
+        0 => (false, false),
+        1 => (false, true),
+        2 => (true, false),
+        3 => (true, true),
+        _ => return None,
+    };
+    Some(Naming { is_plain, kills_at })
+}
+
+// The options that are given as numbers, and as the bytes of a name; without one where `has_dll`
+// is 0.
+fn options_with<'a>(
+    dll: &'a [u8],
+    has_dll: u32,
+    machine: u16,
+    flavor: u32,
+    flags: u32,
+) -> Result<LibraryOptions<'a>, Failure>
+    ensures ok { IfOk result (λ options. AreOptions
+        (record { machine = machine; flavor = flavor; flags = flags; has_dll = has_dll; dll = dll.now })
+        (library_options_view options)) }
+    ensures fault { IfErr result (IsNoOptions
+        (record { machine = machine; flavor = flavor; flags = flags; has_dll = has_dll; dll = dll.now })) }
+{
+    let Some(machine) = machine_with(machine) else {
+        return Err(Failure::UnknownMachine);
+    };
+    let Some(flavor) = flavor_with(flavor) else {
+        return Err(Failure::UnknownFlavor);
+    };
+    let Some(naming) = naming_with(flags) else {
+        return Err(Failure::UnknownFlags);
+    };
+    if has_dll == 0 {
+        return Ok(LibraryOptions {
+            machine,
+            flavor,
+            dll: None,
+            naming,
+        });
+    }
+    match str::from_utf8(dll) {
+        Ok(name) => Ok(LibraryOptions {
+            machine,
+            flavor,
+            dll: Some(name),
+            naming,
+        }),
+        Err(_) => Err(Failure::DllNotUtf8),
+    }
+}
+
+// How many bytes of a text are a byte order mark.
+fn mark_length(text: &[u8]) -> usize
+    ensures { result ≡ mark_length text.now }
+{
+    if text.starts_with(&[0xEF, 0xBB, 0xBF]) {
+        3
+    } else {
+        0
+    }
+}
+
+// The length of the longest beginning of a text that is UTF-8.
+fn valid_length(text: &[u8]) -> usize
+    ensures { result ≡ utf8_valid_len text.now }
+{
+    match str::from_utf8(text) {
+        Ok(text) => text.len(),
+        Err(error) => error.valid_up_to(),
+    }
+}
+
+// What a refusal of a text becomes: its offset is in the text with its byte order mark.
+fn failure_in(text: &[u8], refusal: Refusal) -> Failure
+    requires { IsWithin text.now refusal }
+    ensures status { failure_status result ≡ refusal_status refusal }
+    ensures length { length_given (Err result) ≡ 0 }
+    ensures place { place_given (Err result) ≡ place_of_refusal text.now refusal }
+{
+    match refusal {
+        Refusal::NotUtf8 => Failure::NotUtf8(valid_length(text)),
+        Refusal::Syntax(fault, position) => {
+            Failure::SyntaxError(fault, mark_length(text) + position.offset)
+        }
+        Refusal::NoName => Failure::NoDllName,
+        Refusal::Members(fault, position) => {
+            let offset = match fault.export_index() {
+                Some(_) => mark_length(text) + position.offset,
+                None => 0,
+            };
+            Failure::RefusedAt(fault, offset)
+        }
+        Refusal::Archive(fault) => Failure::NoArchive(fault),
+        Refusal::OutOfMemory => Failure::OutOfMemory,
+    }
+}
+
+// Puts the library that the program makes of a text with these options at the beginning of the
+// buffer, where there is room. Gives its length.
+fn put_library(
+    alloc: Global,
+    text: &[u8],
+    options: &LibraryOptions<'_>,
+    buffer: &mut [u8],
+) -> Result<usize, Failure>
+    ensures { PutsLibrary text.now (library_options_view options.now) buffer.old buffer.new
+        (length_given result) (place_given result) (status_given result) }
+{
+    match members_for(alloc, text, options) {
+        Ok(members) => {
+            let kind = kind_for(options.flavor, members.len());
+            pack_into(alloc, buffer, members.as_slice(), kind)
+        }
+        Err(refusal) => Err(failure_in(text, refusal)),
+    }
+}
+
+/// Puts the library that the program makes of a text with these options at the beginning of the
+/// buffer. Gives its length. An error leaves the buffer as it was.
+///
+/// # Errors
+///
+/// The first that applies: `UnknownMachine`, `UnknownFlavor`, `UnknownFlags`, `DllNotUtf8`,
+/// `NotUtf8`, `SyntaxError`, `NoDllName`, `RefusedAt`, `NoArchive`, `BufferTooSmall`. `OutOfMemory`
+/// can precede the last six, and come where none applies.
+pub fn library_with_into(
+    alloc: Global,
+    text: &[u8],
+    dll: &[u8],
+    has_dll: u32,
+    machine: u16,
+    flavor: u32,
+    flags: u32,
+    buffer: &mut [u8],
+) -> Result<usize, Failure>
+    ensures { LibraryWithAnswers text.now
+        (record { machine = machine; flavor = flavor; flags = flags; has_dll = has_dll; dll = dll.now })
+        buffer.old buffer.new
+        (length_given result) (place_given result) (status_number (status_given result)) }
+{
+    match options_with(dll, has_dll, machine, flavor, flags) {
+        Ok(options) => put_library(alloc, text, &options, buffer),
+        Err(failure) => Err(failure),
+    }
+}

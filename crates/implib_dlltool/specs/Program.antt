@@ -1,0 +1,260 @@
+-- What a run of the program does (this project's own).
+use Rattle.std.specs.Prelude.{◌≡◌, ◌⊎◌, ℕ, Bool, true, false, List, [], ◌∷◌, Option, None, Some, Result, Ok, Err, IfSome, codes, drop, filter, length, map, if◌then◌else◌}
+use Rattle.std.specs.Io.KnownBytes.{Appends}
+use Rattle.std.specs.Str.{IsUtf8, bytes_eq}
+use Rattle.std.specs.declared.io.ErrorKind.{ErrorKind}
+use Rattle.std.specs.declared.io.ErrorKind.TheVariants.{InvalidData}
+use Rattle.implib.specs.declared.flavor.Flavor.{Flavor}
+use Rattle.implib.specs.declared.flavor.Flavor.TheVariants.{Msvc, Gnu}
+use Rattle.implib.specs.declared.machine.MachineType.TheVariants.{AMD64}
+use Rattle.implib.specs.Definition.{DefinitionView}
+use Rattle.implib.specs.Fault.{Cause}
+use Rattle.implib.specs.Members.MemberSpec.{MemberView}
+use Rattle.implib.specs.Text.Parses.{Parses, RefusesAt}
+use Rattle.implib_dlltool.specs.Arguments.{OccurrenceView, WordFaultView, read_words}
+use Rattle.implib_dlltool.specs.Disk.{DiskView}
+use Rattle.implib_dlltool.specs.Placing.{Answer, Answers}
+use Rattle.implib_dlltool.specs.Reports.{ComplaintView, Complains, Line, OfArguments, OfCall, OfMemory, OfSystem, OfWord, OfWriting, Refuses, Says, Warns}
+use Rattle.implib_dlltool.specs.Request.{Asked, AsksHelp, AsksVersion, Asks, RequestView, TaskView, caller_of, task_of}
+use Rattle.implib_dlltool.specs.Verbose.{warnings_for}
+use Rattle.implib_rules.specs.declared.library.LibraryError.TheVariants.{Refused, Writing}
+use Rattle.implib_rules.specs.declared.library.Refusal.{Refusal}
+use Rattle.implib_rules.specs.declared.library.Refusal.TheVariants.{OutOfMemory}
+use Rattle.implib_rules.specs.declared.places.Place.{Place}
+use Rattle.implib_rules.specs.declared.places.Site.{Site}
+use Rattle.implib_rules.specs.declared.places.Site.TheVariants as site
+use Rattle.implib_rules.specs.Library.{IsRefusalOfMembers, MembersFor, status_of, without_mark}
+use Rattle.implib_rules.specs.Options.{LibraryOptionsView}
+use Rattle.implib_rules.specs.Places.{ArePlacesOf}
+use Rattle.implib_rules.specs.Warnings.{WarningView}
+
+-- what is known of all that a run uses but standard output: the bytes that standard input has left, the disk, and
+-- what was said
+pub record Devices : Type 0 where
+  pub input : Option (List ℕ)
+  pub disk : DiskView
+  pub said : Option (List Line)
+
+abbrev pub devices : Option (List ℕ) → DiskView → Option (List Line) → Devices
+devices input disk said = record { input = input; disk = disk; said = said }
+
+-- the bytes of the definition: for `-` those that standard input has left, else those of the file
+abbrev pub definition_in : Option (List ℕ) → DiskView → List ℕ → Option (List ℕ)
+definition_in input disk path = if bytes_eq path (codes "-") then input else disk.seen path
+
+-- all files are as they were, and nothing new is left
+pub record KeepsFiles (before after : DiskView) : Type 0 where
+  pub seen : after.seen ≡ before.seen
+  pub left : after.left ≡ before.left
+
+-- whether the name of an export is there
+abbrev pub is_export : Site → Bool
+is_export site.Export = true
+is_export _ = false
+
+-- the lines of the exports of a text, by its places
+abbrev pub export_lines : List Place → List ℕ
+export_lines places = map (λ p. p.position.line) (filter (λ p. is_export p.site) places)
+
+-- how many members the library has
+pub record HasMembers (bytes : List ℕ) (options : LibraryOptionsView) (count : ℕ) : Type 0 where
+  pub members : List MemberView
+  pub members_for : MembersFor bytes options members
+  pub are : count ≡ length members
+
+-- there are no members, and not for want of memory
+pub record HasNoMembers (bytes : List ℕ) (options : LibraryOptionsView) (count : ℕ) : Type 0 where
+  pub refusal : Refusal
+  pub is_refused : IsRefusalOfMembers bytes options refusal
+  pub is_true : status_of refusal ≡ 1
+  pub none : count ≡ 0
+
+-- the number of members for warnings: none of a flavour need it for GNU's linker
+abbrev pub CountsMembers : List ℕ → LibraryOptionsView → Flavor → ℕ → Type 0
+CountsMembers bytes options Gnu count = count ≡ 0
+CountsMembers bytes options Msvc count = HasMembers bytes options count ⊎ HasNoMembers bytes options count
+
+-- warnings of the definition of a path, as they are said
+abbrev pub warning_lines : List ℕ → List ℕ → List WarningView → List Line
+warning_lines path lines warnings = map (λ w. Warns path w lines) warnings
+
+-- the warnings of a definition with these places were said
+pub record SaysWarnings (bytes : List ℕ) (definition : DefinitionView) (places : List Place) (request : RequestView)
+    (before after : Option (List Line)) : Type 0 where
+  pub count : ℕ
+  pub counts : CountsMembers bytes request.library request.library.flavor count
+  pub says : Says before after
+      (warning_lines request.definition (export_lines places) (warnings_for request definition.exports places count))
+
+-- the bytes are a definition, and its warnings were said
+pub record WarnsOf (bytes : List ℕ) (request : RequestView) (before after : Option (List Line)) : Type 0 where
+  pub utf8 : IsUtf8 (without_mark bytes)
+  pub definition : DefinitionView
+  pub parses : Parses (without_mark bytes) AMD64 definition
+  pub places : List Place
+  pub are_places : ArePlacesOf (without_mark bytes) places
+  pub warns : SaysWarnings bytes definition places request before after
+
+-- the text is no definition
+pub record HasSyntaxError (text : List ℕ) : Type 0 where
+  pub cause : Cause
+  pub offset : ℕ
+  pub refused : RefusesAt text cause offset
+
+-- the bytes are no definition, and nothing was said
+pub record IsNoDefinition (bytes : List ℕ) (before after : Option (List Line)) : Type 0 where
+  pub refused : (¬ (IsUtf8 (without_mark bytes))) ⊎ HasSyntaxError (without_mark bytes)
+  pub silent : after ≡ before
+
+-- the warnings of bytes were said, if they are asked for
+abbrev pub Warned : Bool → List ℕ → RequestView → Option (List Line) → Option (List Line) → Type 0
+Warned false bytes request before after = after ≡ before
+Warned true bytes request before after = WarnsOf bytes request before after ⊎ IsNoDefinition bytes before after
+
+-- the path that the library was to go to
+abbrev pub output_or_none : Option (List ℕ) → List ℕ
+output_or_none None = codes "-"
+output_or_none (Some path) = path
+
+-- what is said of an answer
+abbrev pub verdict : RequestView → Answer → List Line
+verdict request (Ok made) = []
+verdict request (Err (Refused refusal)) = Refuses request.definition refusal ∷ []
+verdict request (Err (Writing cause)) = Complains (output_or_none request.output) OfWriting ∷ []
+
+-- the exit status of an answer
+abbrev pub answer_status : Answer → ℕ
+answer_status (Ok made) = 0
+answer_status (Err (Refused refusal)) = status_of refusal
+answer_status (Err (Writing cause)) = 3
+
+-- the warnings that are asked for were said, the library was put, and then the answer was said
+pub record IsAnswered (known : Bool) (bytes : List ℕ) (request : RequestView) (disk put : DiskView)
+    (before after : Option (List Line)) (status : ℕ) : Type 0 where
+  pub warned : Option (List Line)
+  pub warns : Warned request.is_verbose bytes request before warned
+  pub answer : Answer
+  pub answers : Answers known disk put bytes request answer
+  pub says : Says warned after (verdict request answer)
+  pub is_status : status ≡ answer_status answer
+
+-- memory for the warnings was refused
+pub record IsUnwarned (request : RequestView) (disk put : DiskView) (before after : Option (List Line)) (status : ℕ) : Type 0 where
+  pub same_disk : put ≡ disk
+  pub says : Says before after (Refuses request.definition OutOfMemory ∷ [])
+  pub is_status : status ≡ 3
+
+-- what is done with the bytes of a definition
+abbrev pub Finishes : Bool → List ℕ → RequestView → DiskView → DiskView → Option (List Line) → Option (List Line) → ℕ → Type 0
+Finishes known bytes request disk put before after status =
+    IsAnswered known bytes request disk put before after status ⊎ IsUnwarned request disk put before after status
+
+-- the definition was read, and this was done with its bytes
+pub record IsRead (known : Bool) (request : RequestView) (before after : Devices) (status : ℕ) : Type 0 where
+  pub bytes : List ℕ
+  pub read : IfSome (definition_in before.input before.disk request.definition) (λ file. bytes ≡ file)
+  pub finishes : Finishes known bytes request before.disk after.disk before.said after.said status
+
+-- the definition could not be read
+pub record IsUnread (request : RequestView) (before after : Devices) (status : ℕ) : Type 0 where
+  pub keeps : KeepsFiles before.disk after.disk
+  pub says : Says before.said after.said (Complains request.definition OfSystem ∷ [])
+  pub is_status : status ≡ 3
+
+-- what is done for a library that is asked for
+abbrev pub Makes : Bool → RequestView → Devices → Devices → ℕ → Type 0
+Makes known request before after status = IsRead known request before after status ⊎ IsUnread request before after status
+
+-- the name of the program in what it says
+abbrev pub own_name : List ℕ
+own_name = codes "implib_dlltool"
+
+-- one complaint was said, and nothing else was done
+pub record Complained (complaint : ComplaintView) (number : ℕ) (before after : Devices) (printed prints : Option (List ℕ))
+    (status : ℕ) : Type 0 where
+  pub same_disk : after.disk ≡ before.disk
+  pub same_input : after.input ≡ before.input
+  pub same_output : prints ≡ printed
+  pub says : Says before.said after.said (Complains own_name complaint ∷ [])
+  pub is_status : status ≡ number
+
+-- the text is on standard output, and nothing was said
+pub record IsPrinted (text : List ℕ) (before after : Option (List Line)) (printed prints : Option (List ℕ)) (status : ℕ)
+    : Type 0 where
+  pub appends : Appends printed prints text
+  pub silent : after ≡ before
+  pub is_status : status ≡ 0
+
+-- writing the text failed
+pub record IsUnprinted (before after : Option (List Line)) (status : ℕ) : Type 0 where
+  pub says : Says before after (Complains own_name OfSystem ∷ [])
+  pub is_status : status ≡ 3
+
+-- what is done for a text that is asked for
+abbrev pub Prints : List ℕ → Option (List Line) → Option (List Line) → Option (List ℕ) → Option (List ℕ) → ℕ → Type 0
+Prints text before after printed prints status =
+    IsPrinted text before after printed prints status ⊎ IsUnprinted before after status
+
+-- a text was printed, or that failed, and nothing else was done
+pub record OnlyPrints (text : List ℕ) (before after : Devices) (printed prints : Option (List ℕ)) (status : ℕ) : Type 0 where
+  pub same_disk : after.disk ≡ before.disk
+  pub same_input : after.input ≡ before.input
+  pub outcome : Prints text before.said after.said printed prints status
+
+-- what was asked for was made, and nothing printed
+pub record OnlyMakes (known : Bool) (request : RequestView) (before after : Devices) (printed prints : Option (List ℕ))
+    (status : ℕ) : Type 0 where
+  pub same_output : prints ≡ printed
+  pub outcome : Makes known request before after status
+
+-- the texts of the help and of the version
+pub record Texts : Type 0 where
+  pub help : List ℕ
+  pub version : List ℕ
+
+abbrev pub texts : List ℕ → List ℕ → Texts
+texts help version = record { help = help; version = version }
+
+-- what is done for what options ask for
+abbrev pub DoesTask : Bool → Texts → Asked TaskView → Devices → Devices → Option (List ℕ) → Option (List ℕ) → ℕ → Type 0
+DoesTask known texts (Ok AsksHelp) before after printed prints status = OnlyPrints texts.help before after printed prints status
+DoesTask known texts (Ok AsksVersion) before after printed prints status =
+    OnlyPrints texts.version before after printed prints status
+DoesTask known texts (Ok (Asks request)) before after printed prints status =
+    OnlyMakes known request before after printed prints status
+DoesTask known texts (Err fault) before after printed prints status =
+    Complained (OfCall fault) 2 before after printed prints status
+
+-- what is done for options, where the program is called so, unless memory is refused
+abbrev pub DoesOptions : Bool → Texts → List ℕ → List OccurrenceView → Devices → Devices → Option (List ℕ) → Option (List ℕ) → ℕ → Type 0
+DoesOptions known texts program options before after printed prints status =
+    DoesTask known texts (task_of (caller_of program) options) before after printed prints status
+    ⊎ Complained OfMemory 3 before after printed prints status
+
+-- what is done for words that are read so
+abbrev pub DoesRead : Bool → Texts → List ℕ → Result (List OccurrenceView) WordFaultView → Devices → Devices → Option (List ℕ) → Option (List ℕ) → ℕ → Type 0
+DoesRead known texts program (Ok options) before after printed prints status =
+    DoesOptions known texts program options before after printed prints status
+DoesRead known texts program (Err fault) before after printed prints status =
+    Complained (OfWord fault) 2 before after printed prints status
+
+-- what is done for words, where the program is called so, unless memory is refused
+abbrev pub DoesWords : Bool → Texts → List ℕ → List (List ℕ) → Devices → Devices → Option (List ℕ) → Option (List ℕ) → ℕ → Type 0
+DoesWords known texts program words before after printed prints status =
+    DoesRead known texts program (read_words words) before after printed prints status
+    ⊎ Complained OfMemory 3 before after printed prints status
+
+-- the name that the program is called by: the first argument
+abbrev pub called_by : List (List ℕ) → List ℕ
+called_by [] = own_name
+called_by (program ∷ words) = program
+
+-- what a run does for a command line
+abbrev pub Runs : Bool → Texts → List (List ℕ) → Devices → Devices → Option (List ℕ) → Option (List ℕ) → ℕ → Type 0
+Runs known texts arguments before after printed prints status =
+    DoesWords known texts (called_by arguments) (drop 1 arguments) before after printed prints status
+
+-- the command line cannot be read: it is not UTF-8, or the system failed
+abbrev pub IsUncalled : ErrorKind → Devices → Devices → Option (List ℕ) → Option (List ℕ) → ℕ → Type 0
+IsUncalled InvalidData before after printed prints status = Complained OfArguments 2 before after printed prints status
+IsUncalled _ before after printed prints status = Complained OfSystem 3 before after printed prints status

@@ -1,0 +1,220 @@
+//! The disk of the system. A library is made beside the old one, and renamed.
+
+ghost use Rattle.implib_dlltool.specs.Disk.{state_view};
+ghost use Rattle.std.specs.Prelude.{◌≡◌, IfOk, None, false};
+ghost use Rattle.std.specs.String.{string_bytes};
+
+use crate::disk::Disk;
+use std::alloc::Global;
+use std::fs::{Files, OpenFile, OpenOptions, Permissions};
+use std::io::ErrorKind;
+use std::path::Path;
+use std::{fs, io};
+
+// How many symbolic links are followed, and how many names are tried.
+const LINKS: u32 = 40;
+
+const NAMES: u32 = 1000;
+
+// There is something that is no file.
+fn no_file() -> io::Error {
+    io::Error::other("not a regular file; it is left as it is")
+}
+
+// The file that a path leads to by its symbolic links, and its mode where it is there.
+fn followed<R: Files + AllocGlobal>(
+    rt: &R,
+    path: &str,
+) -> io::Result<(String, Option<Permissions>)> {
+    let mut target = String::from_str(rt.alloc(), path)?;
+    for _ in 0..LINKS {
+        let metadata = match fs::symlink_metadata(rt, target.as_str()) {
+            Ok(metadata) => metadata,
+            Err(error) if error.kind() == ErrorKind::NotFound => return Ok((target, None)),
+            Err(error) => return Err(error),
+        };
+        if metadata.is_file() {
+            return Ok((target, Some(metadata.permissions())));
+        }
+        if !metadata.is_symlink() {
+            return Err(no_file());
+        }
+        let link = fs::read_link(rt, target.as_str())?;
+        let next = match Path::new(target.as_str()).parent() {
+            Some(parent) => parent.join(rt.alloc(), link.as_path())?,
+            None => link,
+        };
+        target = next.into_string();
+    }
+    Err(no_file())
+}
+
+// The name of a new file beside another.
+fn beside(alloc: Global, path: &str, id: u32, number: u32) -> io::Result<String> {
+    let name = format!(in alloc; ".implib_dlltool-{id}-{number}")?;
+    let path = Path::new(path).with_file_name(alloc, name.as_str())?;
+    Ok(path.into_string())
+}
+
+// A new file beside another, and its name.
+fn open_beside<R: Files + AllocGlobal>(
+    rt: &R,
+    path: &str,
+    id: u32,
+) -> io::Result<(R::File, String)> {
+    let mut how = OpenOptions::new();
+    how.write(true);
+    how.create_new(true);
+    for number in 0..NAMES {
+        let name = beside(rt.alloc(), path, id, number)?;
+        match how.open(rt, name.as_str()) {
+            Ok(file) => return Ok((file, name)),
+            Err(error) if error.kind() == ErrorKind::AlreadyExists => {}
+            Err(error) => return Err(error),
+        }
+    }
+    Err(io::Error::from(ErrorKind::AlreadyExists))
+}
+
+// A new file that was made.
+#[derive(Drop)]
+struct Made {
+    // Its name.
+    name: String,
+    // The file whose place it takes, and the path that leads there.
+    target: String,
+    path: String,
+}
+
+// What was done.
+#[derive(Drop)]
+struct State {
+    // The new file that is in no place.
+    made: Option<Made>,
+    // Whether a call failed, other than a removal; and whether a removal did.
+    has_failed: bool,
+    is_stuck: bool,
+}
+
+// Makes a file beside the one that a path leads to. It gets the mode of the one whose place it
+// takes. Where there is something that is no file, it is an error.
+fn make_file<R: Files + AllocGlobal>(rt: &R, id: u32, path: &str) -> io::Result<(R::File, Made)>
+    ensures { IfOk result (λ new. string_bytes new.1.path ≡ path.now) }
+{
+    let own = String::from_str(rt.alloc(), path)?;
+    let (target, mode) = followed(rt, path)?;
+    let (file, name) = open_beside(rt, target.as_str(), id)?;
+    if let Some(mode) = mode {
+        if let Err(error) = file.set_permissions(mode) {
+            drop(file);
+            let _ = fs::remove_file(rt, name.as_str());
+            return Err(error);
+        }
+    }
+    let made = Made {
+        name,
+        target,
+        path: own,
+    };
+    Ok((file, made))
+}
+
+// Puts a file into its place, once its bytes are on the disk: so an error that the system finds
+// late, as it would at the file's end, comes before the old file is gone.
+fn settle<R: Files, F: OpenFile + Drop>(rt: &R, made: &Made, file: F) -> io::Result<()> {
+    file.sync_all()?;
+    drop(file);
+    fs::rename(rt, made.name.as_str(), made.target.as_str())
+}
+
+/// The files of the system.
+///
+/// A new file is made beside the one that its path leads to, and gets its mode.
+#[derive(Drop)]
+pub struct SystemDisk<'a, R: Files + AllocGlobal> {
+    rt: &'a R,
+    id: u32,
+    state: State,
+}
+
+impl<'a, R: Files + AllocGlobal> SystemDisk<'a, R> {
+    /// The system's files; `id` is a number for the names of new ones.
+    pub fn new(rt: &'a R, id: u32) -> SystemDisk<'a, R>
+        ensures { (state_view result.state).left ≡ None }
+    {
+        SystemDisk {
+            rt,
+            id,
+            state: State {
+                made: None,
+                has_failed: false,
+                is_stuck: false,
+            },
+        }
+    }
+}
+
+impl<'a, R: Files + AllocGlobal> Disk for SystemDisk<'a, R> {
+    type File = R::File;
+
+    ghost view = { λ disk. state_view disk.state };
+
+    ghost is_known = { false };
+
+    fn read(&mut self, _alloc: Global, path: &str) -> io::Result<Vec<u8>> {
+        match fs::read(self.rt, path) {
+            Ok(bytes) => Ok(bytes),
+            Err(error) => {
+                self.state.has_failed = true;
+                Err(error)
+            }
+        }
+    }
+
+    fn begin(&mut self, path: &str) -> io::Result<R::File> {
+        match make_file(self.rt, self.id, path) {
+            Ok((file, made)) => {
+                self.state.made = Some(made);
+                Ok(file)
+            }
+            Err(error) => {
+                self.state.has_failed = true;
+                Err(error)
+            }
+        }
+    }
+
+    fn replace(&mut self, file: R::File) -> io::Result<()> {
+        let settled = match &self.state.made {
+            Some(made) => settle(self.rt, made, file),
+            None => Ok(()),
+        };
+        match settled {
+            Ok(()) => {
+                self.state.made = None;
+                Ok(())
+            }
+            Err(error) => {
+                self.state.has_failed = true;
+                Err(error)
+            }
+        }
+    }
+
+    fn remove(&mut self) -> io::Result<()> {
+        let removed = match &self.state.made {
+            Some(made) => fs::remove_file(self.rt, made.name.as_str()),
+            None => Ok(()),
+        };
+        match removed {
+            Ok(()) => {
+                self.state.made = None;
+                Ok(())
+            }
+            Err(error) => {
+                self.state.is_stuck = true;
+                Err(error)
+            }
+        }
+    }
+}

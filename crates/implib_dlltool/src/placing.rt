@@ -1,0 +1,113 @@
+//! The library of a definition, and its way to its place.
+
+ghost use Rattle.implib.specs.Library.{member_view};
+ghost use Rattle.implib_archive.specs.Archive.{archive_of};
+ghost use Rattle.implib_archive.specs.Refusal.{refusal_of};
+ghost use Rattle.implib_dlltool.specs.Placing.{Answers, IsPlaced, IsUnplaced};
+ghost use Rattle.implib_dlltool.specs.Request.{request_view};
+ghost use Rattle.implib_rules.specs.Library.{IsRefusalOfArchive, kind_of};
+ghost use Rattle.std.specs.Io.KnownBytes.{Appends};
+ghost use Rattle.std.specs.Prelude.{◌≡◌, IfErr, IfOk, None, OnErr, OnOk, map};
+
+use crate::disk::Disk;
+use crate::request::Request;
+use implib::{Flavor, Member};
+use implib_archive::{Archive, WriteError};
+use implib_rules::library::{LibraryError, Refusal, kind_for, members_for, write_library};
+use std::alloc::Global;
+use std::io::{BufWriter, Write};
+use std::{io, mem};
+
+// How many bytes are written to a file at once.
+const BUFFER: usize = 1 << 16;
+
+// Writes an archive to a file that is empty, and gives the file.
+fn fill<W: Write + Drop>(alloc: Global, file: W, archive: &Archive<'_>) -> Result<W, WriteError>
+    ensures { IfOk result (λ filled. Appends (W.contents file) (W.contents filled)
+        (archive_of archive.now.kind archive.now.members)) }
+{
+    let mut writer = BufWriter::with_capacity(alloc, BUFFER, file)?;
+    let written = match archive.write_to(alloc, &mut writer) {
+        Ok(()) => writer.flush().map_err(WriteError::from),
+        failed => failed,
+    };
+    // What a failed write left in the buffer is not written again.
+    let (file, _) = writer.into_parts();
+    match written {
+        Ok(()) => Ok(file),
+        Err(cause) => Err(cause),
+    }
+}
+
+// Writes an archive to a new file, and puts that into its place; or removes it.
+fn place<D: Disk>(
+    alloc: Global,
+    disk: &mut D,
+    path: &str,
+    archive: &Archive<'_>,
+) -> Result<(), WriteError>
+    requires { (D.view disk.old).left ≡ None }
+    ensures placed { OnOk result (IsPlaced D.is_known (D.view disk.old) (D.view disk.new) path.now
+        (archive_of archive.now.kind archive.now.members)) }
+    ensures unplaced { OnErr result (IsUnplaced (D.view disk.old) (D.view disk.new)) }
+{
+    let file = disk.begin(path)?;
+    let placed = match fill(alloc, file, archive) {
+        Ok(file) => disk.replace(file).map_err(WriteError::from),
+        Err(cause) => Err(cause),
+    };
+    if placed.is_err() {
+        let _ = disk.remove();
+    }
+    placed
+}
+
+// The archive of members for a flavour.
+fn archive_for<'a>(
+    alloc: Global,
+    members: &'a [Member],
+    flavor: Flavor,
+) -> Result<Archive<'a>, Refusal>
+    ensures holds { IfOk result (λ archive. archive ≡ record {
+      kind = kind_of flavor (map member_view members.now);
+      members = map member_view members.now;
+    }) }
+    ensures accepted { OnOk result (refusal_of (kind_of flavor (map member_view members.now))
+        (map member_view members.now) ≡ None) }
+    ensures refused { IfErr result (IsRefusalOfArchive flavor (map member_view members.now)) }
+{
+    let kind = kind_for(flavor, members.len());
+    Ok(Archive::new(alloc, members, kind)?)
+}
+
+/// Puts a library into the place that is asked for, whole or not at all; or sees that there is one.
+///
+/// # Errors
+///
+/// `Refused`: there is none; nothing was written. `Writing`: it was not written, and no file is in
+/// another's place; the new one is removed.
+pub fn put<D: Disk>(
+    alloc: Global,
+    disk: &mut D,
+    bytes: &[u8],
+    request: &Request<'_>,
+) -> Result<(), LibraryError>
+    requires { (D.view disk.old).left ≡ None }
+    ensures { Answers D.is_known (D.view disk.old) (D.view disk.new) bytes.now
+        (request_view request.now) result }
+{
+    let Some(path) = request.output else {
+        return write_library(alloc, bytes, &request.library, &mut io::sink());
+    };
+    let members = members_for(alloc, bytes, &request.library)?;
+    let archive = archive_for(alloc, members.as_slice(), request.library.flavor)?;
+    match place(alloc, disk, path, &archive) {
+        Ok(()) => {
+            drop(archive);
+            // The program ends now. Freeing each name and symbol would take a fifth of its time.
+            mem::forget(members);
+            Ok(())
+        }
+        Err(cause) => Err(LibraryError::Writing(cause)),
+    }
+}

@@ -1,0 +1,203 @@
+-- What aliases of Microsoft's flavour lead to.
+use Rattle.std.proofs.Common.{◌≡◌, ◌∙◌, ℕ, Bool, true, false, List, [], ◌∷◌, ◌++◌, Option, None, Some, ap, arith, bytes_eq, cond, ◌⊎◌, inl, inr, if◌then◌else◌, map, refl, sym, subst}
+use Rattle.std.specs.Prelude.{not, ◌&&◌, is_some}
+use Rattle.std.specs.List.{Contains, find}
+use Rattle.std.specs.Option.{option_map, option_or}
+use Rattle.std.proofs.lemmas.Bool.{and_parts, cases_Bool, true≢false}
+use Rattle.std.proofs.lemmas.List.Elements.{Contains-append_cases, Contains-append_left, Contains-append_right, Contains-push_cases}
+use Rattle.std.proofs.lemmas.Option.{none-some, same_Some}
+use Rattle.std.proofs.lemmas.Slice.Eq.{bytes_eq-Decides}
+use Rattle.implib.specs.declared.flavor.Flavor.TheVariants.{Gnu, Msvc}
+use Rattle.implib.specs.declared.machine.MachineType.{MachineType}
+use Rattle.implib.specs.Definition.{ExportView}
+use Rattle.implib.specs.Import.{is_empty_text, name_asked}
+use Rattle.implib_rules.specs.BothFlavors.{AsksAlike, LeadsAlike}
+use Rattle.implib_rules.specs.Linked.{NamingView, adds_target, alias_symbol, asks_for, export_asked, has_target, is_among, is_apart, is_asked, is_declared, is_named_import, linked_export, linked_import, linked_to, makes, new_target, symbol_linked, symbol_of, target_import, target_symbol, targets_beside, with_symbol, with_target, word_asked, word_of}
+use Rattle.implib_rules.proofs.Asked.{asks_as_linked}
+use Rattle.implib_rules.proofs.Symbols.{one_word}
+use Rattle.implib_rules.proofs.Targets.{neither}
+
+not_true : (b : Bool) → not b ≡ true → b ≡ false
+not_true false is = refl
+not_true true is = absurd (true≢false (sym is))
+
+-- an element of a list is its first one, or one of the rest
+in_cons : {X : Type 0} (x : X) (xs : List X) (y : X) → Contains (x ∷ xs) y → (x ≡ y) ⊎ Contains xs y
+in_cons x xs y within =
+    elim (Contains-append_cases (x ∷ []) xs y within) [
+      | inl first ↦ elim (Contains-push_cases [] x y first) [
+        | inl none ↦ absurd (omega (arith, none.1))
+        | inr is ↦ inl is
+      ]
+      | inr rest ↦ inr rest
+    ]
+
+first_in : {X : Type 0} (x : X) (xs : List X) → Contains (x ∷ xs) x
+first_in x xs = (0, omega arith, refl)
+
+rest_in : {X : Type 0} (x : X) (xs : List X) (y : X) → Contains xs y → Contains (x ∷ xs) y
+rest_in x xs y within = Contains-append_right (x ∷ []) xs y within
+
+in_map : {X Y : Type 0} (f : X → Y) (xs : List X) (x : X) → Contains xs x → Contains (map f xs) (f x)
+in_map f [] x within = absurd (omega (arith, within.1))
+in_map f (first ∷ xs) x within =
+    elim (in_cons first xs x within) [
+      | inl is ↦ subst (λ y. Contains (f first ∷ map f xs) (f y)) is (first_in (f first) (map f xs))
+      | inr rest ↦ rest_in (f first) (map f xs) (f x) (in_map f xs x rest)
+    ]
+
+-- what is found is in the list, and passes
+found : {X : Type 0} (test : X → Bool) (xs : List X) (x : X) → find test xs ≡ Some x → Contains xs x × (test x ≡ true)
+found test [] x is = absurd (none-some x is)
+found test (first ∷ xs) x is =
+    elim (cases_Bool (test first)) [
+      | inl passes ↦
+          let same : Some first ≡ Some x = ap (λ b. cond b (Some first) (find test xs)) (sym passes) ∙ is in
+          let here : first ≡ x = same_Some first x same in
+          (subst (λ y. Contains (first ∷ xs) y) here (first_in first xs), ap test (sym here) ∙ passes)
+      | inr fails ↦
+          let later = found test xs x (ap (λ b. cond b (Some first) (find test xs)) (sym fails) ∙ is) in
+          (rest_in first xs x later.0, later.1)
+    ]
+
+module _ (machine : MachineType) (naming : NamingView) where
+  -- an import that is added under the symbol of an alias's target, for that alias or for one before it
+  abbrev IsAdded : List ExportView → List (List ℕ) → List ExportView → List ℕ → Type 0
+  IsAdded all symbols rest word =
+      (x : ExportView) × Contains (targets_beside machine naming all symbols rest) (target_import machine naming x)
+      × (symbol_of machine naming x.alias_target ≡ word)
+
+  -- the same once an export is passed
+  later : (all : List ExportView) (symbols : List (List ℕ)) (first : ExportView) (rest : List ExportView) (symbol : List ℕ)
+      → IsAdded all (with_target machine naming all symbols first) rest symbol → IsAdded all symbols (first ∷ rest) symbol
+  later all symbols first rest symbol added =
+      (added.0, Contains-append_right (new_target machine naming all symbols first) (targets_beside machine naming all (with_target machine naming all symbols first) rest) (target_import machine naming added.0) added.1, added.2)
+
+  among_more : (symbols : List (List ℕ)) (more symbol : List ℕ) → is_among symbols symbol ≡ false → bytes_eq symbol more ≡ false → is_among (symbols ++ more ∷ []) symbol ≡ false
+  among_more [] more symbol none other = rw other refl
+  among_more (first ∷ symbols) more symbol none other =
+      let parts = neither (bytes_eq symbol first) (is_among symbols symbol) none in
+      rw parts.0 (among_more symbols more symbol parts.1 other)
+
+  -- an alias that wants a target gets one, unless its symbol is there
+  added : (all : List ExportView) (symbols : List (List ℕ)) (rest : List ExportView) (e : ExportView) → Contains rest e
+      → adds_target machine naming all e ≡ true → is_among symbols (symbol_of machine naming e.alias_target) ≡ false
+      → IsAdded all symbols rest (symbol_of machine naming e.alias_target)
+  added all symbols [] e within adds none = absurd (omega (arith, within.1))
+  added all symbols (first ∷ rest) e within adds none =
+      let symbol = symbol_of machine naming e.alias_target in
+      let other = symbol_of machine naming first.alias_target in
+      let and_rest : (symbols_after : List (List ℕ)) → with_target machine naming all symbols first ≡ symbols_after → is_among symbols_after symbol ≡ false → Contains rest e → IsAdded all symbols (first ∷ rest) symbol =
+      λ symbols_after is free inside. later all symbols first rest symbol (subst (λ s. IsAdded all s rest symbol) (sym is) (added all symbols_after rest e inside adds free)) in
+      elim (cases_Bool (adds_target machine naming all first)) [
+        | inr passed ↦
+            elim (in_cons first rest e within) [
+              | inl is ↦ absurd (true≢false (sym adds ∙ ap (adds_target machine naming all) (sym is) ∙ passed))
+              | inr inside ↦ and_rest symbols (ap (λ b. if b then with_symbol symbols other else symbols) passed) none inside
+            ]
+        | inl wanted ↦
+            elim (cases_Bool (is_among symbols other)) [
+              | inl there ↦
+                  elim (in_cons first rest e within) [
+                    | inl is ↦ absurd (true≢false (sym there ∙ ap (λ (x : ExportView). is_among symbols (symbol_of machine naming x.alias_target)) is ∙ none))
+                    | inr inside ↦ and_rest symbols (ap (λ b. if b then with_symbol symbols other else symbols) wanted ∙ ap (λ b. if b then symbols else symbols ++ other ∷ []) there) none inside
+                  ]
+              | inr free ↦
+                  let new : new_target machine naming all symbols first ≡ target_import machine naming first ∷ [] =
+                  ap (λ b. if b && not (is_among symbols other) then target_import machine naming first ∷ [] else []) wanted
+                  ∙ ap (λ b. if not b then target_import machine naming first ∷ [] else []) free in
+                  elim (cases_Bool (bytes_eq symbol other)) [
+                    | inl same ↦ (
+                      first,
+                      subst (λ l. Contains (l ++ targets_beside machine naming all (with_target machine naming all symbols first) rest) (target_import machine naming first)) (sym new)
+                          (first_in (target_import machine naming first) (targets_beside machine naming all (with_target machine naming all symbols first) rest)),
+                      sym ((bytes_eq-Decides symbol other).0 same),
+                    )
+                    | inr differ ↦
+                        elim (in_cons first rest e within) [
+                          | inl is ↦ absurd (true≢false (sym ((bytes_eq-Decides symbol other).1 (ap (λ (x : ExportView). symbol_of machine naming x.alias_target) (sym is))) ∙ differ))
+                          | inr inside ↦ and_rest (symbols ++ other ∷ []) (ap (λ b. if b then with_symbol symbols other else symbols) wanted ∙ ap (λ b. if b then symbols else symbols ++ other ∷ []) free) (among_more symbols other symbol none differ) inside
+                        ]
+                  ]
+            ]
+      ]
+
+module _ (machine : MachineType) (naming : NamingView) (exports : List ExportView) where
+  -- an export that is weak for nothing is an import in either flavour
+  pub not_alias : (e : ExportView) → alias_symbol machine naming Msvc exports e ≡ None → linked_export machine naming Msvc exports e ≡ linked_export machine naming Gnu exports e
+  not_alias e none = ap (λ s. linked_to machine naming s e) none
+
+  module _ (e : ExportView) (apart : is_apart machine naming e ≡ true) where
+    -- it has a word after `==`, and asks for that in GNU's flavour
+    asks : name_asked machine (linked_import machine naming e) ≡ e.alias_target
+    asks =
+        let target : has_target e ≡ true = (and_parts (has_target e) (not e.private && (not e.no_name && not (makes (symbol_linked machine naming e) e.alias_target))) apart).0 in
+        asks_as_linked machine naming e
+        ∙ ap (λ b. if b then word_asked machine naming (word_of e) else e.alias_target) (not_true (is_empty_text e.alias_target) target)
+
+    by_target : alias_symbol machine naming Msvc exports e ≡ target_symbol machine naming exports e.alias_target
+    by_target = ap (λ b. if b then target_symbol machine naming exports e.alias_target else None) apart
+
+    -- an import by name asks for the word
+    asked : (x : ExportView) → find (asks_for machine naming e.alias_target) exports ≡ Some x → LeadsAlike machine naming exports e
+    asked x is =
+        let there = found (asks_for machine naming e.alias_target) exports x is in
+        let passes = and_parts (is_named_import machine naming x) (bytes_eq e.alias_target (export_asked machine naming x)) there.1 in
+        let public = and_parts (not x.private) (not x.no_name && not (is_apart machine naming x)) passes.0 in
+        let named = and_parts (not x.no_name) (not (is_apart machine naming x)) public.1 in
+        let own : alias_symbol machine naming Msvc exports x ≡ None =
+        ap (λ b. if b then target_symbol machine naming exports x.alias_target else None) (not_true (is_apart machine naming x) named.1) in
+        let linked : linked_export machine naming Msvc exports x ≡ linked_import machine naming x = ap (λ s. linked_to machine naming s x) own in
+        let symbol : alias_symbol machine naming Msvc exports e ≡ Some (symbol_linked machine naming x) =
+        by_target ∙ ap (λ o. option_or (option_map (symbol_linked machine naming) o) (if is_declared exports e.alias_target then None else Some (symbol_of machine naming e.alias_target))) is in
+        record {
+          import = linked_import machine naming x;
+          is_linked = Contains-append_left (map (linked_export machine naming Msvc exports) exports) _ (linked_import machine naming x)
+              (subst (Contains (map (linked_export machine naming Msvc exports) exports)) linked (in_map (linked_export machine naming Msvc exports) exports x there.0));
+          is_import = record { public = not_true x.private public.0; by_name = not_true x.no_name named.0; not_weak = refl };
+          leads = ap (λ s. (linked_to machine naming s e).alias_target) symbol;
+          asks = asks_as_linked machine naming x ∙ sym ((bytes_eq-Decides e.alias_target (export_asked machine naming x)).0 passes.1) ∙ sym asks;
+        }
+
+    -- none does, nor does an export declare it
+    alone : find (asks_for machine naming e.alias_target) exports ≡ None → is_declared exports e.alias_target ≡ false → Contains exports e → LeadsAlike machine naming exports e
+    alone none undeclared within =
+        let unasked : is_asked machine naming exports e.alias_target ≡ false = ap (λ o. is_some (option_map (symbol_linked machine naming) o)) none in
+        let wanted : adds_target machine naming exports e ≡ true =
+        ap (λ b. b && (not (is_asked machine naming exports e.alias_target) && not (is_declared exports e.alias_target))) apart
+        ∙ ap (λ b. not b && not (is_declared exports e.alias_target)) unasked ∙ ap not undeclared in
+        let new = added machine naming exports [] exports e within wanted refl in
+        let x = new.0 in
+        let symbol : alias_symbol machine naming Msvc exports e ≡ Some (symbol_of machine naming e.alias_target) =
+        by_target ∙ ap (λ o. option_or (option_map (symbol_linked machine naming) o) (if is_declared exports e.alias_target then None else Some (symbol_of machine naming e.alias_target))) none
+        ∙ ap (λ b. if b then None else Some (symbol_of machine naming e.alias_target)) undeclared in
+        record {
+          import = target_import machine naming x;
+          is_linked = Contains-append_right (map (linked_export machine naming Msvc exports) exports) (targets_beside machine naming exports [] exports) (target_import machine naming x) new.1;
+          is_import = record { public = refl; by_name = refl; not_weak = refl };
+          leads = ap (λ s. (linked_to machine naming s e).alias_target) symbol ∙ sym new.2;
+          asks = one_word machine naming x.alias_target e.alias_target new.2 ∙ sym asks;
+        }
+
+    -- an export that asks for something else declares it
+    taken : find (asks_for machine naming e.alias_target) exports ≡ None → is_declared exports e.alias_target ≡ true → alias_symbol machine naming Msvc exports e ≡ None
+    taken none declared =
+        by_target ∙ ap (λ o. option_or (option_map (symbol_linked machine naming) o) (if is_declared exports e.alias_target then None else Some (symbol_of machine naming e.alias_target))) none
+        ∙ ap (λ b. if b then None else Some (symbol_of machine naming e.alias_target)) declared
+
+  by_find : (e : ExportView) → is_apart machine naming e ≡ true → Contains exports e → (o : Option ExportView) → find (asks_for machine naming e.alias_target) exports ≡ o
+      → (linked_export machine naming Msvc exports e ≡ linked_export machine naming Gnu exports e) ⊎ LeadsAlike machine naming exports e
+  by_find e apart within (Some x) is = inr (asked e apart x is)
+  by_find e apart within None is =
+      elim (cases_Bool (is_declared exports e.alias_target)) [
+        | inl declared ↦ inl (not_alias e (taken e apart is declared))
+        | inr undeclared ↦ inr (alone e apart is undeclared within)
+      ]
+
+-- both flavours ask for the same names
+pub asks_alike : AsksAlike
+asks_alike machine naming exports e within public by_name =
+    elim (cases_Bool (is_apart machine naming e)) [
+      | inl apart ↦ by_find machine naming exports e apart within (find (asks_for machine naming e.alias_target) exports) refl
+      | inr not_apart ↦ inl (not_alias machine naming exports e (ap (λ b. if b then target_symbol machine naming exports e.alias_target else None) not_apart))
+    ]

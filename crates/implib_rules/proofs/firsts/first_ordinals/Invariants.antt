@@ -1,0 +1,8 @@
+use Rattle.std.proofs.Common.{map, take}
+use Rattle.implib.specs.Definition.{export_view}
+use Rattle.implib_rules.specs.Firsts.{AreFirstOrdinals}
+use Rattle.implib_rules.proofs.firsts.first_ordinals.Given as goal
+
+-- the first of the exports so far
+abbrev pub invariant-loop-index : goal.invariant-loop-index
+invariant-loop-index l = AreFirstOrdinals l.firsts (map export_view (take l.index l.exports))

@@ -1,0 +1,8 @@
+use Rattle.std.proofs.Common.{map, take}
+use Rattle.implib.specs.Definition.{export_view}
+use Rattle.implib_rules.specs.Firsts.{AreFirstWords}
+use Rattle.implib_rules.proofs.firsts.first_words.Given as goal
+
+-- the first of the exports so far
+abbrev pub invariant-loop-index : goal.invariant-loop-index
+invariant-loop-index l = AreFirstWords l.firsts (map export_view (take l.index l.exports))

@@ -1,8 +1,0 @@
-use Rattle.std.proofs.Common.{map, take}
-use Rattle.implib.specs.Definition.{export_view}
-use Rattle.implib_rules.specs.Warnings.{AreFirstDeclared}
-use Rattle.implib_rules.proofs.warnings.firsts.first_declared.Given as goal
-
--- the first of the exports so far
-abbrev pub invariant-loop-index : goal.invariant-loop-index
-invariant-loop-index l = AreFirstDeclared l.firsts (map export_view (take l.index l.exports))
