@@ -24,8 +24,6 @@ mod long_names;
 mod output;
 mod places;
 mod refusal;
-#[cfg(test)]
-mod tests;
 mod writer;
 
 pub use error::{Error, Fault, WriteError};

@@ -1,5 +1,5 @@
 -- What a run of the program does (this project's own).
-use Rattle.std.specs.Prelude.{◌≡◌, ◌⊎◌, ℕ, Bool, true, false, List, [], ◌∷◌, Option, None, Some, Result, Ok, Err, IfSome, codes, drop, filter, length, map, if◌then◌else◌}
+use Rattle.std.specs.Prelude.{◌≡◌, ◌⊎◌, ℕ, Bool, true, false, List, [], ◌∷◌, Option, None, Some, Result, Ok, Err, IfSome, codes, drop, length, map, if◌then◌else◌}
 use Rattle.std.specs.Io.KnownBytes.{Appends}
 use Rattle.std.specs.Str.{IsUtf8, bytes_eq}
 use Rattle.std.specs.declared.io.ErrorKind.{ErrorKind}
@@ -21,11 +21,9 @@ use Rattle.implib_rules.specs.declared.library.LibraryError.TheVariants.{Refused
 use Rattle.implib_rules.specs.declared.library.Refusal.{Refusal}
 use Rattle.implib_rules.specs.declared.library.Refusal.TheVariants.{OutOfMemory}
 use Rattle.implib_rules.specs.declared.places.Place.{Place}
-use Rattle.implib_rules.specs.declared.places.Site.{Site}
-use Rattle.implib_rules.specs.declared.places.Site.TheVariants as site
 use Rattle.implib_rules.specs.Library.{IsRefusalOfMembers, MembersFor, status_of, without_mark}
 use Rattle.implib_rules.specs.Options.{LibraryOptionsView}
-use Rattle.implib_rules.specs.Places.{ArePlacesOf}
+use Rattle.implib_rules.specs.Places.{ArePlacesOf, export_lines}
 use Rattle.implib_rules.specs.Warnings.{WarningView}
 
 -- what is known of all that a run uses but standard output: the bytes that standard input has left, the disk, and
@@ -46,15 +44,6 @@ definition_in input disk path = if bytes_eq path (codes "-") then input else dis
 pub record KeepsFiles (before after : DiskView) : Type 0 where
   pub seen : after.seen ≡ before.seen
   pub left : after.left ≡ before.left
-
--- whether the name of an export is there
-abbrev pub is_export : Site → Bool
-is_export site.Export = true
-is_export _ = false
-
--- the lines of the exports of a text, by its places
-abbrev pub export_lines : List Place → List ℕ
-export_lines places = map (λ p. p.position.line) (filter (λ p. is_export p.site) places)
 
 -- how many members the library has
 pub record HasMembers (bytes : List ℕ) (options : LibraryOptionsView) (count : ℕ) : Type 0 where

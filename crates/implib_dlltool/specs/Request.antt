@@ -22,6 +22,7 @@ use Rattle.implib_dlltool.specs.declared.request.Request.{Request}
 use Rattle.implib_dlltool.specs.declared.request.Task.{Task}
 use Rattle.implib_dlltool.specs.declared.request.Task.TheVariants as task
 use Rattle.implib_dlltool.specs.Arguments.{OccurrenceView, is_last, is_switched, last_given}
+use Rattle.implib.specs.Conversions.{flavor_named}
 use Rattle.implib.specs.Machine.{has_leading_underscore}
 use Rattle.implib_rules.specs.Linked.{NamingView}
 use Rattle.implib_rules.specs.Names.{last_part}
@@ -101,13 +102,6 @@ with (Err fault) more = Err fault
 -- the machine of a name, in letters of any case
 abbrev pub machine_named : List ℕ → Option MachineType
 machine_named name = machine_called (map to_ascii_lowercase name)
-
--- the flavour of a name
-abbrev pub flavor_called : List ℕ → Option Flavor
-flavor_called name =
-    if bytes_eq name (codes "msvc") then Some Msvc
-    else if bytes_eq name (codes "gnu") then Some Gnu
-    else None
 
 -- whether a text begins with this one
 abbrev pub begins_with : List ℕ → List ℕ → Bool
@@ -254,7 +248,7 @@ known_flavor name None = Err (IsUnknownFlavor name)
 -- the flavour that is named, or the one without a name
 abbrev pub flavor_or : Flavor → Option (List ℕ) → Asked Flavor
 flavor_or unnamed None = Ok unnamed
-flavor_or unnamed (Some name) = known_flavor name (flavor_called name)
+flavor_or unnamed (Some name) = known_flavor name (flavor_named name)
 
 -- the flavour for a machine and a library of this file
 abbrev pub flavor_in : CalledAs → MachineType → Option (List ℕ) → List OccurrenceView → Asked Flavor

@@ -5,8 +5,9 @@ use Rattle.implib.specs.declared.machine.MachineType.TheVariants.{I386, ARMNT, A
 use Rattle.implib_dlltool.specs.declared.options.Setting.TheVariants.{Definition, Output, Machine, Dll, Flavor, Assembler, AssemblerFlags, TemporaryPrefix}
 use Rattle.implib_dlltool.specs.declared.options.Switch.{Switch}
 use Rattle.implib_dlltool.specs.declared.options.Switch.TheVariants.{KillAt, NoLeadingUnderscore, LeadingUnderscore, DeterministicLibraries, NonDeterministicLibraries, NoDelete, Verbose, Help, Version}
+use Rattle.implib.specs.Conversions.{flavor_named}
 use Rattle.implib_dlltool.specs.Arguments.{OccurrenceView, Given, Switched, IsUnsupported, is_switched, last_given, read_words}
-use Rattle.implib_dlltool.specs.Request.{flavor_called, machine_named}
+use Rattle.implib_dlltool.specs.Request.{machine_named}
 
 -- each option with a value, by its letter and by its long name
 abbrev pub words_with_values : List (List ℕ)
@@ -98,4 +99,4 @@ pub record OptionsNamed : Type 0 where
   pub armnt : map machine_named (codes "arm" ∷ codes "ArmNT" ∷ []) ≡ Some ARMNT ∷ Some ARMNT ∷ []
   pub arm64 : map machine_named (codes "arm64" ∷ codes "AArch64" ∷ []) ≡ Some ARM64 ∷ Some ARM64 ∷ []
   pub no_machine : map machine_named (codes "i686" ∷ codes "arm64ec" ∷ []) ≡ None ∷ None ∷ []
-  pub flavors : map flavor_called (codes "msvc" ∷ codes "gnu" ∷ codes "GNU" ∷ []) ≡ Some Msvc ∷ Some Gnu ∷ None ∷ []
+  pub flavors : map flavor_named (codes "msvc" ∷ codes "gnu" ∷ codes "GNU" ∷ []) ≡ Some Msvc ∷ Some Gnu ∷ None ∷ []

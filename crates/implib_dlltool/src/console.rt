@@ -5,11 +5,61 @@ ghost use Rattle.std.specs.Prelude.{None};
 use crate::reporter::{Complaint, Reporter};
 use implib::def::Position;
 use implib_rules::library::Refusal;
-use implib_rules::position_of;
-use implib_rules::warnings::{NoticeMessage, Warning};
+use implib_rules::warnings::{Notice, NoticeMessage, Warning};
+use implib_rules::{ShownPath, position_of};
+use std::alloc::Global;
 use std::fmt;
 use std::fmt::Write as _;
 use std::io::Write;
+
+// A line of what is said, of a path or of the program.
+#[derive(Drop)]
+enum Message<'a> {
+    // A warning of a definition, whose exports are in these lines.
+    Warning(&'a str, &'a Warning<'a>, &'a [usize]),
+    // A definition is refused.
+    Refusal(&'a str, &'a Refusal),
+    Complaint(&'a str, &'a Complaint<'a>),
+}
+
+// Where a warning is; none where it is of the whole definition.
+fn position_warned(warning: &Warning<'_>) -> Option<Position> {
+    match warning.notice {
+        Notice::NoExport | Notice::OtherKind => None,
+        _ => Some(warning.position),
+    }
+}
+
+// Writes a path, and where in its file something is.
+fn write_place<W: fmt::Write>(
+    f: &mut fmt::Formatter<W>,
+    path: &str,
+    position: Option<Position>,
+) -> fmt::Result {
+    write!(f, "{}:", ShownPath(path))?;
+    match position {
+        Some(Position { line, column, .. }) => write!(f, "{line}:{column}:"),
+        None => Ok(()),
+    }
+}
+
+impl<'a> fmt::Display for Message<'a> {
+    fn fmt<W: fmt::Write>(&self, f: &mut fmt::Formatter<W>) -> fmt::Result {
+        match self {
+            Message::Warning(path, warning, lines) => {
+                write_place(f, path, position_warned(warning))?;
+                write!(f, " warning: {}", NoticeMessage(warning.notice, lines))
+            }
+            Message::Refusal(path, refusal) => {
+                write_place(f, path, position_of(refusal))?;
+                write!(f, " {refusal}")
+            }
+            Message::Complaint(subject, complaint) => {
+                write!(f, "{}: {complaint}", ShownPath(subject))
+            }
+        }
+    }
+}
 
 // A writer that text is written to.
 #[derive(Drop)]
@@ -25,16 +75,19 @@ impl<E: Write> fmt::Write for Lines<E> {
     }
 }
 
-/// Lines of text on a writer, as standard error. A failure of the writer is ignored.
+/// Lines of text on a writer, as standard error, each by one call of its `write_all`; of several
+/// calls where memory for the line is refused. A failure of the writer is ignored.
 #[derive(Drop)]
 pub struct Console<E> {
+    alloc: Global,
     lines: Lines<E>,
 }
 
 impl<E: Write> Console<E> {
     /// Lines on this writer.
-    pub fn new(writer: E) -> Console<E> {
+    pub fn new(alloc: Global, writer: E) -> Console<E> {
         Console {
+            alloc,
             lines: Lines { writer },
         }
     }
@@ -43,6 +96,18 @@ impl<E: Write> Console<E> {
     pub fn into_writer(self) -> E {
         self.lines.writer
     }
+
+    // Says a line.
+    fn say(&mut self, message: &Message<'_>) {
+        match format!(in self.alloc; "{message}\n") {
+            Ok(line) => {
+                let _ = self.lines.writer.write_all(line.as_bytes());
+            }
+            Err(_) => {
+                let _ = writeln!(self.lines, "{message}");
+            }
+        }
+    }
 }
 
 impl<E: Write> Reporter for Console<E> {
@@ -50,16 +115,14 @@ impl<E: Write> Reporter for Console<E> {
     ghost said = { λ _. None };
 
     fn warn(&mut self, path: &str, warning: &Warning<'_>, lines: &[usize]) {
-        let told = NoticeMessage(warning.notice, lines);
-        let _ = writeln!(self.lines, "{path}:{}: warning: {told}", warning.position);
+        self.say(&Message::Warning(path, warning, lines));
     }
 
     fn refuse(&mut self, path: &str, refusal: &Refusal) {
-        let Position { line, column, .. } = position_of(refusal);
-        let _ = writeln!(self.lines, "{path}:{line}:{column}: {refusal}");
+        self.say(&Message::Refusal(path, refusal));
     }
 
     fn complain(&mut self, subject: &str, complaint: Complaint<'_>) {
-        let _ = writeln!(self.lines, "{subject}: {complaint}");
+        self.say(&Message::Complaint(subject, &complaint));
     }
 }

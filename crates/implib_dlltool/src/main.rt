@@ -30,7 +30,7 @@ fn main(rt: HostRuntime) -> ExitCode {
     let mut stdout = rt.stdout();
     let id = process::id(rt.process());
     let mut disk = SystemDisk::new(&rt, id);
-    let mut console = Console::new(rt.stderr());
+    let mut console = Console::new(rt.alloc(), rt.stderr());
     ExitCode::from(perform(
         rt.alloc(),
         env::args(&rt),

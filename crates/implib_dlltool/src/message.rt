@@ -4,6 +4,7 @@ use crate::arguments::WordFault;
 use crate::options::Setting;
 use crate::reporter::Complaint;
 use crate::request::CallFault;
+use implib_rules::Shown;
 use std::fmt;
 
 impl fmt::Display for Setting {
@@ -82,15 +83,19 @@ fn whole_name(word: &str) -> Option<&'static str> {
 impl<'a> fmt::Display for WordFault<'a> {
     fn fmt<W: fmt::Write>(&self, f: &mut fmt::Formatter<W>) -> fmt::Result {
         match self {
-            WordFault::Unsupported(word) => write!(f, "{word}: not supported"),
+            WordFault::Unsupported(word) => write!(f, "{}: not supported", Shown(word)),
             WordFault::Unknown(word) => match whole_name(word) {
-                Some(name) => write!(f, "{word}: no such option; write --{name} in full"),
-                None => write!(f, "{word}: no such option"),
+                Some(name) => {
+                    write!(f, "{}: no such option; write --{name} in full", Shown(word))
+                }
+                None => write!(f, "{}: no such option", Shown(word)),
             },
             WordFault::File(word) if word.as_bytes().starts_with(b"@") => {
-                write!(f, "{word}: files of options are not supported")
+                write!(f, "{}: files of options are not supported", Shown(word))
             }
-            WordFault::File(word) => write!(f, "{word}: no option; objects are not supported"),
+            WordFault::File(word) => {
+                write!(f, "{}: no option; objects are not supported", Shown(word))
+            }
             WordFault::NoValue(setting) => write!(f, "the option {setting} lacks its value"),
         }
     }
@@ -105,10 +110,11 @@ impl<'a> fmt::Display for CallFault<'a> {
             ),
             CallFault::UnknownMachine(name) => write!(
                 f,
-                "{name}: no such machine: expected i386, i386:x86-64, arm or arm64",
+                "{}: no such machine: expected i386, i386:x86-64, arm or arm64",
+                Shown(name)
             ),
             CallFault::UnknownFlavor(name) => {
-                write!(f, "{name}: no such flavour: expected msvc or gnu")
+                write!(f, "{}: no such flavour: expected msvc or gnu", Shown(name))
             }
             CallFault::EmptyDll => f.write_str("the name of the DLL after -D is empty"),
             CallFault::OutputToStandard => {

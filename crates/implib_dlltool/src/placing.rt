@@ -1,22 +1,19 @@
 //! The library of a definition, and its way to its place.
 
-ghost use Rattle.implib.specs.Library.{member_view};
 ghost use Rattle.implib_archive.specs.Archive.{archive_of};
-ghost use Rattle.implib_archive.specs.Refusal.{refusal_of};
-ghost use Rattle.implib_dlltool.specs.Placing.{Answers, IsPlaced, IsUnplaced};
+ghost use Rattle.implib_dlltool.specs.Placing.{Answers, IsPlaced, IsPut, IsUnplaced};
 ghost use Rattle.implib_dlltool.specs.Request.{request_view};
-ghost use Rattle.implib_rules.specs.Library.{IsRefusalOfArchive, kind_of};
 ghost use Rattle.std.specs.Io.KnownBytes.{Appends};
-ghost use Rattle.std.specs.Prelude.{◌≡◌, IfErr, IfOk, None, OnErr, OnOk, map};
+ghost use Rattle.std.specs.Option.{option_map};
+ghost use Rattle.std.specs.Prelude.{◌≡◌, IfOk, None, OnErr, OnOk};
 
 use crate::disk::Disk;
 use crate::request::Request;
-use implib::{Flavor, Member};
 use implib_archive::{Archive, WriteError};
-use implib_rules::library::{LibraryError, Refusal, kind_for, members_for, write_library};
+use implib_rules::library::{LibraryError, archive_for, members_for};
 use std::alloc::Global;
 use std::io::{BufWriter, Write};
-use std::{io, mem};
+use std::mem;
 
 // How many bytes are written to a file at once.
 const BUFFER: usize = 1 << 16;
@@ -62,22 +59,23 @@ fn place<D: Disk>(
     placed
 }
 
-// The archive of members for a flavour.
-fn archive_for<'a>(
+// Puts an archive into the place that is asked for, if one is.
+fn place_if<D: Disk>(
     alloc: Global,
-    members: &'a [Member],
-    flavor: Flavor,
-) -> Result<Archive<'a>, Refusal>
-    ensures holds { IfOk result (λ archive. archive ≡ record {
-      kind = kind_of flavor (map member_view members.now);
-      members = map member_view members.now;
-    }) }
-    ensures accepted { OnOk result (refusal_of (kind_of flavor (map member_view members.now))
-        (map member_view members.now) ≡ None) }
-    ensures refused { IfErr result (IsRefusalOfArchive flavor (map member_view members.now)) }
+    disk: &mut D,
+    output: Option<&str>,
+    archive: &Archive<'_>,
+) -> Result<(), WriteError>
+    requires { (D.view disk.old).left ≡ None }
+    ensures put { OnOk result (IsPut D.is_known (D.view disk.old) (D.view disk.new)
+        (option_map (λ path. path.now) output.entry)
+        (archive_of archive.now.kind archive.now.members)) }
+    ensures unplaced { OnErr result (IsUnplaced (D.view disk.old) (D.view disk.new)) }
 {
-    let kind = kind_for(flavor, members.len());
-    Ok(Archive::new(alloc, members, kind)?)
+    match output {
+        Some(path) => place(alloc, disk, path, archive),
+        None => Ok(()),
+    }
 }
 
 /// Puts a library into the place that is asked for, whole or not at all; or sees that there is one.
@@ -96,12 +94,9 @@ pub fn put<D: Disk>(
     ensures { Answers D.is_known (D.view disk.old) (D.view disk.new) bytes.now
         (request_view request.now) result }
 {
-    let Some(path) = request.output else {
-        return write_library(alloc, bytes, &request.library, &mut io::sink());
-    };
     let members = members_for(alloc, bytes, &request.library)?;
     let archive = archive_for(alloc, members.as_slice(), request.library.flavor)?;
-    match place(alloc, disk, path, &archive) {
+    match place_if(alloc, disk, request.output, &archive) {
         Ok(()) => {
             drop(archive);
             // The program ends now. Freeing each name and symbol would take a fifth of its time.

@@ -6,7 +6,7 @@ ghost use Rattle.implib_dlltool.specs.Program.{CountsMembers, DoesOptions, DoesW
 ghost use Rattle.implib_dlltool.specs.Program.{HasMembers, HasNoMembers};
 ghost use Rattle.implib_dlltool.specs.Program.{IsUncalled, KeepsFiles, Makes, Prints, Runs};
 ghost use Rattle.implib_dlltool.specs.Program.{SaysWarnings, Warned, answer_status, definition_in};
-ghost use Rattle.implib_dlltool.specs.Program.{devices, export_lines, is_export, own_name, texts};
+ghost use Rattle.implib_dlltool.specs.Program.{devices, own_name, texts};
 ghost use Rattle.implib_dlltool.specs.Program.{verdict, warning_lines};
 ghost use Rattle.implib_dlltool.specs.Reports.{Complains, Says, complaint_view};
 ghost use Rattle.implib_dlltool.specs.Request.{request_view};
@@ -88,27 +88,6 @@ fn print<O: Write, T: Reporter>(printer: &mut O, reporter: &mut T, text: &str) -
             3
         }
     }
-}
-
-// Whether the name of an export is there.
-fn is_export(site: Site) -> bool
-    ensures { result ≡ is_export site }
-{
-    match site {
-        Site::Export => true,
-        Site::Attribute(_) | Site::Heading => false,
-    }
-}
-
-// The lines of exports among the places, in order.
-fn export_lines(alloc: Global, places: &[Place]) -> Result<Vec<usize>, AllocError>
-    ensures { IfOk result (λ lines. lines.items ≡ export_lines places.now) }
-{
-    places
-        .iter()
-        .filter(|place| is_export(place.site))
-        .map(|place| place.position.line)
-        .collect(alloc)
 }
 
 // The exit status for a refusal.

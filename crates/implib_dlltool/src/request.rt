@@ -4,7 +4,7 @@ ghost use Rattle.implib_dlltool.specs.Arguments.{occurrence_view};
 ghost use Rattle.implib_rules.specs.Linked.{naming_view};
 ghost use Rattle.implib_dlltool.specs.Request.{IsCallRefusal, architecture_named, call_fault_view, called_as};
 ghost use Rattle.implib_dlltool.specs.Request.{caller_of};
-ghost use Rattle.implib_dlltool.specs.Request.{default_flavor, dll_in, flavor_by_ending, flavor_called};
+ghost use Rattle.implib_dlltool.specs.Request.{default_flavor, dll_in, flavor_by_ending};
 ghost use Rattle.implib_dlltool.specs.Request.{flavor_in};
 ghost use Rattle.implib_dlltool.specs.Request.{has_gnu_habits, holds_text, is_other_architecture};
 ghost use Rattle.implib_dlltool.specs.Request.{machine_in, machine_named, machine_of_architecture};
@@ -21,6 +21,7 @@ use implib_rules::linked::Naming;
 use implib_rules::name::last_part;
 use implib_rules::options::LibraryOptions;
 use std::alloc::{AllocError, Global};
+use std::str::FromStr;
 
 /// What is to be made.
 #[derive(Clone, Copy, Debug)]
@@ -130,17 +131,6 @@ pub fn machine_named(alloc: Global, name: &str) -> Result<Option<MachineType>, A
     ensures { IfOk result (λ machine. machine ≡ machine_named name.now) }
 {
     Ok(machine_called(name.to_ascii_lowercase(alloc)?.as_str()))
-}
-
-/// The flavour of a name.
-pub fn flavor_called(name: &str) -> Option<Flavor>
-    ensures { result ≡ flavor_called name.now }
-{
-    match name {
-        "msvc" => Some(Flavor::Msvc),
-        "gnu" => Some(Flavor::Gnu),
-        _ => None,
-    }
 }
 
 // Whether a text is the name of an architecture that is not supported.
@@ -316,9 +306,9 @@ fn flavor_in<'a>(
     let Some(name) = last_given(options, Setting::Flavor) else {
         return Ok(default_flavor(called_as, machine, has_gnu_habits(options), output));
     };
-    match flavor_called(name) {
-        Some(flavor) => Ok(flavor),
-        None => Err(CallFault::UnknownFlavor(name)),
+    match Flavor::from_str(name) {
+        Ok(flavor) => Ok(flavor),
+        Err(_) => Err(CallFault::UnknownFlavor(name)),
     }
 }
 

@@ -1,6 +1,6 @@
 -- The places of a text that a warning can be at, by its tokens and their roles (this project's choice). A text is read
 -- from the left.
-use Rattle.std.specs.Prelude.{◌≡◌, ℕ, Bool, true, false, ◌&&◌, ◌||◌, List, [], ◌∷◌, ◌++◌, Option, None, Some, get_or, if◌then◌else◌, map, nat_lt}
+use Rattle.std.specs.Prelude.{◌≡◌, ℕ, Bool, true, false, ◌&&◌, ◌||◌, List, [], ◌∷◌, ◌++◌, Option, None, Some, filter, get_or, if◌then◌else◌, map, nat_lt}
 use Rattle.std.specs.List.{fold}
 use Rattle.std.specs.Str.{IsUtf8}
 use Rattle.implib.specs.declared.def.lexer.TokenKind.{TokenKind}
@@ -107,6 +107,15 @@ IsAtExport text (Some index) position = IsAtName text index position
 -- the position is that of a fault in a text
 abbrev pub IsAtFault : List ℕ → Cause → Position → Type 0
 IsAtFault text cause position = IsAtExport text (export_index cause) position
+
+-- whether the name of an export is there
+abbrev pub is_export : Site → Bool
+is_export site.Export = true
+is_export _ = false
+
+-- the lines of the exports of a text, by its places
+abbrev pub export_lines : List Place → List ℕ
+export_lines places = map (λ p. p.position.line) (filter (λ p. is_export p.site) places)
 
 -- the positions of exports among places
 abbrev pub position_first : Site → Position → List Position → List Position

@@ -19,6 +19,8 @@ pub mod name;
 pub mod options;
 pub mod places;
 pub mod repeats;
+mod shown;
 pub mod warnings;
 
 pub use message::{FaultMessage, position_of};
+pub use shown::{Shown, ShownPath};

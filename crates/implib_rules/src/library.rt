@@ -271,8 +271,12 @@ pub fn kind_for(flavor: Flavor, count: usize) -> Kind
     }
 }
 
-// The archive of members for a flavour.
-fn archive_for<'a>(
+/// The archive of members for a flavour, of the kind that [`kind_for`] names.
+///
+/// # Errors
+///
+/// What an archive of this kind cannot carry; or an allocation failed.
+pub fn archive_for<'a>(
     alloc: Global,
     members: &'a [Member],
     flavor: Flavor,

@@ -1,6 +1,7 @@
 //! What is said of a definition that is refused.
 
 use crate::library::Refusal;
+use crate::shown::Shown;
 use implib::Fault;
 use implib::def::Position;
 use implib::def::lexer::TokenKind;
@@ -47,7 +48,8 @@ impl<'a> fmt::Display for FaultMessage<'a> {
             Fault::UnknownDirective(word) => {
                 write!(
                     f,
-                    "expected a statement, as LIBRARY or EXPORTS, not `{word}`"
+                    "expected a statement, as LIBRARY or EXPORTS, not `{}`",
+                    Shown(word.as_str())
                 )
             }
             Fault::ExpectedIdentifier(found) => {
@@ -56,7 +58,11 @@ impl<'a> fmt::Display for FaultMessage<'a> {
             Fault::ExpectedEqual(found) => write!(f, "expected `=`, not {}", Written(*found)),
             Fault::ExpectedInteger => f.write_str("expected a number"),
             Fault::InvalidOrdinal(word) => {
-                write!(f, "expected an ordinal from 0 to 65535, not `{word}`")
+                write!(
+                    f,
+                    "expected an ordinal from 0 to 65535, not `{}`",
+                    Shown(word.as_str())
+                )
             }
             Fault::LoneAt => f.write_str("expected a name behind `=`, not `@`"),
             Fault::EmptyImportName => f.write_str("the name of the DLL is empty"),
@@ -79,15 +85,12 @@ impl<'a> fmt::Display for FaultMessage<'a> {
     }
 }
 
-/// Where the refusal of a definition is; the beginning of the text where it is of all of it.
-pub fn position_of(refusal: &Refusal) -> Position {
+/// Where the refusal of a definition is; none where it is of all of it.
+pub fn position_of(refusal: &Refusal) -> Option<Position> {
     match refusal {
-        Refusal::Syntax(_, position) | Refusal::Members(_, position) => *position,
-        _ => Position {
-            offset: 0,
-            line: 1,
-            column: 1,
-        },
+        Refusal::Syntax(_, position) => Some(*position),
+        Refusal::Members(fault, position) if fault.export_index().is_some() => Some(*position),
+        _ => None,
     }
 }
 

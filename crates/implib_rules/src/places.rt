@@ -7,7 +7,7 @@ ghost use Rattle.implib.specs.Text.Position.{position_at};
 ghost use Rattle.implib.specs.Text.RefusedAt.{IsRefusedAt};
 ghost use Rattle.implib.specs.declared.machine.MachineType.TheVariants.{AMD64};
 ghost use Rattle.implib_rules.specs.Places.{ArePlacesOf, IsAtFault, IsAtName, attribute_of};
-ghost use Rattle.implib_rules.specs.Places.{is_heading, placed, site_at};
+ghost use Rattle.implib_rules.specs.Places.{export_lines, is_export, is_heading, placed, site_at};
 ghost use Rattle.std.specs.Prelude.{◌≡◌, ◌++◌, ◌||◌, IfErr, IfOk, None};
 
 use crate::warnings::words::Attribute;
@@ -191,6 +191,31 @@ pub fn read_with_places(alloc: Global, text: &str) -> Result<(ModuleDef, Vec<Pla
         Some(refused) => Err(ParseError::OutOfMemory(refused)),
         None => Ok((def, places)),
     }
+}
+
+// Whether the name of an export is there.
+fn is_export(site: Site) -> bool
+    ensures { result ≡ is_export site }
+{
+    match site {
+        Site::Export => true,
+        Site::Attribute(_) | Site::Heading => false,
+    }
+}
+
+/// The lines of exports among the places, in order.
+///
+/// # Errors
+///
+/// An allocation failed.
+pub fn export_lines(alloc: Global, places: &[Place]) -> Result<Vec<usize>, AllocError>
+    ensures { IfOk result (λ lines. lines.items ≡ export_lines places.now) }
+{
+    places
+        .iter()
+        .filter(|place| is_export(place.site))
+        .map(|place| place.position.line)
+        .collect(alloc)
 }
 
 // The offset of the name of the export at an index, if it was heard.

@@ -21,6 +21,7 @@ use crate::firsts::{first_declared, first_ordinals, first_words};
 use crate::linked::{Naming, word_of};
 use crate::options::LibraryOptions;
 use crate::places::{Place, Site};
+use crate::shown::Shown;
 use crate::warnings::words::{Attribute, is_ordinal_like, is_stdcall_word, lowered_attribute};
 use implib::def::{Position, ShortExport};
 use implib::{Flavor, MachineType};
@@ -404,21 +405,6 @@ pub fn warnings_of<'a>(
     Ok(warnings)
 }
 
-/// The lines of exports among the places, in order.
-///
-/// # Errors
-///
-/// An allocation failed.
-pub fn export_lines(alloc: Global, places: &[Place]) -> Result<Vec<usize>, AllocError> {
-    let mut lines = Vec::new(alloc);
-    for place in places {
-        if let Site::Export = place.site {
-            lines.push(place.position.line)?;
-        }
-    }
-    Ok(lines)
-}
-
 impl fmt::Display for Attribute {
     fn fmt<W: fmt::Write>(&self, f: &mut fmt::Formatter<W>) -> fmt::Result {
         f.write_str(match self {
@@ -445,7 +431,8 @@ impl<'a> fmt::Display for NoticeMessage<'a> {
                 let line = self.1.get(first).copied().unwrap_or(0);
                 write!(
                     f,
-                    "`{word}` is exported twice, first in line {line}; this one is left out",
+                    "`{}` is exported twice, first in line {line}; this one is left out",
+                    Shown(word)
                 )
             }
             Notice::RepeatedOrdinal(ordinal, first) => {
@@ -454,24 +441,34 @@ impl<'a> fmt::Display for NoticeMessage<'a> {
             }
             Notice::OpensLine(attribute, word) => write!(
                 f,
-                "{attribute} is an attribute of `{word}`; quote it to name an export",
+                "{attribute} is an attribute of `{}`; quote it to name an export",
+                Shown(word)
             ),
             Notice::Lowered(word, attribute) => write!(
                 f,
-                "`{word}` is an export's name here, not the attribute {attribute}",
+                "`{}` is an export's name here, not the attribute {attribute}",
+                Shown(word)
             ),
             Notice::OrdinalLike(word) => write!(
                 f,
-                "`{word}` is an export's name here: an ordinal is a number from 0 to 65535, \
-                 behind a name",
+                "`{}` is an export's name here: an ordinal is a number from 0 to 65535, behind a \
+                 name",
+                Shown(word)
             ),
             Notice::Stdcall(word) => {
                 let killed = word.split_once('@').map_or(word, |(name, _)| name);
-                write!(f, "the DLL is asked for `{word}`; -k asks for `{killed}`")
+                write!(
+                    f,
+                    "the DLL is asked for `{}`; -k asks for `{}`",
+                    Shown(word),
+                    Shown(killed)
+                )
             }
-            Notice::NotExported(word) => {
-                write!(f, "`{word}` is no export here; the DLL is asked for it")
-            }
+            Notice::NotExported(word) => write!(
+                f,
+                "`{}` is no export here; the DLL is asked for it",
+                Shown(word)
+            ),
             Notice::SecondHeading => {
                 f.write_str("the name of the DLL is given twice; the first counts")
             }

@@ -2,7 +2,8 @@ use super::run;
 use crate::console::Console;
 use crate::files::SystemDisk;
 use std::test::Fail;
-use std::{env, fs};
+use std::io::Write;
+use std::{env, fs, io};
 
 // Runs the program with words and standard input; the status, and what it wrote on standard error.
 fn ran(rt: &HostRuntime, words: &[&str], input: &[u8]) -> Result<(u8, String), Fail> {
@@ -14,7 +15,7 @@ fn ran(rt: &HostRuntime, words: &[&str], input: &[u8]) -> Result<(u8, String), F
     let mut input = input;
     let mut printer = Vec::new(rt.alloc());
     let mut disk = SystemDisk::new(rt, 1);
-    let mut console = Console::new(Vec::new(rt.alloc()));
+    let mut console = Console::new(rt.alloc(), Vec::new(rt.alloc()));
     let status = run(
         rt.alloc(),
         arguments.as_slice(),
@@ -38,7 +39,7 @@ fn definitions_are_checked(rt: HostRuntime) -> Result<(), Fail> {
         (
             "",
             1,
-            "-:1:1: no name of a DLL: expected LIBRARY or NAME with one, or the option -D\n",
+            "-: no name of a DLL: expected LIBRARY or NAME with one, or the option -D\n",
         ),
         (
             "LIBRARY zoo\n feed\n",
@@ -66,7 +67,7 @@ fn definitions_are_checked(rt: HostRuntime) -> Result<(), Fail> {
         assert_eq!(rt; got, status, "{text}");
     }
     let (got, wrote) = ran(&rt, &["-d", "-"], b"LIBRARY \xFF")?;
-    assert_eq!(rt; wrote.as_str(), "-:1:1: the definition is not UTF-8\n");
+    assert_eq!(rt; wrote.as_str(), "-: the definition is not UTF-8\n");
     assert_eq!(rt; got, 1);
     Ok(())
 }
@@ -295,10 +296,7 @@ fn line_feeds_in_names_are_refused(rt: HostRuntime) -> Result<(), Fail> {
     for flavor in ["msvc", "gnu"] {
         let words = ["-d", "-", "-D", "a\nb.dll", "--flavor", flavor];
         let (got, wrote) = ran(&rt, words.as_slice(), b"LIBRARY zoo\nEXPORTS a\n")?;
-        assert_eq!(rt;
-            wrote.as_str(),
-            "-:1:1: the name of the DLL has a line feed\n"
-        );
+        assert_eq!(rt; wrote.as_str(), "-: the name of the DLL has a line feed\n");
         assert_eq!(rt; got, 1);
     }
     Ok(())
@@ -394,7 +392,7 @@ fn warnings_are_told(rt: HostRuntime) -> Result<(), Fail> {
             "LIBRARY zoo\nEXPORTS swab == _swab\n dup == _dup @7 NONAME\n",
             "-:2:9: warning: `_swab` is no export here; the DLL is asked for it\n",
         ),
-        (amd64, "LIBRARY zoo\n", "-:1:1: warning: no export\n"),
+        (amd64, "LIBRARY zoo\n", "-: warning: no export\n"),
         (
             amd64,
             "LIBRARY zoo\nEXPORTS a\nNAME zoo\nEXPORTS a\nLIBRARY zoo",
@@ -435,5 +433,65 @@ fn warnings_come_before_refusals(rt: HostRuntime) -> Result<(), Fail> {
         assert_eq!(rt; wrote.as_str(), said);
         assert_eq!(rt; got, 1);
     }
+    Ok(())
+}
+
+// A writer that counts its calls.
+#[derive(Drop)]
+struct Counted {
+    bytes: Vec<u8>,
+    calls: usize,
+}
+
+impl io::Write for Counted {
+    fn write(&mut self, buf: &[u8]) -> io::Result<usize> {
+        self.calls = self.calls.saturating_add(1);
+        self.bytes.write(buf)
+    }
+
+    fn flush(&mut self) -> io::Result<()> {
+        Ok(())
+    }
+}
+
+// Each message is a line and one write. Control characters of a word are escaped, and a long word is
+// cut.
+#[test]
+fn messages_are_lines_of_one_write(rt: HostRuntime) -> Result<(), Fail> {
+    let mut definition = String::new(rt.alloc());
+    let mut wanted = String::new(rt.alloc());
+    definition.push_str("\u{1B}[2J")?;
+    wanted.push_str("-:1:1: expected a statement, as LIBRARY or EXPORTS, not `\\u{1b}[2J")?;
+    for number in 0..300 {
+        definition.push_str("x")?;
+        if number < 196 {
+            wanted.push_str("x")?;
+        }
+    }
+    wanted.push_str("..`\n")?;
+    let counted = Counted {
+        bytes: Vec::new(rt.alloc()),
+        calls: 0,
+    };
+    let mut console = Console::new(rt.alloc(), counted);
+    let mut input = definition.as_bytes();
+    let mut printer = Vec::new(rt.alloc());
+    let mut disk = SystemDisk::new(&rt, 1);
+    let mut arguments = Vec::new(rt.alloc());
+    for word in ["implib_dlltool", "-d", "-"] {
+        arguments.push(String::from_str(rt.alloc(), word)?)?;
+    }
+    let status = run(
+        rt.alloc(),
+        arguments.as_slice(),
+        &mut disk,
+        &mut input,
+        &mut printer,
+        &mut console,
+    );
+    assert_eq!(rt; status, 1);
+    let counted = console.into_writer();
+    assert_eq!(rt; str::from_utf8(counted.bytes.as_slice()).unwrap_or("?"), wanted.as_str());
+    assert_eq!(rt; counted.calls, 1);
     Ok(())
 }

@@ -1,7 +1,7 @@
 //! Archives of many members with long names.
 
 use super::member;
-use crate::{Archive, Error, Fault, Kind};
+use implib_archive::{Archive, Error, Fault, Kind};
 use implib::Member;
 use std::alloc::Global;
 use std::test::Fail;

@@ -2,7 +2,7 @@
 
 mod many;
 
-use crate::{Archive, Error, Fault, Kind, WriteError};
+use implib_archive::{Archive, Error, Fault, Kind, WriteError};
 use implib::Member;
 use std::alloc::{AllocError, Global};
 use std::io;
