@@ -16,3 +16,4 @@ pub mod WorkedWarnings
 pub mod LibraryLaws
 pub mod BothFlavors
 pub mod WorkedLibraryNames
+pub mod WorkedExports
