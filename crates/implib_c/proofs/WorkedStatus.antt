@@ -90,6 +90,8 @@ worked_statuses = record {
     text_41 = refl;
     text_42 = refl;
     text_43 = refl;
+    text_44 = refl;
+    text_45 = refl;
     text_6 = refl;
     text_15 = refl;
   };

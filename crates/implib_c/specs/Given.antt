@@ -13,7 +13,7 @@ use Rattle.implib.specs.Text.Parses.{RefusesAt}
 use Rattle.implib_c.specs.declared.outcome.Failure.{Failure}
 use Rattle.implib_c.specs.declared.outcome.Failure.TheVariants.{BufferTooSmall, OutOfMemory, NotUtf8}
 use Rattle.implib_c.specs.declared.outcome.Failure.TheVariants.{UnknownMachine, UnknownFlavor, SyntaxError, Refused}
-use Rattle.implib_c.specs.declared.outcome.Failure.TheVariants.{NoArchive, UnknownFlags, DllNotUtf8, NoDllName, RefusedAt}
+use Rattle.implib_c.specs.declared.outcome.Failure.TheVariants.{NoArchive, UnknownFlags, DllNotUtf8, NoDllName, RefusedAt, NoExport}
 use Rattle.implib_archive.specs.declared.error.Error.{Error as ArchiveError}
 use Rattle.implib_archive.specs.declared.error.Error.TheVariants as archive_error
 use Rattle.implib_archive.specs.declared.kind.Kind.{Kind}
@@ -24,6 +24,7 @@ use Rattle.implib_c.specs.declared.status.Status.TheVariants as status
 use Rattle.implib.specs.Members.OfText.{HasNoMembers, MembersOf}
 use Rattle.implib_c.specs.Answer.{EndsSo, IsFailure, Outcome, WithInput, place_of, status_of}
 use Rattle.implib_c.specs.Encoding.{encoded_members}
+use Rattle.implib_c.specs.LibraryOf.{export_status}
 use Rattle.implib_c.specs.Status.{archive_status, cause_status}
 
 -- what an error of the library becomes
@@ -55,6 +56,7 @@ failure_status UnknownFlags = status.UnknownFlags
 failure_status DllNotUtf8 = status.DllNotUtf8
 failure_status NoDllName = status.NoDllName
 failure_status (RefusedAt fault offset) = cause_status (cause_of fault)
+failure_status (NoExport fault index) = export_status fault
 
 -- the status of an answer
 abbrev pub status_given : Result ℕ Failure → Status
@@ -76,6 +78,7 @@ length_given (Err UnknownFlags) = 0
 length_given (Err DllNotUtf8) = 0
 length_given (Err NoDllName) = 0
 length_given (Err (RefusedAt fault offset)) = 0
+length_given (Err (NoExport fault index)) = 0
 
 -- the place that an answer tells
 abbrev pub place_given : Result ℕ Failure → ℕ
@@ -92,6 +95,7 @@ place_given (Err UnknownFlags) = 0
 place_given (Err DllNotUtf8) = 0
 place_given (Err NoDllName) = 0
 place_given (Err (RefusedAt fault offset)) = offset
+place_given (Err (NoExport fault index)) = index
 
 -- the text is refused, or memory was
 abbrev pub OnTextFault : List ℕ → MachineType → Flavor → Failure → Type 0
@@ -107,6 +111,7 @@ OnTextFault text machine flavor UnknownFlags = ⊥
 OnTextFault text machine flavor DllNotUtf8 = ⊥
 OnTextFault text machine flavor NoDllName = ⊥
 OnTextFault text machine flavor (RefusedAt fault offset) = ⊥
+OnTextFault text machine flavor (NoExport fault index) = ⊥
 
 -- the text has these members for this flavour, by the numbers of a machine and of the flavour
 abbrev pub HasMembers : List ℕ → ℕ → ℕ → Flavor → List MemberView → Type 0
@@ -140,6 +145,7 @@ PutsInto members old new (Err UnknownFlags) = ⊥
 PutsInto members old new (Err DllNotUtf8) = ⊥
 PutsInto members old new (Err NoDllName) = ⊥
 PutsInto members old new (Err (RefusedAt fault offset)) = ⊥
+PutsInto members old new (Err (NoExport fault index)) = ⊥
 
 -- the members' archive is put at the beginning of the buffer, where there is one and room for it; else nothing
 -- is
@@ -161,3 +167,4 @@ PacksInto kind members old new (Err UnknownFlags) = ⊥
 PacksInto kind members old new (Err DllNotUtf8) = ⊥
 PacksInto kind members old new (Err NoDllName) = ⊥
 PacksInto kind members old new (Err (RefusedAt fault offset)) = ⊥
+PacksInto kind members old new (Err (NoExport fault index)) = ⊥

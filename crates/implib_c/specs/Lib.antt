@@ -4,10 +4,12 @@ pub mod Fill
 pub mod Answer
 pub mod Library
 pub mod LibraryWith
+pub mod LibraryOf
 pub mod Place
 pub mod Version
 pub mod Given
 pub mod GivenWith
+pub mod GivenOf
 pub mod WorkedEncoding
 pub mod WorkedGaps
 pub mod WorkedStatus

@@ -18,8 +18,10 @@ use Rattle.implib_c.specs.declared.status.Status.TheVariants.{LineEndInMemberNam
 use Rattle.implib_c.specs.declared.status.Status.TheVariants.{TooManyMembers, ArchiveTooLong}
 use Rattle.implib_c.specs.declared.status.Status.TheVariants.{EmptyLibraryName, LineEndInLibraryName, NulInLibraryName}
 use Rattle.implib_c.specs.declared.status.Status.TheVariants.{NoDllName, UnknownOptions, UnknownFlags, DllNotUtf8}
+use Rattle.implib_c.specs.declared.status.Status.TheVariants.{UnknownExportFlags, ExportNotUtf8, NullInExport}
 
--- the number of a status: those of a call first, from 16 to 39 those of the input's faults, then those of options
+-- the number of a status: those of a call first, from 16 to 39 those of the input's faults, then those of options and
+-- of exports
 abbrev pub status_number : Status → ℕ
 status_number Success = 0
 status_number BufferTooSmall = 1
@@ -54,6 +56,9 @@ status_number NoDllName = 39
 status_number UnknownOptions = 40
 status_number UnknownFlags = 41
 status_number DllNotUtf8 = 42
+status_number UnknownExportFlags = 43
+status_number ExportNotUtf8 = 44
+status_number NullInExport = 45
 
 -- the status with a number
 abbrev pub status_numbered : ℕ → Option Status
@@ -91,6 +96,9 @@ status_numbered number =
     else if number == 40 then Some UnknownOptions
     else if number == 41 then Some UnknownFlags
     else if number == 42 then Some DllNotUtf8
+    else if number == 43 then Some UnknownExportFlags
+    else if number == 44 then Some ExportNotUtf8
+    else if number == 45 then Some NullInExport
     else None
 
 -- the text of a status
@@ -128,6 +136,9 @@ status_text NoDllName = codes "no name of the DLL"
 status_text UnknownOptions = codes "unknown options"
 status_text UnknownFlags = codes "unknown flags"
 status_text DllNotUtf8 = codes "name of the DLL is not UTF-8"
+status_text UnknownExportFlags = codes "unknown flags of an export"
+status_text ExportNotUtf8 = codes "export name is not UTF-8"
+status_text NullInExport = codes "export has a null pointer"
 
 -- the status of a fault of the input
 abbrev pub cause_status : Cause → Status

@@ -122,7 +122,9 @@ pub record WorkedTexts : Type 0 where
   pub text_40 : text_for 40 ≡ codes "unknown options"
   pub text_41 : text_for 41 ≡ codes "unknown flags"
   pub text_42 : text_for 42 ≡ codes "name of the DLL is not UTF-8"
-  pub text_43 : text_for 43 ≡ codes "unknown status"
+  pub text_43 : text_for 43 ≡ codes "unknown flags of an export"
+  pub text_44 : text_for 44 ≡ codes "export name is not UTF-8"
+  pub text_45 : text_for 45 ≡ codes "export has a null pointer"
   pub text_6 : text_for 6 ≡ codes "unknown status"
   pub text_15 : text_for 15 ≡ codes "unknown status"
 

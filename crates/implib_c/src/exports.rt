@@ -8,12 +8,15 @@ ghost use Rattle.implib.specs.Text.Position.{line_and_column};
 ghost use Rattle.implib_c.specs.Answer.{Answers};
 ghost use Rattle.implib_c.specs.Given.{length_given, place_given, status_given};
 ghost use Rattle.implib_c.specs.Library.{LibraryAnswers};
+ghost use Rattle.implib_c.specs.LibraryOf.{LibraryOfAnswers, given_export};
 ghost use Rattle.implib_c.specs.LibraryWith.{LibraryWithAnswers};
 ghost use Rattle.implib_c.specs.Place.{text_before};
 ghost use Rattle.implib_c.specs.Status.{status_number, text_for, with_text};
 ghost use Rattle.implib_c.specs.Version.{version};
-ghost use Rattle.std.specs.Prelude.{◌<◌, ◌≡◌, length};
+ghost use Rattle.std.specs.Prelude.{◌<◌, ◌≡◌, length, map};
 
+use crate::export::Export;
+use crate::library_of::library_of_into;
 use crate::library_with::library_with_into;
 use crate::outcome::{Failure, length_of, library_into, members_into, place_of, status_of};
 use crate::place::position_of;
@@ -115,6 +118,34 @@ pub extern "C" fn implib_library_with_nonnull(
         buffer.old buffer.new length.new place.new result }
 {
     let answer = library_with_into(alloc, text, dll, has_dll, machine, flavor, flags, buffer);
+    tell(&answer, length, place)
+}
+
+/// Puts the import library of exports under these options at the beginning of `buffer`: the one that
+/// the program `implib_dlltool` makes of a text of such exports and no name of the DLL. Gives a
+/// status: 0 where it is done.
+///
+/// The options and the buffer are as for `implib_library_with_nonnull`. `place` gets the index of
+/// the export, from 0, that is at fault, and otherwise 0. The exports are refused one by one, after
+/// the options: the flags of one before its names.
+#[unsafe(no_mangle)]
+pub extern "C" fn implib_library_of_nonnull(
+    alloc: Global,
+    exports: &[Export<'_>],
+    dll: &[u8],
+    has_dll: u32,
+    machine: u16,
+    flavor: u32,
+    flags: u32,
+    buffer: &mut [u8],
+    length: &mut usize,
+    place: &mut usize,
+) -> u32
+    ensures { LibraryOfAnswers (map given_export exports.now)
+        (record { machine = machine; flavor = flavor; flags = flags; has_dll = has_dll; dll = dll.now })
+        buffer.old buffer.new length.new place.new result }
+{
+    let answer = library_of_into(alloc, exports, dll, has_dll, machine, flavor, flags, buffer);
     tell(&answer, length, place)
 }
 

@@ -4,9 +4,11 @@
 #![tactic(auto)]
 
 mod encoding;
+mod export;
 mod exports;
 mod gaps;
 mod laws;
+mod library_of;
 mod library_with;
 mod outcome;
 mod place;

@@ -32,9 +32,13 @@ fn naming_with(flags: u32) -> Option<Naming>
     Some(Naming { is_plain, kills_at })
 }
 
-// The options that are given as numbers, and as the bytes of a name; without one where `has_dll`
-// is 0.
-fn options_with<'a>(
+/// The options that are given as numbers, and as the bytes of a name; without one where `has_dll`
+/// is 0.
+///
+/// # Errors
+///
+/// The first that applies: `UnknownMachine`, `UnknownFlavor`, `UnknownFlags`, `DllNotUtf8`.
+pub fn options_with<'a>(
     dll: &'a [u8],
     has_dll: u32,
     machine: u16,

@@ -10,6 +10,7 @@ ghost use Rattle.implib_c.specs.Status.{status_number};
 ghost use Rattle.std.specs.Prelude.{◌≡◌, IfErr, IfOk, map};
 
 use crate::encoding::{members_length, put_bytes, put_members};
+use crate::export::ExportFault;
 use crate::status::Status;
 use implib::def::ModuleDef;
 use implib::{Error, Fault, Flavor, ImportLibrary, MachineType, Member, ParseError};
@@ -43,6 +44,8 @@ pub enum Failure {
     NoDllName,
     /// The definition has no members: the fault, and the offset of the export's name in bytes, or 0.
     RefusedAt(Fault, usize),
+    /// An export is refused by itself: the fault, and its index.
+    NoExport(ExportFault, usize),
 }
 
 impl From<ParseError> for Failure {
@@ -112,6 +115,7 @@ impl Failure {
             Failure::UnknownFlags => Status::UnknownFlags,
             Failure::DllNotUtf8 => Status::DllNotUtf8,
             Failure::NoDllName => Status::NoDllName,
+            Failure::NoExport(fault, _) => Status::of_export(*fault),
         }
     }
 }
@@ -144,7 +148,8 @@ pub fn place_of(answer: &Result<usize, Failure>) -> usize
         Err(
             Failure::NotUtf8(offset)
             | Failure::SyntaxError(_, offset)
-            | Failure::RefusedAt(_, offset),
+            | Failure::RefusedAt(_, offset)
+            | Failure::NoExport(_, offset),
         ) => *offset,
         Err(Failure::Refused(fault)) => fault.export_index().unwrap_or(0),
         _ => 0,

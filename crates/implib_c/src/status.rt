@@ -1,9 +1,11 @@
 //! The statuses that C gets.
 
 ghost use Rattle.implib.specs.Fault.{cause_of};
+ghost use Rattle.implib_c.specs.LibraryOf.{export_status};
 ghost use Rattle.implib_c.specs.Status.{archive_status, cause_status, status_number, status_numbered, status_text, text_for};
 ghost use Rattle.std.specs.Prelude.{◌<◌, ◌≡◌, length};
 
+use crate::export::ExportFault;
 use implib::Fault;
 
 /// How a call ended.
@@ -75,6 +77,12 @@ pub enum Status {
     UnknownFlags,
     /// The name of the DLL that is given is not UTF-8.
     DllNotUtf8,
+    /// An export has an unknown flag.
+    UnknownExportFlags,
+    /// A name of an export is not UTF-8.
+    ExportNotUtf8,
+    /// A pointer of an export is null. The header alone gives it.
+    NullInExport,
 }
 
 impl Status {
@@ -116,6 +124,9 @@ impl Status {
             Status::UnknownOptions => 40,
             Status::UnknownFlags => 41,
             Status::DllNotUtf8 => 42,
+            Status::UnknownExportFlags => 43,
+            Status::ExportNotUtf8 => 44,
+            Status::NullInExport => 45,
         }
     }
 
@@ -157,6 +168,9 @@ impl Status {
             40 => Some(Status::UnknownOptions),
             41 => Some(Status::UnknownFlags),
             42 => Some(Status::DllNotUtf8),
+            43 => Some(Status::UnknownExportFlags),
+            44 => Some(Status::ExportNotUtf8),
+            45 => Some(Status::NullInExport),
             _ => None,
         }
     }
@@ -201,6 +215,9 @@ impl Status {
             Status::UnknownOptions => "unknown options",
             Status::UnknownFlags => "unknown flags",
             Status::DllNotUtf8 => "name of the DLL is not UTF-8",
+            Status::UnknownExportFlags => "unknown flags of an export",
+            Status::ExportNotUtf8 => "export name is not UTF-8",
+            Status::NullInExport => "export has a null pointer",
         }
     }
 
@@ -225,6 +242,16 @@ impl Status {
             Fault::EmptyAskedName(_) => Status::EmptyAskedName,
             Fault::MemberTooLong => Status::MemberTooLong,
             Fault::NoNameType(_) => Status::NoNameType,
+        }
+    }
+
+    /// The status of an export that is refused by itself.
+    pub fn of_export(fault: ExportFault) -> Status
+        ensures { result ≡ export_status fault }
+    {
+        match fault {
+            ExportFault::UnknownFlags => Status::UnknownExportFlags,
+            ExportFault::NotUtf8 => Status::ExportNotUtf8,
         }
     }
 

@@ -11,6 +11,7 @@ pub mod BothFlavors
 pub mod OrderedReadings
 pub mod PlainNames
 pub mod Made
+pub mod OfExports
 pub mod Positions
 pub mod FirstExports
 pub mod Warned

@@ -1,5 +1,5 @@
 -- From the definition of bytes to its members and its library.
-use Rattle.std.proofs.Common.{◌≡◌, ◌++◌, ◌∙◌, ℕ, Err, List, Ok, Result, Some, ap, append_assoc, map, refl, subst, sym}
+use Rattle.std.proofs.Common.{◌≡◌, ◌++◌, ◌∙◌, ℕ, Err, List, [], Ok, Result, Some, false, ap, append_assoc, map, refl, subst, sym}
 use Rattle.std.specs.Prelude.{IfOk}
 use Rattle.std.proofs.lemmas.List.{map-append}
 use Rattle.std.specs.List.{AllByRecursion}
@@ -7,7 +7,7 @@ use Rattle.std.specs.Str.{IsUtf8}
 use Rattle.implib.specs.declared.flavor.Flavor.{Flavor}
 use Rattle.implib.specs.declared.flavor.Flavor.TheVariants.{Msvc, Gnu}
 use Rattle.implib.specs.declared.machine.MachineType.{MachineType}
-use Rattle.implib.specs.Definition.{DefinitionView}
+use Rattle.implib.specs.Definition.{DefinitionView, ExportView}
 use Rattle.implib.specs.Fault.{Cause}
 use Rattle.implib.specs.Import.{public_exports}
 use Rattle.implib.specs.Library.{LibraryView}
@@ -21,11 +21,12 @@ use Rattle.implib.specs.Members.MemberSpec.{MemberView, member_of}
 use Rattle.implib.specs.Members.ReadBack.{ReadBack}
 use Rattle.implib.specs.Renaming.{renamed}
 use Rattle.implib.proofs.Members.Renaming.{renamed_twice}
+use Rattle.implib_rules.specs.Exports.{DefinitionOfExports, MembersOfExports, of_exports}
 use Rattle.implib_rules.specs.Library.{DefinitionFor, MembersFor, RefusesMembers, without_mark}
 use Rattle.implib_rules.specs.Order.{AreInOrder, LibraryReads, library_specs, msvc_specs}
 use Rattle.implib_rules.specs.Options.{LibraryOptionsView}
 use Rattle.implib_rules.proofs.OrderedReadings.{reads_in_order}
-use Rattle.implib_rules.proofs.PlainNames.{IsPlain, plain_of}
+use Rattle.implib_rules.proofs.PlainNames.{IsPlain, plain_for, plain_of}
 
 module _ (d : DefinitionView) (machine : MachineType) where
   -- all members of a definition that has lists of members
@@ -127,4 +128,19 @@ members_refused bytes text options d cause found meant refused = record {
   definition = d;
   of_text = subst (λ (t : List ℕ). DefinitionFor t options d) found.0 meant;
   refused = refused;
+}
+
+-- the members of exports, in order
+pub members_of_exports : (exports : List ExportView) (options : LibraryOptionsView) (d : DefinitionView) (members : List MemberView)
+    → DefinitionOfExports exports options d → AreInOrder (renamed d) options.machine options.flavor members → MembersOfExports exports options members
+members_of_exports exports options d members meant ordered = record {
+  definition = d;
+  of_exports = meant;
+  all = ordered.all;
+  made = ordered.made;
+  reads = ordered.reads;
+  is = ordered.is;
+  library_reads = λ plain.
+      read_in d options.machine options.flavor ordered.all members ordered.made ordered.reads
+      (subst (λ (x : DefinitionView). AllByRecursion IsPlain (public_exports (renamed x))) (sym meant.is) (plain_for options (of_exports exports) [] false plain)) ordered.is;
 }

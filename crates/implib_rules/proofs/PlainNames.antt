@@ -12,8 +12,9 @@ use Rattle.implib.specs.Import.{is_empty_text, public_exports}
 use Rattle.implib.specs.Renaming.{renamed, renamed_export}
 use Rattle.implib.proofs.Members.MemberReadings.{all_append}
 use Rattle.implib.proofs.Text.SymbolNames.{parsed_lacks}
-use Rattle.implib_rules.specs.Library.{DefinitionFor}
+use Rattle.implib_rules.specs.Library.{DefinitionFor, definition_for}
 use Rattle.implib_rules.specs.Linked.{NamingView, adds_target, alias_symbol, is_among, linked_export, linked_to, new_target, symbol_of, target_import, targets_added, targets_beside, with_target}
+use Rattle.implib_rules.specs.Names.{is_program, own_name}
 use Rattle.implib_rules.specs.Repeats.{left_out, left_out_by, repeats_behind, without_repeated}
 use Rattle.implib_rules.specs.Options.{LibraryOptionsView}
 
@@ -78,14 +79,20 @@ plain_left_out : (exports : List ExportView) → list_all (λ e. is_empty_text e
 unfolding without_repeated
 plain_left_out exports plain = plain_flagged (repeats_behind [] exports) exports plain
 
--- no export of the definition of a text has a symbol name
-pub plain_of : (text : List ℕ) (options : LibraryOptionsView) (d : DefinitionView) → DefinitionFor text options d → AllByRecursion IsPlain (public_exports (renamed d))
-plain_of text options d meant =
-    let lacks = parsed_lacks text AMD64 meant.parsed meant.parses in
-    let exports = without_repeated meant.parsed.exports in
+-- no export of a definition that is made by the rules has a symbol name, if none had one before
+pub plain_for : (options : LibraryOptionsView) (parsed : DefinitionView) (own : List ℕ) (program : Bool) → list_all (λ e. is_empty_text e.symbol_name) parsed.exports ≡ true
+    → AllByRecursion IsPlain (public_exports (renamed (definition_for options parsed own program)))
+plain_for options parsed own program lacks =
+    let exports = without_repeated parsed.exports in
     let linked = map (linked_export options.machine options.naming options.flavor exports) exports in
     let targets = targets_added options.machine options.naming options.flavor exports in
     let plain : AllByRecursion IsPlain (linked ++ targets) =
-    all_append IsPlain linked targets (plain_linked options.machine options.naming exports options.flavor exports (plain_left_out meant.parsed.exports lacks.parsed))
+    all_append IsPlain linked targets (plain_linked options.machine options.naming exports options.flavor exports (plain_left_out parsed.exports lacks))
     (plain_added options.machine options.naming exports options.flavor) in
-    subst (λ (x : DefinitionView). AllByRecursion IsPlain (public_exports (renamed x))) (sym meant.is) (plain_public (linked ++ targets) plain)
+    plain_public (linked ++ targets) plain
+
+-- so of the definition of a text
+pub plain_of : (text : List ℕ) (options : LibraryOptionsView) (d : DefinitionView) → DefinitionFor text options d → AllByRecursion IsPlain (public_exports (renamed d))
+plain_of text options d meant =
+    subst (λ (x : DefinitionView). AllByRecursion IsPlain (public_exports (renamed x))) (sym meant.is)
+    (plain_for options meant.parsed (own_name meant.heard) (is_program meant.heard) (parsed_lacks text AMD64 meant.parsed meant.parses).parsed)

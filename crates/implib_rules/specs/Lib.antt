@@ -6,6 +6,7 @@ pub mod Repeats
 pub mod LibraryName
 pub mod Order
 pub mod Library
+pub mod Exports
 pub mod Places
 pub mod Heard
 pub mod Warnings
@@ -15,3 +16,4 @@ pub mod WorkedWarnings
 pub mod LibraryLaws
 pub mod BothFlavors
 pub mod WorkedLibraryNames
+pub mod WorkedExports

@@ -1,12 +1,16 @@
--- What the names of libraries are for: a linker finds a library, and keeps it apart from others of its DLL.
+-- What the names of libraries are for: a linker finds a library, and keeps it apart from others of its DLL. And the
+-- library of a text is that of its exports.
 use Rattle.std.specs.Prelude.{◌≡◌, ◌≢◌, ℕ, false, List, ◌++◌, codes}
 use Rattle.implib.specs.declared.flavor.Flavor.TheVariants.{Msvc, Gnu}
+use Rattle.implib.specs.declared.machine.MachineType.TheVariants.{AMD64}
 use Rattle.implib.specs.Definition.{DefinitionView}
 use Rattle.implib.specs.Import.{is_empty_text}
 use Rattle.implib.specs.LibraryName.{linked_dll}
 use Rattle.implib.specs.Link.LinkedMembers.{IsPrefixOf, member_prefix}
 use Rattle.implib.specs.Members.MsvcObjects.{descriptor_symbol}
-use Rattle.implib_rules.specs.Library.{DefinitionFor}
+use Rattle.implib.specs.Text.Parses.{Parses}
+use Rattle.implib_rules.specs.Exports.{IsLibraryOfExports}
+use Rattle.implib_rules.specs.Library.{DefinitionFor, IsLibrary, without_mark}
 use Rattle.implib_rules.specs.LibraryName.{gnu_library_name, with_library_name, without_ending}
 use Rattle.implib_rules.specs.Options.{LibraryOptionsView}
 
@@ -29,3 +33,10 @@ abbrev pub GnuLibrariesAreApart : Type 0
 GnuLibrariesAreApart =
     (first second : DefinitionView) → first.import_name ≡ second.import_name → gnu_library_name first ≢ gnu_library_name second →
     IsPrefixOf (member_prefix (with_library_name Gnu first)) (member_prefix (with_library_name Gnu second)) → ⊥
+
+-- Where a text has a library, and the exports of the definition that it means have one for the same options, the two
+-- are the same bytes. Exports have one only where the name of the DLL is given.
+abbrev pub LibrariesAreOfExports : Type 0
+LibrariesAreOfExports =
+    (text : List ℕ) (options : LibraryOptionsView) (parsed : DefinitionView) (file other : List ℕ) → Parses (without_mark text) AMD64 parsed →
+    IsLibrary text options file → IsLibraryOfExports parsed.exports options other → file ≡ other

@@ -7,10 +7,12 @@ ghost use Rattle.implib.specs.declared.flavor.Flavor.TheVariants.{Msvc};
 ghost use Rattle.implib.specs.declared.machine.MachineType.{MachineType};
 ghost use Rattle.implib_rules.specs.Linked.{AsksAsLinked, NamingView, target_import};
 ghost use Rattle.implib_rules.specs.BothFlavors.{AsksAlike};
-ghost use Rattle.implib_rules.specs.LibraryLaws.{GnuLibrariesAreApart, MsvcLibrariesAreFound};
+ghost use Rattle.implib_rules.specs.LibraryLaws.{GnuLibrariesAreApart, LibrariesAreOfExports};
+ghost use Rattle.implib_rules.specs.LibraryLaws.{MsvcLibrariesAreFound};
 ghost use Rattle.implib_rules.specs.Places.{AreAtWords};
 ghost use Rattle.implib_rules.specs.Repeats.{AreLeftOut, SymbolsAreOfWords};
 ghost use Rattle.implib_rules.specs.Warnings.{AreInOrder, RepeatsStandBefore};
+ghost use Rattle.implib_rules.specs.WorkedExports.{ExportsWorked};
 ghost use Rattle.implib_rules.specs.WorkedLibraryNames.{LibrariesWorked};
 ghost use Rattle.implib_rules.specs.WorkedNames.{AliasesLinked, DllsNamed};
 ghost use Rattle.implib_rules.specs.WorkedNames.{ExportsLinked, MembersInOrder};
@@ -54,6 +56,16 @@ pub fn msvc_libraries_are_found()
 /// names of the members of neither begin with what those of the other do.
 pub fn gnu_libraries_are_apart()
     ensures { GnuLibrariesAreApart }
+{}
+
+/// The library of a text is that of its exports, where these have one: for a DLL whose name is given.
+pub fn libraries_are_of_exports()
+    ensures { LibrariesAreOfExports }
+{}
+
+/// Exports that are given without a text have the definitions that were worked by hand.
+pub fn exports_worked()
+    ensures { ExportsWorked }
 {}
 
 /// Libraries have the names that were worked by hand, and those exports are left out.

@@ -9,6 +9,7 @@
 #![tactic(auto)]
 
 pub mod aliases;
+pub mod exports;
 pub mod firsts;
 pub mod laws;
 pub mod library;

@@ -11,10 +11,11 @@ ghost use Rattle.implib_rules.specs.Library.{BreaksOff, DefinitionFor, IsRefusal
 ghost use Rattle.implib_rules.specs.Library.{IsRefusalOfBytes, IsRefusalOfMembers};
 ghost use Rattle.implib_rules.specs.Library.{IfBrokenOff, IfRefused, IsRefusalOfText};
 ghost use Rattle.implib_rules.specs.Library.{MembersFor, WritesLibrary};
-ghost use Rattle.implib_rules.specs.Library.{kind_for, kind_of, without_mark};
+ghost use Rattle.implib_rules.specs.Library.{definition_for, kind_for, kind_of, without_mark};
+ghost use Rattle.implib_rules.specs.Names.{lacks_name};
 ghost use Rattle.implib_rules.specs.Order.{AreInOrder};
 ghost use Rattle.implib_rules.specs.Options.{library_options_view};
-ghost use Rattle.std.specs.Prelude.{◌≡◌, IfErr, IfOk, MatchOption, None, OnOk, Some, length, map};
+ghost use Rattle.std.specs.Prelude.{◌≡◌, IfErr, IfOk, MatchOption, None, OnOk, Some, false, length, map, true};
 ghost use Rattle.std.specs.Str.{IsUtf8};
 
 use crate::aliases::link_with_targets;
@@ -148,6 +149,42 @@ pub fn text_in(bytes: &[u8]) -> Option<&str>
     str::from_utf8(without_mark(bytes)).ok()
 }
 
+/// A definition by the rules of `dlltool`, under the name of the DLL that is given, or else its own:
+/// of the exports of one word the first alone, each as it is linked on the machine, and with the name
+/// of its library for the linker. There is none where neither name is one.
+///
+/// # Errors
+///
+/// An allocation failed.
+pub(crate) fn by_rules(
+    alloc: Global,
+    mut def: ModuleDef,
+    own: &str,
+    is_program: bool,
+    options: &LibraryOptions,
+) -> Result<Option<ModuleDef>, AllocError>
+    ensures { IfOk result (λ found. MatchOption found
+        (lacks_name (library_options_view options.now).dll own.now ≡ true)
+        (λ made. (lacks_name (library_options_view options.now).dll own.now ≡ false)
+        × (definition_view made ≡ definition_for (library_options_view options.now)
+        (definition_view def) own.now is_program))) }
+{
+    if lacks_name(options.dll, own) {
+        return Ok(None);
+    }
+    def.import_name = dll_name(alloc, options.dll, own, is_program)?;
+    leave_out_repeats(alloc, &mut def.exports)?;
+    link_with_targets(
+        alloc,
+        options.machine,
+        options.naming,
+        options.flavor,
+        &mut def.exports,
+    )?;
+    def.library_name = library_name_for(alloc, options.flavor, &def)?;
+    Ok(Some(def))
+}
+
 /// The definition that a text means for a DLL of the name that is given, or of its own: of the
 /// exports of one word the first alone, each as it is linked on the machine, and with the name of
 /// its library for the linker.
@@ -166,22 +203,12 @@ pub fn definition_for(
 {
     // The words are read as they are written, as on a machine without an underscore.
     let mut heading = FirstHeading::new(alloc);
-    let mut def = ModuleDef::parse_with(alloc, text, MachineType::AMD64, &mut heading)?;
+    let def = ModuleDef::parse_with(alloc, text, MachineType::AMD64, &mut heading)?;
     let (own, is_program) = heading.finish()?;
-    if lacks_name(options.dll, own.as_str()) {
-        return Err(Refusal::NoName);
+    match by_rules(alloc, def, own.as_str(), is_program, options)? {
+        Some(def) => Ok(def),
+        None => Err(Refusal::NoName),
     }
-    def.import_name = dll_name(alloc, options.dll, own.as_str(), is_program)?;
-    leave_out_repeats(alloc, &mut def.exports)?;
-    link_with_targets(
-        alloc,
-        options.machine,
-        options.naming,
-        options.flavor,
-        &mut def.exports,
-    )?;
-    def.library_name = library_name_for(alloc, options.flavor, &def)?;
-    Ok(def)
 }
 
 // The members for Microsoft's linker, weak externals last, and without the short imports of
@@ -213,8 +240,8 @@ fn gnu_members(def: ModuleDef, machine: MachineType) -> Result<Vec<Member>, Erro
     GnuImportLibrary::new(def, machine).members()
 }
 
-// The members of a definition in the order in which an archive is to have them.
-fn members_in_order(
+/// The members of a definition in the order in which an archive is to have them.
+pub(crate) fn members_in_order(
     def: ModuleDef,
     machine: MachineType,
     flavor: Flavor,

@@ -1,0 +1,119 @@
+//! From exports and options to the library that the rules of the program make of them, or to what is
+//! wrong.
+
+ghost use Rattle.implib.specs.Definition.{export_view};
+ghost use Rattle.implib.specs.Library.{member_view};
+ghost use Rattle.implib_c.specs.Given.{failure_status, length_given, place_given, status_given};
+ghost use Rattle.implib_c.specs.GivenOf.{AreGiven, OnExportFault, PutsLibraryOf};
+ghost use Rattle.implib_c.specs.LibraryOf.{LibraryOfAnswers, export_given, exports_status, given_export};
+ghost use Rattle.implib_c.specs.LibraryOf.{place_of_refusal};
+ghost use Rattle.implib_c.specs.Status.{status_number};
+ghost use Rattle.implib_rules.specs.Options.{library_options_view};
+ghost use Rattle.std.specs.Prelude.{◌≡◌, ◌++◌, [], ◌∷◌, Err, IfErr, IfOk, OnOk, map};
+
+use crate::export::{Export, names_of, short_export};
+use crate::library_with::options_with;
+use crate::outcome::{Failure, pack_into};
+use implib::def::ShortExport;
+use implib_rules::exports::{ExportsRefusal, members_of_exports};
+use implib_rules::library::kind_for;
+use implib_rules::options::LibraryOptions;
+use std::alloc::{AllocError, Global};
+
+// Appends what a definition has of an export of these names.
+fn push_export(
+    alloc: Global,
+    given: &mut Vec<ShortExport>,
+    export: &Export<'_>,
+    name: &str,
+    target: &str,
+) -> Result<(), AllocError>
+    ensures { OnOk result (map export_view given.new.items ≡ map export_view given.old.items
+        ++ export_given (record (given_export export.now) { name = name.now; target = target.now })
+        ∷ []) }
+{
+    given.push(short_export(alloc, export, name, target)?)?;
+    Ok(())
+}
+
+// What a definition has of exports.
+fn short_exports(alloc: Global, exports: &[Export<'_>]) -> Result<Vec<ShortExport>, Failure>
+    ensures ok { IfOk result (λ given. AreGiven (map given_export exports.now)
+        (map export_view given.items)) }
+    ensures fault { IfErr result (OnExportFault (map given_export exports.now)) }
+{
+    let mut given = Vec::with_capacity(alloc, exports.len())?;
+    for (index, export) in exports.iter().enumerate() {
+        match names_of(export) {
+            Ok((name, target)) => push_export(alloc, &mut given, export, name, target)?,
+            Err(fault) => return Err(Failure::NoExport(fault, index)),
+        }
+    }
+    Ok(given)
+}
+
+// What a refusal of exports becomes.
+fn failure_of(refusal: ExportsRefusal) -> Failure
+    ensures status { failure_status result ≡ exports_status refusal }
+    ensures length { length_given (Err result) ≡ 0 }
+    ensures place { place_given (Err result) ≡ place_of_refusal refusal }
+{
+    match refusal {
+        ExportsRefusal::NoName => Failure::NoDllName,
+        ExportsRefusal::Members(fault) => Failure::Refused(fault),
+        ExportsRefusal::OutOfMemory => Failure::OutOfMemory,
+    }
+}
+
+// Puts the library of exports with these options at the beginning of the buffer, where there is
+// room. Gives its length.
+fn put_library_of(
+    alloc: Global,
+    exports: &[Export<'_>],
+    options: &LibraryOptions<'_>,
+    buffer: &mut [u8],
+) -> Result<usize, Failure>
+    ensures { PutsLibraryOf (map given_export exports.now) (library_options_view options.now)
+        buffer.old buffer.new (length_given result) (place_given result) (status_given result) }
+{
+    let given = match short_exports(alloc, exports) {
+        Ok(given) => given,
+        Err(failure) => return Err(failure),
+    };
+    match members_of_exports(alloc, given, options) {
+        Ok(members) => {
+            let kind = kind_for(options.flavor, members.len());
+            pack_into(alloc, buffer, members.as_slice(), kind)
+        }
+        Err(refusal) => Err(failure_of(refusal)),
+    }
+}
+
+/// Puts the library of exports with these options at the beginning of the buffer. Gives its length.
+/// An error leaves the buffer as it was.
+///
+/// # Errors
+///
+/// The first that applies: `UnknownMachine`, `UnknownFlavor`, `UnknownFlags`, `DllNotUtf8`,
+/// `NoExport`, `NoDllName`, `Refused`, `NoArchive`, `BufferTooSmall`. `OutOfMemory` can precede the
+/// last five, and come where none applies.
+pub fn library_of_into(
+    alloc: Global,
+    exports: &[Export<'_>],
+    dll: &[u8],
+    has_dll: u32,
+    machine: u16,
+    flavor: u32,
+    flags: u32,
+    buffer: &mut [u8],
+) -> Result<usize, Failure>
+    ensures { LibraryOfAnswers (map given_export exports.now)
+        (record { machine = machine; flavor = flavor; flags = flags; has_dll = has_dll; dll = dll.now })
+        buffer.old buffer.new
+        (length_given result) (place_given result) (status_number (status_given result)) }
+{
+    match options_with(dll, has_dll, machine, flavor, flags) {
+        Ok(options) => put_library_of(alloc, exports, &options, buffer),
+        Err(failure) => Err(failure),
+    }
+}

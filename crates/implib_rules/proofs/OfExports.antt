@@ -1,0 +1,59 @@
+-- The library of a text is that of its exports.
+use Rattle.std.proofs.Common.{◌≡◌, ◌∙◌, ℕ, Bool, false, List, [], Option, None, Some, ap, map, refl, sym}
+use Rattle.implib.specs.declared.flavor.Flavor.{Flavor}
+use Rattle.implib.specs.declared.flavor.Flavor.TheVariants.{Gnu, Msvc}
+use Rattle.implib.specs.declared.machine.MachineType.{MachineType}
+use Rattle.implib.specs.declared.machine.MachineType.TheVariants.{AMD64}
+use Rattle.implib.specs.Definition.{DefinitionView}
+use Rattle.implib.specs.Members.MemberSpec.{MemberSpec, MemberView, member_of}
+use Rattle.implib.specs.Renaming.{renamed}
+use Rattle.implib.specs.Text.Parses.{Parses}
+use Rattle.implib.proofs.Text.OneReading.{one_definition}
+use Rattle.implib_archive.specs.Archive.{archive_of}
+use Rattle.implib_rules.specs.Exports.{IsLibraryOfExports, MembersOfExports, of_exports}
+use Rattle.implib_rules.specs.Library.{IsLibrary, MembersFor, definition_for, kind_of, without_mark}
+use Rattle.implib_rules.specs.LibraryLaws.{LibrariesAreOfExports}
+use Rattle.implib_rules.specs.LibraryName.{gnu_library_name, with_library_name}
+use Rattle.implib_rules.specs.Linked.{NamingView, linked}
+use Rattle.implib_rules.specs.Names.{dll_name, is_program, lacks_name, own_name, part_after_last}
+use Rattle.implib_rules.specs.Options.{LibraryOptionsView}
+use Rattle.implib_rules.specs.Order.{library_specs}
+use Rattle.implib_rules.specs.Repeats.{without_repeats}
+
+-- the members of a definition by the rules, of a DLL of this name
+abbrev specs_named : MachineType → NamingView → Flavor → DefinitionView → List ℕ → List MemberSpec
+specs_named machine naming flavor d name =
+    library_specs (renamed (with_library_name flavor (linked machine naming flavor (without_repeats (record d { import_name = name }))))) machine flavor
+
+-- they are of its exports
+of_their_exports : (machine : MachineType) (naming : NamingView) (flavor : Flavor) (d : DefinitionView) (name : List ℕ)
+    → specs_named machine naming flavor d name ≡ specs_named machine naming flavor (of_exports d.exports) name
+unfolding gnu_library_name
+of_their_exports machine naming Msvc d name = refl
+of_their_exports machine naming Gnu d name = refl
+
+-- a name that is given is the DLL's, whatever the text's own
+given_name_is : (dll : Option (List ℕ)) (own : List ℕ) (program : Bool) → lacks_name dll [] ≡ false → dll_name dll own program ≡ dll_name dll [] false
+unfolding part_after_last
+given_name_is (Some name) own program named = refl
+given_name_is None own program named = cc
+
+same_members : (text : List ℕ) (options : LibraryOptionsView) (parsed : DefinitionView) (members others : List MemberView) → Parses (without_mark text) AMD64 parsed
+    → MembersFor text options members → MembersOfExports parsed.exports options others → members ≡ others
+same_members text options parsed members others parses first second =
+    let meant = first.of_text in
+    let own = own_name meant.heard in
+    let program = is_program meant.heard in
+    let specs = specs_named options.machine options.naming options.flavor in
+    let once = one_definition (without_mark text) first.utf8 AMD64 meant.parsed parsed meant.parses parses in
+    first.is
+    ∙ ap (λ (d : DefinitionView). map member_of (library_specs (renamed d) options.machine options.flavor)) (meant.is ∙ ap (λ (d : DefinitionView). definition_for options d own program) once)
+    ∙ ap (λ name. map member_of (specs parsed name)) (given_name_is options.dll own program second.of_exports.named)
+    ∙ ap (map member_of) (of_their_exports options.machine options.naming options.flavor parsed (dll_name options.dll [] false))
+    ∙ sym (second.is ∙ ap (λ (d : DefinitionView). map member_of (library_specs (renamed d) options.machine options.flavor)) second.of_exports.is)
+
+pub libraries_are_of_exports : LibrariesAreOfExports
+libraries_are_of_exports text options parsed file other parses first second =
+    first.is
+    ∙ ap (λ members. archive_of (kind_of options.flavor members) members) (same_members text options parsed first.members second.members parses first.members_for second.members_are)
+    ∙ sym second.is
