@@ -28,7 +28,7 @@ use implib::def::ModuleDef;
 use implib::{Flavor, ParseError};
 use implib_rules::library::{LibraryError, Refusal, members_for, text_in};
 use implib_rules::options::LibraryOptions;
-use implib_rules::places::{Place, Site, read_with_places};
+use implib_rules::places::{Place, export_lines, read_with_places};
 use implib_rules::warnings::Warning;
 use std::alloc::{AllocError, Global};
 use std::env::Args;

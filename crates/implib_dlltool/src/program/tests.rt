@@ -1,8 +1,8 @@
 use super::run;
 use crate::console::Console;
 use crate::files::SystemDisk;
-use std::test::Fail;
 use std::io::Write;
+use std::test::Fail;
 use std::{env, fs, io};
 
 // Runs the program with words and standard input; the status, and what it wrote on standard error.
@@ -491,7 +491,10 @@ fn messages_are_lines_of_one_write(rt: HostRuntime) -> Result<(), Fail> {
     );
     assert_eq!(rt; status, 1);
     let counted = console.into_writer();
-    assert_eq!(rt; str::from_utf8(counted.bytes.as_slice()).unwrap_or("?"), wanted.as_str());
+    assert_eq!(rt;
+        str::from_utf8(counted.bytes.as_slice()).unwrap_or("?"),
+        wanted.as_str()
+    );
     assert_eq!(rt; counted.calls, 1);
     Ok(())
 }
