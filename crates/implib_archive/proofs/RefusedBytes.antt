@@ -8,7 +8,7 @@ use Rattle.implib_archive.specs.Refusal.{has_short_places, has_too_many, member_
 use Rattle.implib_archive.specs.Refused.{ReadNames, RefusedArchives, WorkedBounds, WorkedFields}
 
 pub worked_fields : WorkedFields
-unfolding is_long name_field offset_of sorted_entries digits
+unfolding is_long long_names name_end name_field names_bytes offset_of sorted_entries with_name digits
 worked_fields = record {
   of_15_bytes = refl;
   of_16_bytes = refl;
@@ -16,6 +16,8 @@ worked_fields = record {
   with_other_slash = refl;
   field_of_15_bytes = refl;
   field_of_long = refl;
+  once_in_gnu = refl;
+  once_in_coff = refl;
   sorted = refl;
 }
 

@@ -23,7 +23,16 @@ use Rattle.implib_archive.proofs.FoundMembers.{members_read_back}
 
 pub worked_archives : WorkedArchives
 unfolding bytes_of_digits worked_coff worked_gnu archive_of end_from entries_from entries_of first_linker first_linker_size first_place front front_of front_size is_long linker_label linkers long_names member_label member_part name_end name_field names_bytes names_label names_part names_size offset_of place_of places_from second_linker second_linker_size sorted_entries strings_of with_first with_name field header_bytes padded_part_bytes padding part_bytes signature u16_le u32_be u32_le digits
-worked_archives = record { coff = refl; gnu = refl; odd_linker_members = refl; odd_linker_member = refl; no_gnu_members = refl; no_coff_members = refl }
+worked_archives = record {
+  coff = refl;
+  gnu = refl;
+  odd_linker_members = refl;
+  odd_linker_member = refl;
+  no_gnu_symbols = refl;
+  no_coff_symbols = refl;
+  no_gnu_members = refl;
+  no_coff_members = refl;
+}
 
 pub worked_readings : WorkedReadings
 unfolding bytes_of_digits worked_coff worked_gnu data_at first_in linker_data linker_in long_name long_name_at long_names_in long_names_or before_others member_at members_among members_in name_in number_in numbers_in paired read_as second_in stored_at stored_from stored_in texts_in trimmed

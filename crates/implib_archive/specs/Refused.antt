@@ -1,15 +1,21 @@
 -- Names, numbers and archives at the bounds of what is read and what has an archive, worked by hand.
 use Rattle.std.specs.Prelude.{◌≡◌, ℕ, ◌-◌, ◌^◌, true, false, List, [], ◌∷◌, ◌++◌, None, Some, codes, length}
 use Rattle.implib.specs.Members.MemberSpec.{MemberView}
-use Rattle.implib_archive.specs.Archive.{is_long, name_field, sorted_entries}
+use Rattle.implib_archive.specs.Archive.{is_long, long_names, name_field, sorted_entries}
 use Rattle.implib_archive.specs.Reader.{LongAt, LongNames, Linker, Short, Stored, Unknown, long_name, name_in, number_in, stored_in}
 use Rattle.implib_archive.specs.Refusal.{has_short_places, has_too_many, member_refusal, refusal_of}
 use Rattle.implib_archive.specs.Worked.{member}
 use Rattle.implib_archive.specs.declared.kind.Kind.TheVariants.{Coff, Gnu}
 use Rattle.implib_archive.specs.declared.error.Fault.TheVariants.{EmptyName, EmptySymbol, MemberTooLong, NulInName, NulInSymbol}
 
+-- members of four names, of which two are long, and one of these is the name of two members
+abbrev pub of_long_names : List MemberView
+of_long_names =
+    member (codes "sixteen_bytes_.o") [] [] ∷ member (codes "b.o") [] [] ∷ member (codes "sixteen_bytes_.o") [] []
+    ∷ member (codes "a/b.o") [] [] ∷ []
+
 -- Names that a header has in its field, with a slash after them, and names that it cannot have there: of 15 and of
--- 16 bytes, and with a slash in them.
+-- 16 bytes, and with a slash in them. A long name of two members is kept once.
 pub record WorkedFields : Type 0 where
   pub of_15_bytes : is_long (codes "fifteen_bytes.o") ≡ false
   pub of_16_bytes : is_long (codes "sixteen_bytes_.o") ≡ true
@@ -17,6 +23,8 @@ pub record WorkedFields : Type 0 where
   pub with_other_slash : is_long (codes "a\\b.o") ≡ false
   pub field_of_15_bytes : name_field [] (codes "fifteen_bytes.o") ≡ codes "fifteen_bytes.o/"
   pub field_of_long : name_field ((codes "a/b.o", 123) ∷ []) (codes "a/b.o") ≡ codes "/123"
+  pub once_in_gnu : long_names Gnu of_long_names ≡ (codes "sixteen_bytes_.o", 0) ∷ (codes "a/b.o", 18) ∷ []
+  pub once_in_coff : long_names Coff of_long_names ≡ (codes "sixteen_bytes_.o", 0) ∷ (codes "a/b.o", 17) ∷ []
   pub sorted : sorted_entries ((codes "b", 1) ∷ (codes "a", 2) ∷ (codes "_", 3) ∷ (codes "B", 4) ∷ (codes "ab", 5) ∷ [])
       ≡ (codes "B", 4) ∷ (codes "_", 3) ∷ (codes "a", 2) ∷ (codes "ab", 5) ∷ (codes "b", 1) ∷ []
 

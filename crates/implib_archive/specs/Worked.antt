@@ -37,6 +37,10 @@ worked_reads = read (codes "a.o") (1 ∷ 2 ∷ 3 ∷ []) ∷ read (codes "long_m
 abbrev pub odd_members : List MemberView
 odd_members = member (codes "a.o") (7 ∷ []) (codes "f" ∷ codes "gh" ∷ []) ∷ []
 
+-- the same member without symbols
+abbrev pub unlisted_members : List MemberView
+unlisted_members = member (codes "a.o") (7 ∷ []) [] ∷ []
+
 -- its header and its byte, with the line end that follows
 abbrev pub odd_member_part : List ℕ
 odd_member_part = codes "a.o/            0           0     0     644     1         `\n" ++ 7 ∷ 10 ∷ []
@@ -82,12 +86,18 @@ worked_gnu =
     ++ hex "60 0a 01 02 03 0a 2f 30 20 20 20 20 20 20 20 20 20 20 20 20 20 20 30 20 20 20 20 20 20 20 20 20 20 20 30 20 20 20 20 20 30 20 20 20 20 20 36 34"
     ++ hex "34 20 20 20 20 20 32 20 20 20 20 20 20 20 20 20 60 0a 04 05"
 
--- The archives of the worked members, of the one with odd linker members, and of no members, have these bytes.
+-- The archives of the worked members, of the one with odd linker members, of the same without symbols, and of no
+-- members, have these bytes.
 pub record WorkedArchives : Type 0 where
   pub coff : archive_of Coff worked_members ≡ worked_coff
   pub gnu : archive_of Gnu worked_members ≡ worked_gnu
   pub odd_linker_members : archive_of Coff odd_members ≡ odd_coff
   pub odd_linker_member : archive_of Gnu odd_members ≡ odd_gnu
+  pub no_gnu_symbols : archive_of Gnu unlisted_members ≡ codes "!<arch>\n" ++ odd_member_part
+  pub no_coff_symbols : archive_of Coff unlisted_members
+      ≡ codes "!<arch>\n/               0           0     0     0       4         `\n" ++ replicate 4 0
+      ++ codes "/               0           0     0     0       12        `\n"
+      ++ (1 ∷ 0 ∷ 0 ∷ 0 ∷ 144 ∷ 0 ∷ 0 ∷ 0 ∷ 0 ∷ 0 ∷ 0 ∷ 0 ∷ []) ++ odd_member_part
   pub no_gnu_members : archive_of Gnu [] ≡ codes "!<arch>\n"
   pub no_coff_members : archive_of Coff []
       ≡ codes "!<arch>\n/               0           0     0     0       4         `\n" ++ replicate 4 0

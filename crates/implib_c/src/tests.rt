@@ -252,31 +252,32 @@ fn many_exports(alloc: Global, count: usize) -> Result<String, AllocError> {
     Ok(text)
 }
 
-// Calls with a number of exports; the libraries for GNU's linker are longer than 1 MiB.
+// Calls with a number of exports, of which an archive of the COFF kind has room for fewer; the libraries
+// for GNU's linker are longer than 64 MiB.
 const MANY: [(Call, (MachineType, u16), (Flavor, u32), usize); 4] = [
     (
         Call::Members,
         (MachineType::AMD64, 0x8664),
         (Flavor::Msvc, 0),
-        6_000,
+        100_001,
     ),
     (
         Call::Members,
         (MachineType::I386, 0x14C),
         (Flavor::Gnu, 1),
-        6_000,
+        100_001,
     ),
     (
         Call::Library,
         (MachineType::ARM64, 0xAA64),
         (Flavor::Msvc, 0),
-        6_000,
+        60_000,
     ),
     (
         Call::Library,
         (MachineType::ARMNT, 0x1C4),
         (Flavor::Gnu, 1),
-        6_000,
+        100_001,
     ),
 ];
 
@@ -368,37 +369,62 @@ fn written(
 // A text whose names the flags change.
 const DECORATED: &[u8] = b"LIBRARY zoo\nEXPORTS\nfeed@8\n@count@4\nnight == day\nday";
 
+// Holds a call with options against the library that the program writes.
+fn expect_written(
+    rt: &impl Abort,
+    alloc: Global,
+    text: &[u8],
+    machine: (MachineType, u16),
+    flavor: (Flavor, u32),
+    flags: (u32, Naming),
+) -> Result<(), Fail> {
+    let want = written(alloc, text, machine.0, flavor.0, flags.1)?;
+    let mut buffer = room(alloc, want.len())?;
+    let mut answer = (12_345, 67_890);
+    let status = implib_library_with_nonnull(
+        alloc,
+        text,
+        b"other",
+        1,
+        machine.1,
+        flavor.1,
+        flags.0,
+        buffer.as_mut_slice(),
+        &mut answer.0,
+        &mut answer.1,
+    );
+    assert_eq!(rt; (status, answer), (0, (want.len(), 0)));
+    assert!(rt; buffer.as_slice() == want.as_slice());
+    Ok(())
+}
+
+// Definitions of many exports, in no order and with a word after `==`, have libraries, too: for
+// Microsoft's linker of more members than an archive of its kind has room for.
 #[test]
 fn a_call_with_options_puts_the_library_that_the_program_writes(
     rt: HostRuntime,
 ) -> Result<(), Fail> {
-    for machine in MACHINES {
-        for (flavor, number, _) in FLAVORS {
+    let alloc = rt.alloc();
+    let mut many = many_exports(alloc, 100_001)?;
+    many.push_str("e\nd == f000001\nc == g\n")?;
+    let usual = Naming {
+        is_plain: false,
+        kills_at: false,
+    };
+    for (flavor, number, _) in FLAVORS {
+        let flavor = (flavor, number);
+        for machine in MACHINES {
             for (flags, kills_at, is_plain) in [
                 (0, false, false),
                 (1, true, false),
                 (2, false, true),
             ] {
                 let naming = Naming { is_plain, kills_at };
-                let want = written(rt.alloc(), DECORATED, machine.0, flavor, naming)?;
-                let mut buffer = room(rt.alloc(), want.len())?;
-                let mut answer = (12_345, 67_890);
-                let status = implib_library_with_nonnull(
-                    rt.alloc(),
-                    DECORATED,
-                    b"other",
-                    1,
-                    machine.1,
-                    number,
-                    flags,
-                    buffer.as_mut_slice(),
-                    &mut answer.0,
-                    &mut answer.1,
-                );
-                assert_eq!(rt; (status, answer), (0, (want.len(), 0)));
-                assert!(rt; buffer.as_slice() == want.as_slice());
+                expect_written(&rt, alloc, DECORATED, machine, flavor, (flags, naming))?;
             }
         }
+        let machine = (MachineType::AMD64, 0x8664);
+        expect_written(&rt, alloc, many.as_bytes(), machine, flavor, (0, usual))?;
     }
     Ok(())
 }

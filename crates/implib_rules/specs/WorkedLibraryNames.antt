@@ -1,6 +1,14 @@
--- Names of libraries, and repeats that are left out, worked by hand. The digits are those of md5sum.
-use Rattle.std.specs.Prelude.{◌≡◌, ℕ, true, List, [], ◌∷◌, Option, None, Some, codes}
+-- Names of libraries, repeats that are left out, kinds of archives, exit statuses and byte order marks, worked by hand.
+-- The digits are those of md5sum.
+use Rattle.std.specs.Prelude.{◌≡◌, ℕ, true, List, [], ◌∷◌, Option, None, Some, codes, map}
+use Rattle.implib.specs.declared.def.position.Position.{Position}
+use Rattle.implib.specs.declared.error.Fault.{Fault}
+use Rattle.implib.specs.declared.flavor.Flavor.TheVariants.{Msvc, Gnu}
+use Rattle.implib_archive.specs.declared.error.Fault.{Fault as ArchiveFault}
+use Rattle.implib_archive.specs.declared.kind.Kind.TheVariants.{Coff, Gnu as GnuKind}
 use Rattle.implib.specs.Definition.{DefinitionView, ExportView, empty_definition, empty_export}
+use Rattle.implib_rules.specs.declared.library.Refusal.TheVariants.{NotUtf8, Syntax, NoName, Members, Archive, OutOfMemory}
+use Rattle.implib_rules.specs.Library.{kind_for, status_of, without_mark}
 use Rattle.implib_rules.specs.LibraryName.{exports_taken, gnu_library_name, msvc_library_name}
 use Rattle.implib_rules.specs.Repeats.{without_repeated}
 
@@ -71,9 +79,34 @@ pub record RepeatsWorked : Type 0 where
   pub three : without_repeated (function (codes "a") ∷ function (codes "b") ∷ function (codes "a") ∷ function (codes "c") ∷ function (codes "b") ∷ function (codes "a") ∷ [])
       ≡ function (codes "a") ∷ function (codes "b") ∷ gone (function (codes "a")) ∷ function (codes "c") ∷ gone (function (codes "b")) ∷ gone (function (codes "a")) ∷ []
 
--- what was worked by hand of names of libraries and of repeats
+-- the kind of an archive, by the number of its members
+pub record KindsChosen : Type 0 where
+  pub msvc : map (kind_for Msvc) (0 ∷ 65534 ∷ 65535 ∷ 65536 ∷ []) ≡ Coff ∷ Coff ∷ GnuKind ∷ GnuKind ∷ []
+  pub gnu : map (kind_for Gnu) (0 ∷ 65534 ∷ 65535 ∷ 65536 ∷ []) ≡ GnuKind ∷ GnuKind ∷ GnuKind ∷ GnuKind ∷ []
+
+-- the exit status for each refusal
+pub record StatusesChosen : Type 0 where
+  pub not_utf8 : status_of NotUtf8 ≡ 1
+  pub syntax : (fault : Fault) (position : Position) → status_of (Syntax fault position) ≡ 1
+  pub no_name : status_of NoName ≡ 1
+  pub members : (fault : Fault) (position : Position) → status_of (Members fault position) ≡ 1
+  pub archive : (fault : ArchiveFault) → status_of (Archive fault) ≡ 1
+  pub out_of_memory : status_of OutOfMemory ≡ 3
+
+-- the text of bytes: one whole byte order mark in front of it is cut off
+pub record MarksCut : Type 0 where
+  pub marked : without_mark (0xEF ∷ 0xBB ∷ 0xBF ∷ 0x41 ∷ []) ≡ 0x41 ∷ []
+  pub twice : without_mark (0xEF ∷ 0xBB ∷ 0xBF ∷ 0xEF ∷ 0xBB ∷ 0xBF ∷ []) ≡ 0xEF ∷ 0xBB ∷ 0xBF ∷ []
+  pub behind : without_mark (0x41 ∷ 0xEF ∷ 0xBB ∷ 0xBF ∷ []) ≡ 0x41 ∷ 0xEF ∷ 0xBB ∷ 0xBF ∷ []
+  pub not_whole : without_mark (0xEF ∷ 0xBB ∷ []) ≡ 0xEF ∷ 0xBB ∷ []
+  pub other : without_mark (0xEF ∷ 0xBB ∷ 0xBE ∷ []) ≡ 0xEF ∷ 0xBB ∷ 0xBE ∷ []
+
+-- what was worked by hand of libraries
 pub record LibrariesWorked : Type 0 where
   pub taken : ExportsTaken
   pub gnu : GnuLibrariesNamed
   pub msvc : MsvcLibrariesNamed
   pub left_out : RepeatsWorked
+  pub kinds : KindsChosen
+  pub statuses : StatusesChosen
+  pub marks : MarksCut

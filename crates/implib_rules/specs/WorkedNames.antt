@@ -26,6 +26,10 @@ killing = record { is_plain = false; kills_at = true }
 abbrev pub plain : NamingView
 plain = record { is_plain = true; kills_at = false }
 
+-- the rules of both
+abbrev pub plain_and_killing : NamingView
+plain_and_killing = record { is_plain = true; kills_at = true }
+
 -- the export of a word, with another after `==` or with an empty one
 abbrev pub line : List ℕ → List ℕ → ExportView
 line word target = record empty_export { name = word; alias_target = target }
@@ -54,8 +58,10 @@ pub record ExportsLinked : Type 0 where
   pub underscored_killed : Links I386 killing (codes "_I@8") [] (codes "__I@8") (codes "_I")
   pub cpp_killed : Links I386 killing (codes "?x@8") [] (codes "?x@8") (codes "?x@8")
   pub letters_killed : Links I386 killing (codes "O@ab") [] (codes "_O@ab") (codes "O")
+  pub fastcall_at_the_second : Links I386 killing (codes "@G@8@4") [] (codes "@G@8@4") (codes "G")
   pub lone_killed : Links I386 killing (codes "@8") [] (codes "@8") (codes "@8")
   pub plain_kept : Links I386 plain (codes "_J") [] (codes "_J") (codes "_J")
+  pub plain_killed : Links I386 plain_and_killing (codes "F@8") [] (codes "F@8") (codes "F")
   pub amd64_kept : Links AMD64 killing (codes "F@8") [] (codes "F@8") (codes "F@8")
   pub other : Links AMD64 usual (codes "a") (codes "b") (codes "a") (codes "b")
   pub other_underscored : Links I386 usual (codes "a") (codes "b") (codes "_a") (codes "b")
@@ -67,6 +73,10 @@ pub record ExportsLinked : Type 0 where
   pub target_not_given : (linked_alone ARMNT usual Gnu (line (codes "a") (codes "a"))).asked_name ≡ None
   pub by_name : symbol_linked I386 usual (line (codes "f") []) ≡ codes "_f"
   pub by_external_name : symbol_linked I386 usual (record (line (codes "f") []) { ext_name = Some (codes "g") }) ≡ codes "_g"
+  pub external : linked_alone I386 usual Gnu (record (line (codes "f") []) { ext_name = Some (codes "g") })
+      ≡ record empty_export { name = codes "_g"; asked_name = Some (codes "g") }
+  pub external_of_other : linked_alone AMD64 usual Gnu (record (line (codes "f") (codes "h")) { ext_name = Some (codes "g") })
+      ≡ record empty_export { name = codes "g"; asked_name = Some (codes "h") }
 
 -- an import as it is linked: of this symbol, and asking for this name
 abbrev pub an_import : List ℕ → List ℕ → ExportView
@@ -101,6 +111,13 @@ pub record AliasesLinked : Type 0 where
   pub taken_by_ordinal : linked_exports AMD64 usual Msvc
       (line (codes "a") (codes "b") ∷ record (line (codes "b") []) { no_name = true; ordinal = 5 } ∷ [])
       ≡ an_import (codes "a") (codes "b") ∷ record (a_plain_import (codes "b")) { no_name = true; ordinal = 5 } ∷ []
+  pub external : linked_exports AMD64 usual Msvc (record (line (codes "x") (codes "b")) { ext_name = Some (codes "a") } ∷ [])
+      ≡ an_alias (codes "a") (codes "b") ∷ an_import (codes "b") (codes "b") ∷ []
+  pub exported_by_external_name : linked_exports AMD64 usual Msvc
+      (line (codes "a") (codes "b") ∷ record (line (codes "x") []) { ext_name = Some (codes "b") } ∷ [])
+      ≡ an_alias (codes "a") (codes "b") ∷ a_plain_import (codes "b") ∷ []
+  pub of_plain_names : linked_exports I386 plain Msvc (line (codes "a") (codes "b") ∷ [])
+      ≡ an_alias (codes "a") (codes "b") ∷ an_import (codes "b") (codes "b") ∷ []
   pub shared : linked_exports AMD64 usual Msvc (line (codes "a") (codes "b") ∷ line (codes "c") (codes "b") ∷ [])
       ≡ an_alias (codes "a") (codes "b") ∷ an_alias (codes "c") (codes "b") ∷ an_import (codes "b") (codes "b") ∷ []
   pub chained : linked_exports AMD64 usual Msvc (line (codes "a") (codes "b") ∷ line (codes "b") (codes "c") ∷ [])
@@ -117,6 +134,10 @@ pub record AliasesLinked : Type 0 where
   pub of_constant : linked_exports AMD64 usual Msvc (record (line (codes "a") (codes "b")) { constant = true } ∷ [])
       ≡ record (an_alias (codes "a") (codes "b")) { constant = true }
       ∷ record (an_import (codes "b") (codes "b")) { constant = true } ∷ []
+  pub shared_with_data : linked_exports AMD64 usual Msvc
+      (line (codes "a") (codes "b") ∷ record (line (codes "c") (codes "b")) { is_data = true } ∷ [])
+      ≡ an_alias (codes "a") (codes "b") ∷ record (an_alias (codes "c") (codes "b")) { is_data = true }
+      ∷ an_import (codes "b") (codes "b") ∷ []
   pub itself : linked_exports AMD64 usual Msvc (line (codes "X") (codes "X") ∷ [])
       ≡ a_plain_import (codes "X") ∷ []
   pub without_prefix : linked_exports I386 usual Msvc (line (codes "f@8") (codes "f@8") ∷ [])
@@ -141,7 +162,14 @@ with_aliases = record empty_definition {
       ∷ record (line (codes "f") (codes "g")) { is_data = true } ∷ [];
 }
 
--- the archive symbols of its members, in order
+-- a definition with an alias of a constant, and with a constant
+abbrev pub with_constants : DefinitionView
+with_constants = record empty_definition {
+  import_name = codes "zoo.dll";
+  exports = record (line (codes "a") (codes "b")) { constant = true } ∷ record (line (codes "c") []) { constant = true } ∷ [];
+}
+
+-- the archive symbols of their members, in order
 pub record MembersInOrder : Type 0 where
   pub msvc : map (λ p. p.symbols) (library_specs (linked AMD64 usual Msvc with_aliases) AMD64 Msvc)
       ≡ (codes "__IMPORT_DESCRIPTOR_zoo" ∷ [])
@@ -156,6 +184,14 @@ pub record MembersInOrder : Type 0 where
       ∷ (codes "d" ∷ [])
       ∷ (codes "__imp_d" ∷ [])
       ∷ (codes "__imp_f" ∷ [])
+      ∷ []
+  pub constants : map (λ p. p.symbols) (library_specs (linked AMD64 usual Msvc with_constants) AMD64 Msvc)
+      ≡ (codes "__IMPORT_DESCRIPTOR_zoo" ∷ [])
+      ∷ (codes "__NULL_IMPORT_DESCRIPTOR" ∷ [])
+      ∷ ((0x7F ∷ codes "zoo_NULL_THUNK_DATA") ∷ [])
+      ∷ (codes "__imp_c" ∷ codes "c" ∷ [])
+      ∷ (codes "__imp_b" ∷ codes "b" ∷ [])
+      ∷ (codes "__imp_a" ∷ [])
       ∷ []
 
 -- a token that is heard
@@ -173,6 +209,15 @@ two_headings =
     heard KwLibrary (codes "LIBRARY") ∷ heard Identifier (codes "a")
     ∷ heard KwName (codes "NAME") ∷ heard Identifier (codes "b") ∷ []
 
+-- what is heard of `LIBRARY EXPORTS c`, and of `LIBRARY "" NAME b`
+abbrev pub heading_alone : List Heard
+heading_alone =
+    heard KwLibrary (codes "LIBRARY") ∷ heard KwExports (codes "EXPORTS") ∷ heard Identifier (codes "c") ∷ []
+
+abbrev pub empty_heading : List Heard
+empty_heading =
+    heard KwLibrary (codes "LIBRARY") ∷ heard Identifier [] ∷ heard KwName (codes "NAME") ∷ heard Identifier (codes "b") ∷ []
+
 -- names of DLLs
 pub record DllsNamed : Type 0 where
   pub library : dll_name None (codes "zoo") false ≡ codes "zoo.dll"
@@ -181,11 +226,17 @@ pub record DllsNamed : Type 0 where
   pub below : dll_name None (codes "d.e/zoo") false ≡ codes "zoo.dll"
   pub below_backslash : dll_name None (codes "d\\e/f\\zoo") false ≡ codes "zoo.dll"
   pub given : dll_name (Some (codes "d/zoo")) (codes "a.dll") false ≡ codes "zoo"
+  pub given_program : dll_name (Some (codes "d\\zoo")) (codes "a") true ≡ codes "zoo"
+  pub mixed_directories : dll_name None (codes "d\\e/f\\zoo.ocx") false ≡ codes "zoo.ocx"
   pub none : lacks_name None [] ≡ true
   pub directory : lacks_name None (codes "zoo/") ≡ true
+  pub given_directory : lacks_name (Some (codes "d\\")) (codes "zoo") ≡ true
   pub given_for_none : lacks_name (Some (codes "zoo")) [] ≡ false
   pub first_of_three : own_name three_headings ≡ codes "a"
   pub program_of_three : is_program three_headings ≡ true
   pub first_of_two : own_name two_headings ≡ codes "a"
   pub library_of_two : is_program two_headings ≡ false
+  pub none_of_a_heading_alone : own_name heading_alone ≡ []
+  pub behind_an_empty_heading : own_name empty_heading ≡ codes "b"
+  pub program_behind_an_empty_heading : is_program empty_heading ≡ true
   pub unheaded_text : own_name (heard KwExports (codes "EXPORTS") ∷ heard Identifier (codes "c") ∷ []) ≡ []

@@ -1,18 +1,18 @@
 -- Words, places and warnings worked by hand.
-use Rattle.std.specs.Prelude.{◌≡◌, ℕ, List, [], ◌∷◌, Bool, true, false, Option, None, Some, codes}
+use Rattle.std.specs.Prelude.{◌≡◌, ℕ, List, [], ◌∷◌, Bool, true, false, Option, None, Some, codes, map}
 use Rattle.implib.specs.declared.def.lexer.TokenKind.{TokenKind}
-use Rattle.implib.specs.declared.def.lexer.TokenKind.TheVariants.{Identifier, EqualEqual, KwData, KwExports, KwName, KwPrivate}
+use Rattle.implib.specs.declared.def.lexer.TokenKind.TheVariants.{Identifier, EqualEqual, KwConstant, KwData, KwExports, KwName, KwNoname, KwPrivate}
 use Rattle.implib.specs.declared.def.listener.Role.TheVariants.{Name, Other}
 use Rattle.implib.specs.declared.def.position.Position.{Position}
-use Rattle.implib.specs.declared.flavor.Flavor.TheVariants.{Msvc}
-use Rattle.implib.specs.declared.machine.MachineType.TheVariants.{I386}
+use Rattle.implib.specs.declared.flavor.Flavor.TheVariants.{Gnu, Msvc}
+use Rattle.implib.specs.declared.machine.MachineType.TheVariants.{AMD64, I386}
 use Rattle.implib.specs.Definition.{ExportView, empty_export}
 use Rattle.implib.specs.Text.Heard.{Heard, IsHeard}
 use Rattle.implib_rules.specs.declared.places.Place.{Place}
 use Rattle.implib_rules.specs.declared.places.Site.{Site}
 use Rattle.implib_rules.specs.declared.places.Site.TheVariants as site
 use Rattle.implib_rules.specs.declared.warnings.words.Attribute.TheVariants.{Data, Constant, Private, NoName}
-use Rattle.implib_rules.specs.Places.{places_in}
+use Rattle.implib_rules.specs.Places.{attribute_of, places_in}
 use Rattle.implib_rules.specs.Options.{LibraryOptionsView}
 use Rattle.implib_rules.specs.Warnings.{HasNoExport, IsLowered, IsNotExported, IsOrdinalLike, IsOtherKind, IsRepeated, IsSecondHeading, IsStdcall}
 use Rattle.implib_rules.specs.Warnings.{NoticeView, OpensLine, RepeatsOrdinal, WarningView}
@@ -39,7 +39,8 @@ pub record WordsJudged : Type 0 where
   pub constant : lowered_attribute (codes "cONSTANT") ≡ Some Constant
   pub private : lowered_attribute (codes "Private") ≡ Some Private
   pub no_name : lowered_attribute (codes "noname") ≡ Some NoName
-  pub capitals : lowered_attribute (codes "DATA") ≡ None
+  pub capitals : map lowered_attribute (codes "DATA" ∷ codes "CONSTANT" ∷ codes "PRIVATE" ∷ codes "NONAME" ∷ [])
+      ≡ None ∷ None ∷ None ∷ None ∷ []
   pub longer : lowered_attribute (codes "data1") ≡ None
 
 -- the position at a line and a column
@@ -78,9 +79,11 @@ lined_heard =
     ∷ other KwName (codes "NAME") 42
     ∷ []
 
--- its places: the names of exports, the attribute that begins a line and not the one within a line, and the
+-- The attributes of keywords. Its places: the names of exports, the attribute that begins a line and not the one within a line, and the
 -- second heading
 pub record PlacesWorked : Type 0 where
+  pub attributes : map attribute_of (KwData ∷ KwConstant ∷ KwPrivate ∷ KwNoname ∷ KwExports ∷ [])
+      ≡ Some Data ∷ Some Constant ∷ Some Private ∷ Some NoName ∷ None ∷ []
   pub is_heard : IsHeard lined_text lined_heard
   pub lined : places_in lined_text lined_heard
       ≡ place site.Export (at_line 15 1 16)
@@ -132,6 +135,37 @@ doubtful_places =
     ∷ place site.Export (at_line 130 15 1)
     ∷ []
 
+-- Exports of which each has two things to warn of, or none: a word and an ordinal of the one before it; a word that
+-- would be an attribute, or begins as an ordinal, and an other word to ask for that is no export; and another word
+-- that is one, if a private one.
+abbrev pub doubtful_twice : List ExportView
+doubtful_twice =
+    ordinary (codes "F@8") 5
+    ∷ ordinary (codes "F@8") 5
+    ∷ record empty_export { name = codes "data"; alias_target = codes "x" }
+    ∷ record empty_export { name = codes "@5"; alias_target = codes "y" }
+    ∷ record empty_export { name = codes "a"; alias_target = codes "b" }
+    ∷ record empty_export { name = codes "b"; private = true }
+    ∷ []
+
+-- where they are
+abbrev pub twice_places : List Place
+twice_places =
+    place site.Export (at_line 8 1 9)
+    ∷ place site.Export (at_line 12 2 1)
+    ∷ place site.Export (at_line 16 3 1)
+    ∷ place site.Export (at_line 26 4 1)
+    ∷ place site.Export (at_line 34 5 1)
+    ∷ place site.Export (at_line 41 6 1)
+    ∷ []
+
+-- a library for Microsoft's linker on I386, with symbols as they are written, and one for GNU's, on AMD64
+abbrev pub asked_plain : LibraryOptionsView
+asked_plain = record { machine = I386; flavor = Msvc; dll = None; naming = record { is_plain = true; kills_at = false } }
+
+abbrev pub asked_gnu : LibraryOptionsView
+asked_gnu = record { machine = AMD64; flavor = Gnu; dll = None; naming = record { is_plain = false; kills_at = false } }
+
 -- a library for Microsoft's linker on I386
 abbrev pub asked : Bool → Option (List ℕ) → LibraryOptionsView
 asked kills_at dll = record {
@@ -171,4 +205,22 @@ pub record WarningsWorked : Type 0 where
       ∷ warning (IsRepeated (codes "a") 4) (at_line 100 12 1)
       ∷ warning (IsRepeated (codes "F@8") 1) (at_line 110 13 1)
       ∷ []
+  pub twice : warnings_of asked_plain doubtful_twice twice_places 65536
+      ≡ warning IsOtherKind (at_line 0 1 1)
+      ∷ warning (IsStdcall (codes "F@8")) (at_line 8 1 9)
+      ∷ warning (IsRepeated (codes "F@8") 0) (at_line 12 2 1)
+      ∷ warning (RepeatsOrdinal 5 0) (at_line 12 2 1)
+      ∷ warning (IsLowered (codes "data") Data) (at_line 16 3 1)
+      ∷ warning (IsNotExported (codes "x")) (at_line 16 3 1)
+      ∷ warning (IsOrdinalLike (codes "@5")) (at_line 26 4 1)
+      ∷ warning (IsNotExported (codes "y")) (at_line 26 4 1)
+      ∷ []
+  pub gnu : warnings_of asked_gnu doubtful_twice twice_places 65536
+      ≡ warning (IsRepeated (codes "F@8") 0) (at_line 12 2 1)
+      ∷ warning (RepeatsOrdinal 5 0) (at_line 12 2 1)
+      ∷ warning (IsLowered (codes "data") Data) (at_line 16 3 1)
+      ∷ warning (IsOrdinalLike (codes "@5")) (at_line 26 4 1)
+      ∷ []
+  pub no_export_and_many : warnings_of (asked false None) [] [] 65535
+      ≡ warning HasNoExport (at_line 0 1 1) ∷ warning IsOtherKind (at_line 0 1 1) ∷ []
   pub none : warnings_of (asked false None) [] [] 3 ≡ warning HasNoExport (at_line 0 1 1) ∷ []

@@ -94,12 +94,13 @@ fn a_name_with_a_line_end_is_refused_in_one_kind(rt: HostRuntime) -> Result<(), 
 }
 
 // A writer that takes at most 7 bytes a call, and `room` bytes in all. It then answers `fault`, or
-// takes none. It cannot be flushed.
+// takes none. It cannot be flushed, and knows whether it was to be.
 #[derive(Drop)]
 struct Small {
     bytes: Vec<u8>,
     room: usize,
     fault: Option<io::ErrorKind>,
+    is_flushed: bool,
 }
 
 impl io::Write for Small {
@@ -115,6 +116,7 @@ impl io::Write for Small {
     }
 
     fn flush(&mut self) -> io::Result<()> {
+        self.is_flushed = true;
         Err(io::Error::from(io::ErrorKind::Unsupported))
     }
 }
@@ -161,7 +163,12 @@ fn an_error_leaves_a_beginning(rt: HostRuntime) -> Result<(), Fail> {
         ),
     ] {
         let bytes = Vec::new(rt.alloc());
-        let mut writer = Small { bytes, room, fault };
+        let mut writer = Small {
+            bytes,
+            room,
+            fault,
+            is_flushed: false,
+        };
         let written = archive.write_to(rt.alloc(), &mut writer);
         match &written {
             Ok(()) => assert_eq!(rt; room, 308),
@@ -172,6 +179,7 @@ fn an_error_leaves_a_beginning(rt: HostRuntime) -> Result<(), Fail> {
             Err(WriteError::OutOfMemory(_)) => return Err(Fail::new("out of memory")),
         }
         assert!(rt; writer.bytes.as_slice() == &GNU[..room]);
+        assert!(rt; !writer.is_flushed);
     }
     Ok(())
 }

@@ -3,31 +3,44 @@
 use super::member;
 use implib_archive::{Archive, Error, Fault, Kind};
 use implib::Member;
-use std::alloc::Global;
+use std::alloc::{AllocError, Global};
 use std::test::Fail;
 
-// The kinds, with the sizes of the archives of 5,000 members that have names of 23 bytes, a symbol of
-// five bytes and 4,000 bytes of data: 230,200 or 175,132 bytes before the members, and 4,060 for each.
-const SIZES: [(Kind, u64); 2] = [(Kind::Coff, 20_530_200), (Kind::Gnu, 20_475_132)];
+// Archives of many members that have names of 25 bytes and symbols of seven: their kind, the number of
+// members, the bytes of each, and the archive's size. For example, that of 5,000 members in the COFF kind
+// has 260,200 bytes before the members, and 4,060 for each.
+const RUNS: [(Kind, usize, usize, u64); 4] = [
+    (Kind::Coff, 5_000, 4_000, 20_560_200),
+    (Kind::Gnu, 5_000, 4_000, 20_495_132),
+    (Kind::Coff, 65_534, 100, 13_893_408),
+    (Kind::Gnu, 100_001, 100, 19_900_332),
+];
+
+// Members of these bytes.
+fn many_members(alloc: Global, count: usize, data: &[u8]) -> Result<Vec<Member>, AllocError> {
+    let mut members = Vec::new(alloc);
+    for number in 0..count {
+        let name = format!(in alloc; "long_member_name_{number:06}.o")?;
+        let symbol = format!(in alloc; "f{number:06}")?;
+        members.push(member(alloc, name.as_str(), data, &[symbol.as_str()])?)?;
+    }
+    Ok(members)
+}
 
 // The bytes are in memory of their size.
 #[test]
 fn many_members_have_archives(rt: HostRuntime) -> Result<(), Fail> {
     let alloc = rt.alloc();
-    let mut members = Vec::new(alloc);
-    let data = [5; 4000];
-    for number in 0..5000 {
-        let name = format!(in alloc; "long_member_name_{number:04}.o")?;
-        let symbol = format!(in alloc; "f{number:04}")?;
-        members.push(member(alloc, name.as_str(), &data, &[symbol.as_str()])?)?;
-    }
-    for (kind, size) in SIZES {
+    let bytes = [5; 4000];
+    for (kind, count, length, size) in RUNS {
+        let data = bytes.get(..length).ok_or("the bytes are fewer")?;
+        let members = many_members(alloc, count, data)?;
         let archive = Archive::new(alloc, members.as_slice(), kind)?;
         assert_eq!(rt; archive.len(), size);
         let bytes = archive.to_vec(alloc)?;
         assert_eq!(rt; bytes.len() as u64, size);
         assert_eq!(rt; bytes.capacity() as u64, size);
-        assert!(rt; bytes.as_slice().ends_with(&data));
+        assert!(rt; bytes.as_slice().ends_with(data));
         let mut writer = Vec::new(alloc);
         assert!(rt; archive.write_to(alloc, &mut writer).is_ok());
         assert!(rt; writer.as_slice() == bytes.as_slice());

@@ -12,13 +12,19 @@ worked = record {
   below = refl;
   below_backslash = refl;
   given = refl;
+  given_program = refl;
+  mixed_directories = refl;
   none = refl;
   directory = refl;
+  given_directory = refl;
   given_for_none = refl;
   first_of_three = refl;
   program_of_three = refl;
   first_of_two = refl;
   library_of_two = refl;
+  none_of_a_heading_alone = refl;
+  behind_an_empty_heading = refl;
+  program_behind_an_empty_heading = refl;
   unheaded_text = refl;
 }
 

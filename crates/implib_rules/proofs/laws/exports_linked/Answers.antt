@@ -15,8 +15,10 @@ worked = record {
   underscored_killed = record { symbol_is = refl; asked_is = refl; target_gone = refl };
   cpp_killed = record { symbol_is = refl; asked_is = refl; target_gone = refl };
   letters_killed = record { symbol_is = refl; asked_is = refl; target_gone = refl };
+  fastcall_at_the_second = record { symbol_is = refl; asked_is = refl; target_gone = refl };
   lone_killed = record { symbol_is = refl; asked_is = refl; target_gone = refl };
   plain_kept = record { symbol_is = refl; asked_is = refl; target_gone = refl };
+  plain_killed = record { symbol_is = refl; asked_is = refl; target_gone = refl };
   amd64_kept = record { symbol_is = refl; asked_is = refl; target_gone = refl };
   other = record { symbol_is = refl; asked_is = refl; target_gone = refl };
   other_underscored = record { symbol_is = refl; asked_is = refl; target_gone = refl };
@@ -28,6 +30,8 @@ worked = record {
   target_not_given = refl;
   by_name = refl;
   by_external_name = refl;
+  external = refl;
+  external_of_other = refl;
 }
 
 pub returns : goal.returns

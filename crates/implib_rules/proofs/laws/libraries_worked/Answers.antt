@@ -3,7 +3,7 @@ use Rattle.hex.specs.Hex.{encode_with}
 use Rattle.md5.specs.Md5.{block_words, rounds, compress, hash_after, digest_bytes, md5}
 use Rattle.implib_rules.specs.LibraryName.{gnu_library_name}
 use Rattle.implib_rules.specs.Repeats.{without_repeated}
-use Rattle.implib_rules.specs.WorkedLibraryNames.{ExportsTaken, GnuLibrariesNamed, MsvcLibrariesNamed, RepeatsWorked}
+use Rattle.implib_rules.specs.WorkedLibraryNames.{ExportsTaken, GnuLibrariesNamed, KindsChosen, MarksCut, MsvcLibrariesNamed, RepeatsWorked, StatusesChosen}
 use Rattle.implib_rules.proofs.laws.libraries_worked.Goals as goal
 
 taken : ExportsTaken
@@ -34,5 +34,21 @@ repeats = record {
   three = refl;
 }
 
+kinds : KindsChosen
+kinds = record { msvc = refl; gnu = refl }
+
+statuses : StatusesChosen
+statuses = record {
+  not_utf8 = refl;
+  syntax = λ fault position. refl;
+  no_name = refl;
+  members = λ fault position. refl;
+  archive = λ fault. refl;
+  out_of_memory = refl;
+}
+
+marks : MarksCut
+marks = record { marked = refl; twice = refl; behind = refl; not_whole = refl; other = refl }
+
 pub returns : goal.returns
-returns c = record { taken = taken; gnu = gnu; msvc = msvc; left_out = repeats }
+returns c = record { taken = taken; gnu = gnu; msvc = msvc; left_out = repeats; kinds = kinds; statuses = statuses; marks = marks }

@@ -6,7 +6,7 @@ use Rattle.implib_rules.proofs.laws.members_in_order.Goals as goal
 
 worked : MembersInOrder
 unfolding base_name descriptor_spec descriptor_symbol header_specs null_descriptor_spec null_descriptor_symbol null_thunk_spec null_thunk_symbol weak_specs
-worked = record { msvc = refl }
+worked = record { msvc = refl; constants = refl }
 
 pub returns : goal.returns
 returns c = worked

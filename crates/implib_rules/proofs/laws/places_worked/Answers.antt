@@ -21,6 +21,7 @@ heard d utf8 e same = subst (IsHeard lined_text) same (heard-from_read lined_tex
 worked : PlacesWorked
 unfolding walked opened many_heard statements_heard
 worked = record {
+  attributes = refl;
   is_heard = heard _ refl refl refl;
   lined = refl;
 }

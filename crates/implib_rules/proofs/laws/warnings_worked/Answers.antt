@@ -8,6 +8,9 @@ unfolding warnings_from
 worked = record {
   verbose = refl;
   killed = refl;
+  twice = refl;
+  gnu = refl;
+  no_export_and_many = refl;
   none = refl;
 }
 
