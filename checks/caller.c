@@ -10,7 +10,9 @@
  * With the argument `library` it calls implib_library in its stead, and what follows is the archive. With the
  * argument `with` it calls implib_library_with in the same way; then a case begins with four numbers more, the
  * size of the options, the flags, whether a name of the DLL is given, and its length, and the name is before the
- * text. With the argument `texts` it writes a line with the text of each status from 0 to 99 instead.
+ * text. With the argument `of` it calls implib_library_of: then the last number is that of exports, and in the place of
+ * the text is of each the length of its name and the name, the same of its target, its ordinal and its flags; a length
+ * of 2^64 - 1 is a null pointer. With the argument `texts` it writes a line with the text of each status from 0 to 99 instead.
  *
  * The linker puts __wrap_malloc and its kin in the place of malloc (--wrap).
  */
@@ -79,11 +81,14 @@ static void demand(int holds, const char *what)
 typedef uint32_t callee(const uint8_t *text, size_t text_length, uint16_t machine, uint32_t flavor,
                         uint8_t *buffer, size_t buffer_length, size_t *length, size_t *place);
 
-/* A call of the function, or, where this is null, of implib_library_with. */
+/* A call of the function, or, where this is null, of implib_library_with, or, for exports, of implib_library_of. */
 struct call {
     callee *function;
     struct slice text;
     struct implib_options options;
+    int is_of_exports;
+    struct implib_export *exports;
+    size_t count;
 };
 
 struct answer {
@@ -97,6 +102,9 @@ struct answer {
 static uint32_t status_of(struct call call, const uint8_t *text, uint8_t *buffer, size_t room, size_t *length,
                           size_t *place)
 {
+    if (call.is_of_exports)
+        return implib_library_of(&call.options, call.count == 0 ? NULL : call.exports, call.count, buffer, room, length,
+                                 place);
     if (call.function == NULL)
         return implib_library_with(&call.options, text, call.text.length, buffer, room, length, place);
     return call.function(text, call.text.length, call.options.machine, call.options.flavor, buffer, room, length,
@@ -315,7 +323,42 @@ static uint8_t *bytes_read(size_t length)
     return bytes;
 }
 
-static int run_next(callee *function)
+/* A name of an export, which may be null. */
+static const uint8_t *name_read(size_t *length)
+{
+    demand(number_read(length), "an export is cut short");
+    if (*length != SIZE_MAX)
+        return bytes_read(*length);
+    *length = 0;
+    return NULL;
+}
+
+static struct implib_export *exports_read(size_t count)
+{
+    struct implib_export *exports = malloc(count * sizeof *exports);
+    demand(exports != NULL, "no memory for exports");
+    for (size_t index = 0; index < count; index++) {
+        struct implib_export *export = &exports[index];
+        size_t ordinal, flags;
+        export->name = name_read(&export->name_length);
+        export->target = name_read(&export->target_length);
+        demand(number_read(&ordinal) && number_read(&flags), "an export is cut short");
+        export->ordinal = (uint16_t)ordinal;
+        export->flags = (uint32_t)flags;
+    }
+    return exports;
+}
+
+static void exports_freed(struct implib_export *exports, size_t count)
+{
+    for (size_t index = 0; index < count; index++) {
+        free((void *)exports[index].name);
+        free((void *)exports[index].target);
+    }
+    free(exports);
+}
+
+static int run_next(callee *function, int is_of_exports)
 {
     size_t size = sizeof(struct implib_options), flags = 0, has_dll = 0, dll_length = 0;
     size_t machine, flavor, refuses, length;
@@ -325,10 +368,14 @@ static int run_next(callee *function)
     if (!number_read(&machine) || !number_read(&flavor) || !number_read(&refuses) || !number_read(&length))
         return 0;
     uint8_t *dll = has_dll ? bytes_read(dll_length) : NULL;
-    uint8_t *text = bytes_read(length);
+    size_t text_length = is_of_exports ? 0 : length, count = is_of_exports ? length : 0;
+    uint8_t *text = bytes_read(text_length);
+    struct implib_export *exports = exports_read(count);
     struct call call = {
-        function, {text, length}, {size, (uint16_t)machine, (uint32_t)flavor, (uint32_t)flags, dll, dll_length}};
+        function, {text, text_length}, {size, (uint16_t)machine, (uint32_t)flavor, (uint32_t)flags, dll, dll_length},
+        is_of_exports, exports, count};
     run(call, refuses != 0);
+    exports_freed(exports, count);
     free(text);
     free(dll);
     return 1;
@@ -364,9 +411,10 @@ int main(int count, char *arguments[])
     callee *function = implib_members;
     if (count == 2 && strcmp(arguments[1], "library") == 0)
         function = implib_library;
-    if (count == 2 && strcmp(arguments[1], "with") == 0)
+    int is_of_exports = count == 2 && strcmp(arguments[1], "of") == 0;
+    if (is_of_exports || (count == 2 && strcmp(arguments[1], "with") == 0))
         function = NULL;
-    while (run_next(function))
+    while (run_next(function, is_of_exports))
         ;
     return 0;
 }

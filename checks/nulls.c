@@ -65,6 +65,21 @@ uint32_t implib_library_with_nonnull(const uint8_t *text, size_t text_length, co
     return pass(text, text_length, machine, flavor, buffer, buffer_length, length, place) + 2;
 }
 
+/* What a call with exports passed on beside. */
+static const struct implib_export *passed_exports;
+
+uint32_t implib_library_of_nonnull(const struct implib_export *exports, size_t count, const uint8_t *dll,
+                                   size_t dll_length, uint32_t has_dll, uint16_t machine, uint32_t flavor,
+                                   uint32_t flags, uint8_t *buffer, size_t buffer_length, size_t *length,
+                                   size_t *place)
+{
+    hold(exports != NULL && exports->name != NULL && exports->target != NULL, "a null pointer is passed on for exports");
+    hold(count <= 2, "another count is passed on");
+    passed_exports = exports;
+    return implib_library_with_nonnull((const uint8_t *)exports, 0, dll, dll_length, has_dll, machine, flavor, flags,
+                                       buffer, buffer_length, length, place) + 1;
+}
+
 void implib_position_nonnull(const uint8_t *text, size_t text_length, size_t offset, size_t *line, size_t *column)
 {
     hold(text != NULL && line != NULL && column != NULL, "a null pointer is passed on for a position");
@@ -121,6 +136,48 @@ static void hold_options(const uint8_t *text, size_t text_length, uint8_t *buffe
          "null options are taken");
 }
 
+/* Calls with exports, of which one may have a null pointer, and with options of each size. */
+static void hold_exports(uint8_t *buffer, size_t buffer_length, size_t *first, size_t *second)
+{
+    static const uint8_t name[] = {'c', 'd'};
+    struct implib_options options = {sizeof options, IMPLIB_MACHINE_ARM64, IMPLIB_FLAVOR_GNU, 0x80000003, name, 2};
+    for (size_t count = 0; count < 3; count++) {
+        for (unsigned null = 0; null < 5; null++) {
+            struct implib_export exports[2] = {{name, 2, name, 0, 5, 8}, {name, 1, name, 2, 0, 0}};
+            size_t at = null > 2;
+            if (null == 1 || null == 3)
+                exports[at].name = NULL;
+            if (null == 2 || null == 4)
+                exports[at].target = NULL;
+            passed_exports = NULL;
+            uint32_t status = implib_library_of(&options, count == 0 ? NULL : exports, count, buffer, buffer_length,
+                                                first, second);
+            if (null > 0 && at < count) {
+                hold(status == IMPLIB_NULL_IN_EXPORT && passed_exports == NULL, "a null pointer of an export is taken");
+                hold(first == NULL || *first == 0, "a null pointer of an export has a length");
+                hold(second == NULL || *second == at, "a null pointer of an export has another place");
+                continue;
+            }
+            hold(status == IMPLIB_BUFFER_TOO_SMALL + 3, "another status is returned with exports");
+            hold(count == 0 || passed_exports == exports, "other exports are passed on");
+            hold(buffer == NULL || passed_buffer == (const void *)buffer, "another buffer is passed on with exports");
+            hold(first == NULL || (passed_first == first && *first == 11), "another length is given with exports");
+            hold(second == NULL || (passed_second == second && *second == 12), "another place is given with exports");
+            hold(passed_flags == 0x80000003 && passed_has_dll == 1, "other options are passed on with exports");
+            hold(passed_dll == name && passed_dll_length == 2, "another name is passed on with exports");
+        }
+    }
+    for (options.size = 0; options.size < sizeof options + 9; options.size++) {
+        int is_known = options.size >= 16 && options.size <= 40;
+        uint32_t status = implib_library_of(&options, NULL, 0, buffer, buffer_length, first, second);
+        hold(status == (is_known ? IMPLIB_BUFFER_TOO_SMALL + 3 : IMPLIB_UNKNOWN_OPTIONS),
+             "options of another size are taken with exports");
+        hold(!is_known || passed_has_dll == (options.size == 40), "a name is passed on with exports, or is not");
+    }
+    hold(implib_library_of(NULL, NULL, 0, buffer, buffer_length, first, second) == IMPLIB_UNKNOWN_OPTIONS,
+         "null options are taken with exports");
+}
+
 int main(void)
 {
     static const uint8_t text[] = {'a', 'b'};
@@ -150,6 +207,7 @@ int main(void)
         }
 
         hold_options(some_text, text_length, some_buffer, buffer_length, some_first, some_second);
+        hold_exports(some_buffer, buffer_length, some_first, some_second);
 
         first = second = 0;
         implib_position(some_text, text_length, 5, some_first, some_second);

@@ -2,7 +2,8 @@
  * implib.h: import libraries for Windows DLLs, from module definition files (.def).
  *
  * implib_library_with takes the text of a definition, and puts the DLL's import library, a .lib or .a, into a
- * buffer of the caller: the one that the program implib_dlltool makes, with its options. implib_library does so
+ * buffer of the caller: the one that the program implib_dlltool makes, with its options. implib_library_of makes
+ * the same of exports that the caller has in memory, without a text. implib_library takes a text, too, and goes
  * by the rules of the crate `implib`, which has other names for the DLL and its exports; docs/DECISIONS.md says
  * where the two differ. implib_members puts the members of this archive there one by one: objects and short
  * imports, as files, with their names and the symbols that the index lists for them. examples/c has callers.
@@ -83,7 +84,8 @@ enum implib_status {
     IMPLIB_LONE_AT = 21,             /* the target of an export, after `=`, is `@` */
 
     /* The definition has no members. Where the status is of an export, *place is its index among all exports
-     * of the text, private ones counted, from 0; after implib_library_with it is the offset of its name. */
+     * of the text, private ones counted, from 0, and after implib_library_of among those that are passed; after
+     * implib_library_with it is the offset of its name. */
     IMPLIB_EMPTY_IMPORT_NAME = 22,  /* the name of the DLL is empty, or there is none */
     IMPLIB_NUL_IN_IMPORT_NAME = 23, /* the name of the DLL holds a NUL */
     IMPLIB_EMPTY_NAME = 24,         /* of an export: its name is empty */
@@ -107,11 +109,16 @@ enum implib_status {
     IMPLIB_NUL_IN_LIBRARY_NAME = 37,      /* it holds a NUL; of no text */
     IMPLIB_LINE_END_IN_LIBRARY_NAME = 38, /* it holds a line feed, as the name of the DLL does */
 
-    /* Of implib_library_with alone; *place is 0. */
+    /* Of implib_library_with and implib_library_of; *place is 0. */
     IMPLIB_NO_DLL_NAME = 39,     /* no name of the DLL is given, but for a directory */
     IMPLIB_UNKNOWN_OPTIONS = 40, /* the size of the options is of none that this header knows */
     IMPLIB_UNKNOWN_FLAGS = 41,   /* an unknown flag is set */
-    IMPLIB_DLL_NOT_UTF8 = 42     /* the name of the DLL in the options is not UTF-8 */
+    IMPLIB_DLL_NOT_UTF8 = 42,    /* the name of the DLL in the options is not UTF-8 */
+
+    /* Of implib_library_of alone; *place is the index of the export, from 0. */
+    IMPLIB_UNKNOWN_EXPORT_FLAGS = 43, /* an unknown flag of an export is set */
+    IMPLIB_EXPORT_NOT_UTF8 = 44,      /* the name or the target of an export is not UTF-8 */
+    IMPLIB_NULL_IN_EXPORT = 45        /* the name or the target of an export is a null pointer */
 };
 
 /* The flags of the options, and the options of the program that they stand for. */
@@ -153,6 +160,43 @@ struct implib_options {
 static inline uint32_t implib_library_with(const struct implib_options *options, const uint8_t *text,
                                            size_t text_length, uint8_t *buffer, size_t buffer_length,
                                            size_t *length, size_t *place);
+
+/* The flags of an export: what a definition says of it by these words. */
+#define IMPLIB_EXPORT_NONAME 1u   /* it is imported by its ordinal */
+#define IMPLIB_EXPORT_DATA 2u     /* it is data: only its __imp_ symbol is declared */
+#define IMPLIB_EXPORT_CONSTANT 4u /* it is a constant */
+#define IMPLIB_EXPORT_PRIVATE 8u  /* it is left out */
+
+/*
+ * An export of a DLL, as the statement `name @ordinal == target` has it in a definition.
+ *
+ * Neither pointer is null, also where its length is 0: pass "" for no target.
+ */
+struct implib_export {
+    const uint8_t *name;   /* the name, in UTF-8: in `a = b`, which exports b by another name, that is a */
+    size_t name_length;    /* its length in bytes */
+    const uint8_t *target; /* what follows `==`, in UTF-8: what the DLL is asked for */
+    size_t target_length;  /* its length in bytes; 0 for none */
+    uint16_t ordinal;      /* the ordinal, or the hint of an import by name; 0 for none */
+    uint32_t flags;        /* a sum of the flags above, or 0 */
+};
+
+/*
+ * Puts the import library of these exports at the beginning of the buffer, and returns a status: the one that
+ * implib_library_with makes, with these options, of a definition of the same exports in the same order.
+ *
+ * options      as above; the name of the DLL has to be given
+ * exports      count exports; may be null where count is 0
+ * length       gets what implib_library_with says of it
+ * place        gets the index of the export, from 0, that is at fault; else 0
+ *
+ * The buffer is as of implib_library. Options of an unknown size are refused first, then the first
+ * export with a null pointer, then other options, then the first export whose flags are unknown or whose name or
+ * target is not UTF-8.
+ */
+static inline uint32_t implib_library_of(const struct implib_options *options, const struct implib_export *exports,
+                                         size_t count, uint8_t *buffer, size_t buffer_length, size_t *length,
+                                         size_t *place);
 
 /*
  * Puts the import library of a definition at the beginning of the buffer, and returns a status: the archive of
@@ -218,6 +262,10 @@ uint32_t implib_library_with_nonnull(const uint8_t *text, size_t text_length, co
                                      size_t dll_length, uint32_t has_dll, uint16_t machine, uint32_t flavor,
                                      uint32_t flags, uint8_t *buffer, size_t buffer_length, size_t *length,
                                      size_t *place);
+uint32_t implib_library_of_nonnull(const struct implib_export *exports, size_t count, const uint8_t *dll,
+                                   size_t dll_length, uint32_t has_dll, uint16_t machine, uint32_t flavor,
+                                   uint32_t flags, uint8_t *buffer, size_t buffer_length, size_t *length,
+                                   size_t *place);
 uint32_t implib_library_nonnull(const uint8_t *text, size_t text_length, uint16_t machine, uint32_t flavor,
                                 uint8_t *buffer, size_t buffer_length, size_t *length, size_t *place);
 uint32_t implib_members_nonnull(const uint8_t *text, size_t text_length, uint16_t machine, uint32_t flavor,
@@ -226,6 +274,22 @@ void implib_position_nonnull(const uint8_t *text, size_t text_length, size_t off
                              size_t *column);
 size_t implib_status_text_nonnull(uint32_t status, char *buffer, size_t buffer_length);
 
+/* For this header alone: copies the options with 0 for what their size does not cover, and says whether the size is
+ * known. */
+static inline int implib_private_options(const struct implib_options *options, struct implib_options *all)
+{
+    size_t size = options == NULL ? 0 : options->size;
+    if (size < offsetof(struct implib_options, flags) || size > sizeof(struct implib_options))
+        return 0;
+    all->size = sizeof(struct implib_options);
+    all->machine = options->machine;
+    all->flavor = options->flavor;
+    all->flags = size < offsetof(struct implib_options, flags) + sizeof(uint32_t) ? 0 : options->flags;
+    all->dll = size < sizeof(struct implib_options) ? NULL : options->dll;
+    all->dll_length = all->dll == NULL ? 0 : options->dll_length;
+    return 1;
+}
+
 static inline uint32_t implib_library_with(const struct implib_options *options, const uint8_t *text,
                                            size_t text_length, uint8_t *buffer, size_t buffer_length,
                                            size_t *length, size_t *place)
@@ -233,18 +297,39 @@ static inline uint32_t implib_library_with(const struct implib_options *options,
     uint8_t no_text = 0, no_dll = 0, no_buffer = 0;
     size_t no_length, no_place;
     size_t *own_length = length == NULL ? &no_length : length, *own_place = place == NULL ? &no_place : place;
-    size_t size = options == NULL ? 0 : options->size;
+    struct implib_options all;
     *own_length = *own_place = 0;
-    if (size < offsetof(struct implib_options, flags) || size > sizeof(struct implib_options))
+    if (!implib_private_options(options, &all))
         return IMPLIB_UNKNOWN_OPTIONS;
-    uint32_t flags = size < offsetof(struct implib_options, flags) + sizeof(uint32_t) ? 0 : options->flags;
-    const uint8_t *dll = size < sizeof(struct implib_options) ? NULL : options->dll;
-    size_t dll_length = dll == NULL ? 0 : options->dll_length;
     return implib_library_with_nonnull(text_length == 0 ? &no_text : text, text_length,
-                                       dll_length == 0 ? &no_dll : dll, dll_length, dll != NULL,
-                                       options->machine, options->flavor, flags,
+                                       all.dll_length == 0 ? &no_dll : all.dll, all.dll_length, all.dll != NULL,
+                                       all.machine, all.flavor, all.flags,
                                        buffer_length == 0 ? &no_buffer : buffer, buffer_length, own_length,
                                        own_place);
+}
+
+static inline uint32_t implib_library_of(const struct implib_options *options, const struct implib_export *exports,
+                                         size_t count, uint8_t *buffer, size_t buffer_length, size_t *length,
+                                         size_t *place)
+{
+    uint8_t no_dll = 0, no_buffer = 0;
+    struct implib_export no_export = {&no_dll, 0, &no_dll, 0, 0, 0};
+    size_t no_length, no_place;
+    size_t *own_length = length == NULL ? &no_length : length, *own_place = place == NULL ? &no_place : place;
+    struct implib_options all;
+    *own_length = *own_place = 0;
+    if (!implib_private_options(options, &all))
+        return IMPLIB_UNKNOWN_OPTIONS;
+    for (size_t index = 0; index < count; index++) {
+        if (exports[index].name == NULL || exports[index].target == NULL) {
+            *own_place = index;
+            return IMPLIB_NULL_IN_EXPORT;
+        }
+    }
+    return implib_library_of_nonnull(count == 0 ? &no_export : exports, count,
+                                     all.dll_length == 0 ? &no_dll : all.dll, all.dll_length, all.dll != NULL,
+                                     all.machine, all.flavor, all.flags,
+                                     buffer_length == 0 ? &no_buffer : buffer, buffer_length, own_length, own_place);
 }
 
 static inline uint32_t implib_library(const uint8_t *text, size_t text_length, uint16_t machine,

@@ -9,4 +9,6 @@ pub mod WorkedPlace
 pub mod Answer
 pub mod Within
 pub mod AnswerWith
+pub mod AnswerOf
+pub mod GivenExports
 pub mod WrittenAlike

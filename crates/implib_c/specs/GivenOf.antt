@@ -2,6 +2,8 @@
 use Rattle.std.specs.Prelude.{◌≡◌, ℕ, List, All, length}
 use Rattle.implib.specs.Definition.{ExportView}
 use Rattle.implib_rules.specs.Options.{LibraryOptionsView}
+use Rattle.implib_c.specs.declared.library_of.GivenError.{GivenError}
+use Rattle.implib_c.specs.declared.library_of.GivenError.TheVariants.{Export, OutOfMemory}
 use Rattle.implib_c.specs.declared.outcome.Failure.{Failure}
 use Rattle.implib_c.specs.declared.outcome.Failure.TheVariants as failure
 use Rattle.implib_c.specs.declared.status.Status.{Status}
@@ -13,10 +15,14 @@ pub record AreGiven (exports : List GivenExport) (views : List ExportView) : Typ
   pub are : views ≡ exports_given exports
 
 -- an export is refused by itself, or memory was
-abbrev pub OnExportFault : List GivenExport → Failure → Type 0
-OnExportFault exports (failure.NoExport fault index) = IsFirstFault exports index fault
-OnExportFault exports failure.OutOfMemory = Unit {0}
-OnExportFault exports _ = ⊥
+abbrev pub OnExportFault : List GivenExport → GivenError → Type 0
+OnExportFault exports (Export fault index) = IsFirstFault exports index fault
+OnExportFault exports OutOfMemory = Unit {0}
+
+-- what an error becomes
+abbrev pub failure_given : GivenError → Failure
+failure_given (Export fault index) = failure.NoExport fault index
+failure_given OutOfMemory = failure.OutOfMemory
 
 -- the library is put at the beginning of the buffer, where there is one and room for it; else nothing is
 pub record PutsLibraryOf (exports : List GivenExport) (options : LibraryOptionsView) (old new : List ℕ)

@@ -13,5 +13,6 @@ pub mod GivenOf
 pub mod WorkedEncoding
 pub mod WorkedGaps
 pub mod WorkedStatus
+pub mod WorkedExports
 pub mod WorkedPlace
 pub mod WrittenAlike

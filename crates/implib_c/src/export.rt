@@ -9,8 +9,11 @@ use std::alloc::{AllocError, Global};
 
 // The flags of an export: `IMPLIB_EXPORT_..` of the header.
 const NO_NAME: u32 = 1;
+
 const DATA: u32 = 2;
+
 const CONSTANT: u32 = 4;
+
 const PRIVATE: u32 = 8;
 
 /// An export of a DLL: `struct implib_export` of the header.

@@ -5,6 +5,7 @@ ghost use Rattle.implib.specs.Members.MemberSpec.{MemberView};
 ghost use Rattle.implib_c.specs.Encoding.{ReadsBack};
 ghost use Rattle.implib_c.specs.Status.{NumbersReturn};
 ghost use Rattle.implib_c.specs.WorkedEncoding.{WorkedEncodings};
+ghost use Rattle.implib_c.specs.WorkedExports.{WorkedExports};
 ghost use Rattle.implib_c.specs.WorkedPlace.{WorkedPlaces};
 ghost use Rattle.implib_c.specs.WorkedStatus.{WorkedStatuses};
 ghost use Rattle.implib_c.specs.WrittenAlike.{OneLibrary, PutsWhatIsWritten};
@@ -34,6 +35,12 @@ pub fn worked_places()
 /// Statuses, their texts, machines, flavours and the version have these numbers, each written out.
 pub fn worked_statuses()
     ensures { WorkedStatuses }
+{}
+
+/// Exports that were worked by hand are these in a definition, and calls with exports have these
+/// numbers and places.
+pub fn worked_exports()
+    ensures { WorkedExports }
 {}
 
 /// A text has one library for some options, by the rules of the program.

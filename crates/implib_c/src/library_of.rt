@@ -11,7 +11,7 @@ ghost use Rattle.implib_c.specs.Status.{status_number};
 ghost use Rattle.implib_rules.specs.Options.{library_options_view};
 ghost use Rattle.std.specs.Prelude.{◌≡◌, ◌++◌, [], ◌∷◌, Err, IfErr, IfOk, OnOk, map};
 
-use crate::export::{Export, names_of, short_export};
+use crate::export::{Export, ExportFault, names_of, short_export};
 use crate::library_with::options_with;
 use crate::outcome::{Failure, pack_into};
 use implib::def::ShortExport;
@@ -19,6 +19,38 @@ use implib_rules::exports::{ExportsRefusal, members_of_exports};
 use implib_rules::library::kind_for;
 use implib_rules::options::LibraryOptions;
 use std::alloc::{AllocError, Global};
+
+// Why a definition has nothing of exports.
+#[derive(Debug, Drop)]
+enum GivenError {
+    // An export is refused by itself: the fault, and its index.
+    Export(ExportFault, usize),
+    // An allocation failed.
+    OutOfMemory,
+}
+
+impl From<AllocError> for GivenError {
+    ghost use Rattle.implib_c.specs.declared.library_of.GivenError.TheVariants.{OutOfMemory};
+
+    ghost from_gives = { λ _ error. error ≡ OutOfMemory };
+
+    fn from(_refused: AllocError) -> GivenError {
+        GivenError::OutOfMemory
+    }
+}
+
+impl From<GivenError> for Failure {
+    ghost use Rattle.implib_c.specs.GivenOf.{failure_given};
+
+    ghost from_gives = { λ error given. given ≡ failure_given error };
+
+    fn from(error: GivenError) -> Failure {
+        match error {
+            GivenError::Export(fault, index) => Failure::NoExport(fault, index),
+            GivenError::OutOfMemory => Failure::OutOfMemory,
+        }
+    }
+}
 
 // Appends what a definition has of an export of these names.
 fn push_export(
@@ -37,7 +69,7 @@ fn push_export(
 }
 
 // What a definition has of exports.
-fn short_exports(alloc: Global, exports: &[Export<'_>]) -> Result<Vec<ShortExport>, Failure>
+fn short_exports(alloc: Global, exports: &[Export<'_>]) -> Result<Vec<ShortExport>, GivenError>
     ensures ok { IfOk result (λ given. AreGiven (map given_export exports.now)
         (map export_view given.items)) }
     ensures fault { IfErr result (OnExportFault (map given_export exports.now)) }
@@ -46,7 +78,7 @@ fn short_exports(alloc: Global, exports: &[Export<'_>]) -> Result<Vec<ShortExpor
     for (index, export) in exports.iter().enumerate() {
         match names_of(export) {
             Ok((name, target)) => push_export(alloc, &mut given, export, name, target)?,
-            Err(fault) => return Err(Failure::NoExport(fault, index)),
+            Err(fault) => return Err(GivenError::Export(fault, index)),
         }
     }
     Ok(given)
@@ -78,7 +110,7 @@ fn put_library_of(
 {
     let given = match short_exports(alloc, exports) {
         Ok(given) => given,
-        Err(failure) => return Err(failure),
+        Err(error) => return Err(Failure::from(error)),
     };
     match members_of_exports(alloc, given, options) {
         Ok(members) => {

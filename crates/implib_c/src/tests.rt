@@ -1,9 +1,10 @@
 //! The exports as C calls them: buffers of several lengths, and each status by its number in
 //! `include/implib.h`.
 
+use crate::export::Export;
 use crate::exports::{
-    implib_library_nonnull, implib_library_with_nonnull, implib_members_nonnull,
-    implib_position_nonnull, implib_status_text_nonnull, implib_version,
+    implib_library_nonnull, implib_library_of_nonnull, implib_library_with_nonnull,
+    implib_members_nonnull, implib_position_nonnull, implib_status_text_nonnull, implib_version,
 };
 use implib::{Flavor, ImportLibrary, MachineType};
 use implib_archive::{Archive, Kind};
@@ -429,6 +430,55 @@ fn a_call_with_options_puts_the_library_that_the_program_writes(
     Ok(())
 }
 
+// Two exports as C passes them.
+const EXPORTS: [Export<'_>; 2] = [
+    Export {
+        name: b"feed@8",
+        target: b"",
+        ordinal: 0,
+        flags: 0,
+    },
+    Export {
+        name: b"shut",
+        target: b"feed@8",
+        ordinal: 5,
+        flags: 3,
+    },
+];
+
+#[test]
+fn a_call_with_exports_puts_the_library_of_a_text_that_says_the_same(
+    rt: HostRuntime,
+) -> Result<(), Fail> {
+    let naming = Naming {
+        is_plain: false,
+        kills_at: false,
+    };
+    let text = b"LIBRARY zoo\nEXPORTS\nfeed@8\nshut @5 NONAME DATA == feed@8";
+    for (machine, number) in MACHINES {
+        for (flavor, flavor_number, _) in FLAVORS {
+            let want = written(rt.alloc(), text, machine, flavor, naming)?;
+            let mut buffer = room(rt.alloc(), want.len())?;
+            let mut answer = (12_345, 67_890);
+            let status = implib_library_of_nonnull(
+                rt.alloc(),
+                &EXPORTS,
+                b"other",
+                1,
+                number,
+                flavor_number,
+                0,
+                buffer.as_mut_slice(),
+                &mut answer.0,
+                &mut answer.1,
+            );
+            assert_eq!(rt; (status, answer), (0, (want.len(), 0)));
+            assert!(rt; buffer.as_slice() == want.as_slice());
+        }
+    }
+    Ok(())
+}
+
 // How a linker member begins in an archive.
 const LINKER_MEMBER: &[u8] = b"/               0           0     0     0       ";
 
@@ -496,7 +546,7 @@ fn the_version_is_that_of_the_header(rt: HostRuntime) -> Result<(), Fail> {
 }
 
 // The statuses with their texts, and numbers that are none.
-const TEXTS: [(u32, &str); 37] = [
+const TEXTS: [(u32, &str); 40] = [
     (0, "success"),
     (1, "buffer too small"),
     (2, "out of memory"),
@@ -532,7 +582,10 @@ const TEXTS: [(u32, &str); 37] = [
     (40, "unknown options"),
     (41, "unknown flags"),
     (42, "name of the DLL is not UTF-8"),
-    (43, "unknown status"),
+    (43, "unknown flags of an export"),
+    (44, "export name is not UTF-8"),
+    (45, "export has a null pointer"),
+    (46, "unknown status"),
     (0xFFFF_FFFF, "unknown status"),
 ];
 
