@@ -4,11 +4,15 @@ pub mod Fill
 pub mod Answer
 pub mod Library
 pub mod LibraryWith
+pub mod Definition
+pub mod DefinitionAnswer
 pub mod Place
 pub mod Version
 pub mod Given
 pub mod GivenWith
+pub mod DefinitionGiven
 pub mod WorkedEncoding
+pub mod WorkedDefinition
 pub mod WorkedGaps
 pub mod WorkedStatus
 pub mod WorkedPlace
