@@ -7,7 +7,8 @@
  * the place, its line and column, and the length of what follows: the listing of the members, as implib_tool
  * writes it.
  *
- * With the argument `library` it calls implib_library in its stead, and what follows is the archive. With the
+ * With the argument `library` it calls implib_library in its stead, and what follows is the archive; with
+ * `definition` implib_definition, and what follows is the encoding. With the
  * argument `with` it calls implib_library_with in the same way; then a case begins with four numbers more, the
  * size of the options, the flags, whether a name of the DLL is given, and its length, and the name is before the
  * text. With the argument `of` it calls implib_library_of: then the last number is that of exports, and in the place of
@@ -90,6 +91,14 @@ struct call {
     struct implib_export *exports;
     size_t count;
 };
+
+/* implib_definition, which has no flavour. */
+static uint32_t definition(const uint8_t *text, size_t text_length, uint16_t machine, uint32_t flavor,
+                           uint8_t *buffer, size_t buffer_length, size_t *length, size_t *place)
+{
+    (void)flavor;
+    return implib_definition(text, text_length, machine, buffer, buffer_length, length, place);
+}
 
 struct answer {
     uint32_t status;
@@ -411,6 +420,8 @@ int main(int count, char *arguments[])
     callee *function = implib_members;
     if (count == 2 && strcmp(arguments[1], "library") == 0)
         function = implib_library;
+    if (count == 2 && strcmp(arguments[1], "definition") == 0)
+        function = definition;
     int is_of_exports = count == 2 && strcmp(arguments[1], "of") == 0;
     if (is_of_exports || (count == 2 && strcmp(arguments[1], "with") == 0))
         function = NULL;

@@ -80,6 +80,12 @@ uint32_t implib_library_of_nonnull(const struct implib_export *exports, size_t c
                                        buffer, buffer_length, length, place) + 1;
 }
 
+uint32_t implib_definition_nonnull(const uint8_t *text, size_t text_length, uint16_t machine, uint8_t *buffer,
+                                   size_t buffer_length, size_t *length, size_t *place)
+{
+    return pass(text, text_length, machine, IMPLIB_FLAVOR_GNU, buffer, buffer_length, length, place) + 3;
+}
+
 void implib_position_nonnull(const uint8_t *text, size_t text_length, size_t offset, size_t *line, size_t *column)
 {
     hold(text != NULL && line != NULL && column != NULL, "a null pointer is passed on for a position");
@@ -97,6 +103,14 @@ size_t implib_status_text_nonnull(uint32_t status, char *buffer, size_t buffer_l
     hold(status == IMPLIB_NO_NAME_TYPE && buffer_length <= 3, "another status or length is passed on");
     passed_buffer = buffer;
     return 31;
+}
+
+/* implib_definition, which has no flavour. */
+static uint32_t definition(const uint8_t *text, size_t text_length, uint16_t machine, uint32_t flavor,
+                           uint8_t *buffer, size_t buffer_length, size_t *length, size_t *place)
+{
+    hold(flavor == IMPLIB_FLAVOR_GNU, "another flavour");
+    return implib_definition(text, text_length, machine, buffer, buffer_length, length, place) - 1;
 }
 
 /* Calls with options of each size, with and without a name of the DLL, of three lengths. */
@@ -193,9 +207,9 @@ int main(void)
         size_t *some_first = given & 4 ? &first : NULL, *some_second = given & 8 ? &second : NULL;
         size_t text_length = given & 1 ? 2 : 0, buffer_length = given & 2 ? 3 : 0;
 
-        for (uint32_t call = 0; call < 2; call++) {
+        for (uint32_t call = 0; call < 3; call++) {
             uint32_t (*own)(const uint8_t *, size_t, uint16_t, uint32_t, uint8_t *, size_t, size_t *, size_t *) =
-                call == 0 ? implib_library : implib_members;
+                call == 0 ? implib_library : call == 1 ? implib_members : definition;
             first = second = 0;
             hold(own(some_text, text_length, IMPLIB_MACHINE_ARM64, IMPLIB_FLAVOR_GNU, some_buffer, buffer_length,
                      some_first, some_second) == IMPLIB_BUFFER_TOO_SMALL + call,

@@ -239,6 +239,38 @@ static inline uint32_t implib_members(const uint8_t *text, size_t text_length, u
                                       size_t *length, size_t *place);
 
 /*
+ * Puts what a definition states on a machine at the beginning of the buffer, and returns a status: the fields and
+ * the exports of `ModuleDef::parse`, which gives each of the machine's symbols its underscore.
+ *
+ * The arguments and the buffer are as of implib_library, with the encoding in the archive's place. The status is one
+ * of the first four, IMPLIB_UNKNOWN_MACHINE or one of a text that is no definition.
+ *
+ * The encoding has numbers and texts as that of implib_members. What no statement gives is 0 or empty.
+ *
+ *     text                 the name of the DLL, as it is written
+ *     number               BASE
+ *     number, number       STACKSIZE: what to reserve, and what to commit
+ *     number, number       HEAPSIZE: the same
+ *     number, number       VERSION: before the full stop, and after it
+ *     number               how many exports there are, and then of each, in the order of the text
+ *       text               its name; where there is an external name, the one inside the DLL
+ *       number             1 where there is an external name, `a` in `a = b`; else 0
+ *         text             this name; only after a 1
+ *       text               what follows `==`
+ *       number             its ordinal
+ *       number             a sum of the attributes below
+ */
+static inline uint32_t implib_definition(const uint8_t *text, size_t text_length, uint16_t machine,
+                                         uint8_t *buffer, size_t buffer_length, size_t *length,
+                                         size_t *place);
+
+/* The attributes of an export of implib_definition. */
+#define IMPLIB_EXPORT_NONAME 1u
+#define IMPLIB_EXPORT_DATA 2u
+#define IMPLIB_EXPORT_PRIVATE 4u
+#define IMPLIB_EXPORT_CONSTANT 8u
+
+/*
  * Gives the line and the column of an offset in a text, as *place is one, both from 1. A line ends behind its
  * line feed, and a column counts bytes. An offset behind the longest beginning of the text that is UTF-8 has
  * the position of its end.
@@ -270,6 +302,8 @@ uint32_t implib_library_nonnull(const uint8_t *text, size_t text_length, uint16_
                                 uint8_t *buffer, size_t buffer_length, size_t *length, size_t *place);
 uint32_t implib_members_nonnull(const uint8_t *text, size_t text_length, uint16_t machine, uint32_t flavor,
                                 uint8_t *buffer, size_t buffer_length, size_t *length, size_t *place);
+uint32_t implib_definition_nonnull(const uint8_t *text, size_t text_length, uint16_t machine, uint8_t *buffer,
+                                   size_t buffer_length, size_t *length, size_t *place);
 void implib_position_nonnull(const uint8_t *text, size_t text_length, size_t offset, size_t *line,
                              size_t *column);
 size_t implib_status_text_nonnull(uint32_t status, char *buffer, size_t buffer_length);
@@ -352,6 +386,17 @@ static inline uint32_t implib_members(const uint8_t *text, size_t text_length, u
     return implib_members_nonnull(text_length == 0 ? &no_text : text, text_length, machine, flavor,
                                   buffer_length == 0 ? &no_buffer : buffer, buffer_length,
                                   length == NULL ? &no_length : length, place == NULL ? &no_place : place);
+}
+
+static inline uint32_t implib_definition(const uint8_t *text, size_t text_length, uint16_t machine,
+                                         uint8_t *buffer, size_t buffer_length, size_t *length,
+                                         size_t *place)
+{
+    uint8_t no_text = 0, no_buffer = 0;
+    size_t no_length, no_place;
+    return implib_definition_nonnull(text_length == 0 ? &no_text : text, text_length, machine,
+                                     buffer_length == 0 ? &no_buffer : buffer, buffer_length,
+                                     length == NULL ? &no_length : length, place == NULL ? &no_place : place);
 }
 
 static inline void implib_position(const uint8_t *text, size_t text_length, size_t offset, size_t *line,

@@ -21,7 +21,7 @@ use Rattle.implib_c.specs.Status.{status_number}
 use Rattle.implib_c.proofs.ReadBack.{members_back}
 
 -- what is found is there
-there : {X : Type 0} → (found : Option X) (x : X) → found ≡ Some x → IsSome found
+pub there : {X : Type 0} → (found : Option X) (x : X) → found ≡ Some x → IsSome found
 there found x is = subst IsSome (sym is) refl
 
 -- calls without members

@@ -3,11 +3,15 @@ pub mod Fill
 pub mod Lengths
 pub mod ReadBack
 pub mod WorkedEncoding
+pub mod WorkedDefinition
 pub mod WorkedGaps
 pub mod WorkedStatus
 pub mod WorkedPlace
 pub mod Answer
 pub mod Within
+pub mod Pushes
+pub mod DefinitionBack
+pub mod DefinitionAnswers
 pub mod AnswerWith
 pub mod AnswerOf
 pub mod GivenExports

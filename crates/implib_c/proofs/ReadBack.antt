@@ -38,7 +38,7 @@ text_back text rest below =
     (bytes_back text rest)
 
 -- items that take a byte or more are no more than their bytes
-counted : {Y : Type 0} (g : Y → List ℕ) → ((y : Y) → 1 ≤ length (g y)) → (items : List Y) → length items ≤ length (flat_map g items)
+pub counted : {Y : Type 0} (g : Y → List ℕ) → ((y : Y) → 1 ≤ length (g y)) → (items : List Y) → length items ≤ length (flat_map g items)
 counted g long [] = omega arith
 counted g long (y ∷ items) = omega (arith, long y, counted g long items, length-append (g y) (flat_map g items))
 

@@ -5,12 +5,16 @@ pub mod Answer
 pub mod Library
 pub mod LibraryWith
 pub mod LibraryOf
+pub mod Definition
+pub mod DefinitionAnswer
 pub mod Place
 pub mod Version
 pub mod Given
 pub mod GivenWith
 pub mod GivenOf
+pub mod DefinitionGiven
 pub mod WorkedEncoding
+pub mod WorkedDefinition
 pub mod WorkedGaps
 pub mod WorkedStatus
 pub mod WorkedExports

@@ -6,6 +6,7 @@
 
 ghost use Rattle.implib.specs.Text.Position.{line_and_column};
 ghost use Rattle.implib_c.specs.Answer.{Answers};
+ghost use Rattle.implib_c.specs.DefinitionAnswer.{DefinitionAnswers};
 ghost use Rattle.implib_c.specs.Given.{length_given, place_given, status_given};
 ghost use Rattle.implib_c.specs.Library.{LibraryAnswers};
 ghost use Rattle.implib_c.specs.LibraryOf.{LibraryOfAnswers, given_export};
@@ -15,6 +16,7 @@ ghost use Rattle.implib_c.specs.Status.{status_number, text_for, with_text};
 ghost use Rattle.implib_c.specs.Version.{version};
 ghost use Rattle.std.specs.Prelude.{◌<◌, ◌≡◌, length, map};
 
+use crate::definition::definition_into;
 use crate::export::Export;
 use crate::library_of::library_of_into;
 use crate::library_with::library_with_into;
@@ -146,6 +148,28 @@ pub extern "C" fn implib_library_of_nonnull(
         buffer.old buffer.new length.new place.new result }
 {
     let answer = library_of_into(alloc, exports, dll, has_dll, machine, flavor, flags, buffer);
+    tell(&answer, length, place)
+}
+
+/// Puts what a text states on a machine at the beginning of `buffer`, encoded as
+/// `specs/Definition.antt` says, and gives a status: 0 where it is done.
+///
+/// `length` gets the length of the encoding in bytes, where the status is 0 or 1 (the buffer is too
+/// small), and otherwise 0. `place` gets the length of the longest beginning that is UTF-8, where
+/// the text is not; the offset in bytes of the token at which a text is refused; and otherwise 0.
+/// Where the status is not 0 the buffer is as it was, and where it is 0, what follows the encoding.
+#[unsafe(no_mangle)]
+pub extern "C" fn implib_definition_nonnull(
+    alloc: Global,
+    text: &[u8],
+    machine: u16,
+    buffer: &mut [u8],
+    length: &mut usize,
+    place: &mut usize,
+) -> u32
+    ensures { DefinitionAnswers text.now machine buffer.old buffer.new length.new place.new result }
+{
+    let answer = definition_into(alloc, text, machine, buffer);
     tell(&answer, length, place)
 }
 

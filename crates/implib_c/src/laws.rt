@@ -2,8 +2,10 @@
 //! contract is a law.
 
 ghost use Rattle.implib.specs.Members.MemberSpec.{MemberView};
+ghost use Rattle.implib_c.specs.Definition.{ReadsDefinitionBack, StatedDefinition};
 ghost use Rattle.implib_c.specs.Encoding.{ReadsBack};
 ghost use Rattle.implib_c.specs.Status.{NumbersReturn};
+ghost use Rattle.implib_c.specs.WorkedDefinition.{WorkedDefinitions};
 ghost use Rattle.implib_c.specs.WorkedEncoding.{WorkedEncodings};
 ghost use Rattle.implib_c.specs.WorkedExports.{WorkedExports};
 ghost use Rattle.implib_c.specs.WorkedPlace.{WorkedPlaces};
@@ -20,6 +22,16 @@ pub fn encodings_read_back()
 /// Encodings that were worked by hand have these bytes, and are read so.
 pub fn worked_encodings()
     ensures { WorkedEncodings }
+{}
+
+/// An encoding of what a text states reads back, whatever follows it.
+pub fn definitions_read_back()
+    ensures { (said : StatedDefinition) (rest : List ℕ) → ReadsDefinitionBack said rest }
+{}
+
+/// Encodings of what texts state, worked by hand, have these bytes, and are read so.
+pub fn worked_definitions()
+    ensures { WorkedDefinitions }
 {}
 
 /// Each number of a status leads back to it.

@@ -3,8 +3,9 @@
 
 use crate::export::Export;
 use crate::exports::{
-    implib_library_nonnull, implib_library_of_nonnull, implib_library_with_nonnull,
-    implib_members_nonnull, implib_position_nonnull, implib_status_text_nonnull, implib_version,
+    implib_definition_nonnull, implib_library_nonnull, implib_library_of_nonnull,
+    implib_library_with_nonnull, implib_members_nonnull, implib_position_nonnull,
+    implib_status_text_nonnull, implib_version,
 };
 use implib::{Flavor, ImportLibrary, MachineType};
 use implib_archive::{Archive, Kind};
@@ -616,5 +617,41 @@ fn statuses_have_their_texts_in_buffers_with_room_for_them(rt: HostRuntime) -> R
         assert_eq!(rt; rest.first().copied(), Some(0));
         assert!(rt; is_untouched(rest.get(1..).unwrap_or(&[])));
     }
+    Ok(())
+}
+
+#[test]
+fn a_definition_is_stated(rt: HostRuntime) -> Result<(), Fail> {
+    let text = b"LIBRARY z BASE=258\nVERSION 5.6\nEXPORTS\na = b == c @7 NONAME\nd";
+    let mut buffer = room(rt.alloc(), 200)?;
+    let mut length = 12_345;
+    let mut place = 67_890;
+    let status = implib_definition_nonnull(
+        rt.alloc(),
+        text,
+        0x14C,
+        buffer.as_mut_slice(),
+        &mut length,
+        &mut place,
+    );
+    assert_eq!(rt; (status, length, place), (0, 168, 0));
+    let mut want = Vec::new(rt.alloc());
+    push_text(&mut want, b"z")?;
+    for number in [258_usize, 0, 0, 0, 0, 5, 6, 2] {
+        want.extend_from_slice(&number.to_le_bytes())?;
+    }
+    push_text(&mut want, b"_b")?;
+    want.extend_from_slice(&1_usize.to_le_bytes())?;
+    push_text(&mut want, b"_a")?;
+    push_text(&mut want, b"c")?;
+    for number in [7_usize, 1] {
+        want.extend_from_slice(&number.to_le_bytes())?;
+    }
+    push_text(&mut want, b"_d")?;
+    for number in [0_usize, 0, 0, 0] {
+        want.extend_from_slice(&number.to_le_bytes())?;
+    }
+    assert!(rt; buffer.starts_with(want.as_slice()));
+    assert!(rt; is_untouched(buffer.get(length..).unwrap_or(&[])));
     Ok(())
 }
