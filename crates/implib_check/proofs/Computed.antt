@@ -1,6 +1,8 @@
 -- What is worked by hand, computed.
 use Rattle.std.proofs.Common.{refl}
 use Rattle.implib_check.specs.Worked.{WorkedComparisons, WorkedIdentities, WorkedStatuses, WorkedTasks}
+use Rattle.implib_rules.specs.Names.{part_after_last}
+use Rattle.implib_check.specs.WorkedChecks.{WorkedChecks, WorkedTargets}
 
 pub worked_comparisons : WorkedComparisons
 worked_comparisons = record {
@@ -69,4 +71,48 @@ worked_tasks = record {
   two_libraries = refl;
   three_libraries = refl;
   unknown = refl;
+}
+
+pub worked_checks : WorkedChecks
+unfolding part_after_last
+worked_checks = record {
+  plain = refl;
+  full = refl;
+  long = refl;
+  task = refl;
+  task_of_more = refl;
+  same = refl;
+  no_word = refl;
+  no_definition = refl;
+  three_files = refl;
+  no_value = refl;
+  no_machine = refl;
+  no_flavor = refl;
+  no_dll = refl;
+  no_option = refl;
+  listed = refl;
+  i386 = refl;
+  amd64 = refl;
+  arm = refl;
+  aarch64 = refl;
+  refused = refl;
+  not_text = refl;
+  no_memory = refl;
+}
+
+pub worked_targets : WorkedTargets
+worked_targets = record {
+  msvc = refl;
+  tables = refl;
+  code = refl;
+  constant = refl;
+  gnu = refl;
+  data_alone = refl;
+  none = refl;
+  first = refl;
+  known = refl;
+  arm = refl;
+  no_import = refl;
+  told = refl;
+  named = refl;
 }

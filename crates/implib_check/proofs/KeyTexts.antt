@@ -1,5 +1,5 @@
 -- A key tells what it is of.
-use Rattle.std.proofs.Common.{◌≡◌, ◌∙◌, ℕ, zero, suc, ◌+◌, ◌/◌, ◌%◌, List, [], ◌∷◌, ◌++◌, ap, append_assoc, arith, refl, sym}
+use Rattle.std.proofs.Common.{◌≡◌, ◌∙◌, ℕ, zero, suc, ◌/◌, ◌%◌, List, [], ◌∷◌, ◌++◌, ap, append_assoc, arith, refl, sym}
 use Rattle.std.specs.List.{flat_map}
 use Rattle.implib.specs.Import.{Alias}
 use Rattle.implib_read.specs.declared.import.ImportKind.{ImportKind}

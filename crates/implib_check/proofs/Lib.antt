@@ -2,3 +2,6 @@ pub mod Computed
 pub mod Counting
 pub mod KeyTexts
 pub mod Matching
+pub mod MeantLibraries
+pub mod OwnLibraries
+pub mod SameLibraries

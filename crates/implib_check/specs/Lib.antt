@@ -2,6 +2,11 @@ pub mod Facts
 pub mod Partners
 pub mod Comparison
 pub mod Identity
+pub mod Calls
+pub mod Targets
+pub mod Meant
+pub mod OwnLibraries
 pub mod Tasks
 pub mod Status
 pub mod Worked
+pub mod WorkedChecks

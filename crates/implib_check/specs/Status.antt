@@ -2,6 +2,8 @@
 use Rattle.std.specs.Prelude.{ℕ, Bool, ◌==◌, ◌&&◌, ◌||◌, not, if◌then◌else◌}
 use Rattle.implib_check.specs.declared.compare.Verdict.{Verdict}
 use Rattle.implib_check.specs.declared.compare.Verdict.TheVariants.{Different, NotDecided, Same}
+use Rattle.implib_rules.specs.declared.library.Refusal.{Refusal}
+use Rattle.implib_rules.specs.Library.{status_of}
 
 -- of a comparison: 0 the same, 1 different, 4 not decided
 abbrev pub verdict_status : Verdict → ℕ
@@ -18,3 +20,7 @@ list_status unread = if unread then 4 else 0
 abbrev pub identity_status : Bool → ℕ → Bool → ℕ
 identity_status unread count is_strict =
     if unread then 4 else if count == 0 || (is_strict && not (count == 1)) then 1 else 0
+
+-- of a definition that is refused: 1, and 3 for want of memory
+abbrev pub refusal_status : Refusal → ℕ
+refusal_status refusal = status_of refusal

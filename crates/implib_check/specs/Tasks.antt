@@ -1,5 +1,7 @@
 -- What the words of a command line ask for (this project's choice; `--identify` after GNU dlltool's).
 use Rattle.std.specs.Prelude.{ℕ, Bool, true, false, ◌||◌, List, [], ◌∷◌, Option, Some, None, bytes_eq, codes, if◌then◌else◌}
+use Rattle.std.specs.Option.{option_map, option_or}
+use Rattle.implib_check.specs.Calls.{CheckView, check_called, check_view}
 use Rattle.implib_check.specs.declared.task.Task.{Task}
 use Rattle.implib_check.specs.declared.task.Task.TheVariants as task
 
@@ -13,6 +15,8 @@ pub data TaskView : Type 0 where
   Identifies : List ℕ → Bool → TaskView
   -- whether two libraries mean the same
   Compares : List ℕ → List ℕ → TaskView
+  -- whether a library means what a definition means
+  Checks : CheckView → TaskView
 
 -- the view of a task of the program
 abbrev pub task_view : Task → TaskView
@@ -21,6 +25,7 @@ task_view task.Version = Version
 task_view (task.List path) = Lists path.now
 task_view (task.Identify path is_strict) = Identifies path.now is_strict
 task_view (task.Same left right) = Compares left.now right.now
+task_view (task.Check check) = Checks (check_view check)
 
 -- the task of a word alone
 abbrev pub alone : List ℕ → Option TaskView
@@ -41,10 +46,14 @@ with_library option path =
 abbrev pub with_libraries : List ℕ → List ℕ → List ℕ → Option TaskView
 with_libraries option left right = if bytes_eq option (codes "--same") then Some (Compares left right) else None
 
+-- what the words ask for by the first of them
+abbrev pub task_by_name : List (List ℕ) → Option TaskView
+task_by_name [] = None
+task_by_name (option ∷ []) = alone option
+task_by_name (option ∷ path ∷ []) = with_library option path
+task_by_name (option ∷ left ∷ right ∷ []) = with_libraries option left right
+task_by_name (option ∷ left ∷ right ∷ more ∷ words) = None
+
 -- what the words after the program's name ask for
 abbrev pub task_named : List (List ℕ) → Option TaskView
-task_named [] = None
-task_named (option ∷ []) = alone option
-task_named (option ∷ path ∷ []) = with_library option path
-task_named (option ∷ left ∷ right ∷ []) = with_libraries option left right
-task_named (option ∷ left ∷ right ∷ more ∷ words) = None
+task_named words = option_or (task_by_name words) (option_map Checks (check_called words))

@@ -1,12 +1,34 @@
 //! Laws of the definitions. The functions do nothing: their contracts are the laws.
 
 ghost use Rattle.implib_check.specs.Facts.{KeysTellFacts};
+ghost use Rattle.implib_check.specs.OwnLibraries.{MeantIsDefined, OwnLibrariesAreTheSame};
 ghost use Rattle.implib_check.specs.Worked.{WorkedComparisons, WorkedIdentities, WorkedStatuses, WorkedTasks};
+ghost use Rattle.implib_check.specs.WorkedChecks.{WorkedChecks, WorkedTargets};
+
+use implib_read::laws::{own_gnu_libraries, own_members_found, same_objects, same_short_imports};
 
 /// Two imports or aliases with one key are the same.
 pub fn keys_tell_facts()
     ensures { KeysTellFacts }
 {}
+
+/// What is read of the library of a definition is what the definition says: its imports and its aliases, in the order of
+/// its exports, and parts of import tables.
+pub fn meant_is_defined()
+    ensures { MeantIsDefined }
+{
+    own_members_found();
+    same_short_imports();
+    same_objects();
+    own_gnu_libraries();
+}
+
+/// The library of a definition, as `implib_dlltool` writes it, is told to be the same as the definition.
+pub fn own_libraries_are_the_same()
+    ensures { OwnLibrariesAreTheSame }
+{
+    meant_is_defined();
+}
 
 /// Which libraries are the same, and which differ in what, worked by hand.
 pub fn worked_comparisons()
@@ -26,4 +48,14 @@ pub fn worked_statuses()
 /// What command lines ask for, and some that ask for nothing.
 pub fn worked_tasks()
     ensures { WorkedTasks }
+{}
+
+/// What calls say that compare a library with a definition, and the statuses of definitions that are refused.
+pub fn worked_checks()
+    ensures { WorkedChecks }
+{}
+
+/// For which machine and flavour definitions are compared with libraries, worked by hand.
+pub fn worked_targets()
+    ensures { WorkedTargets }
 {}

@@ -1,17 +1,24 @@
-//! Reads import libraries of any maker: lists their imports, names their DLLs, and compares them.
+//! Reads import libraries of any maker: lists their imports, names their DLLs, and compares them with one another and
+//! with definitions.
 //!
-//! What the words of the command line ask for, which DLLs a library has, and which members of two libraries differ,
-//! are decided by functions with contracts ([`task`], [`identity`], [`keys`], [`partners`], [`compare`]). What is then
-//! read and written are files ([`program`]), with lines of text ([`text`]).
+//! What the words of the command line ask for, which DLLs a library has, which members of two libraries differ, and
+//! whether a library means what a definition means, are decided by functions with contracts ([`task`], [`call`],
+//! [`identity`], [`keys`], [`partners`], [`compare`], [`target`], [`definition`]). What is then read and written are
+//! files ([`program`]), with lines of text ([`text`], [`differences`], [`positions`]).
 #![tactic(auto)]
 
+pub mod call;
 pub mod compare;
+pub mod definition;
+mod differences;
 pub mod identity;
 pub mod keys;
 pub mod laws;
 pub mod partners;
+mod positions;
 pub mod program;
 pub mod status;
+pub mod target;
 pub mod task;
 mod text;
 

@@ -1,33 +1,50 @@
 //! The program: its arguments, its files, what it writes, and its exit status.
 
 ghost use Rattle.std.specs.Prelude.{◌≡◌};
+ghost use Rattle.implib_check.specs.Status.{refusal_status};
 
-use crate::compare::{Comparison, compare, has_unread};
+use crate::call::Check;
+use crate::compare::{compare, has_unread};
+use crate::definition::{CheckError, check_definition};
+use crate::differences::{BUFFER, Failure, Lines, flushed, tell_both};
 use crate::identity::dlls_of;
-use crate::status::{identity_status, list_status, verdict_status};
+use crate::status::{identity_status, list_status, refusal_status, verdict_status};
+use crate::target::options_for;
 use crate::task::{Task, task_named};
-use crate::text::{Listed, Place, Said, Shown, doubt_of, symbol_of_member};
+use crate::text::{Listed, Place, Shown, Source, doubt_of};
+use implib::def::Position;
 use implib_read::{Library, MemberRead};
+use implib_rules::library::Refusal;
+use implib_rules::position_of;
 use indexmap::IndexSet;
 use std::alloc::{AllocError, Global};
-use std::collections::HashMap;
 use std::env::Env;
 use std::fmt::Write as _;
 use std::fs::Files;
-use std::io::{BufWriter, ErrorKind, Write};
-use std::{env, fmt, fs, io};
+use std::io::{BufWriter, Write};
+use std::{env, fmt, fs};
 
 const NAME: &str = "implib_check";
 
 // What the program prints for `--help`.
 const HELP: &str = "\
-usage: implib_check --list LIB
+usage: implib_check LIB DEF [-m MACHINE] [-k] [--no-leading-underscore]
+                    [-D DLL] [--flavor FLAVOR]
+       implib_check --list LIB
        implib_check --identify LIB
        implib_check --identify-strict LIB
        implib_check --same LIB LIB
 
-Reads import libraries of any maker.
+Reads import libraries of any maker. With a library and a module definition:
+whether the library has the imports and aliases that implib_dlltool would give
+one of the definition; the differences.
 
+  -m, --machine      i386, i386:x86-64, arm or arm64; without it the library's
+  -k, --kill-at      ask for names without @ and the number after it, on i386
+  --no-leading-underscore
+                     no underscore before symbols, on i386
+  -D, --dllname      the DLL's name, before the definition's
+  --flavor           msvc or gnu; without it the library's
   --list             a line for each import and alias: offset, DLL, symbol,
                      type, what is asked by, name, ordinal or hint
   --identify         the DLLs that the library imports from
@@ -43,52 +60,6 @@ memory failed; 4 a member that may matter was not understood.
 
 // What the program prints for `--version`.
 const VERSION: &str = "implib_check 0.1.0\n";
-
-// How many bytes are written at once.
-const BUFFER: usize = 1 << 16;
-
-// A writer that text is written to.
-#[derive(Drop)]
-struct Lines<'a, E> {
-    writer: &'a mut E,
-}
-
-impl<'a, E: Write> fmt::Write for Lines<'a, E> {
-    fn write_str(&mut self, text: &str) -> fmt::Result {
-        self.writer
-            .write_all(text.as_bytes())
-            .map_err(|_| fmt::Error)
-    }
-}
-
-// Why a task is not done.
-#[derive(Drop)]
-enum Failure {
-    // A write or an allocation failed.
-    Writing,
-    OutOfMemory,
-}
-
-impl From<AllocError> for Failure {
-    fn from(_refused: AllocError) -> Failure {
-        Failure::OutOfMemory
-    }
-}
-
-impl From<fmt::Error> for Failure {
-    fn from(_refused: fmt::Error) -> Failure {
-        Failure::Writing
-    }
-}
-
-impl From<io::Error> for Failure {
-    fn from(error: io::Error) -> Failure {
-        match error.kind() {
-            ErrorKind::OutOfMemory => Failure::OutOfMemory,
-            _ => Failure::Writing,
-        }
-    }
-}
 
 // Writes a line, and gives an exit status. A failure of the writer is ignored.
 fn complain<E: Write, D: fmt::Display + Drop>(
@@ -117,7 +88,7 @@ fn doubt<E: Write>(faults: &mut E, path: &str, members: &[MemberRead], others: b
     let mut lines = Lines { writer: faults };
     for member in members {
         if let Some(what) = doubt_of(&member.class, others) {
-            let _ = writeln!(lines, "{}: {what}", Place(path, member));
+            let _ = writeln!(lines, "{}: {what}", Place(Source::Library(path), member));
         }
     }
 }
@@ -136,57 +107,6 @@ fn write_names<O: Write>(printer: &mut O, names: &IndexSet<&[u8]>) -> Result<(),
     let mut lines = Lines { writer: printer };
     for name in names.iter() {
         writeln!(lines, "{}", Shown(name))?;
-    }
-    Ok(())
-}
-
-// The members of one library that differ, by their symbols: of each symbol the first.
-fn differing<'m, 'a>(
-    alloc: Global,
-    members: &'m [MemberRead<'a>],
-    flags: &[bool],
-) -> Result<HashMap<&'a [u8], &'m MemberRead<'a>>, AllocError> {
-    let mut found = HashMap::new(alloc);
-    for (member, flag) in members.iter().zip(flags) {
-        let symbol = symbol_of_member(member);
-        if *flag && !found.contains_key(&symbol) {
-            found.insert(symbol, member)?;
-        }
-    }
-    Ok(found)
-}
-
-// Writes the differences of one library against another.
-fn tell<'m, 'a, O: Write>(
-    printer: &mut O,
-    paths: (&str, &str),
-    members: &'m [MemberRead<'a>],
-    flags: &[bool],
-    others: &HashMap<&'a [u8], &'m MemberRead<'a>>,
-    is_second: bool,
-) -> Result<(), Failure> {
-    let mut lines = Lines { writer: printer };
-    for (member, flag) in members.iter().zip(flags) {
-        if !*flag {
-            continue;
-        }
-        let symbol = symbol_of_member(member);
-        let place = Place(paths.0, member);
-        let shown = Shown(symbol);
-        let said = Said(member);
-        match others.get(&symbol) {
-            Some(other) => {
-                if !is_second {
-                    writeln!(
-                        lines,
-                        "{place}: {shown}: {said}; {}: {}",
-                        Place(paths.1, other),
-                        Said(other)
-                    )?;
-                }
-            }
-            None => writeln!(lines, "{place}: {shown}: {said}; not so in {}", paths.1)?,
-        }
     }
     Ok(())
 }
@@ -224,16 +144,6 @@ fn status_of<E: Write>(faults: &mut E, written: Result<(), Failure>, status: u8)
         Err(Failure::Writing) => complain(faults, NAME, "standard output failed", 3),
         Err(Failure::OutOfMemory) => complain(faults, NAME, "out of memory", 3),
     }
-}
-
-// Writes the rest of a buffer.
-fn flushed<O: Write>(
-    printer: &mut BufWriter<&mut O>,
-    written: Result<(), Failure>,
-) -> Result<(), Failure> {
-    written?;
-    printer.flush()?;
-    Ok(())
 }
 
 // Lists a library, and gives the exit status.
@@ -301,31 +211,6 @@ fn run_identify<R: Files + AllocGlobal, O: Write, E: Write>(
     status_of(faults, written, status)
 }
 
-// Writes the differences of two libraries.
-fn tell_both<O: Write>(
-    alloc: Global,
-    printer: &mut O,
-    paths: (&str, &str),
-    left: &[MemberRead],
-    right: &[MemberRead],
-    found: &Comparison,
-) -> Result<(), Failure> {
-    let in_left = differing(alloc, left, &found.left)?;
-    let in_right = differing(alloc, right, &found.right)?;
-    let mut buffered = BufWriter::with_capacity(alloc, BUFFER, printer)?;
-    let written = tell(&mut buffered, paths, left, &found.left, &in_right, false);
-    flushed(&mut buffered, written)?;
-    let written = tell(
-        &mut buffered,
-        (paths.1, paths.0),
-        right,
-        &found.right,
-        &in_left,
-        true,
-    );
-    flushed(&mut buffered, written)
-}
-
 // Compares two libraries, and gives the exit status.
 fn run_same<R: Files + AllocGlobal, O: Write, E: Write>(
     rt: &R,
@@ -355,15 +240,56 @@ fn run_same<R: Files + AllocGlobal, O: Write, E: Write>(
     };
     doubt(faults, paths.0, &left.members, true);
     doubt(faults, paths.1, &right.members, true);
+    let sources = (Source::Library(paths.0), Source::Library(paths.1));
     let written = tell_both(
         rt.alloc(),
         printer,
-        paths,
+        sources,
         &left.members,
         &right.members,
         &found,
     );
     status_of(faults, written, verdict_status(found.verdict))
+}
+
+// Says why a definition is refused, and gives the exit status.
+fn refuse<E: Write>(faults: &mut E, path: &str, refusal: &Refusal) -> u8
+    ensures { result ≡ refusal_status refusal.now }
+{
+    let Position { line, column, .. } = position_of(refusal);
+    let mut lines = Lines { writer: faults };
+    let _ = writeln!(lines, "{path}:{line}:{column}: {refusal}");
+    refusal_status(refusal)
+}
+
+// Compares a library with a definition, and gives the exit status.
+fn run_check<R: Files + AllocGlobal, O: Write, E: Write>(
+    rt: &R,
+    printer: &mut O,
+    faults: &mut E,
+    check: &Check,
+) -> u8 {
+    let bytes = match bytes_of(rt, faults, check.library) {
+        Ok(bytes) => bytes,
+        Err(status) => return status,
+    };
+    let definition = match bytes_of(rt, faults, check.definition) {
+        Ok(definition) => definition,
+        Err(status) => return status,
+    };
+    let library = match library_of(rt.alloc(), faults, check.library, &bytes) {
+        Ok(library) => library,
+        Err(status) => return status,
+    };
+    let members = library.members.as_slice();
+    let options = options_for(check, members);
+    doubt(faults, check.library, members, true);
+    let paths = (check.library, check.definition);
+    match check_definition(rt.alloc(), printer, paths, members, &definition, &options) {
+        Ok(verdict) => verdict_status(verdict),
+        Err(CheckError::Refused(refusal)) => refuse(faults, check.definition, &refusal),
+        Err(CheckError::Failed(failure)) => status_of(faults, Err(failure), 3),
+    }
 }
 
 // Does what the words after the program's name ask for, and gives the exit status.
@@ -379,6 +305,7 @@ fn run<R: Files + AllocGlobal, O: Write, E: Write>(
         Some(Task::List(path)) => run_list(rt, printer, faults, path),
         Some(Task::Identify(path, is_strict)) => run_identify(rt, printer, faults, path, is_strict),
         Some(Task::Same(left, right)) => run_same(rt, printer, faults, (left, right)),
+        Some(Task::Check(check)) => run_check(rt, printer, faults, &check),
         None => complain(faults, NAME, "wrong call; --help says how to call it", 2),
     }
 }

@@ -1,9 +1,10 @@
 //! Exit statuses.
 
 ghost use Rattle.std.specs.Prelude.{◌≡◌};
-ghost use Rattle.implib_check.specs.Status.{identity_status, list_status, verdict_status};
+ghost use Rattle.implib_check.specs.Status.{identity_status, list_status, refusal_status, verdict_status};
 
 use crate::compare::Verdict;
+use implib_rules::library::Refusal;
 
 /// The exit status of a comparison.
 pub fn verdict_status(verdict: Verdict) -> u8
@@ -33,5 +34,15 @@ pub fn identity_status(unread: bool, count: usize, is_strict: bool) -> u8
         1
     } else {
         0
+    }
+}
+
+/// The exit status of a definition that is refused: it means no library, so no library is the same.
+pub fn refusal_status(refusal: &Refusal) -> u8
+    ensures { result ≡ refusal_status refusal.now }
+{
+    match refusal {
+        Refusal::OutOfMemory => 3,
+        _ => 1,
     }
 }

@@ -1,12 +1,14 @@
 //! What the words of a command line ask for.
 
 ghost use Rattle.std.specs.Prelude.{◌≡◌, map};
-ghost use Rattle.std.specs.Option.{option_map};
+ghost use Rattle.std.specs.Option.{option_map, option_or};
 ghost use Rattle.std.specs.String.{string_bytes};
-ghost use Rattle.implib_check.specs.Tasks.{alone, task_named, task_view, with_libraries, with_library};
+ghost use Rattle.implib_check.specs.Tasks.{alone, task_by_name, task_named, task_view, with_libraries, with_library};
+
+use crate::call::{Check, check_called};
 
 /// What is asked for.
-#[derive(Clone, Copy, Debug, PartialEq, Eq)]
+#[derive(Clone, Copy, Debug)]
 pub enum Task<'a> {
     Help,
     Version,
@@ -16,6 +18,8 @@ pub enum Task<'a> {
     Identify(&'a str, bool),
     /// Whether two libraries mean the same.
     Same(&'a str, &'a str),
+    /// Whether a library means what a definition means.
+    Check(Check<'a>),
 }
 
 // The task of a word alone.
@@ -57,14 +61,27 @@ fn with_libraries<'a>(option: &str, left: &'a str, right: &'a str) -> Option<Tas
     }
 }
 
-/// What the words after the program's name ask for, if they ask for something.
-pub fn task_named(words: &[String]) -> Option<Task<'_>>
-    ensures { option_map task_view result ≡ task_named (map string_bytes words.now) }
+// What the words ask for by the first of them, if it is one of those.
+fn task_by_name(words: &[String]) -> Option<Task<'_>>
+    ensures { option_map task_view result ≡ task_by_name (map string_bytes words.now) }
 {
     match words {
         [option] => alone(option.as_str()),
         [option, path] => with_library(option.as_str(), path.as_str()),
         [option, left, right] => with_libraries(option.as_str(), left.as_str(), right.as_str()),
         _ => None,
+    }
+}
+
+/// What the words after the program's name ask for, if they ask for something.
+pub fn task_named(words: &[String]) -> Option<Task<'_>>
+    ensures { option_map task_view result ≡ task_named (map string_bytes words.now) }
+{
+    match task_by_name(words) {
+        Some(task) => Some(task),
+        None => match check_called(words) {
+            Some(check) => Some(Task::Check(check)),
+            None => None,
+        },
     }
 }

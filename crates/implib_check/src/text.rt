@@ -1,6 +1,8 @@
 //! The lines that are written.
 
 use crate::compare::{is_other, is_unread};
+use crate::positions::Positions;
+use implib::def::Position;
 use implib_read::{AskFound, DeclaredFound, ImportFound, ImportKind, MemberClass, MemberRead};
 use std::fmt;
 use std::fmt::Write as _;
@@ -136,14 +138,43 @@ impl<'m, 'a> fmt::Display for Said<'m, 'a> {
     }
 }
 
-/// Where a member is: the library, the member's name, and the offset of its header.
+/// What members are from.
 #[derive(Clone, Copy)]
-pub struct Place<'p, 'm, 'a>(pub &'p str, pub &'m MemberRead<'a>);
+pub enum Source<'p> {
+    /// The file of a library.
+    Library(&'p str),
+    /// The file of a definition, and where its exports are.
+    Definition(&'p str, &'p Positions),
+}
+
+impl<'p> Source<'p> {
+    /// The file.
+    pub fn path(self) -> &'p str {
+        match self {
+            Source::Library(path) | Source::Definition(path, _) => path,
+        }
+    }
+}
+
+/// Where a member is: the library, the member's name, and the offset of its header; or the definition, and the place
+/// of the export in it.
+#[derive(Clone, Copy)]
+pub struct Place<'p, 'm, 'a>(pub Source<'p>, pub &'m MemberRead<'a>);
 
 impl<'p, 'm, 'a> fmt::Display for Place<'p, 'm, 'a> {
     fn fmt<W: fmt::Write>(&self, f: &mut fmt::Formatter<W>) -> fmt::Result {
-        let offset = self.1.offset;
-        write!(f, "{}({}@0x{offset:x})", self.0, Shown(self.1.name))
+        match self.0 {
+            Source::Library(path) => {
+                let offset = self.1.offset;
+                write!(f, "{path}({}@0x{offset:x})", Shown(self.1.name))
+            }
+            Source::Definition(path, positions) => {
+                match positions.at(symbol_of_member(self.1)) {
+                    Some(Position { line, column, .. }) => write!(f, "{path}:{line}:{column}"),
+                    None => f.write_str(path),
+                }
+            }
+        }
     }
 }
 

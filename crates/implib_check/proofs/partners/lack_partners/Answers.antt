@@ -1,4 +1,4 @@
-use Rattle.std.proofs.Common.{◌∙◌, ◌-◌, ap, map, take}
+use Rattle.std.proofs.Common.{◌∙◌, ap, map}
 use Rattle.implib_check.specs.Partners.{counted, how_many}
 use Rattle.implib_check.proofs.Counting.{flags_more, taken-more}
 use Rattle.implib_check.proofs.partners.lack_partners.Goals as goal

@@ -1,0 +1,152 @@
+-- What the words of a call say that compares a library with a definition (this project's choice; the options are
+-- those of dlltool).
+use Rattle.std.specs.Prelude.{ℕ, true, false, List, Option, Some, None, bytes_eq, codes, fold, if◌then◌else◌, is_none, length, nat_eq}
+use Rattle.std.specs.Option.{option_and_then, option_map}
+use Rattle.implib.specs.declared.flavor.Flavor.{Flavor}
+use Rattle.implib.specs.declared.machine.MachineType.{MachineType}
+use Rattle.implib.specs.declared.machine.MachineType.TheVariants.{AMD64, ARM64, ARMNT, I386}
+use Rattle.implib.specs.Ascii.{begins_with}
+use Rattle.implib.specs.Conversions.{flavor_named}
+use Rattle.implib_rules.specs.Linked.{NamingView, naming_view}
+use Rattle.implib_rules.specs.Names.{last_part}
+use Rattle.implib_check.specs.declared.call.Check.{Check}
+use Rattle.implib_check.specs.declared.call.Reading.{Reading}
+use Rattle.implib_check.specs.declared.call.Setting.{Setting}
+use Rattle.implib_check.specs.declared.call.Setting.TheVariants as setting
+
+-- a library, and the definition that it is compared with
+pub record CheckView : Type 0 where
+  pub library : List ℕ
+  pub definition : List ℕ
+  -- the machine and the flavour, if they are named
+  pub machine : Option MachineType
+  pub flavor : Option Flavor
+  -- the DLL's name, before the definition's own
+  pub dll : Option (List ℕ)
+  -- how names are read on I386
+  pub naming : NamingView
+
+-- the view of a comparison of the program
+abbrev pub check_view : Check → CheckView
+check_view c = record {
+  library = c.library.now;
+  definition = c.definition.now;
+  machine = c.machine;
+  flavor = c.flavor;
+  dll = option_map (λ text. text.now) c.dll;
+  naming = naming_view c.naming;
+}
+
+-- what words say so far
+pub record ReadingView : Type 0 where
+  pub library : Option (List ℕ)
+  pub definition : Option (List ℕ)
+  pub machine : Option MachineType
+  pub flavor : Option Flavor
+  pub dll : Option (List ℕ)
+  pub naming : NamingView
+  -- the option whose value the next word is
+  pub waiting : Option Setting
+
+-- the view of what the program has read
+abbrev pub reading_view : Reading → ReadingView
+reading_view r = record {
+  library = option_map (λ text. text.now) r.library;
+  definition = option_map (λ text. text.now) r.definition;
+  machine = r.machine;
+  flavor = r.flavor;
+  dll = option_map (λ text. text.now) r.dll;
+  naming = naming_view r.naming;
+  waiting = r.waiting;
+}
+
+-- before the first word
+abbrev pub unread_call : ReadingView
+unread_call = record {
+  library = None;
+  definition = None;
+  machine = None;
+  flavor = None;
+  dll = None;
+  naming = record { is_plain = false; kills_at = false };
+  waiting = None;
+}
+
+-- the machine with a name
+abbrev pub machine_called : List ℕ → Option MachineType
+machine_called name =
+    if bytes_eq name (codes "i386") then Some I386
+    else if bytes_eq name (codes "x86") then Some I386
+    else if bytes_eq name (codes "i386:x86-64") then Some AMD64
+    else if bytes_eq name (codes "amd64") then Some AMD64
+    else if bytes_eq name (codes "x64") then Some AMD64
+    else if bytes_eq name (codes "x86_64") then Some AMD64
+    else if bytes_eq name (codes "arm") then Some ARMNT
+    else if bytes_eq name (codes "armnt") then Some ARMNT
+    else if bytes_eq name (codes "arm64") then Some ARM64
+    else if bytes_eq name (codes "aarch64") then Some ARM64
+    else None
+
+-- after the value of an option; a name of a DLL is not empty, but for a directory
+abbrev pub with_value : Setting → List ℕ → ReadingView → Option ReadingView
+with_value setting.Machine value r = option_map (λ m. record r { machine = Some m; waiting = None }) (machine_called value)
+with_value setting.Flavor value r = option_map (λ f. record r { flavor = Some f; waiting = None }) (flavor_named value)
+with_value setting.Dll value r =
+    if nat_eq (length (last_part value)) 0 then None else Some (record r { dll = Some value; waiting = None })
+
+-- after an option
+abbrev pub with_option : List ℕ → ReadingView → Option ReadingView
+with_option option r =
+    if bytes_eq option (codes "-k") then Some (record r { naming = record r.naming { kills_at = true } })
+    else if bytes_eq option (codes "--kill-at") then Some (record r { naming = record r.naming { kills_at = true } })
+    else if bytes_eq option (codes "--no-leading-underscore") then Some (record r { naming = record r.naming { is_plain = true } })
+    else if bytes_eq option (codes "-m") then Some (record r { waiting = Some setting.Machine })
+    else if bytes_eq option (codes "--machine") then Some (record r { waiting = Some setting.Machine })
+    else if bytes_eq option (codes "-D") then Some (record r { waiting = Some setting.Dll })
+    else if bytes_eq option (codes "--dllname") then Some (record r { waiting = Some setting.Dll })
+    else if bytes_eq option (codes "--flavor") then Some (record r { waiting = Some setting.Flavor })
+    else None
+
+-- after the name of a file: the first is the library, the second the definition
+abbrev pub with_file : List ℕ → ReadingView → Option ReadingView
+with_file path r =
+    if is_none r.library then Some (record r { library = Some path })
+    else if is_none r.definition then Some (record r { definition = Some path })
+    else None
+
+-- after a word that is no value: an option where it begins with `-`, else the name of a file
+abbrev pub after_plain_word : List ℕ → ReadingView → Option ReadingView
+after_plain_word word r = if begins_with 0x2D word then with_option word r else with_file word r
+
+-- after a word, where an option waits for its value or none does
+abbrev pub after_word_of : Option Setting → List ℕ → ReadingView → Option ReadingView
+after_word_of None word r = after_plain_word word r
+after_word_of (Some setting) word r = with_value setting word r
+
+-- after a word
+abbrev pub after_word : List ℕ → ReadingView → Option ReadingView
+after_word word r = after_word_of r.waiting word r
+
+-- after one more word, if all before it say something
+abbrev pub said_by : Option ReadingView → List ℕ → Option ReadingView
+said_by found word = option_and_then (after_word word) found
+
+-- what two files say with options, none of which lacks its value
+abbrev pub check_of : Option (List ℕ) → Option (List ℕ) → Option Setting → ReadingView → Option CheckView
+check_of (Some library) (Some definition) None r = Some (record {
+  library = library;
+  definition = definition;
+  machine = r.machine;
+  flavor = r.flavor;
+  dll = r.dll;
+  naming = r.naming;
+})
+check_of _ _ _ r = None
+
+-- what all words say
+abbrev pub check_in : ReadingView → Option CheckView
+check_in r = check_of r.library r.definition r.waiting r
+
+-- the comparison that words ask for
+abbrev pub check_called : List (List ℕ) → Option CheckView
+check_called words = option_and_then check_in (fold said_by (Some unread_call) words)

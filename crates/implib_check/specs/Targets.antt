@@ -1,0 +1,66 @@
+-- For which machine and linker a definition is compared with a library (this project's choice).
+use Rattle.std.specs.Prelude.{Bool, true, false, List, [], ◌∷◌, Option, None, if◌then◌else◌, unwrap_or}
+use Rattle.std.specs.List.{list_any}
+use Rattle.implib.specs.declared.flavor.Flavor.{Flavor}
+use Rattle.implib.specs.declared.flavor.Flavor.TheVariants.{Gnu, Msvc}
+use Rattle.implib.specs.declared.machine.MachineType.{MachineType}
+use Rattle.implib.specs.declared.machine.MachineType.TheVariants.{AMD64}
+use Rattle.implib.specs.Conversions.{machine_numbered}
+use Rattle.implib_read.specs.Classes.{Class, AnImport, AnAlias, Descriptor, NullDescriptor, NullThunk, Head, Tail, DelayImport, Other, NotUnderstood, MemberRead}
+use Rattle.implib_read.specs.declared.import.ImportKind.{ImportKind}
+use Rattle.implib_read.specs.declared.import.ImportKind.TheVariants.{Code, CodeOrConst, Const, Data}
+use Rattle.implib_rules.specs.Options.{LibraryOptionsView}
+use Rattle.implib_check.specs.Calls.{CheckView}
+
+-- whether a kind tells code from a constant, as those of short imports alone do
+abbrev pub tells_code : ImportKind → Bool
+tells_code Code = true
+tells_code Data = false
+tells_code Const = true
+tells_code CodeOrConst = false
+
+-- whether a member is one for Microsoft's linker: of its import tables, or a short import that is no data
+abbrev pub is_for_msvc : Class → Bool
+is_for_msvc (AnImport i) = tells_code i.kind
+is_for_msvc (AnAlias a) = false
+is_for_msvc Descriptor = true
+is_for_msvc NullDescriptor = true
+is_for_msvc NullThunk = true
+is_for_msvc Head = false
+is_for_msvc Tail = false
+is_for_msvc DelayImport = false
+is_for_msvc Other = false
+is_for_msvc NotUnderstood = false
+
+-- the flavour of a library
+abbrev pub flavor_of : List MemberRead → Flavor
+flavor_of members = if list_any (λ m. is_for_msvc m.class) members then Msvc else Gnu
+
+-- the machine of an import, if it is known
+abbrev pub machine_of_class : Class → Option MachineType
+machine_of_class (AnImport i) = machine_numbered i.machine
+machine_of_class (AnAlias a) = None
+machine_of_class Descriptor = None
+machine_of_class NullDescriptor = None
+machine_of_class NullThunk = None
+machine_of_class Head = None
+machine_of_class Tail = None
+machine_of_class DelayImport = None
+machine_of_class Other = None
+machine_of_class NotUnderstood = None
+
+-- The machine of a library: that of the first import with a known one. A library without one asks for nothing on any
+-- machine, so it is as good as one for AMD64.
+abbrev pub machine_of : List MemberRead → MachineType
+machine_of [] = AMD64
+machine_of (m ∷ members) = unwrap_or (machine_of_class m.class) (machine_of members)
+
+-- What the library of a definition is made for, to be compared with a library: what a call names, and else the
+-- machine and the flavour of the library.
+abbrev pub options_for : CheckView → List MemberRead → LibraryOptionsView
+options_for check members = record {
+  machine = unwrap_or check.machine (machine_of members);
+  flavor = unwrap_or check.flavor (flavor_of members);
+  dll = check.dll;
+  naming = check.naming;
+}

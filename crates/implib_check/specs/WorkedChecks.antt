@@ -1,0 +1,98 @@
+-- Calls that compare a library with a definition, and what a definition's library is made for, worked by hand.
+use Rattle.std.specs.Prelude.{◌≡◌, ℕ, true, false, [], ◌∷◌, None, Some, codes}
+use Rattle.implib.specs.declared.flavor.Flavor.TheVariants.{Gnu, Msvc}
+use Rattle.implib.specs.declared.machine.MachineType.TheVariants.{AMD64, ARM64, ARMNT, I386}
+use Rattle.implib.specs.Import.{Ordinal}
+use Rattle.implib_read.specs.Classes.{Descriptor, Head, NullDescriptor, NullThunk, Other, Tail, MemberRead}
+use Rattle.implib_read.specs.declared.import.ImportKind.{ImportKind}
+use Rattle.implib_read.specs.declared.import.ImportKind.TheVariants.{Code, CodeOrConst, Const, Data}
+use Rattle.implib_rules.specs.declared.library.Refusal.TheVariants.{NoName, NotUtf8, OutOfMemory}
+use Rattle.implib_check.specs.Calls.{CheckView, check_called, machine_called}
+use Rattle.implib_check.specs.Status.{refusal_status}
+use Rattle.implib_check.specs.Targets.{flavor_of, machine_of, options_for}
+use Rattle.implib_check.specs.Tasks.{Checks, Compares, task_named}
+use Rattle.implib_check.specs.Worked.{alias, feed, member, of_dll}
+
+-- a library beside a definition, with no option
+abbrev pub plain_check : CheckView
+plain_check = record {
+  library = codes "a.lib";
+  definition = codes "a.def";
+  machine = None;
+  flavor = None;
+  dll = None;
+  naming = record { is_plain = false; kills_at = false };
+}
+
+-- with each option
+abbrev pub full_check : CheckView
+full_check = record {
+  library = codes "a.lib";
+  definition = codes "a.def";
+  machine = Some I386;
+  flavor = Some Gnu;
+  dll = Some (codes "d/zoo.dll");
+  naming = record { is_plain = true; kills_at = true };
+}
+
+-- What calls say, and some that say nothing.
+pub record WorkedChecks : Type 0 where
+  pub plain : check_called (codes "a.lib" ∷ codes "a.def" ∷ []) ≡ Some plain_check
+  pub full : check_called
+      (codes "a.lib" ∷ codes "a.def" ∷ codes "-m" ∷ codes "i386" ∷ codes "-k" ∷ codes "--no-leading-underscore" ∷ codes "-D" ∷ codes "d/zoo.dll"
+      ∷ codes "--flavor" ∷ codes "gnu" ∷ []) ≡ Some full_check
+  -- by long names, before the files and between them, and an option twice: the last counts
+  pub long : check_called
+      (codes "--machine" ∷ codes "arm64" ∷ codes "a.lib" ∷ codes "--kill-at" ∷ codes "--dllname" ∷ codes "d/zoo.dll" ∷ codes "a.def" ∷ codes "--no-leading-underscore"
+      ∷ codes "--flavor" ∷ codes "gnu" ∷ codes "--machine" ∷ codes "x86" ∷ []) ≡ Some full_check
+  pub task : task_named (codes "a.lib" ∷ codes "a.def" ∷ []) ≡ Some (Checks plain_check)
+  pub task_of_more : task_named (codes "a.lib" ∷ codes "a.def" ∷ codes "--flavor" ∷ codes "msvc" ∷ []) ≡ Some (Checks (record plain_check { flavor = Some Msvc }))
+  pub same : task_named (codes "--same" ∷ codes "a.lib" ∷ codes "b.lib" ∷ []) ≡ Some (Compares (codes "a.lib") (codes "b.lib"))
+  pub no_word : check_called [] ≡ None
+  pub no_definition : check_called (codes "a.lib" ∷ codes "-k" ∷ []) ≡ None
+  pub three_files : check_called (codes "a.lib" ∷ codes "a.def" ∷ codes "b.def" ∷ []) ≡ None
+  pub no_value : check_called (codes "a.lib" ∷ codes "a.def" ∷ codes "-m" ∷ []) ≡ None
+  pub no_machine : check_called (codes "a.lib" ∷ codes "a.def" ∷ codes "-m" ∷ codes "mips" ∷ []) ≡ None
+  pub no_flavor : check_called (codes "a.lib" ∷ codes "a.def" ∷ codes "--flavor" ∷ codes "unix" ∷ []) ≡ None
+  pub no_dll : check_called (codes "a.lib" ∷ codes "a.def" ∷ codes "-D" ∷ codes "d/" ∷ []) ≡ None
+  pub no_option : check_called (codes "a.lib" ∷ codes "a.def" ∷ codes "-x" ∷ []) ≡ None
+  pub listed : check_called (codes "--list" ∷ codes "a.lib" ∷ codes "a.def" ∷ []) ≡ None
+  -- the machines that have names
+  pub i386 : machine_called (codes "i386") ≡ Some I386
+  pub amd64 : machine_called (codes "i386:x86-64") ≡ Some AMD64
+  pub arm : machine_called (codes "arm") ≡ Some ARMNT
+  pub aarch64 : machine_called (codes "aarch64") ≡ Some ARM64
+  -- a definition that is refused has no library, so none is the same; want of memory is another matter
+  pub refused : refusal_status NoName ≡ 1
+  pub not_text : refusal_status NotUtf8 ≡ 1
+  pub no_memory : refusal_status OutOfMemory ≡ 3
+
+-- an import on a machine
+abbrev pub import_on : ImportKind → ℕ → MemberRead
+import_on kind machine = of_dll (codes "zoo.dll") feed (Ordinal 1) kind machine
+
+-- The flavour and the machine of libraries, and what a definition's library is made for.
+pub record WorkedTargets : Type 0 where
+  pub msvc : flavor_of (member Descriptor ∷ member NullDescriptor ∷ member NullThunk ∷ import_on Code 0x8664 ∷ []) ≡ Msvc
+  pub tables : flavor_of (member Descriptor ∷ import_on Data 0x8664 ∷ []) ≡ Msvc
+  pub code : flavor_of (import_on Code 0x8664 ∷ []) ≡ Msvc
+  pub constant : flavor_of (import_on Data 0x8664 ∷ import_on Const 0x8664 ∷ []) ≡ Msvc
+  pub gnu : flavor_of (member Tail ∷ member Head ∷ import_on CodeOrConst 0x8664 ∷ []) ≡ Gnu
+  pub data_alone : flavor_of (import_on Data 0x8664 ∷ alias (codes "a") (codes "b") ∷ member Other ∷ []) ≡ Gnu
+  pub none : flavor_of [] ≡ Gnu
+  pub first : machine_of (member Descriptor ∷ import_on Code 0x14C ∷ import_on Code 0x8664 ∷ []) ≡ I386
+  pub known : machine_of (import_on Code 0xA641 ∷ import_on Code 0xAA64 ∷ []) ≡ ARM64
+  pub arm : machine_of (import_on Code 0x1C4 ∷ []) ≡ ARMNT
+  pub no_import : machine_of (member Head ∷ []) ≡ AMD64
+  pub told : options_for plain_check (import_on Code 0xAA64 ∷ []) ≡ record {
+    machine = ARM64;
+    flavor = Msvc;
+    dll = None;
+    naming = record { is_plain = false; kills_at = false };
+  }
+  pub named : options_for full_check (import_on Code 0xAA64 ∷ []) ≡ record {
+    machine = I386;
+    flavor = Gnu;
+    dll = Some (codes "d/zoo.dll");
+    naming = record { is_plain = true; kills_at = true };
+  }

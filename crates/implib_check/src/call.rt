@@ -1,0 +1,224 @@
+//! What the words of a call say that compares a library with a definition.
+
+ghost use Rattle.std.specs.Prelude.{◌≡◌, map};
+ghost use Rattle.std.specs.Option.{option_and_then, option_map};
+ghost use Rattle.std.specs.String.{string_bytes};
+ghost use Rattle.implib_check.specs.Calls.{after_word, check_called, check_in, check_view, machine_called, reading_view};
+ghost use Rattle.implib_check.specs.Calls.{said_by, unread_call, with_file, with_option, with_value};
+
+use implib::{Flavor, MachineType};
+use implib_rules::linked::Naming;
+use implib_rules::name::last_part;
+
+/// A library, and the definition that it is compared with.
+#[derive(Clone, Copy, Debug)]
+pub struct Check<'a> {
+    /// The file of the library.
+    pub library: &'a str,
+    /// The file of the definition.
+    pub definition: &'a str,
+    /// The machine, if one is named.
+    pub machine: Option<MachineType>,
+    /// The flavour, if one is named.
+    pub flavor: Option<Flavor>,
+    /// The DLL's name, before the definition's own.
+    pub dll: Option<&'a str>,
+    /// How names are read on I386.
+    pub naming: Naming,
+}
+
+// An option that takes a value.
+#[derive(Clone, Copy)]
+enum Setting {
+    Machine,
+    Flavor,
+    Dll,
+}
+
+// What words say so far.
+#[derive(Clone, Copy)]
+struct Reading<'a> {
+    library: Option<&'a str>,
+    definition: Option<&'a str>,
+    machine: Option<MachineType>,
+    flavor: Option<Flavor>,
+    dll: Option<&'a str>,
+    naming: Naming,
+    // The option whose value the next word is.
+    waiting: Option<Setting>,
+}
+
+// Before the first word.
+fn unread_call<'a>() -> Reading<'a>
+    ensures { reading_view result ≡ unread_call }
+{
+    Reading {
+        library: None,
+        definition: None,
+        machine: None,
+        flavor: None,
+        dll: None,
+        naming: Naming {
+            is_plain: false,
+            kills_at: false,
+        },
+        waiting: None,
+    }
+}
+
+/// The machine of a name.
+pub fn machine_called(name: &str) -> Option<MachineType>
+    ensures { result ≡ machine_called name.now }
+{
+    match name {
+        "i386" | "x86" => Some(MachineType::I386),
+        "i386:x86-64" | "amd64" | "x64" | "x86_64" => Some(MachineType::AMD64),
+        "arm" | "armnt" => Some(MachineType::ARMNT),
+        "arm64" | "aarch64" => Some(MachineType::ARM64),
+        _ => None,
+    }
+}
+
+// After the value of an option.
+fn with_value<'a>(setting: Setting, value: &'a str, reading: Reading<'a>) -> Option<Reading<'a>>
+    ensures { option_map reading_view result ≡ with_value setting value.now (reading_view reading.entry) }
+{
+    match setting {
+        Setting::Machine => match machine_called(value) {
+            Some(machine) => Some(Reading {
+                machine: Some(machine),
+                waiting: None,
+                ..reading
+            }),
+            None => None,
+        },
+        Setting::Flavor => match value.parse::<Flavor>() {
+            Ok(flavor) => Some(Reading {
+                flavor: Some(flavor),
+                waiting: None,
+                ..reading
+            }),
+            Err(_) => None,
+        },
+        Setting::Dll => {
+            if last_part(value).is_empty() {
+                return None;
+            }
+            Some(Reading {
+                dll: Some(value),
+                waiting: None,
+                ..reading
+            })
+        }
+    }
+}
+
+// After an option.
+fn with_option<'a>(option: &str, reading: Reading<'a>) -> Option<Reading<'a>>
+    ensures { option_map reading_view result ≡ with_option option.now (reading_view reading.entry) }
+{
+    let naming = reading.naming;
+    match option {
+        "-k" | "--kill-at" => Some(Reading {
+            naming: Naming {
+                kills_at: true,
+                ..naming
+            },
+            ..reading
+        }),
+        "--no-leading-underscore" => Some(Reading {
+            naming: Naming {
+                is_plain: true,
+                ..naming
+            },
+            ..reading
+        }),
+        "-m" | "--machine" => Some(Reading {
+            waiting: Some(Setting::Machine),
+            ..reading
+        }),
+        "-D" | "--dllname" => Some(Reading {
+            waiting: Some(Setting::Dll),
+            ..reading
+        }),
+        "--flavor" => Some(Reading {
+            waiting: Some(Setting::Flavor),
+            ..reading
+        }),
+        _ => None,
+    }
+}
+
+// After the name of a file: the first is the library, the second the definition.
+fn with_file<'a>(path: &'a str, reading: Reading<'a>) -> Option<Reading<'a>>
+    ensures { option_map reading_view result ≡ with_file path.now (reading_view reading.entry) }
+{
+    if reading.library.is_none() {
+        return Some(Reading {
+            library: Some(path),
+            ..reading
+        });
+    }
+    if reading.definition.is_none() {
+        return Some(Reading {
+            definition: Some(path),
+            ..reading
+        });
+    }
+    None
+}
+
+// After a word, which is a value, an option or the name of a file.
+fn after_word<'a>(word: &'a str, reading: Reading<'a>) -> Option<Reading<'a>>
+    ensures { option_map reading_view result ≡ after_word word.now (reading_view reading.entry) }
+{
+    if let Some(setting) = reading.waiting {
+        return with_value(setting, word, reading);
+    }
+    if word.as_bytes().first() == Some(&b'-') {
+        with_option(word, reading)
+    } else {
+        with_file(word, reading)
+    }
+}
+
+// After one more word, if all before it say something.
+fn said_by<'a>(reading: Option<Reading<'a>>, word: &'a str) -> Option<Reading<'a>>
+    ensures { option_map reading_view result ≡ said_by (option_map reading_view reading.entry) word.now }
+{
+    match reading {
+        Some(reading) => after_word(word, reading),
+        None => None,
+    }
+}
+
+// What all words say: there are two files, and no option lacks its value.
+fn check_in<'a>(reading: Reading<'a>) -> Option<Check<'a>>
+    ensures { option_map check_view result ≡ check_in (reading_view reading.entry) }
+{
+    match (reading.library, reading.definition, reading.waiting) {
+        (Some(library), Some(definition), None) => Some(Check {
+            library,
+            definition,
+            machine: reading.machine,
+            flavor: reading.flavor,
+            dll: reading.dll,
+            naming: reading.naming,
+        }),
+        _ => None,
+    }
+}
+
+/// The comparison that words ask for: two files, options, and values of options.
+pub fn check_called(words: &[String]) -> Option<Check<'_>>
+    ensures { option_map check_view result ≡ check_called (map string_bytes words.now) }
+{
+    let mut reading = Some(unread_call());
+    for word in words {
+        reading = said_by(reading, word.as_str());
+    }
+    match reading {
+        Some(reading) => check_in(reading),
+        None => None,
+    }
+}

@@ -1,0 +1,111 @@
+//! Whether a library means what a definition means.
+
+ghost use Rattle.std.specs.Prelude.{◌≡◌, map, IfErr, IfOk, None, Some};
+ghost use Rattle.implib_check.specs.Meant.{IsRefusalOfCheck, IsVerdictOn};
+ghost use Rattle.implib_read.specs.Classes.{library_in};
+ghost use Rattle.implib_read.specs.ClassViews.{member_read_view};
+ghost use Rattle.implib_rules.specs.Library.{IsLibrary, IsRefusalOfBytes};
+ghost use Rattle.implib_rules.specs.Options.{library_options_view};
+
+use crate::compare::{Verdict, compare};
+use crate::differences::{Failure, tell_both};
+use crate::positions::Positions;
+use crate::text::Source;
+use implib_read::laws::own_members_found;
+use implib_read::{Library, MemberRead};
+use implib_rules::library::{LibraryError, Refusal, write_library};
+use implib_rules::options::LibraryOptions;
+use std::alloc::{AllocError, Global};
+use std::io::Write;
+
+/// Why a library is not compared with a definition.
+#[derive(Drop)]
+pub enum CheckError {
+    /// The definition has no library.
+    Refused(Refusal),
+    /// A write or an allocation failed.
+    Failed(Failure),
+}
+
+impl From<Refusal> for CheckError {
+    ghost use Rattle.implib_check.specs.declared.definition.CheckError.TheVariants.{Refused};
+    ghost use Rattle.std.specs.Prelude.{◌≡◌};
+
+    ghost from_gives = { λ refusal error. error ≡ Refused refusal };
+
+    fn from(refusal: Refusal) -> CheckError {
+        CheckError::Refused(refusal)
+    }
+}
+
+impl From<Failure> for CheckError {
+    ghost use Rattle.implib_check.specs.declared.definition.CheckError.TheVariants.{Failed};
+    ghost use Rattle.std.specs.Prelude.{◌≡◌};
+
+    ghost from_gives = { λ failure error. error ≡ Failed failure };
+
+    fn from(failure: Failure) -> CheckError {
+        CheckError::Failed(failure)
+    }
+}
+
+impl From<AllocError> for CheckError {
+    ghost use Rattle.implib_check.specs.declared.definition.CheckError.TheVariants.{Failed};
+    ghost use Rattle.implib_check.specs.declared.differences.Failure.TheVariants.{OutOfMemory};
+    ghost use Rattle.std.specs.Prelude.{◌≡◌};
+
+    ghost from_gives = { λ _ error. error ≡ Failed OutOfMemory };
+
+    fn from(_refused: AllocError) -> CheckError {
+        CheckError::Failed(Failure::OutOfMemory)
+    }
+}
+
+/// The library of a definition, which is what the definition means.
+pub fn library_meant(
+    alloc: Global,
+    definition: &[u8],
+    options: &LibraryOptions,
+) -> Result<Vec<u8>, Refusal>
+    ensures library { IfOk result (λ file. IsLibrary definition.now (library_options_view options.now) file.items) }
+    ensures refused { IfErr result (IsRefusalOfBytes definition.now (library_options_view options.now)) }
+{
+    let mut file = Vec::new(alloc);
+    match write_library(alloc, definition, options, &mut file) {
+        Ok(()) => Ok(file),
+        Err(LibraryError::Refused(refusal)) => Err(refusal),
+        Err(LibraryError::Writing(_)) => Err(Refusal::OutOfMemory),
+    }
+}
+
+/// Compares a library with what a definition means, and writes the differences. The library of the definition is made
+/// and then read as any other, so that both are told by one reader.
+///
+/// # Errors
+///
+/// `Refused`: the definition has no library. `Failed`: a write or an allocation.
+pub fn check_definition<O: Write>(
+    alloc: Global,
+    printer: &mut O,
+    paths: (&str, &str),
+    members: &[MemberRead],
+    definition: &[u8],
+    options: &LibraryOptions,
+) -> Result<Verdict, CheckError>
+    ensures verdict { IfOk result (IsVerdictOn definition.now (library_options_view options.now) (map member_read_view members.now)) }
+    ensures refused { IfErr result (IsRefusalOfCheck definition.now (library_options_view options.now)) }
+{
+    own_members_found();
+    let file = library_meant(alloc, definition, options)?;
+    let Some(meant) = Library::read(alloc, &file)? else {
+        unreachable!();
+    };
+    let found = compare(alloc, members, &meant.members)?;
+    let positions = Positions::of(alloc, definition, options)?;
+    let sources = (
+        Source::Library(paths.0),
+        Source::Definition(paths.1, &positions),
+    );
+    tell_both(alloc, printer, sources, members, &meant.members, &found)?;
+    Ok(found.verdict)
+}

@@ -1,0 +1,87 @@
+//! For which machine and linker a definition is compared with a library.
+
+ghost use Rattle.std.specs.Prelude.{◌≡◌, map};
+ghost use Rattle.implib_check.specs.Calls.{check_view};
+ghost use Rattle.implib_check.specs.Targets.{flavor_of, is_for_msvc, machine_of, machine_of_class, options_for, tells_code};
+ghost use Rattle.implib_read.specs.ClassViews.{class_view, member_read_view};
+ghost use Rattle.implib_rules.specs.Options.{library_options_view};
+
+use crate::call::Check;
+use implib::{Flavor, MachineType};
+use implib_read::{ImportKind, MemberClass, MemberRead};
+use implib_rules::options::LibraryOptions;
+
+// Whether a kind tells code from a constant.
+fn tells_code(kind: ImportKind) -> bool
+    ensures { result ≡ tells_code kind }
+{
+    match kind {
+        ImportKind::Code | ImportKind::Const => true,
+        ImportKind::Data | ImportKind::CodeOrConst => false,
+    }
+}
+
+// Whether a member is one for Microsoft's linker.
+fn is_for_msvc(class: &MemberClass) -> bool
+    ensures { result ≡ is_for_msvc (class_view class.now) }
+{
+    match class {
+        MemberClass::Descriptor | MemberClass::NullDescriptor | MemberClass::NullThunk => true,
+        MemberClass::Import(import) => tells_code(import.kind),
+        _ => false,
+    }
+}
+
+/// The flavour of a library: Microsoft's where a member is for its linker, else GNU's.
+pub fn flavor_of(members: &[MemberRead]) -> Flavor
+    ensures { result ≡ flavor_of (map member_read_view members.now) }
+{
+    for member in members {
+        if is_for_msvc(&member.class) {
+            return Flavor::Msvc;
+        }
+    }
+    Flavor::Gnu
+}
+
+// The machine of an import, if it is known.
+fn machine_of_class(class: &MemberClass) -> Option<MachineType>
+    ensures { result ≡ machine_of_class (class_view class.now) }
+{
+    match class {
+        MemberClass::Import(import) => MachineType::try_from(import.machine).ok(),
+        _ => None,
+    }
+}
+
+/// The machine of a library: that of the first import with a known one, or AMD64 where there is none.
+pub fn machine_of(members: &[MemberRead]) -> MachineType
+    ensures { result ≡ machine_of (map member_read_view members.now) }
+{
+    for member in members {
+        if let Some(machine) = machine_of_class(&member.class) {
+            return machine;
+        }
+    }
+    MachineType::AMD64
+}
+
+/// What the definition's library is made for: what a call names, and else the machine and the flavour of the library.
+pub fn options_for<'a>(check: &Check<'a>, members: &[MemberRead]) -> LibraryOptions<'a>
+    ensures { library_options_view result ≡ options_for (check_view check.now) (map member_read_view members.now) }
+{
+    let machine = match check.machine {
+        Some(machine) => machine,
+        None => machine_of(members),
+    };
+    let flavor = match check.flavor {
+        Some(flavor) => flavor,
+        None => flavor_of(members),
+    };
+    LibraryOptions {
+        machine,
+        flavor,
+        dll: check.dll,
+        naming: check.naming,
+    }
+}
