@@ -348,7 +348,7 @@ static struct implib_export *exports_read(size_t count)
     demand(exports != NULL, "no memory for exports");
     for (size_t index = 0; index < count; index++) {
         struct implib_export *export = &exports[index];
-        size_t ordinal, flags;
+        size_t ordinal = 0, flags = 0;
         export->name = name_read(&export->name_length);
         export->target = name_read(&export->target_length);
         demand(number_read(&ordinal) && number_read(&flags), "an export is cut short");
