@@ -90,6 +90,7 @@ worked_statuses = record {
     text_41 = refl;
     text_42 = refl;
     text_43 = refl;
+    text_47 = refl;
     text_6 = refl;
     text_15 = refl;
   };

@@ -6,13 +6,17 @@ pub mod Library
 pub mod LibraryWith
 pub mod Definition
 pub mod DefinitionAnswer
+pub mod Warnings
+pub mod WarningsAnswer
 pub mod Place
 pub mod Version
 pub mod Given
 pub mod GivenWith
 pub mod DefinitionGiven
+pub mod WarningsGiven
 pub mod WorkedEncoding
 pub mod WorkedDefinition
+pub mod WorkedWarnings
 pub mod WorkedGaps
 pub mod WorkedStatus
 pub mod WorkedPlace

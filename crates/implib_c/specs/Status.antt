@@ -18,6 +18,7 @@ use Rattle.implib_c.specs.declared.status.Status.TheVariants.{LineEndInMemberNam
 use Rattle.implib_c.specs.declared.status.Status.TheVariants.{TooManyMembers, ArchiveTooLong}
 use Rattle.implib_c.specs.declared.status.Status.TheVariants.{EmptyLibraryName, LineEndInLibraryName, NulInLibraryName}
 use Rattle.implib_c.specs.declared.status.Status.TheVariants.{NoDllName, UnknownOptions, UnknownFlags, DllNotUtf8}
+use Rattle.implib_c.specs.declared.status.Status.TheVariants.{WriteFailed}
 
 -- the number of a status: those of a call first, from 16 to 39 those of the input's faults, then those of options
 abbrev pub status_number : Status → ℕ
@@ -54,6 +55,7 @@ status_number NoDllName = 39
 status_number UnknownOptions = 40
 status_number UnknownFlags = 41
 status_number DllNotUtf8 = 42
+status_number WriteFailed = 47
 
 -- the status with a number
 abbrev pub status_numbered : ℕ → Option Status
@@ -91,6 +93,7 @@ status_numbered number =
     else if number == 40 then Some UnknownOptions
     else if number == 41 then Some UnknownFlags
     else if number == 42 then Some DllNotUtf8
+    else if number == 47 then Some WriteFailed
     else None
 
 -- the text of a status
@@ -128,6 +131,7 @@ status_text NoDllName = codes "no name of the DLL"
 status_text UnknownOptions = codes "unknown options"
 status_text UnknownFlags = codes "unknown flags"
 status_text DllNotUtf8 = codes "name of the DLL is not UTF-8"
+status_text WriteFailed = codes "writing failed"
 
 -- the status of a fault of the input
 abbrev pub cause_status : Cause → Status

@@ -123,6 +123,7 @@ pub record WorkedTexts : Type 0 where
   pub text_41 : text_for 41 ≡ codes "unknown flags"
   pub text_42 : text_for 42 ≡ codes "name of the DLL is not UTF-8"
   pub text_43 : text_for 43 ≡ codes "unknown status"
+  pub text_47 : text_for 47 ≡ codes "writing failed"
   pub text_6 : text_for 6 ≡ codes "unknown status"
   pub text_15 : text_for 15 ≡ codes "unknown status"
 

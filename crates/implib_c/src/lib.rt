@@ -14,3 +14,4 @@ mod place;
 mod status;
 #[cfg(test)]
 mod tests;
+mod warnings;

@@ -32,9 +32,9 @@ fn naming_with(flags: u32) -> Option<Naming>
     Some(Naming { is_plain, kills_at })
 }
 
-// The options that are given as numbers, and as the bytes of a name; without one where `has_dll`
-// is 0.
-fn options_with<'a>(
+/// The options that are given as numbers, and as the bytes of a name; without one where `has_dll`
+/// is 0.
+pub fn options_with<'a>(
     dll: &'a [u8],
     has_dll: u32,
     machine: u16,
@@ -75,8 +75,8 @@ fn options_with<'a>(
     }
 }
 
-// How many bytes of a text are a byte order mark.
-fn mark_length(text: &[u8]) -> usize
+/// How many bytes of a text are a byte order mark.
+pub fn mark_length(text: &[u8]) -> usize
     ensures { result ≡ mark_length text.now }
 {
     if text.starts_with(&[0xEF, 0xBB, 0xBF]) {
@@ -96,8 +96,8 @@ fn valid_length(text: &[u8]) -> usize
     }
 }
 
-// What a refusal of a text becomes: its offset is in the text with its byte order mark.
-fn failure_in(text: &[u8], refusal: Refusal) -> Failure
+/// What a refusal of a text becomes: its offset is in the text with its byte order mark.
+pub fn failure_in(text: &[u8], refusal: Refusal) -> Failure
     requires { IsWithin text.now refusal }
     ensures status { failure_status result ≡ refusal_status refusal }
     ensures length { length_given (Err result) ≡ 0 }

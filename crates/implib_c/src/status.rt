@@ -75,6 +75,8 @@ pub enum Status {
     UnknownFlags,
     /// The name of the DLL that is given is not UTF-8.
     DllNotUtf8,
+    /// A function of the header's caller did not take a piece of a library.
+    WriteFailed,
 }
 
 impl Status {
@@ -116,6 +118,7 @@ impl Status {
             Status::UnknownOptions => 40,
             Status::UnknownFlags => 41,
             Status::DllNotUtf8 => 42,
+            Status::WriteFailed => 47,
         }
     }
 
@@ -157,6 +160,7 @@ impl Status {
             40 => Some(Status::UnknownOptions),
             41 => Some(Status::UnknownFlags),
             42 => Some(Status::DllNotUtf8),
+            47 => Some(Status::WriteFailed),
             _ => None,
         }
     }
@@ -201,6 +205,7 @@ impl Status {
             Status::UnknownOptions => "unknown options",
             Status::UnknownFlags => "unknown flags",
             Status::DllNotUtf8 => "name of the DLL is not UTF-8",
+            Status::WriteFailed => "writing failed",
         }
     }
 
