@@ -9,11 +9,13 @@
  *
  * With the argument `library` it calls implib_library in its stead, and what follows is the archive; with
  * `definition` implib_definition, and what follows is the encoding. With the
- * argument `with` it calls implib_library_with in the same way; then a case begins with four numbers more, the
- * size of the options, the flags, whether a name of the DLL is given, and its length, and the name is before the
- * text. With the argument `of` it calls implib_library_of: then the last number is that of exports, and in the place of
- * the text is of each the length of its name and the name, the same of its target, its ordinal and its flags; a length
- * of 2^64 - 1 is a null pointer. With the argument `texts` it writes a line with the text of each status from 0 to 99 instead.
+ * argument `with` it calls implib_library_with in the same way, and implib_write, whose pieces have to be the same
+ * library; then a case begins with four numbers more, the size of the options, the flags, whether a name of the DLL
+ * is given, and its length, and the name is before the text. With `warnings` it calls implib_warnings so, and what
+ * follows is the encoding. With `of` it calls implib_library_of: then the last number is that of exports, and in the
+ * place of the text is of each the length of its name and the name, the same of its target, its ordinal and its flags;
+ * a length of 2^64 - 1 is a null pointer. With the argument `texts` it writes a line with the text of each status from
+ * 0 to 99 instead.
  *
  * The linker puts __wrap_malloc and its kin in the place of malloc (--wrap).
  */
@@ -82,9 +84,13 @@ static void demand(int holds, const char *what)
 typedef uint32_t callee(const uint8_t *text, size_t text_length, uint16_t machine, uint32_t flavor,
                         uint8_t *buffer, size_t buffer_length, size_t *length, size_t *place);
 
-/* A call of the function, or, where this is null, of implib_library_with, or, for exports, of implib_library_of. */
+typedef uint32_t callee_with(const struct implib_options *options, const uint8_t *text, size_t text_length,
+                             uint8_t *buffer, size_t buffer_length, size_t *length, size_t *place);
+
+/* A call of the function, or, where this is null, of one with options, or, for exports, of implib_library_of. */
 struct call {
     callee *function;
+    callee_with *with;
     struct slice text;
     struct implib_options options;
     int is_of_exports;
@@ -115,7 +121,7 @@ static uint32_t status_of(struct call call, const uint8_t *text, uint8_t *buffer
         return implib_library_of(&call.options, call.count == 0 ? NULL : call.exports, call.count, buffer, room, length,
                                  place);
     if (call.function == NULL)
-        return implib_library_with(&call.options, text, call.text.length, buffer, room, length, place);
+        return call.with(&call.options, text, call.text.length, buffer, room, length, place);
     return call.function(text, call.text.length, call.options.machine, call.options.flavor, buffer, room, length,
                          place);
 }
@@ -224,6 +230,69 @@ static void call_refused(struct call call, struct answer expected)
     }
 }
 
+/* ---- writing */
+
+/* What a writer has taken, of a library that is known, and the number of the piece that it does not take. */
+struct taken {
+    struct answer library;
+    size_t length;
+    size_t pieces;
+    size_t refused;
+};
+
+static int take(void *context, const uint8_t *bytes, size_t count)
+{
+    struct taken *taken = context;
+    demand(count > 0 && count <= IMPLIB_PIECE_SIZE, "a piece is empty, or too long");
+    demand(taken->length + count <= taken->library.length, "more is written than the library");
+    demand(memcmp(taken->library.buffer + taken->length, bytes, count) == 0, "another library is written");
+    if (taken->pieces == taken->refused)
+        return -1;
+    taken->pieces++;
+    taken->length += count;
+    return 0;
+}
+
+/* Writes the library of a call, of which this piece is not taken; gives what was taken. */
+static struct taken written(struct call call, struct answer library, size_t refused, uint32_t *status, size_t *place)
+{
+    struct taken taken = {library, 0, 0, refused};
+    size_t length = 12345;
+    long before = held;
+    *place = 67890;
+    *status = implib_write(&call.options, call.text.bytes, call.text.length, take, &taken, &length, place);
+    demand(held == before, "memory is not freed after writing");
+    demand(length == taken.length, "another length is told than was written");
+    return taken;
+}
+
+/* The library of a call, written: whole, with each piece not taken, and with allocations failing. */
+static void call_written(struct call call, struct answer expected, int refuses)
+{
+    uint32_t status;
+    size_t place, pieces = written(call, expected, SIZE_MAX, &status, &place).pieces;
+    demand(status == expected.status && place == expected.place, "another status is told than of the library");
+    demand(status != IMPLIB_SUCCESS || pieces > 0, "nothing is written");
+    for (size_t refused = 0; refused < pieces; refused++) {
+        struct taken taken = written(call, expected, refused, &status, &place);
+        demand(status == IMPLIB_WRITE_FAILED && place == 0, "a piece that is not taken is not told");
+        demand(taken.pieces == refused, "a piece is written behind one that is not taken");
+    }
+    status = implib_write(&call.options, call.text.bytes, call.text.length, take,
+                          &(struct taken){expected, 0, 0, SIZE_MAX}, NULL, NULL);
+    demand(status == expected.status, "the status depends on what is told");
+    for (long number = 1; refuses; number++) {
+        has_failed = 0;
+        until_failure = number;
+        struct taken taken = written(call, expected, SIZE_MAX, &status, &place);
+        until_failure = -1;
+        int is_reported = status == IMPLIB_OUT_OF_MEMORY && place == 0 && taken.pieces == 0;
+        demand(is_reported || (status == expected.status && place == expected.place),
+               "a failed allocation is not told by writing");
+        refuses = has_failed;
+    }
+}
+
 /* ---- listings */
 
 /* A text that grows. */
@@ -301,6 +370,8 @@ static void run(struct call call, int refuses)
     size_t line = 12345, column = 67890;
     if (refuses)
         call_refused(call, answer);
+    if (call.function == NULL && call.with == implib_library_with)
+        call_written(call, answer, refuses);
     implib_position(call.text.length == 0 ? NULL : call.text.bytes, call.text.length, answer.place, &line,
                     &column);
     implib_position(call.text.bytes, call.text.length, answer.place, NULL, NULL);
@@ -367,7 +438,7 @@ static void exports_freed(struct implib_export *exports, size_t count)
     free(exports);
 }
 
-static int run_next(callee *function, int is_of_exports)
+static int run_next(callee *function, callee_with *with, int is_of_exports)
 {
     size_t size = sizeof(struct implib_options), flags = 0, has_dll = 0, dll_length = 0;
     size_t machine, flavor, refuses, length;
@@ -381,8 +452,8 @@ static int run_next(callee *function, int is_of_exports)
     uint8_t *text = bytes_read(text_length);
     struct implib_export *exports = exports_read(count);
     struct call call = {
-        function, {text, text_length}, {size, (uint16_t)machine, (uint32_t)flavor, (uint32_t)flags, dll, dll_length},
-        is_of_exports, exports, count};
+        function, with, {text, text_length},
+        {size, (uint16_t)machine, (uint32_t)flavor, (uint32_t)flags, dll, dll_length}, is_of_exports, exports, count};
     run(call, refuses != 0);
     exports_freed(exports, count);
     free(text);
@@ -423,9 +494,10 @@ int main(int count, char *arguments[])
     if (count == 2 && strcmp(arguments[1], "definition") == 0)
         function = definition;
     int is_of_exports = count == 2 && strcmp(arguments[1], "of") == 0;
-    if (is_of_exports || (count == 2 && strcmp(arguments[1], "with") == 0))
+    int is_of_warnings = count == 2 && strcmp(arguments[1], "warnings") == 0;
+    if (is_of_exports || is_of_warnings || (count == 2 && strcmp(arguments[1], "with") == 0))
         function = NULL;
-    while (run_next(function, is_of_exports))
+    while (run_next(function, is_of_warnings ? implib_warnings : implib_library_with, is_of_exports))
         ;
     return 0;
 }

@@ -80,6 +80,14 @@ uint32_t implib_library_of_nonnull(const struct implib_export *exports, size_t c
                                        buffer, buffer_length, length, place) + 1;
 }
 
+uint32_t implib_warnings_nonnull(const uint8_t *text, size_t text_length, const uint8_t *dll, size_t dll_length,
+                                 uint32_t has_dll, uint16_t machine, uint32_t flavor, uint32_t flags,
+                                 uint8_t *buffer, size_t buffer_length, size_t *length, size_t *place)
+{
+    return implib_library_with_nonnull(text, text_length, dll, dll_length, has_dll, machine, flavor, flags, buffer,
+                                       buffer_length, length, place);
+}
+
 uint32_t implib_definition_nonnull(const uint8_t *text, size_t text_length, uint16_t machine, uint8_t *buffer,
                                    size_t buffer_length, size_t *length, size_t *place)
 {
@@ -113,8 +121,11 @@ static uint32_t definition(const uint8_t *text, size_t text_length, uint16_t mac
     return implib_definition(text, text_length, machine, buffer, buffer_length, length, place) - 1;
 }
 
+typedef uint32_t callee_with(const struct implib_options *options, const uint8_t *text, size_t text_length,
+                             uint8_t *buffer, size_t buffer_length, size_t *length, size_t *place);
+
 /* Calls with options of each size, with and without a name of the DLL, of three lengths. */
-static void hold_options(const uint8_t *text, size_t text_length, uint8_t *buffer, size_t buffer_length, size_t *first,
+static void hold_options(callee_with *own, const uint8_t *text, size_t text_length, uint8_t *buffer, size_t buffer_length, size_t *first,
                          size_t *second)
 {
     static const uint8_t name[] = {'c', 'd'};
@@ -128,8 +139,7 @@ static void hold_options(const uint8_t *text, size_t text_length, uint8_t *buffe
                 *first = 5;
             if (second != NULL)
                 *second = 5;
-            uint32_t status =
-                implib_library_with(&options, text, text_length, buffer, buffer_length, first, second);
+            uint32_t status = own(&options, text, text_length, buffer, buffer_length, first, second);
             if (!is_known) {
                 hold(status == IMPLIB_UNKNOWN_OPTIONS && passed_text == NULL, "options of another size are taken");
                 hold((first == NULL || *first == 0) && (second == NULL || *second == 0), "unknown options tell more");
@@ -146,7 +156,7 @@ static void hold_options(const uint8_t *text, size_t text_length, uint8_t *buffe
             hold(passed_dll_length == 0 || passed_dll == name, "another name is passed on");
         }
     }
-    hold(implib_library_with(NULL, text, text_length, buffer, buffer_length, first, second) == IMPLIB_UNKNOWN_OPTIONS,
+    hold(own(NULL, text, text_length, buffer, buffer_length, first, second) == IMPLIB_UNKNOWN_OPTIONS,
          "null options are taken");
 }
 
@@ -220,7 +230,8 @@ int main(void)
             hold(some_second == NULL || (passed_second == &second && second == 12), "another place is given");
         }
 
-        hold_options(some_text, text_length, some_buffer, buffer_length, some_first, some_second);
+        hold_options(implib_library_with, some_text, text_length, some_buffer, buffer_length, some_first, some_second);
+        hold_options(implib_warnings, some_text, text_length, some_buffer, buffer_length, some_first, some_second);
         hold_exports(some_buffer, buffer_length, some_first, some_second);
 
         first = second = 0;

@@ -44,6 +44,7 @@
 
 #include <stddef.h>
 #include <stdint.h>
+#include <stdlib.h>
 
 #ifdef __cplusplus
 extern "C" {
@@ -118,7 +119,10 @@ enum implib_status {
     /* Of implib_library_of alone; *place is the index of the export, from 0. */
     IMPLIB_UNKNOWN_EXPORT_FLAGS = 43, /* an unknown flag of an export is set */
     IMPLIB_EXPORT_NOT_UTF8 = 44,      /* the name or the target of an export is not UTF-8 */
-    IMPLIB_NULL_IN_EXPORT = 45        /* the name or the target of an export is a null pointer */
+    IMPLIB_NULL_IN_EXPORT = 45,       /* the name or the target of an export is a null pointer */
+
+    /* Of implib_write alone; *place is 0. */
+    IMPLIB_WRITE_FAILED = 47 /* the caller's function did not take a piece */
 };
 
 /* The flags of the options, and the options of the program that they stand for. */
@@ -161,7 +165,7 @@ static inline uint32_t implib_library_with(const struct implib_options *options,
                                            size_t text_length, uint8_t *buffer, size_t buffer_length,
                                            size_t *length, size_t *place);
 
-/* The flags of an export: what a definition says of it by these words. */
+/* The flags of an export, here and in implib_definition: what a definition says of it by these words. */
 #define IMPLIB_EXPORT_NONAME 1u   /* it is imported by its ordinal */
 #define IMPLIB_EXPORT_DATA 2u     /* it is data: only its __imp_ symbol is declared */
 #define IMPLIB_EXPORT_CONSTANT 4u /* it is a constant */
@@ -197,6 +201,64 @@ struct implib_export {
 static inline uint32_t implib_library_of(const struct implib_options *options, const struct implib_export *exports,
                                          size_t count, uint8_t *buffer, size_t buffer_length, size_t *length,
                                          size_t *place);
+
+/*
+ * Takes some bytes of a library, in implib_write. context is what the caller passed. It returns 0 to go on, and any
+ * other number to end the call. The bytes are the caller's until it returns.
+ */
+typedef int implib_writer(void *context, const uint8_t *bytes, size_t count);
+
+/* No piece that implib_write hands over is longer. */
+#define IMPLIB_PIECE_SIZE 65536u
+
+/*
+ * Hands the library that implib_library_with has for these arguments to a function of the caller, piece by piece
+ * from its beginning on, and returns a status.
+ *
+ * write        takes the pieces; it is called only once the whole library is made
+ * context      is passed to it
+ * length       gets how many bytes it took: where the status is IMPLIB_SUCCESS the length of the library, and where
+ *              it is IMPLIB_WRITE_FAILED that of the pieces before the one that it did not take; else 0
+ * place        as of implib_library_with
+ *
+ * The library is in memory of malloc, of a size that fits most definitions, so that their members are made once;
+ * those of others are made twice. It is freed before the call returns, but not where write does not return.
+ */
+static inline uint32_t implib_write(const struct implib_options *options, const uint8_t *text, size_t text_length,
+                                    implib_writer *write, void *context, size_t *length, size_t *place);
+
+/*
+ * Puts the warnings that the program implib_dlltool has of a definition with these options, under -v, at the
+ * beginning of the buffer, and returns a status. It is IMPLIB_SUCCESS where there are none, too, and where the
+ * definition has no name of the DLL, no members or no archive; what is no definition has no warnings.
+ *
+ * The arguments and the buffer are as of implib_library_with, with the encoding in the library's place. It has
+ * numbers and texts as that of implib_members:
+ *
+ *     number               how many warnings there are, and then of each, in the order of their offsets
+ *       number             its kind, an IMPLIB_WARNING_..
+ *       number             its offset in the text, for implib_position
+ *       number, number     its line and its column as the program writes them, in which a byte order mark does not
+ *                          count; 1 and 1 for a warning about the whole text, for which the program writes none
+ *       text               the words that the program writes behind `warning: `, in UTF-8
+ *
+ * The place of a warning about the whole text is its beginning, behind a byte order mark.
+ */
+static inline uint32_t implib_warnings(const struct implib_options *options, const uint8_t *text,
+                                       size_t text_length, uint8_t *buffer, size_t buffer_length, size_t *length,
+                                       size_t *place);
+
+/* The kinds of warnings. New kinds get new numbers. */
+#define IMPLIB_WARNING_NO_EXPORT 1u
+#define IMPLIB_WARNING_OTHER_KIND 2u       /* too many members for an archive of the flavour's kind */
+#define IMPLIB_WARNING_REPEATED 3u         /* an export has the name of another, and is left out */
+#define IMPLIB_WARNING_REPEATED_ORDINAL 4u /* an export has the ordinal of another */
+#define IMPLIB_WARNING_OPENS_LINE 5u       /* an attribute is the first word of a line */
+#define IMPLIB_WARNING_LOWERED 6u          /* a name would be an attribute in capitals */
+#define IMPLIB_WARNING_ORDINAL_LIKE 7u     /* a name begins as an ordinal */
+#define IMPLIB_WARNING_STDCALL 8u          /* the DLL is asked for a name of stdcall */
+#define IMPLIB_WARNING_NOT_EXPORTED 9u     /* what follows `==` is no export */
+#define IMPLIB_WARNING_SECOND_HEADING 10u  /* the name of the DLL is given twice */
 
 /*
  * Puts the import library of a definition at the beginning of the buffer, and returns a status: the archive of
@@ -258,17 +320,11 @@ static inline uint32_t implib_members(const uint8_t *text, size_t text_length, u
  *         text             this name; only after a 1
  *       text               what follows `==`
  *       number             its ordinal
- *       number             a sum of the attributes below
+ *       number             a sum of the flags IMPLIB_EXPORT_.. of its attributes
  */
 static inline uint32_t implib_definition(const uint8_t *text, size_t text_length, uint16_t machine,
                                          uint8_t *buffer, size_t buffer_length, size_t *length,
                                          size_t *place);
-
-/* The attributes of an export of implib_definition. */
-#define IMPLIB_EXPORT_NONAME 1u
-#define IMPLIB_EXPORT_DATA 2u
-#define IMPLIB_EXPORT_PRIVATE 4u
-#define IMPLIB_EXPORT_CONSTANT 8u
 
 /*
  * Gives the line and the column of an offset in a text, as *place is one, both from 1. A line ends behind its
@@ -298,6 +354,9 @@ uint32_t implib_library_of_nonnull(const struct implib_export *exports, size_t c
                                    size_t dll_length, uint32_t has_dll, uint16_t machine, uint32_t flavor,
                                    uint32_t flags, uint8_t *buffer, size_t buffer_length, size_t *length,
                                    size_t *place);
+uint32_t implib_warnings_nonnull(const uint8_t *text, size_t text_length, const uint8_t *dll, size_t dll_length,
+                                 uint32_t has_dll, uint16_t machine, uint32_t flavor, uint32_t flags,
+                                 uint8_t *buffer, size_t buffer_length, size_t *length, size_t *place);
 uint32_t implib_library_nonnull(const uint8_t *text, size_t text_length, uint16_t machine, uint32_t flavor,
                                 uint8_t *buffer, size_t buffer_length, size_t *length, size_t *place);
 uint32_t implib_members_nonnull(const uint8_t *text, size_t text_length, uint16_t machine, uint32_t flavor,
@@ -364,6 +423,51 @@ static inline uint32_t implib_library_of(const struct implib_options *options, c
                                      all.dll_length == 0 ? &no_dll : all.dll, all.dll_length, all.dll != NULL,
                                      all.machine, all.flavor, all.flags,
                                      buffer_length == 0 ? &no_buffer : buffer, buffer_length, own_length, own_place);
+}
+
+static inline uint32_t implib_write(const struct implib_options *options, const uint8_t *text, size_t text_length,
+                                    implib_writer *write, void *context, size_t *length, size_t *place)
+{
+    size_t needed, no_length, *written = length == NULL ? &no_length : length;
+    size_t room = text_length < SIZE_MAX / 256 ? 4096 + 128 * text_length : 0;
+    uint8_t *buffer = room == 0 ? NULL : (uint8_t *)malloc(room);
+    if (buffer == NULL)
+        room = 0;
+    *written = 0;
+    uint32_t status = implib_library_with(options, text, text_length, buffer, room, &needed, place);
+    if (status == IMPLIB_BUFFER_TOO_SMALL) {
+        free(buffer);
+        buffer = (uint8_t *)malloc(needed);
+        status = buffer == NULL
+                     ? (uint32_t)IMPLIB_OUT_OF_MEMORY
+                     : implib_library_with(options, text, text_length, buffer, needed, &needed, place);
+    }
+    while (status == IMPLIB_SUCCESS && *written < needed) {
+        size_t count = needed - *written < IMPLIB_PIECE_SIZE ? needed - *written : IMPLIB_PIECE_SIZE;
+        if (write(context, buffer + *written, count) == 0)
+            *written += count;
+        else
+            status = IMPLIB_WRITE_FAILED;
+    }
+    free(buffer);
+    return status;
+}
+
+static inline uint32_t implib_warnings(const struct implib_options *options, const uint8_t *text,
+                                       size_t text_length, uint8_t *buffer, size_t buffer_length, size_t *length,
+                                       size_t *place)
+{
+    uint8_t no_text = 0, no_dll = 0, no_buffer = 0;
+    size_t no_length, no_place;
+    size_t *own_length = length == NULL ? &no_length : length, *own_place = place == NULL ? &no_place : place;
+    struct implib_options all;
+    *own_length = *own_place = 0;
+    if (!implib_private_options(options, &all))
+        return IMPLIB_UNKNOWN_OPTIONS;
+    return implib_warnings_nonnull(text_length == 0 ? &no_text : text, text_length,
+                                   all.dll_length == 0 ? &no_dll : all.dll, all.dll_length, all.dll != NULL,
+                                   all.machine, all.flavor, all.flags,
+                                   buffer_length == 0 ? &no_buffer : buffer, buffer_length, own_length, own_place);
 }
 
 static inline uint32_t implib_library(const uint8_t *text, size_t text_length, uint16_t machine,

@@ -1,18 +1,10 @@
 -- An encoded definition reads back.
-use Rattle.std.proofs.Common.{◌≡◌, ℕ, ◌<◌, ◌≤◌, ◌^◌, Bool, true, false, List, [], ◌∷◌, ◌++◌, Option, None, Some, All, length, flat_map, refl, ap, append_assoc, arith, length-append}
-use Rattle.std.specs.Option.{option_map}
-use Rattle.std.proofs.lemmas.List.Elements.{All-head, All-tail}
+use Rattle.std.proofs.Common.{◌≡◌, ℕ, ◌<◌, ◌≤◌, ◌^◌, Bool, true, false, List, ◌++◌, Option, None, Some, length, refl, append_assoc, arith, length-append}
 use Rattle.implib_c.specs.Definition.{ReadsDefinitionBack, StatedDefinition, StatedExport, definition_in, encoded_definition, encoded_export, encoded_optional, export_in, export_with, flag, flags_of, optional_in}
-use Rattle.implib_c.specs.Encoding.{encoded_list, encoded_number, encoded_text, items_in, list_in}
-use Rattle.implib_c.proofs.Lengths.{list_size, text_size}
-use Rattle.implib_c.proofs.ReadBack.{ReadsItem, counted, number_back, text_back}
-
--- parts of bytes that are few are few
-front_few : (a b : List ℕ) → length (a ++ b) < 2 ^ 64 → length a < 2 ^ 64
-front_few a b below = omega (arith, below, length-append a b)
-
-rest_few : (a b : List ℕ) → length (a ++ b) < 2 ^ 64 → length b < 2 ^ 64
-rest_few a b below = omega (arith, below, length-append a b)
+use Rattle.implib_c.specs.Encoding.{encoded_list, encoded_number, encoded_text}
+use Rattle.implib_c.proofs.Lengths.{text_size}
+use Rattle.implib_c.proofs.ListBack.{front_few, list_back_where, rest_few}
+use Rattle.implib_c.proofs.ReadBack.{ReadsItem, number_back, text_back}
 
 optional_back : ReadsItem encoded_optional optional_in
 unfolding optional_in
@@ -53,10 +45,14 @@ flag_most false number = omega arith
 flags_fit : (e : StatedExport) → flags_of e < 2 ^ 64
 flags_fit e = omega (arith, flag_most e.no_name 1, flag_most e.is_data 2, flag_most e.private 4, flag_most e.constant 8)
 
-five_apart : (a b c d e rest : List ℕ) → (a ++ (b ++ (c ++ (d ++ e)))) ++ rest ≡ a ++ (b ++ (c ++ (d ++ (e ++ rest))))
+pub five_apart : (a b c d e rest : List ℕ) → (a ++ (b ++ (c ++ (d ++ e)))) ++ rest ≡ a ++ (b ++ (c ++ (d ++ (e ++ rest))))
 five_apart a b c d e rest = simp append_assoc
 
-export_back : (e : StatedExport) (rest : List ℕ) → e.ordinal < 2 ^ 64 → length (encoded_export e) < 2 ^ 64 → export_in (encoded_export e ++ rest) ≡ Some (e, rest)
+-- the ordinal has 64 bits
+abbrev Fits : StatedExport → Type 0
+Fits e = e.ordinal < 2 ^ 64
+
+export_back : (e : StatedExport) (rest : List ℕ) → Fits e → length (encoded_export e) < 2 ^ 64 → export_in (encoded_export e ++ rest) ≡ Some (e, rest)
 unfolding export_in encoded_export
 export_back e rest fit below =
     let name : List ℕ = encoded_text e.name in
@@ -77,19 +73,6 @@ export_back e rest fit below =
     )
     refl
 
--- the ordinal has 64 bits
-abbrev Fits : StatedExport → Type 0
-Fits e = e.ordinal < 2 ^ 64
-
-exports_back : (exports : List StatedExport) (rest : List ℕ) → All Fits exports → length (flat_map encoded_export exports) < 2 ^ 64
-    → items_in export_in (length exports) (flat_map encoded_export exports ++ rest) ≡ Some (exports, rest)
-unfolding items_in
-exports_back [] rest fit below = refl
-exports_back (e ∷ exports) rest fit below =
-    let others : List ℕ = flat_map encoded_export exports in
-    rw (append_assoc (encoded_export e) others rest, export_back e (others ++ rest) (All-head Fits e exports fit) (front_few (encoded_export e) others below))
-    (ap (option_map (λ found. (e ∷ found.0, found.1))) (exports_back exports rest (All-tail Fits e exports fit) (rest_few (encoded_export e) others below)))
-
 export_long : (e : StatedExport) → 1 ≤ length (encoded_export e)
 unfolding encoded_export
 export_long e = omega (
@@ -97,15 +80,6 @@ export_long e = omega (
   text_size e.name,
   length-append (encoded_text e.name) (encoded_optional e.ext_name ++ (encoded_text e.alias_target ++ (encoded_number e.ordinal ++ encoded_number (flags_of e)))),
 )
-
-export_list_back : (exports : List StatedExport) (rest : List ℕ) → All Fits exports → length (encoded_list encoded_export exports) < 2 ^ 64
-    → list_in export_in (encoded_list encoded_export exports ++ rest) ≡ Some (exports, rest)
-unfolding list_in
-export_list_back exports rest fit below =
-    let items : List ℕ = flat_map encoded_export exports in
-    let count : length exports < 2 ^ 64 = omega (arith, below, list_size encoded_export exports, counted encoded_export export_long exports) in
-    rw (append_assoc (encoded_number (length exports)) items rest, number_back (length exports) (items ++ rest) count)
-    (exports_back exports rest fit (rest_few (encoded_number (length exports)) items below))
 
 nine_apart : (a b c d e f g h i rest : List ℕ)
     → (a ++ (b ++ (c ++ (d ++ (e ++ (f ++ (g ++ (h ++ i)))))))) ++ rest ≡ a ++ (b ++ (c ++ (d ++ (e ++ (f ++ (g ++ (h ++ (i ++ rest))))))))
@@ -146,6 +120,6 @@ definition_back d rest fit below =
       number_back d.heap_commit (major ++ (minor ++ (exports ++ rest))) fit.heap_commit,
       number_back d.major_image_version (minor ++ (exports ++ rest)) fit.major_image_version,
       number_back d.minor_image_version (exports ++ rest) fit.minor_image_version,
-      export_list_back d.exports rest fit.ordinals (last_few name base stack_reserve stack_commit heap_reserve heap_commit major minor exports below),
+      list_back_where encoded_export export_in Fits export_back export_long d.exports rest fit.ordinals (last_few name base stack_reserve stack_commit heap_reserve heap_commit major minor exports below),
     )
     refl

@@ -76,7 +76,7 @@ flag false number = 0
 
 -- the attributes of an export: 1 for NONAME, 2 for DATA, 4 for PRIVATE and 8 for CONSTANT
 abbrev pub flags_of : StatedExport → ℕ
-flags_of e = flag e.no_name 1 + flag e.is_data 2 + flag e.private 4 + flag e.constant 8
+flags_of e = flag e.no_name 1 + flag e.is_data 2 + flag e.constant 4 + flag e.private 8
 
 -- an export: its name, the external name, the target after `==`, the ordinal, and the attributes
 unfoldable pub encoded_export : StatedExport → List ℕ
@@ -126,8 +126,8 @@ export_with name ext_name alias_target ordinal flags = if nat_lt flags 16 then S
   ordinal = ordinal;
   no_name = has_flag flags 1;
   is_data = has_flag flags 2;
-  private = has_flag flags 4;
-  constant = has_flag flags 8;
+  private = has_flag flags 8;
+  constant = has_flag flags 4;
 }) else None
 
 -- an export

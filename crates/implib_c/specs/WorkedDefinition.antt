@@ -56,12 +56,12 @@ two_exports_bytes =
     ++ (hex "01 00 00 00 00 00 00 00 63"
     ++ (hex "02 00 00 00 00 00 00 00 64 65"
     ++ (hex "08 07 00 00 00 00 00 00"
-    ++ (hex "05 00 00 00 00 00 00 00"
+    ++ (hex "09 00 00 00 00 00 00 00"
     ++ (hex "01 00 00 00 00 00 00 00 66"
     ++ (hex "00 00 00 00 00 00 00 00"
     ++ (hex "00 00 00 00 00 00 00 00"
     ++ (hex "00 00 00 00 00 00 00 00"
-    ++ hex "0a 00 00 00 00 00 00 00"))))))))))))))))))
+    ++ hex "06 00 00 00 00 00 00 00"))))))))))))))))))
 
 -- an export named `g`, but for the bytes of its external name, and with these attributes
 unfoldable pub export_bytes : List ℕ → List ℕ → List ℕ

@@ -125,6 +125,7 @@ pub record WorkedTexts : Type 0 where
   pub text_43 : text_for 43 ≡ codes "unknown flags of an export"
   pub text_44 : text_for 44 ≡ codes "export name is not UTF-8"
   pub text_45 : text_for 45 ≡ codes "export has a null pointer"
+  pub text_47 : text_for 47 ≡ codes "writing failed"
   pub text_6 : text_for 6 ≡ codes "unknown status"
   pub text_15 : text_for 15 ≡ codes "unknown status"
 

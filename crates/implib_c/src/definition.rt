@@ -17,16 +17,16 @@ use crate::outcome::{Failure, machine_with};
 use implib::def::{ModuleDef, ShortExport};
 use std::alloc::{AllocError, Global};
 
-// Appends a number.
+/// Appends a number.
 #[tactic(auto, unfolding(crate::specs::Encoding::encoded_number))]
-fn push_number(bytes: &mut Vec<u8>, number: u64) -> Result<(), AllocError>
+pub fn push_number(bytes: &mut Vec<u8>, number: u64) -> Result<(), AllocError>
     ensures { OnOk result (Pushes bytes.old.items bytes.new.items (encoded_number number)) }
 {
     bytes.extend_from_slice(&number.to_le_bytes())
 }
 
-// Appends a text.
-fn push_text(bytes: &mut Vec<u8>, text: &[u8]) -> Result<(), AllocError>
+/// Appends a text.
+pub fn push_text(bytes: &mut Vec<u8>, text: &[u8]) -> Result<(), AllocError>
     ensures { OnOk result (Pushes bytes.old.items bytes.new.items (encoded_text text.now)) }
 {
     push_number(bytes, text.len() as u64)?;
@@ -61,8 +61,8 @@ fn flags_of(export: &ShortExport) -> u64
 {
     flag(export.no_name, 1)
         + flag(export.is_data, 2)
-        + flag(export.private, 4)
-        + flag(export.constant, 8)
+        + flag(export.constant, 4)
+        + flag(export.private, 8)
 }
 
 // Appends an export.

@@ -14,6 +14,7 @@ ghost use Rattle.implib_c.specs.LibraryWith.{LibraryWithAnswers};
 ghost use Rattle.implib_c.specs.Place.{text_before};
 ghost use Rattle.implib_c.specs.Status.{status_number, text_for, with_text};
 ghost use Rattle.implib_c.specs.Version.{version};
+ghost use Rattle.implib_c.specs.WarningsAnswer.{WarningsAnswers};
 ghost use Rattle.std.specs.Prelude.{◌<◌, ◌≡◌, length, map};
 
 use crate::definition::definition_into;
@@ -23,6 +24,7 @@ use crate::library_with::library_with_into;
 use crate::outcome::{Failure, length_of, library_into, members_into, place_of, status_of};
 use crate::place::position_of;
 use crate::status::status_text;
+use crate::warnings::warnings_into;
 use std::alloc::Global;
 
 // `IMPLIB_VERSION` of the header.
@@ -170,6 +172,38 @@ pub extern "C" fn implib_definition_nonnull(
     ensures { DefinitionAnswers text.now machine buffer.old buffer.new length.new place.new result }
 {
     let answer = definition_into(alloc, text, machine, buffer);
+    tell(&answer, length, place)
+}
+
+/// Puts the warnings that the program `implib_dlltool` has of a text under these options at the
+/// beginning of `buffer`, encoded as `specs/Warnings.antt` says, and gives a status: 0 where it is
+/// done, also where there are none.
+///
+/// The arguments are those of `implib_library_with_nonnull`. No contract says in which words a
+/// warning is; they are those that the program writes.
+///
+/// `length` gets the length of the encoding in bytes, where the status is 0 or 1 (the buffer is too
+/// small), and otherwise 0. `place` gets an offset in the text: the length of the longest beginning
+/// that is UTF-8, where the text is not; that of the token at which it is refused; and otherwise 0.
+/// Where the status is not 0 the buffer is as it was, and where it is 0, what follows the encoding.
+#[unsafe(no_mangle)]
+pub extern "C" fn implib_warnings_nonnull(
+    alloc: Global,
+    text: &[u8],
+    dll: &[u8],
+    has_dll: u32,
+    machine: u16,
+    flavor: u32,
+    flags: u32,
+    buffer: &mut [u8],
+    length: &mut usize,
+    place: &mut usize,
+) -> u32
+    ensures { WarningsAnswers text.now
+        (record { machine = machine; flavor = flavor; flags = flags; has_dll = has_dll; dll = dll.now })
+        buffer.old buffer.new length.new place.new result }
+{
+    let answer = warnings_into(alloc, text, dll, has_dll, machine, flavor, flags, buffer);
     tell(&answer, length, place)
 }
 

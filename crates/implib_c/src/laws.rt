@@ -5,11 +5,13 @@ ghost use Rattle.implib.specs.Members.MemberSpec.{MemberView};
 ghost use Rattle.implib_c.specs.Definition.{ReadsDefinitionBack, StatedDefinition};
 ghost use Rattle.implib_c.specs.Encoding.{ReadsBack};
 ghost use Rattle.implib_c.specs.Status.{NumbersReturn};
+ghost use Rattle.implib_c.specs.Warnings.{ReadsWarningsBack, Said};
 ghost use Rattle.implib_c.specs.WorkedDefinition.{WorkedDefinitions};
 ghost use Rattle.implib_c.specs.WorkedEncoding.{WorkedEncodings};
 ghost use Rattle.implib_c.specs.WorkedExports.{WorkedExports};
 ghost use Rattle.implib_c.specs.WorkedPlace.{WorkedPlaces};
 ghost use Rattle.implib_c.specs.WorkedStatus.{WorkedStatuses};
+ghost use Rattle.implib_c.specs.WorkedWarnings.{WorkedWarnings};
 ghost use Rattle.implib_c.specs.WrittenAlike.{OneLibrary, PutsWhatIsWritten};
 ghost use Rattle.implib_rules.specs.Options.{LibraryOptionsView};
 ghost use Rattle.std.specs.Prelude.{List, ℕ};
@@ -32,6 +34,17 @@ pub fn definitions_read_back()
 /// Encodings of what texts state, worked by hand, have these bytes, and are read so.
 pub fn worked_definitions()
     ensures { WorkedDefinitions }
+{}
+
+/// An encoding of warnings reads back, whatever follows it.
+pub fn warnings_read_back()
+    ensures { (said : List Said) (rest : List ℕ) → ReadsWarningsBack said rest }
+{}
+
+/// Encodings of warnings, worked by hand, have these bytes, and are read so; kinds have these
+/// numbers.
+pub fn worked_warnings()
+    ensures { WorkedWarnings }
 {}
 
 /// Each number of a status leads back to it.

@@ -16,3 +16,4 @@ mod place;
 mod status;
 #[cfg(test)]
 mod tests;
+mod warnings;

@@ -79,8 +79,8 @@ pub fn options_with<'a>(
     }
 }
 
-// How many bytes of a text are a byte order mark.
-fn mark_length(text: &[u8]) -> usize
+/// How many bytes of a text are a byte order mark.
+pub fn mark_length(text: &[u8]) -> usize
     ensures { result ≡ mark_length text.now }
 {
     if text.starts_with(&[0xEF, 0xBB, 0xBF]) {
@@ -100,8 +100,8 @@ fn valid_length(text: &[u8]) -> usize
     }
 }
 
-// What a refusal of a text becomes: its offset is in the text with its byte order mark.
-fn failure_in(text: &[u8], refusal: Refusal) -> Failure
+/// What a refusal of a text becomes: its offset is in the text with its byte order mark.
+pub fn failure_in(text: &[u8], refusal: Refusal) -> Failure
     requires { IsWithin text.now refusal }
     ensures status { failure_status result ≡ refusal_status refusal }
     ensures length { length_given (Err result) ≡ 0 }

@@ -83,6 +83,8 @@ pub enum Status {
     ExportNotUtf8,
     /// A pointer of an export is null. The header alone gives it.
     NullInExport,
+    /// A function of the header's caller did not take a piece of a library.
+    WriteFailed,
 }
 
 impl Status {
@@ -127,6 +129,7 @@ impl Status {
             Status::UnknownExportFlags => 43,
             Status::ExportNotUtf8 => 44,
             Status::NullInExport => 45,
+            Status::WriteFailed => 47,
         }
     }
 
@@ -171,6 +174,7 @@ impl Status {
             43 => Some(Status::UnknownExportFlags),
             44 => Some(Status::ExportNotUtf8),
             45 => Some(Status::NullInExport),
+            47 => Some(Status::WriteFailed),
             _ => None,
         }
     }
@@ -218,6 +222,7 @@ impl Status {
             Status::UnknownExportFlags => "unknown flags of an export",
             Status::ExportNotUtf8 => "export name is not UTF-8",
             Status::NullInExport => "export has a null pointer",
+            Status::WriteFailed => "writing failed",
         }
     }
 

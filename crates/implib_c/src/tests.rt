@@ -5,7 +5,7 @@ use crate::export::Export;
 use crate::exports::{
     implib_definition_nonnull, implib_library_nonnull, implib_library_of_nonnull,
     implib_library_with_nonnull, implib_members_nonnull, implib_position_nonnull,
-    implib_status_text_nonnull, implib_version,
+    implib_status_text_nonnull, implib_version, implib_warnings_nonnull,
 };
 use implib::{Flavor, ImportLibrary, MachineType};
 use implib_archive::{Archive, Kind};
@@ -587,6 +587,7 @@ const TEXTS: [(u32, &str); 40] = [
     (44, "export name is not UTF-8"),
     (45, "export has a null pointer"),
     (46, "unknown status"),
+    (47, "writing failed"),
     (0xFFFF_FFFF, "unknown status"),
 ];
 
@@ -651,6 +652,36 @@ fn a_definition_is_stated(rt: HostRuntime) -> Result<(), Fail> {
     for number in [0_usize, 0, 0, 0] {
         want.extend_from_slice(&number.to_le_bytes())?;
     }
+    assert!(rt; buffer.starts_with(want.as_slice()));
+    assert!(rt; is_untouched(buffer.get(length..).unwrap_or(&[])));
+    Ok(())
+}
+
+#[test]
+fn a_warning_is_told_in_words(rt: HostRuntime) -> Result<(), Fail> {
+    let mut buffer = room(rt.alloc(), 200)?;
+    let mut length = 12_345;
+    let mut place = 67_890;
+    let status = implib_warnings_nonnull(
+        rt.alloc(),
+        b"EXPORTS\nfeed\n data",
+        b"zoo.dll",
+        1,
+        0x8664,
+        1,
+        0,
+        buffer.as_mut_slice(),
+        &mut length,
+        &mut place,
+    );
+    assert_eq!(rt; (status, place), (0, 0));
+    let mut want = Vec::new(rt.alloc());
+    for number in [1_usize, 6, 14, 3, 2] {
+        want.extend_from_slice(&number.to_le_bytes())?;
+    }
+    let words = b"`data` is an export's name here, not the attribute DATA";
+    push_text(&mut want, words)?;
+    assert_eq!(rt; length, want.len());
     assert!(rt; buffer.starts_with(want.as_slice()));
     assert!(rt; is_untouched(buffer.get(length..).unwrap_or(&[])));
     Ok(())
