@@ -5,7 +5,7 @@ use Rattle.implib_read.specs.Classes.{MemberRead, library_in}
 use Rattle.implib_check.specs.declared.compare.Verdict.TheVariants.{Same}
 use Rattle.implib_check.specs.Comparison.{Rearranged, differing, has_other, has_unread, is_some_set, verdict, verdict_of}
 use Rattle.implib_check.specs.Facts.{Fact, both_tell, facts_of}
-use Rattle.implib_check.specs.OwnLibraries.{MeantIsDefined, OwnLibrariesAreTheSame}
+use Rattle.implib_check.specs.OwnLibraries.{MeantIsDefined, OwnLibrariesAreTheSame, SameSaysTheDefined}
 use Rattle.implib_check.proofs.Matching.{left_differs}
 use Rattle.implib_check.proofs.MeantLibraries.{one_library}
 
@@ -37,3 +37,11 @@ own_libraries_are_the_same law definition options file members v is there on =
     let says = (law definition options file members is there).says in
     let same : on.meant ≡ members = same_Some _ _ (sym on.read ∙ ap library_in (one_library definition options on.file file on.is_library is) ∙ there) in
     on.is ∙ ap (verdict members) same ∙ verdict_itself members says.read says.alone
+
+-- a library that is the same as a definition says what is defined
+pub same_says_the_defined : MeantIsDefined → SameSaysTheDefined
+same_says_the_defined law definition options members on = record {
+  meant = on.meant;
+  defined = law definition options on.file on.meant on.is_library on.read;
+  same = on.means;
+}

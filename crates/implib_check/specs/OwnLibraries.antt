@@ -16,7 +16,7 @@ use Rattle.implib_rules.specs.Options.{LibraryOptionsView}
 use Rattle.implib_rules.specs.Order.{own_aliases, own_imports}
 use Rattle.implib_check.specs.declared.compare.Verdict.{Verdict}
 use Rattle.implib_check.specs.declared.compare.Verdict.TheVariants.{Same}
-use Rattle.implib_check.specs.Comparison.{has_other, has_unread}
+use Rattle.implib_check.specs.Comparison.{AreTheSame, has_other, has_unread}
 use Rattle.implib_check.specs.Meant.{IsVerdictOn}
 
 -- the imports and aliases of members, in order
@@ -61,3 +61,14 @@ MeantIsDefined = (definition : List ℕ) (options : LibraryOptionsView) (file : 
 abbrev pub OwnLibrariesAreTheSame : Type 0
 OwnLibrariesAreTheSame = (definition : List ℕ) (options : LibraryOptionsView) (file : List ℕ) (members : List MemberRead) (v : Verdict)
     → IsLibrary definition options file → library_in file ≡ Some members → IsVerdictOn definition options members v → v ≡ Same
+
+-- a library has the imports and aliases that a definition means: those of members that say what is defined, in any order
+pub record SaysTheDefined (definition : List ℕ) (options : LibraryOptionsView) (members : List MemberRead) : Type 0 where
+  pub meant : List MemberRead
+  pub defined : IsDefinedBy definition options meant
+  pub same : AreTheSame members meant
+
+-- A library is told to be the same as a definition only where it has the imports and aliases that the definition means.
+abbrev pub SameSaysTheDefined : Type 0
+SameSaysTheDefined = (definition : List ℕ) (options : LibraryOptionsView) (members : List MemberRead) → IsVerdictOn definition options members Same
+    → SaysTheDefined definition options members

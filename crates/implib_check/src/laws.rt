@@ -1,7 +1,7 @@
 //! Laws of the definitions. The functions do nothing: their contracts are the laws.
 
 ghost use Rattle.implib_check.specs.Facts.{KeysTellFacts};
-ghost use Rattle.implib_check.specs.OwnLibraries.{MeantIsDefined, OwnLibrariesAreTheSame};
+ghost use Rattle.implib_check.specs.OwnLibraries.{MeantIsDefined, OwnLibrariesAreTheSame, SameSaysTheDefined};
 ghost use Rattle.implib_check.specs.Worked.{WorkedComparisons, WorkedIdentities, WorkedStatuses, WorkedTasks};
 ghost use Rattle.implib_check.specs.WorkedChecks.{WorkedChecks, WorkedTargets};
 
@@ -21,6 +21,14 @@ pub fn meant_is_defined()
     same_short_imports();
     same_objects();
     own_gnu_libraries();
+}
+
+/// A library is told to be the same as a definition only where it has the imports and aliases that the definition
+/// means, in any order.
+pub fn same_says_the_defined()
+    ensures { SameSaysTheDefined }
+{
+    meant_is_defined();
 }
 
 /// The library of a definition, as `implib_dlltool` writes it, is told to be the same as the definition.

@@ -54,8 +54,8 @@ one of the definition; the differences.
   -h, --help
   -V, --version
 
-Status: 0 done, the same; 1 different, or no DLL; 2 wrong call; 3 a file or
-memory failed; 4 a member that may matter was not understood.
+Status: 0 done, the same; 1 different, a refused definition, or no DLL; 2 wrong
+call; 3 a file or memory failed; 4 a member that may matter was not understood.
 ";
 
 // What the program prints for `--version`.
@@ -311,8 +311,8 @@ fn run<R: Files + AllocGlobal, O: Write, E: Write>(
 }
 
 /// Runs the program with the command line of the process, and gives the exit status: 0 where it is done or the
-/// libraries are the same, 1 where they differ or there is no DLL, 2 where the call is wrong, 3 where a file or an
-/// allocation failed, and 4 where a member that may matter was not understood.
+/// libraries are the same, 1 where they differ, a definition is refused or there is no DLL, 2 where the call is wrong,
+/// 3 where a file or an allocation failed, and 4 where a member that may matter was not understood.
 pub fn perform<R: Files + Env + AllocGlobal, O: Write, E: Write>(
     rt: &R,
     printer: &mut O,
