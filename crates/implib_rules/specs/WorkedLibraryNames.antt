@@ -1,6 +1,7 @@
--- Names of libraries, repeats that are left out, kinds of archives, exit statuses and byte order marks, worked by hand.
+-- Names of libraries, repeats that are left out, a whole definition, kinds of archives, exit statuses and byte order
+-- marks, worked by hand.
 -- The digits are those of md5sum.
-use Rattle.std.specs.Prelude.{◌≡◌, ℕ, true, List, [], ◌∷◌, Option, None, Some, codes, map}
+use Rattle.std.specs.Prelude.{◌≡◌, ℕ, true, false, List, [], ◌∷◌, Option, None, Some, codes, map}
 use Rattle.implib.specs.declared.def.position.Position.{Position}
 use Rattle.implib.specs.declared.error.Fault.{Fault}
 use Rattle.implib.specs.declared.flavor.Flavor.TheVariants.{Msvc, Gnu}
@@ -8,9 +9,12 @@ use Rattle.implib_archive.specs.declared.error.Fault.{Fault as ArchiveFault}
 use Rattle.implib_archive.specs.declared.kind.Kind.TheVariants.{Coff, Gnu as GnuKind}
 use Rattle.implib.specs.Definition.{DefinitionView, ExportView, empty_definition, empty_export}
 use Rattle.implib_rules.specs.declared.library.Refusal.TheVariants.{NotUtf8, Syntax, NoName, Members, Archive, OutOfMemory}
-use Rattle.implib_rules.specs.Library.{kind_for, status_of, without_mark}
+use Rattle.implib_rules.specs.Library.{definition_for, kind_for, status_of, without_mark}
 use Rattle.implib_rules.specs.LibraryName.{exports_taken, gnu_library_name, msvc_library_name}
+use Rattle.implib.specs.declared.machine.MachineType.TheVariants.{AMD64}
+use Rattle.implib_rules.specs.Options.{LibraryOptionsView}
 use Rattle.implib_rules.specs.Repeats.{without_repeated}
+use Rattle.implib_rules.specs.WorkedNames.{usual}
 
 -- a definition of a DLL with exports as they are linked
 abbrev pub of_exports : List ℕ → List ExportView → DefinitionView
@@ -79,6 +83,19 @@ pub record RepeatsWorked : Type 0 where
   pub three : without_repeated (function (codes "a") ∷ function (codes "b") ∷ function (codes "a") ∷ function (codes "c") ∷ function (codes "b") ∷ function (codes "a") ∷ [])
       ≡ function (codes "a") ∷ function (codes "b") ∷ gone (function (codes "a")) ∷ function (codes "c") ∷ gone (function (codes "b")) ∷ gone (function (codes "a")) ∷ []
 
+-- a library for Microsoft's linker on AMD64, of the definition's own DLL
+abbrev pub for_msvc : LibraryOptionsView
+for_msvc = record { machine = AMD64; flavor = Msvc; dll = None; naming = usual }
+
+-- The definition of a program zoo with two exports of one word, of which the second asks for another: it is left out, and
+-- adds no target.
+pub record DefinitionsMade : Type 0 where
+  pub repeated : definition_for for_msvc
+      (of_exports [] (function (codes "a") ∷ record (function (codes "a")) { alias_target = codes "b" } ∷ [])) (codes "d/zoo") true
+      ≡ record (of_exports (codes "zoo.exe")
+      (function (codes "a") ∷ record (function (codes "a")) { asked_name = Some (codes "b"); private = true } ∷ []))
+      { library_name = Some (codes "zoo") }
+
 -- the kind of an archive, by the number of its members
 pub record KindsChosen : Type 0 where
   pub msvc : map (kind_for Msvc) (0 ∷ 65534 ∷ 65535 ∷ 65536 ∷ []) ≡ Coff ∷ Coff ∷ GnuKind ∷ GnuKind ∷ []
@@ -107,6 +124,7 @@ pub record LibrariesWorked : Type 0 where
   pub gnu : GnuLibrariesNamed
   pub msvc : MsvcLibrariesNamed
   pub left_out : RepeatsWorked
+  pub made : DefinitionsMade
   pub kinds : KindsChosen
   pub statuses : StatusesChosen
   pub marks : MarksCut

@@ -144,6 +144,8 @@ pub record AliasesLinked : Type 0 where
       ≡ an_import (codes "_f@8") (codes "f@8") ∷ []
   pub undecorated : linked_exports I386 usual Msvc (line (codes "X@4") (codes "X") ∷ [])
       ≡ an_import (codes "_X@4") (codes "X") ∷ []
+  pub not_undecorated : linked_exports I386 usual Msvc (line (codes "X@4") (codes "_X") ∷ [])
+      ≡ an_alias (codes "_X@4") (codes "__X") ∷ an_import (codes "__X") (codes "_X") ∷ []
   pub as_symbol : linked_exports I386 usual Msvc (line (codes "swab") (codes "_swab") ∷ [])
       ≡ an_import (codes "_swab") (codes "_swab") ∷ []
   pub by_ordinal : linked_exports AMD64 usual Msvc
@@ -223,6 +225,7 @@ pub record DllsNamed : Type 0 where
   pub library : dll_name None (codes "zoo") false ≡ codes "zoo.dll"
   pub program : dll_name None (codes "zoo") true ≡ codes "zoo.exe"
   pub ended : dll_name None (codes "zoo.drv") false ≡ codes "zoo.drv"
+  pub ended_in_a_stop : dll_name None (codes "zoo.") false ≡ codes "zoo."
   pub below : dll_name None (codes "d.e/zoo") false ≡ codes "zoo.dll"
   pub below_backslash : dll_name None (codes "d\\e/f\\zoo") false ≡ codes "zoo.dll"
   pub given : dll_name (Some (codes "d/zoo")) (codes "a.dll") false ≡ codes "zoo"

@@ -12,7 +12,7 @@ use Rattle.implib_rules.specs.declared.places.Place.{Place}
 use Rattle.implib_rules.specs.declared.places.Site.{Site}
 use Rattle.implib_rules.specs.declared.places.Site.TheVariants as site
 use Rattle.implib_rules.specs.declared.warnings.words.Attribute.TheVariants.{Data, Constant, Private, NoName}
-use Rattle.implib_rules.specs.Places.{attribute_of, places_in}
+use Rattle.implib_rules.specs.Places.{attribute_of, name_offset, places_in}
 use Rattle.implib_rules.specs.Options.{LibraryOptionsView}
 use Rattle.implib_rules.specs.Warnings.{HasNoExport, IsLowered, IsNotExported, IsOrdinalLike, IsOtherKind, IsRepeated, IsSecondHeading, IsStdcall}
 use Rattle.implib_rules.specs.Warnings.{NoticeView, OpensLine, RepeatsOrdinal, WarningView}
@@ -79,12 +79,13 @@ lined_heard =
     ∷ other KwName (codes "NAME") 42
     ∷ []
 
--- The attributes of keywords. Its places: the names of exports, the attribute that begins a line and not the one within a line, and the
+-- The attributes of keywords; where the names of exports begin, and 0 where there is none. Its places: the names of exports, the attribute that begins a line and not the one within a line, and the
 -- second heading
 pub record PlacesWorked : Type 0 where
   pub attributes : map attribute_of (KwData ∷ KwConstant ∷ KwPrivate ∷ KwNoname ∷ KwExports ∷ [])
       ≡ Some Data ∷ Some Constant ∷ Some Private ∷ Some NoName ∷ None ∷ []
   pub is_heard : IsHeard lined_text lined_heard
+  pub names : map (name_offset lined_heard) (0 ∷ 1 ∷ 2 ∷ []) ≡ 15 ∷ 23 ∷ 0 ∷ []
   pub lined : places_in lined_text lined_heard
       ≡ place site.Export (at_line 15 1 16)
       ∷ place (site.Attribute Data) (at_line 18 2 2)

@@ -26,6 +26,7 @@ worked = record {
   itself = refl;
   without_prefix = refl;
   undecorated = refl;
+  not_undecorated = refl;
   as_symbol = refl;
   by_ordinal = refl;
   private = refl;

@@ -9,6 +9,7 @@ worked = record {
   library = refl;
   program = refl;
   ended = refl;
+  ended_in_a_stop = refl;
   below = refl;
   below_backslash = refl;
   given = refl;

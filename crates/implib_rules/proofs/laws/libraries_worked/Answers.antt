@@ -2,8 +2,9 @@ use Rattle.std.proofs.Common.{refl}
 use Rattle.hex.specs.Hex.{encode_with}
 use Rattle.md5.specs.Md5.{block_words, rounds, compress, hash_after, digest_bytes, md5}
 use Rattle.implib_rules.specs.LibraryName.{gnu_library_name}
+use Rattle.implib_rules.specs.Names.{part_after_last}
 use Rattle.implib_rules.specs.Repeats.{without_repeated}
-use Rattle.implib_rules.specs.WorkedLibraryNames.{ExportsTaken, GnuLibrariesNamed, KindsChosen, MarksCut, MsvcLibrariesNamed, RepeatsWorked, StatusesChosen}
+use Rattle.implib_rules.specs.WorkedLibraryNames.{DefinitionsMade, ExportsTaken, GnuLibrariesNamed, KindsChosen, MarksCut, MsvcLibrariesNamed, RepeatsWorked, StatusesChosen}
 use Rattle.implib_rules.proofs.laws.libraries_worked.Goals as goal
 
 taken : ExportsTaken
@@ -34,6 +35,10 @@ repeats = record {
   three = refl;
 }
 
+made : DefinitionsMade
+unfolding part_after_last without_repeated
+made = record { repeated = refl }
+
 kinds : KindsChosen
 kinds = record { msvc = refl; gnu = refl }
 
@@ -51,4 +56,4 @@ marks : MarksCut
 marks = record { marked = refl; twice = refl; behind = refl; not_whole = refl; other = refl }
 
 pub returns : goal.returns
-returns c = record { taken = taken; gnu = gnu; msvc = msvc; left_out = repeats; kinds = kinds; statuses = statuses; marks = marks }
+returns c = record { taken = taken; gnu = gnu; msvc = msvc; left_out = repeats; made = made; kinds = kinds; statuses = statuses; marks = marks }

@@ -23,6 +23,7 @@ unfolding walked opened many_heard statements_heard
 worked = record {
   attributes = refl;
   is_heard = heard _ refl refl refl;
+  names = refl;
   lined = refl;
 }
 
