@@ -10,8 +10,8 @@ use Rattle.implib.specs.Renaming.{renamed}
 use Rattle.implib.specs.Text.Parses.{Parses}
 use Rattle.implib.proofs.Text.OneReading.{one_definition}
 use Rattle.implib_archive.specs.Archive.{archive_of}
-use Rattle.implib_rules.specs.Exports.{IsLibraryOfExports, MembersOfExports, of_exports}
-use Rattle.implib_rules.specs.Library.{IsLibrary, MembersFor, definition_for, kind_of, without_mark}
+use Rattle.implib_rules.specs.Exports.{MembersOfExports, of_exports}
+use Rattle.implib_rules.specs.Library.{MembersFor, definition_for, kind_of, without_mark}
 use Rattle.implib_rules.specs.LibraryLaws.{LibrariesAreOfExports}
 use Rattle.implib_rules.specs.LibraryName.{gnu_library_name, with_library_name}
 use Rattle.implib_rules.specs.Linked.{NamingView, linked}

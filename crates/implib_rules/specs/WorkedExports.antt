@@ -1,9 +1,9 @@
 -- Definitions of exports that are given without a text, worked by hand.
-use Rattle.std.specs.Prelude.{◌≡◌, ℕ, List, [], ◌∷◌, Option, None, Some, codes, true}
+use Rattle.std.specs.Prelude.{ℕ, List, [], ◌∷◌, Option, None, Some, codes, true}
 use Rattle.implib.specs.declared.flavor.Flavor.TheVariants.{Msvc}
 use Rattle.implib.specs.declared.machine.MachineType.{MachineType}
 use Rattle.implib.specs.declared.machine.MachineType.TheVariants.{AMD64, I386}
-use Rattle.implib.specs.Definition.{DefinitionView, ExportView, empty_definition, empty_export}
+use Rattle.implib.specs.Definition.{DefinitionView, ExportView, empty_definition}
 use Rattle.implib_rules.specs.declared.exports.ExportsRefusal.TheVariants.{NoName}
 use Rattle.implib_rules.specs.Exports.{DefinitionOfExports, IsRefusalOfExports}
 use Rattle.implib_rules.specs.Linked.{NamingView}

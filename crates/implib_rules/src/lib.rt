@@ -5,7 +5,7 @@
 //! a definition. Which name the DLL has ([`name`]), which exports count ([`repeats`]), by which symbols
 //! they are linked and what they ask the DLL for ([`linked`], [`aliases`]), and how the library is
 //! named for the linker ([`library_name`]) are rules of their own. Where in the text each of this
-//! stands is in [`places`].
+//! stands is in [`places`]. Exports that are given without a text have their members by [`exports`].
 #![tactic(auto)]
 
 pub mod aliases;
