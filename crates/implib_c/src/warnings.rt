@@ -18,8 +18,8 @@ use crate::outcome::Failure;
 use implib::Flavor;
 use implib_rules::library::{Refusal, members_for, text_in};
 use implib_rules::options::LibraryOptions;
-use implib_rules::places::read_with_places;
-use implib_rules::warnings::{Notice, NoticeMessage, Warning, export_lines, warnings_of};
+use implib_rules::places::{export_lines, read_with_places};
+use implib_rules::warnings::{Notice, NoticeMessage, Warning, warnings_of};
 use std::alloc::{AllocError, Global};
 
 // The number of a kind of warnings.

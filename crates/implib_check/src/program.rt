@@ -12,10 +12,9 @@ use crate::status::{identity_status, list_status, refusal_status, verdict_status
 use crate::target::options_for;
 use crate::task::{Task, task_named};
 use crate::text::{Listed, Place, Shown, Source, doubt_of};
-use implib::def::Position;
 use implib_read::{Library, MemberRead};
 use implib_rules::library::Refusal;
-use implib_rules::position_of;
+use implib_rules::{ShownPlace, position_of};
 use indexmap::IndexSet;
 use std::alloc::{AllocError, Global};
 use std::env::Env;
@@ -256,9 +255,12 @@ fn run_same<R: Files + AllocGlobal, O: Write, E: Write>(
 fn refuse<E: Write>(faults: &mut E, path: &str, refusal: &Refusal) -> u8
     ensures { result ≡ refusal_status refusal.now }
 {
-    let Position { line, column, .. } = position_of(refusal);
     let mut lines = Lines { writer: faults };
-    let _ = writeln!(lines, "{path}:{line}:{column}: {refusal}");
+    let _ = writeln!(
+        lines,
+        "{} {refusal}",
+        ShownPlace(path, position_of(refusal))
+    );
     refusal_status(refusal)
 }
 

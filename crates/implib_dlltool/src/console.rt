@@ -6,7 +6,7 @@ use crate::reporter::{Complaint, Reporter};
 use implib::def::Position;
 use implib_rules::library::Refusal;
 use implib_rules::warnings::{Notice, NoticeMessage, Warning};
-use implib_rules::{ShownPath, position_of};
+use implib_rules::{ShownPath, ShownPlace, position_of};
 use std::alloc::Global;
 use std::fmt;
 use std::fmt::Write as _;
@@ -30,29 +30,17 @@ fn position_warned(warning: &Warning<'_>) -> Option<Position> {
     }
 }
 
-// Writes a path, and where in its file something is.
-fn write_place<W: fmt::Write>(
-    f: &mut fmt::Formatter<W>,
-    path: &str,
-    position: Option<Position>,
-) -> fmt::Result {
-    write!(f, "{}:", ShownPath(path))?;
-    match position {
-        Some(Position { line, column, .. }) => write!(f, "{line}:{column}:"),
-        None => Ok(()),
-    }
-}
-
 impl<'a> fmt::Display for Message<'a> {
     fn fmt<W: fmt::Write>(&self, f: &mut fmt::Formatter<W>) -> fmt::Result {
         match self {
-            Message::Warning(path, warning, lines) => {
-                write_place(f, path, position_warned(warning))?;
-                write!(f, " warning: {}", NoticeMessage(warning.notice, lines))
-            }
+            Message::Warning(path, warning, lines) => write!(
+                f,
+                "{} warning: {}",
+                ShownPlace(path, position_warned(warning)),
+                NoticeMessage(warning.notice, lines),
+            ),
             Message::Refusal(path, refusal) => {
-                write_place(f, path, position_of(refusal))?;
-                write!(f, " {refusal}")
+                write!(f, "{} {refusal}", ShownPlace(path, position_of(refusal)))
             }
             Message::Complaint(subject, complaint) => {
                 write!(f, "{}: {complaint}", ShownPath(subject))

@@ -24,4 +24,4 @@ mod shown;
 pub mod warnings;
 
 pub use message::{FaultMessage, position_of};
-pub use shown::{Shown, ShownPath};
+pub use shown::{Shown, ShownPath, ShownPlace};

@@ -1,5 +1,6 @@
-//! How words and paths are shown in a line.
+//! How words, paths and places are shown in a line.
 
+use implib::def::Position;
 use std::fmt;
 
 // How many characters of a word are shown.
@@ -40,5 +41,20 @@ pub struct ShownPath<'a>(pub &'a str);
 impl<'a> fmt::Display for ShownPath<'a> {
     fn fmt<W: fmt::Write>(&self, f: &mut fmt::Formatter<W>) -> fmt::Result {
         write_shown(f, self.0, usize::MAX)
+    }
+}
+
+/// Where in a file something is, as it stands before a message: `path:line:column:`, and `path:`
+/// alone where it is of the whole file.
+#[derive(Drop)]
+pub struct ShownPlace<'a>(pub &'a str, pub Option<Position>);
+
+impl<'a> fmt::Display for ShownPlace<'a> {
+    fn fmt<W: fmt::Write>(&self, f: &mut fmt::Formatter<W>) -> fmt::Result {
+        write!(f, "{}:", ShownPath(self.0))?;
+        match self.1 {
+            Some(Position { line, column, .. }) => write!(f, "{line}:{column}:"),
+            None => Ok(()),
+        }
     }
 }
