@@ -43,7 +43,7 @@ flag_most true number = omega arith
 flag_most false number = omega arith
 
 flags_fit : (e : StatedExport) → flags_of e < 2 ^ 64
-flags_fit e = omega (arith, flag_most e.no_name 1, flag_most e.is_data 2, flag_most e.private 4, flag_most e.constant 8)
+flags_fit e = omega (arith, flag_most e.no_name 1, flag_most e.is_data 2, flag_most e.private 8, flag_most e.constant 4)
 
 pub five_apart : (a b c d e rest : List ℕ) → (a ++ (b ++ (c ++ (d ++ e)))) ++ rest ≡ a ++ (b ++ (c ++ (d ++ (e ++ rest))))
 five_apart a b c d e rest = simp append_assoc
