@@ -1,6 +1,5 @@
 -- The answers of a call with exports, case by case.
 use Rattle.std.proofs.Common.{◌≡◌, ◌<◌, ◌≤◌, ℕ, List, None, Some, Result, Ok, Err, length, refl, subst, sym, arith, ap}
-use Rattle.std.specs.Prelude.{All}
 use Rattle.implib.specs.Definition.{ExportView}
 use Rattle.implib.specs.Members.MemberSpec.{MemberView}
 use Rattle.implib_archive.specs.declared.kind.Kind.{Kind}
@@ -20,7 +19,7 @@ use Rattle.implib_c.specs.declared.status.Status.{Status}
 use Rattle.implib_c.specs.Given.{PacksInto, failure_status, length_given, place_given, status_given}
 use Rattle.implib_c.specs.GivenOf.{AreGiven, OnExportFault, PutsLibraryOf, failure_given}
 use Rattle.implib_c.specs.GivenWith.{IsNoOptions}
-use Rattle.implib_c.specs.LibraryOf.{EndingOf, EndsOf, EndsUnder, GivenExport, IsAccepted, IsFirstFault, LibraryOfAnswers, Made, NoExport, NoOptions, OutOfMemory, Refused, TooLong, Unpacked, WithExports, exports_given, exports_status, place_of_refusal}
+use Rattle.implib_c.specs.LibraryOf.{EndingOf, EndsOf, EndsUnder, GivenExport, IsFirstFault, LibraryOfAnswers, Made, NoExport, NoOptions, OutOfMemory, Refused, TooLong, Unpacked, WithExports, exports_status, place_of_refusal}
 use Rattle.implib_c.specs.LibraryWith.{AreOptions, GivenOptions, WithOptions}
 use Rattle.implib_c.specs.Status.{status_number}
 

@@ -1,5 +1,5 @@
 -- Exports as C passes them, read from the first to the last.
-use Rattle.std.proofs.Common.{◌≡◌, ◌∙◌, ◌++◌, ◌+◌, ◌<◌, ℕ, List, [], ◌∷◌, Some, ap, arith, get_or, length, map, subst, sym, take}
+use Rattle.std.proofs.Common.{◌≡◌, ◌∙◌, ◌++◌, ◌+◌, ◌<◌, ℕ, List, [], ◌∷◌, ap, arith, get_or, length, map, refl, subst, sym, take}
 use Rattle.std.specs.Option.{option_map}
 use Rattle.std.proofs.lemmas.List.{get_or-map, length-map, map_more}
 use Rattle.std.proofs.lemmas.List.Elements.{All-more}
@@ -7,8 +7,14 @@ use Rattle.std.proofs.lemmas.Option.{slice_get-get_or, slice_get-map}
 use Rattle.implib.specs.Definition.{ExportView}
 use Rattle.implib_c.specs.declared.export.Export.{Export}
 use Rattle.implib_c.specs.declared.export.ExportFault.{ExportFault}
+use Rattle.implib_rules.specs.Exports.{LackSymbolNames}
 use Rattle.implib_c.specs.GivenOf.{AreGiven}
-use Rattle.implib_c.specs.LibraryOf.{IsAccepted, IsExportFault, IsFirstFault, export_given, exports_given, given_export}
+use Rattle.implib_c.specs.LibraryOf.{GivenExport, IsAccepted, IsExportFault, IsFirstFault, export_given, exports_given, given_export}
+
+-- none has a symbol name
+pub lack_symbol_names : (exports : List GivenExport) → LackSymbolNames (exports_given exports)
+lack_symbol_names [] = refl
+lack_symbol_names (e ∷ exports) = lack_symbol_names exports
 
 module _ (exports : List Export) (index : ℕ) (d : Export) (within : index < length exports) where
   -- one export more

@@ -4,6 +4,7 @@
 ghost use Rattle.implib.specs.Members.MemberSpec.{MemberView};
 ghost use Rattle.implib_c.specs.Definition.{ReadsDefinitionBack, StatedDefinition};
 ghost use Rattle.implib_c.specs.Encoding.{ReadsBack};
+ghost use Rattle.implib_c.specs.LibraryOf.{GivenExport, exports_given};
 ghost use Rattle.implib_c.specs.Status.{NumbersReturn};
 ghost use Rattle.implib_c.specs.Warnings.{ReadsWarningsBack, Said};
 ghost use Rattle.implib_c.specs.WorkedDefinition.{WorkedDefinitions};
@@ -13,6 +14,7 @@ ghost use Rattle.implib_c.specs.WorkedPlace.{WorkedPlaces};
 ghost use Rattle.implib_c.specs.WorkedStatus.{WorkedStatuses};
 ghost use Rattle.implib_c.specs.WorkedWarnings.{WorkedWarnings};
 ghost use Rattle.implib_c.specs.WrittenAlike.{OneLibrary, PutsWhatIsWritten};
+ghost use Rattle.implib_rules.specs.Exports.{LackSymbolNames};
 ghost use Rattle.implib_rules.specs.Options.{LibraryOptionsView};
 ghost use Rattle.std.specs.Prelude.{List, ℕ};
 
@@ -66,6 +68,12 @@ pub fn worked_statuses()
 /// numbers and places.
 pub fn worked_exports()
     ensures { WorkedExports }
+{}
+
+/// No export that C passes has a symbol name in a definition, so the library of exports for
+/// Microsoft's linker is read in order (`library_reads` of `MembersOfExports`).
+pub fn given_exports_lack_symbol_names()
+    ensures { (exports : List GivenExport) → LackSymbolNames (exports_given exports) }
 {}
 
 /// A text has one library for some options, by the rules of the program.
