@@ -57,6 +57,7 @@ pub record FlavorsChosen : Type 0 where
   pub own_capitals : default_flavor called.Itself I386 false (Some (codes "A.LIB")) ≡ Msvc
   pub own_archive : default_flavor called.Itself I386 false (Some (codes "lib.a")) ≡ Gnu
   pub own_mixed : default_flavor called.Itself AMD64 false (Some (codes "a.lib.a")) ≡ Gnu
+  pub own_mixed_case : default_flavor called.Itself AMD64 false (Some (codes "a.Lib")) ≡ Gnu
   pub own_none : default_flavor called.Itself AMD64 false None ≡ Gnu
   pub own_habits : default_flavor called.Itself AMD64 true (Some (codes "a.lib")) ≡ Gnu
   pub own_armnt : default_flavor called.Itself ARMNT true (Some (codes "a.a")) ≡ Msvc

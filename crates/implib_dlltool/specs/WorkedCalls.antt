@@ -1,5 +1,5 @@
--- What command lines ask for, worked by hand.
-use Rattle.std.specs.Prelude.{◌≡◌, [], ◌∷◌, true, false, None, Some, Ok, Err, codes}
+-- What command lines ask for, and what is read and answered for them, worked by hand.
+use Rattle.std.specs.Prelude.{◌≡◌, ℕ, List, [], ◌∷◌, Option, true, false, None, Some, Ok, Err, codes}
 use Rattle.implib.specs.declared.flavor.Flavor.TheVariants.{Msvc, Gnu}
 use Rattle.implib.specs.declared.machine.MachineType.TheVariants.{I386, AMD64, ARM64}
 use Rattle.implib_dlltool.specs.declared.options.Setting.TheVariants.{Definition, Output, Machine, Dll}
@@ -8,8 +8,18 @@ use Rattle.implib_dlltool.specs.declared.options.Switch.TheVariants.{Help, Verbo
 use Rattle.implib_dlltool.specs.declared.request.CalledAs.TheVariants.{Itself}
 use Rattle.implib_dlltool.specs.declared.request.Caller.{Caller}
 use Rattle.implib_dlltool.specs.Arguments.{Given, Switched}
-use Rattle.implib_dlltool.specs.Request.{Asks, AsksHelp, GoesToStandard, HasEmptyDll, IsUnknownFlavor, IsUnknownMachine, LacksDefinition, task_of}
+use Rattle.implib_dlltool.specs.Disk.{DiskView}
+use Rattle.implib_dlltool.specs.Program.{answer_status, definition_in, export_lines, verdict}
+use Rattle.implib_dlltool.specs.Reports.{Complains, OfWriting, Refuses}
+use Rattle.implib_dlltool.specs.Request.{Asks, AsksHelp, GoesToStandard, HasEmptyDll, IsUnknownFlavor, IsUnknownMachine, LacksDefinition, RequestView, task_of}
 use Rattle.implib_dlltool.specs.Worked.{mingw_options, rustc_options}
+use Rattle.implib_archive.specs.declared.error.WriteError.{WriteError}
+use Rattle.implib_rules.specs.declared.library.LibraryError.TheVariants.{Refused, Writing}
+use Rattle.implib_rules.specs.declared.library.Refusal.TheVariants.{NoName, NotUtf8, OutOfMemory}
+use Rattle.implib_rules.specs.declared.places.Place.{Place}
+use Rattle.implib_rules.specs.declared.places.Site.{Site}
+use Rattle.implib_rules.specs.declared.places.Site.TheVariants as site
+use Rattle.implib_rules.specs.declared.warnings.words.Attribute.TheVariants.{Data}
 use Rattle.implib_rules.specs.WorkedNames.{killing, plain, usual}
 
 -- the program called by its own name, and by one of I386 whose ways are the same
@@ -57,3 +67,32 @@ pub record CallsAnswered : Type 0 where
   pub mips : task_of itself (Given Definition (codes "a") ∷ Given Machine (codes "mips") ∷ []) ≡ Err (IsUnknownMachine (codes "mips"))
   pub borland : task_of itself (Given Definition (codes "a") ∷ Given FlavorSetting (codes "borland") ∷ []) ≡ Err (IsUnknownFlavor (codes "borland"))
   pub empty_dll : task_of itself (Given Definition (codes "a") ∷ Given Dll (codes "d/") ∷ []) ≡ Err HasEmptyDll
+
+-- a library of a.def for a file, or for none
+abbrev pub asked_for : Option (List ℕ) → RequestView
+asked_for output = record {
+  definition = codes "a.def";
+  output = output;
+  library = record { machine = AMD64; flavor = Gnu; dll = None; naming = usual };
+  is_verbose = false;
+}
+
+-- a place in a line
+abbrev pub in_line : Site → ℕ → Place
+in_line site line = record { site = site; position = record { offset = 0; line = line; column = 1 } }
+
+-- which bytes are read, which lines exports are in, and what is said of an answer, and its exit status
+pub record AnswersTold : Type 0 where
+  pub from_input : (disk : DiskView) → definition_in (Some (codes "x")) disk (codes "-") ≡ Some (codes "x")
+  pub from_file : (disk : DiskView) → definition_in (Some (codes "x")) disk (codes "--") ≡ disk.seen (codes "--")
+  pub lines : export_lines (in_line site.Export 3 ∷ in_line (site.Attribute Data) 4 ∷ in_line site.Heading 5 ∷ in_line site.Export 6 ∷ [])
+      ≡ 3 ∷ 6 ∷ []
+  pub made : answer_status (Ok tt) ≡ 0
+  pub refused : answer_status (Err (Refused NoName)) ≡ 1
+  pub out_of_memory : answer_status (Err (Refused OutOfMemory)) ≡ 3
+  pub unwritten : (cause : WriteError) → answer_status (Err (Writing cause)) ≡ 3
+  pub nothing_said : verdict (asked_for (Some (codes "b.lib"))) (Ok tt) ≡ []
+  pub refusal_said : verdict (asked_for (Some (codes "b.lib"))) (Err (Refused NotUtf8)) ≡ Refuses (codes "a.def") NotUtf8 ∷ []
+  pub failure_said : (cause : WriteError) → verdict (asked_for (Some (codes "b.lib"))) (Err (Writing cause))
+      ≡ Complains (codes "b.lib") OfWriting ∷ []
+  pub failure_of_none_said : (cause : WriteError) → verdict (asked_for None) (Err (Writing cause)) ≡ Complains (codes "-") OfWriting ∷ []

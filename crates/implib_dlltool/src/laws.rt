@@ -2,7 +2,7 @@
 
 ghost use Rattle.implib_dlltool.specs.Worked.{CallsRead};
 ghost use Rattle.implib_dlltool.specs.WorkedCallers.{CallersNamed, FaultsOrdered, FlavorsChosen};
-ghost use Rattle.implib_dlltool.specs.WorkedCalls.{CallsAnswered};
+ghost use Rattle.implib_dlltool.specs.WorkedCalls.{AnswersTold, CallsAnswered};
 ghost use Rattle.implib_dlltool.specs.WorkedOptions.{OptionsNamed};
 
 /// Command lines as rustc and mingw-w64 write them, and wrong ones, are read as was worked by hand.
@@ -19,6 +19,12 @@ pub fn options_named()
 /// are refused.
 pub fn calls_answered()
     ensures { CallsAnswered }
+{}
+
+/// The right bytes are read, the right lines counted, and of each answer the right thing is said, with
+/// its exit status.
+pub fn answers_told()
+    ensures { AnswersTold }
 {}
 
 /// Programs' names ask for the machines and the ways that were worked by hand.

@@ -10,6 +10,7 @@ worked = record {
   own_capitals = refl;
   own_archive = refl;
   own_mixed = refl;
+  own_mixed_case = refl;
   own_none = refl;
   own_habits = refl;
   own_armnt = refl;
