@@ -16,18 +16,6 @@ const STATUS_TEXT_SIZE: usize = 32;
 const SUCCESS: u32 = 0;
 const BUFFER_TOO_SMALL: u32 = 1;
 
-/// `implib_library_nonnull` or `implib_members_nonnull`.
-type Call = unsafe extern "C" fn(
-    text: *const u8,
-    text_length: usize,
-    machine: u16,
-    flavor: u32,
-    buffer: *mut u8,
-    buffer_length: usize,
-    length: *mut usize,
-    place: *mut usize,
-) -> u32;
-
 extern "C" {
     fn implib_version() -> u32;
 
@@ -42,11 +30,10 @@ extern "C" {
         place: *mut usize,
     ) -> u32;
 
-    fn implib_members_nonnull(
+    fn implib_definition_nonnull(
         text: *const u8,
         text_length: usize,
         machine: u16,
-        flavor: u32,
         buffer: *mut u8,
         buffer_length: usize,
         length: *mut usize,
@@ -69,8 +56,8 @@ extern "C" {
 pub(crate) enum Product {
     /// The import library: an archive.
     Library,
-    /// Its members, in the encoding that the header describes.
-    Members,
+    /// What the text states, in the encoding that the header describes.
+    Definition,
 }
 
 /// A definition with what it is read for.
@@ -139,26 +126,22 @@ fn put(
     flavor: u32,
     buffer: &mut [u8],
 ) -> Result<usize, (u32, usize, usize)> {
-    let call: Call = match product {
-        Product::Library => implib_library_nonnull,
-        Product::Members => implib_members_nonnull,
-    };
     let (mut length, mut place) = (0, 0);
     // SAFETY: text and buffer are slices, so each pointer is not null and leads to as many bytes as its length says.
     // The buffer and the two numbers are borrowed to be written, so they overlap neither each other nor the text,
     // and nobody else reads or writes them during the call. The library keeps no pointer. Any number may be passed
     // as machine and flavour.
     let status = unsafe {
-        call(
-            text.as_ptr(),
-            text.len(),
-            machine,
-            flavor,
-            buffer.as_mut_ptr(),
-            buffer.len(),
-            &mut length,
-            &mut place,
-        )
+        let (text, text_length) = (text.as_ptr(), text.len());
+        let (buffer, room) = (buffer.as_mut_ptr(), buffer.len());
+        match product {
+            Product::Library => {
+                implib_library_nonnull(text, text_length, machine, flavor, buffer, room, &mut length, &mut place)
+            }
+            Product::Definition => {
+                implib_definition_nonnull(text, text_length, machine, buffer, room, &mut length, &mut place)
+            }
+        }
     };
     match status {
         SUCCESS => Ok(length),

@@ -58,15 +58,13 @@ pub struct ShortExport {
 impl ModuleDef {
     /// Reads a definition.
     ///
-    /// The fields are what an import library shows of them: the DLL's name, and the exports that are not private,
-    /// each by the name to link by, with its alias, unless that is the name itself. So `ext_name` is `None`,
-    /// `symbol_name` is empty, and the numbers are 0. [`ImportLibrary::from_def`](crate::ImportLibrary::from_def)
-    /// makes of it the library that [`ImportLibrary::new`](crate::ImportLibrary::new) makes of the text.
+    /// No statement gives a `symbol_name` or the numbers of the system's version.
+    /// [`ImportLibrary::from_def`](crate::ImportLibrary::from_def) makes of it the library that
+    /// [`ImportLibrary::new`](crate::ImportLibrary::new) makes of the text.
     ///
     /// # Errors
     ///
-    /// The first syntax error, with its place; and what leaves a library for Microsoft's linker without members,
-    /// but that the DLL has no name, which may then be set.
+    /// The first syntax error, with its place.
     pub fn parse(def: &str, machine: MachineType) -> Result<ModuleDef, Error> {
         read::definition(def, machine)
     }
@@ -100,8 +98,8 @@ impl ShortExport {
             return Ok(());
         }
         let name = self.ext_name.as_ref().unwrap_or(&self.name);
-        if name.is_empty() {
-            // On I386 an empty word is the name `_`.
+        if name.is_empty() && machine == MachineType::I386 {
+            // Here an empty word is the name `_`.
             return Err(Fault::EmptyName);
         }
         if !self.symbol_name.is_empty() && self.symbol_name != *name {

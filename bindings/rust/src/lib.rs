@@ -108,10 +108,12 @@ impl ImportLibrary {
 
     /// The name of the DLL.
     ///
-    /// A text's is read from the members for Microsoft's linker when it is first asked for; it is empty where they
-    /// are refused.
+    /// A text's is read when it is first asked for.
     pub fn import_name(&self) -> &str {
-        self.import_name.get_or_init(|| read::import_name(&self.text, self.machine).unwrap_or_default())
+        self.import_name.get_or_init(|| match read::definition(&self.text, self.machine) {
+            Ok(definition) => definition.import_name,
+            Err(_) => String::new(),
+        })
     }
 
     /// Writes the library: a `.lib` for Microsoft's linker, a `.a` for GNU's.

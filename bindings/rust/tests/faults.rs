@@ -67,9 +67,9 @@ fn faults_of_a_definition() {
             assert_eq!((error.fault(), error.export_index(), error.position()), (fault, export, None));
             assert_eq!(error.to_string(), said);
         }
-        if fault != Fault::EmptyImportName {
-            assert_eq!(ModuleDef::parse(&text, machine).unwrap_err().fault(), fault);
-        }
+        let parsed = ModuleDef::parse(&text, machine).unwrap();
+        let error = refused(&ImportLibrary::from_def(parsed, machine, Flavor::Msvc));
+        assert_eq!((error.fault(), error.export_index()), (fault, export));
     }
 }
 

@@ -80,7 +80,7 @@ fn a_writer_that_fails_is_told() {
 }
 
 #[test]
-fn fields_that_a_library_shows() {
+fn fields_of_a_text() {
     let parsed = ModuleDef::parse(&format!("{ZOO}old PRIVATE\nswim = dive\n"), MachineType::AMD64).unwrap();
     let wanted = vec![
         export("feed"),
@@ -88,9 +88,22 @@ fn fields_that_a_library_shows() {
         ShortExport { ordinal: 7, no_name: true, ..export("night") },
         ShortExport { alias_target: "close".to_owned(), ..export("shut") },
         ShortExport { ordinal: 3, constant: true, ..export("size") },
-        export("swim"),
+        ShortExport { private: true, ..export("old") },
+        ShortExport { ext_name: Some("swim".to_owned()), ..export("dive") },
     ];
     assert_eq!(parsed, zoo(wanted));
+    let numbers = "LIBRARY zoo.dll BASE=4294967296\nSTACKSIZE 1,2\nHEAPSIZE 3,4\nVERSION 5.6";
+    let wanted = ModuleDef {
+        image_base: 1 << 32,
+        stack_reserve: 1,
+        stack_commit: 2,
+        heap_reserve: 3,
+        heap_commit: 4,
+        major_image_version: 5,
+        minor_image_version: 6,
+        ..zoo(vec![])
+    };
+    assert_eq!(ModuleDef::parse(numbers, MachineType::AMD64), Ok(wanted));
     // On I386 a symbol has the underscore of C; a name of eight bytes is in its symbol's record, or in the strings.
     let parsed = ModuleDef::parse("LIBRARY zoo.dll\nEXPORTS\na == seventyy\n@b@4\n?c", MachineType::I386).unwrap();
     let a = ShortExport { alias_target: "seventyy".to_owned(), ..export("_a") };

@@ -40,19 +40,10 @@ fn is_read(text: &str, machine: MachineType, flavor: Flavor) -> bool {
         }
     };
     let wanted = written(&library);
-    match ModuleDef::parse(text, machine) {
-        Ok(parsed) => {
-            assert_eq!(parsed.import_name, library.import_name(), "{text:?}");
-            let made = ImportLibrary::from_def(parsed, machine, flavor);
-            assert_eq!(written(&made), wanted, "{text:?}, {machine:?}, {flavor:?}");
-        }
-        Err(error) => {
-            let of_msvc = written(&ImportLibrary::new(text, machine, Flavor::Msvc).unwrap());
-            // A definition without a name is read with one, and refused for what it then lacks.
-            let is_so = of_msvc == Err(error.fault()) || of_msvc == Err(Fault::EmptyImportName);
-            assert!(is_so, "{text:?}: {error:?}");
-        }
-    }
+    let parsed = ModuleDef::parse(text, machine).unwrap();
+    assert_eq!(parsed.import_name, library.import_name(), "{text:?}");
+    let made = ImportLibrary::from_def(parsed, machine, flavor);
+    assert_eq!(written(&made), wanted, "{text:?}, {machine:?}, {flavor:?}");
     wanted.is_ok()
 }
 
