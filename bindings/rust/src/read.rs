@@ -9,8 +9,8 @@ use crate::{Flavor, MachineType};
 /// The attributes of an export: the constants `IMPLIB_EXPORT_` of the header.
 const NO_NAME: u64 = 1;
 const DATA: u64 = 2;
-const PRIVATE: u64 = 4;
-const CONSTANT: u64 = 8;
+const CONSTANT: u64 = 4;
+const PRIVATE: u64 = 8;
 
 /// The definition that a text means.
 pub(crate) fn definition(text: &str, machine: MachineType) -> Result<ModuleDef, Error> {
