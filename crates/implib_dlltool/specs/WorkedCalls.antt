@@ -9,7 +9,7 @@ use Rattle.implib_dlltool.specs.declared.request.CalledAs.TheVariants.{Itself}
 use Rattle.implib_dlltool.specs.declared.request.Caller.{Caller}
 use Rattle.implib_dlltool.specs.Arguments.{Given, Switched}
 use Rattle.implib_dlltool.specs.Disk.{DiskView}
-use Rattle.implib_dlltool.specs.Program.{answer_status, definition_in, export_lines, verdict}
+use Rattle.implib_dlltool.specs.Program.{answer_status, definition_in, verdict}
 use Rattle.implib_dlltool.specs.Reports.{Complains, OfWriting, Refuses}
 use Rattle.implib_dlltool.specs.Request.{Asks, AsksHelp, GoesToStandard, HasEmptyDll, IsUnknownFlavor, IsUnknownMachine, LacksDefinition, RequestView, task_of}
 use Rattle.implib_dlltool.specs.Worked.{mingw_options, rustc_options}
@@ -20,6 +20,7 @@ use Rattle.implib_rules.specs.declared.places.Place.{Place}
 use Rattle.implib_rules.specs.declared.places.Site.{Site}
 use Rattle.implib_rules.specs.declared.places.Site.TheVariants as site
 use Rattle.implib_rules.specs.declared.warnings.words.Attribute.TheVariants.{Data}
+use Rattle.implib_rules.specs.Places.{export_lines}
 use Rattle.implib_rules.specs.WorkedNames.{killing, plain, usual}
 
 -- the program called by its own name, and by one of I386 whose ways are the same

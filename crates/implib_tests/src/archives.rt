@@ -2,8 +2,8 @@
 
 mod many;
 
-use implib_archive::{Archive, Error, Fault, Kind, WriteError};
 use implib::Member;
+use implib_archive::{Archive, Error, Fault, Kind, WriteError};
 use std::alloc::{AllocError, Global};
 use std::io;
 use std::test::Fail;

@@ -1,8 +1,8 @@
 //! Archives of many members with long names.
 
 use super::member;
-use implib_archive::{Archive, Error, Fault, Kind};
 use implib::Member;
+use implib_archive::{Archive, Error, Fault, Kind};
 use std::alloc::{AllocError, Global};
 use std::test::Fail;
 
