@@ -547,7 +547,7 @@ fn the_version_is_that_of_the_header(rt: HostRuntime) -> Result<(), Fail> {
 }
 
 // The statuses with their texts, and numbers that are none.
-const TEXTS: [(u32, &str); 40] = [
+const TEXTS: [(u32, &str); 41] = [
     (0, "success"),
     (1, "buffer too small"),
     (2, "out of memory"),
