@@ -92,6 +92,25 @@ def file_of(folder, name, text):
     return path
 
 
+# ---- source packages
+
+# How apt-get tells of a source of binary packages as the source of their sources.
+SOURCE = "deb-src $(REPO_URI) $(RELEASE) $(COMPONENT)"
+
+
+def fetch_sources(folder, *packages):
+    """Fetches source packages into a folder, from where the system has Debian's packages, by lists of its own there."""
+    call = ["apt-get", "indextargets", "--format", SOURCE, "Created-By: Packages", "Origin: Debian"]
+    lines = subprocess.run(call, check=True, capture_output=True, text=True).stdout.splitlines()
+    lists = os.path.join(folder, "lists")
+    os.makedirs(os.path.join(lists, "partial"), exist_ok=True)
+    source = file_of(folder, "sources.list", "".join(f"{line}\n" for line in sorted(set(lines))))
+    options = [f"Dir::Etc::sourcelist={source}", "Dir::Etc::sourceparts=-", f"Dir::State::lists={lists}"]
+    apt = ["apt-get", "-qq", *(word for option in options for word in ("-o", option))]
+    subprocess.run([*apt, "update"], check=True)
+    subprocess.run([*apt, "source", "--download-only", *packages], cwd=folder, check=True)
+
+
 # ---- archives
 
 
