@@ -26,6 +26,7 @@ pub mod rebased;
 pub mod rebased_pointers;
 pub mod search;
 pub mod stubs;
+pub mod tables;
 pub mod texts;
 pub mod worked;
 pub mod writing;
