@@ -10,6 +10,7 @@ pub mod exists;
 pub mod flavors;
 pub mod instructions;
 pub mod lld;
+pub mod lld_programs;
 pub mod loaded;
 pub mod msvc_archives;
 pub mod msvc_closed;
