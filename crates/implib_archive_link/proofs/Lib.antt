@@ -3,4 +3,5 @@ pub mod InBytes
 pub mod WorkedLibraries
 pub mod WorkedSearches
 pub mod Way
+pub mod LldWay
 pub mod WorkedWay

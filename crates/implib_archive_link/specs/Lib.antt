@@ -2,4 +2,5 @@ pub mod InBytes
 pub mod Results
 pub mod Worked
 pub mod Way
+pub mod LldWay
 pub mod WorkedWay

@@ -1,0 +1,5 @@
+use Rattle.implib_archive_link.proofs.LldWay.{bytes_lead_to_lld_calls}
+use Rattle.implib_archive_link.proofs.laws.bytes_lead_to_lld_calls.Goals as goal
+
+pub returns : goal.returns
+returns c = bytes_lead_to_lld_calls
