@@ -11,7 +11,7 @@ ghost use Rattle.implib.specs.declared.flavor.Flavor.TheVariants.{Gnu, Msvc};
 ghost use Rattle.implib.specs.declared.machine.MachineType.{MachineType};
 ghost use Rattle.implib_archive.specs.declared.kind.Kind.{Kind};
 ghost use Rattle.implib_archive_link.specs.InBytes.{LinkerMember, asks_for, asks_on, asks_with};
-ghost use Rattle.implib_archive_link.specs.LldWay.{LldArrives, asks_of_lld};
+ghost use Rattle.implib_archive_link.specs.LldWay.{AreCalledAlike, LldArrives, asks_of_lld};
 ghost use Rattle.implib_archive_link.specs.Results.{AreFoundInBytes, AreSearched, HaveArchive};
 ghost use Rattle.implib_archive_link.specs.Results.{IsEnding, TakesJust};
 ghost use Rattle.implib_archive_link.specs.Way.{CallsArrive};
@@ -155,6 +155,7 @@ pub fn bytes_lead_to_lld_calls()
         (libraries : List Library) (own : List Object) →
         HaveArchive kind linker (archive_of libraries) →
         IsMsvcArchive machine libraries →
+        AreCalledAlike libraries →
         TakesJust kind linker (archive_of libraries) (asks_of_lld machine own)
         (LldArrives machine libraries own) }
 {}
