@@ -5,3 +5,4 @@ pub mod WorkedSearches
 pub mod Way
 pub mod LldWay
 pub mod WorkedWay
+pub mod WorkedLldWay

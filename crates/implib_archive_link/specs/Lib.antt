@@ -4,3 +4,4 @@ pub mod Worked
 pub mod Way
 pub mod LldWay
 pub mod WorkedWay
+pub mod WorkedLldWay

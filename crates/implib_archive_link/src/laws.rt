@@ -16,6 +16,7 @@ ghost use Rattle.implib_archive_link.specs.Results.{AreFoundInBytes, AreSearched
 ghost use Rattle.implib_archive_link.specs.Results.{IsEnding, TakesJust};
 ghost use Rattle.implib_archive_link.specs.Way.{CallsArrive};
 ghost use Rattle.implib_archive_link.specs.Worked.{WorkedLibraries, WorkedSearches};
+ghost use Rattle.implib_archive_link.specs.WorkedLldWay.{WorkedLldWay};
 ghost use Rattle.implib_archive_link.specs.WorkedWay.{WorkedWay};
 ghost use Rattle.implib_link.specs.Flavors.Expansion.{descriptor_symbol_by_name};
 ghost use Rattle.implib_link.specs.Gnu.Program.{ClaimsNone};
@@ -171,4 +172,10 @@ pub fn worked_searches()
 /// call in a program's code that arrives at what foo.dll gives for it.
 pub fn worked_way()
     ensures { WorkedWay }
+{}
+
+/// The way for lld by hand, of a program that lld wrote: from the bytes of the archive of foo.dll's
+/// short imports to two calls that arrive at what foo.dll gives for `bar`.
+pub fn worked_lld_way()
+    ensures { WorkedLldWay }
 {}
