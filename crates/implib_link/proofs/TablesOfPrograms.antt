@@ -22,7 +22,7 @@ use Rattle.implib_link.specs.Flavors.LldTables.{thunks_until}
 use Rattle.implib_link.specs.Flavors.Program.{FlavorInput, IsFlavorProgram, IsMadeFor, ask_in, dll_of, exports_chosen, imported_in, symbol_in, thunks_of}
 use Rattle.implib_link.specs.Gnu.Program.{IsProgram, thunks_before}
 use Rattle.implib_link.specs.Gnu.Rebased.{table_places, table_places_in}
-use Rattle.implib_link.specs.Tables.{AreSteady, AreTables, Block, RiseFrom, Table, TableEntry, Tables, block_of_flavor, block_of_group, block_of_input, entry_of_short, imported_by_table, packed_tables, tables_at, tables_of_lld}
+use Rattle.implib_link.specs.Tables.{AreSteady, AreTables, Block, RiseFrom, Table, TableEntry, block_of_flavor, block_of_group, block_of_input, entry_of_short, imported_by_table, packed_tables, tables_at, tables_of_lld}
 use Rattle.implib_link.proofs.Flavors.LldImports.{all_at, all_define, defined_once, get_map, lld_links, nth_stands, only, stand}
 use Rattle.implib_link.proofs.Flavors.Loaded.{entry_of}
 use Rattle.implib_link.proofs.Flavors.Program.{flavors_link}

@@ -1,17 +1,14 @@
 -- The programs that lld wrote, by computing and by the laws.
-use Rattle.std.proofs.Common.{◌≡◌, ℕ, ◌+◌, ◌*◌, ◌^◌, ◌<◌, ◌≤◌, ◌⊎◌, true, List, [], ◌∷◌, ◌++◌, codes, length, Option, None, Some, refl, ap, sym, ◌∙◌, subst, inl, inr, arith}
-use Rattle.std.specs.Prelude.{Bool, bytes_eq, nat_le, slice_get, ◌&&◌, ◌||◌, ◌==◌, if◌then◌else◌}
-use Rattle.std.specs.List.{AllByRecursion, Contains, filter_map, list_all}
+use Rattle.std.proofs.Common.{◌≡◌, ℕ, ◌+◌, ◌*◌, ◌^◌, ◌<◌, ◌≤◌, ◌⊎◌, true, List, [], ◌∷◌, codes, length, None, Some, refl, ap, sym, ◌∙◌, subst, inl, inr, arith}
+use Rattle.std.specs.Prelude.{Bool, bytes_eq, slice_get, ◌&&◌, ◌==◌, if◌then◌else◌}
+use Rattle.std.specs.List.{Contains, filter_map, list_all}
 use Rattle.std.proofs.lemmas.Bool.{and_from, eq-eqb, eqb-true}
-use Rattle.implib.specs.declared.machine.MachineType.{MachineType}
 use Rattle.implib.specs.declared.machine.MachineType.TheVariants.{I386, AMD64, ARM64}
-use Rattle.implib.specs.Formats.Bytes.{u32_bytes}
 use Rattle.implib.specs.Formats.Constants.{amd64_rel32, class_external, i386_dir32}
 use Rattle.implib.specs.Formats.File.{is_defined_external}
 use Rattle.implib.specs.Formats.Object.{ASymbol, Auxiliary, Entry}
-use Rattle.implib.specs.Formats.ShortImport.{ShortImport}
 use Rattle.implib.specs.Import.{Name, Ordinal, imp_symbol}
-use Rattle.implib.specs.Link.Image.{AllApart, AreApart, Range, byte_at, range_end}
+use Rattle.implib.specs.Link.Image.{AreApart, Range, byte_at, range_end}
 use Rattle.implib.specs.Link.Load.{BytesAt}
 use Rattle.implib.specs.Link.Placement.{Placed}
 use Rattle.implib.specs.Link.Resolution.{is_undefined_external, symbol_address}
@@ -22,17 +19,16 @@ use Rattle.implib.proofs.Link.Ranges.{Among, apart_as_they_rise}
 use Rattle.implib_link.specs.Directory.{DirectoryAt}
 use Rattle.implib_link.specs.Flavors.LldImports.{IsLldProgram, imp_symbols_of, imports_of_lld, short_for}
 use Rattle.implib_link.specs.Flavors.LldTables.{ArePiecesAt, IsAskable, built, built_bytes}
-use Rattle.implib_link.specs.Flavors.LldThunks.{IsThunk, placed_thunk, thunk_section}
+use Rattle.implib_link.specs.Flavors.LldThunks.{placed_thunk, thunk_section}
 use Rattle.implib_link.specs.Gnu.Calls.{arm64_branch26, i386_rel32}
 use Rattle.implib_link.specs.Gnu.Fields.{AreLinkedBeside, LinkedCode, TakesSymbols, range_of_code}
 use Rattle.implib_link.specs.Gnu.Moves.{AreInMemory, AreMoved}
-use Rattle.implib_link.specs.Gnu.Operands.{HasBranch, HasInstruction, HasOffsetField, HasPageField, Names}
+use Rattle.implib_link.specs.Gnu.Operands.{HasBranch, Names}
 use Rattle.implib_link.specs.Gnu.Rebased.{IsRebased, table_places}
 use Rattle.implib_link.specs.Stub.{jump_reads}
 use Rattle.implib_link.specs.Tables.{AreSteady, AreTables, IsInTable, RiseFrom, Table}
 use Rattle.implib_link.specs.Worked.Calls.{given_on}
-use Rattle.implib_link.specs.Worked.LldPrograms.{RefusedTables, RefusedThunks, WorkedLldProgram, WorkedLldPrograms, addresses_on, code_of_object, code_of_thunk, eight_bytes, four_bytes, gee_on, linked_code, linked_thunk, lld_codes, lld_image_on, lld_linked_on, lld_memory, lld_moved_memory, lld_places, lld_targets, mid_on, object_section, or_thunk, own_tables, placed_object, short_files, shorts_on, tables_on, taken_address, thunk_address, zeta_on}
-use Rattle.implib_link.specs.Worked.Operands.{or_else}
+use Rattle.implib_link.specs.Worked.LldPrograms.{RefusedTables, RefusedThunks, WorkedLldProgram, WorkedLldPrograms, code_of_object, code_of_thunk, eight_bytes, four_bytes, gee_on, linked_code, linked_thunk, lld_codes, lld_image_on, lld_linked_on, lld_memory, lld_moved_memory, lld_places, lld_targets, mid_on, object_section, or_thunk, own_tables, placed_object, short_files, shorts_on, tables_on, taken_address, thunk_address, zeta_on}
 use Rattle.implib_link.specs.Worked.Programs.{symbol_of_class, symbol_on}
 use Rattle.implib_link.proofs.Flavors.LldPrograms.{lld_calls, lld_ends_in_memory, lld_leads, lld_loads_in_memory}
 use Rattle.implib_link.proofs.Flavors.LldTables.{built_pieces}
@@ -170,8 +166,10 @@ unfolding lld_opened i386_fronts
 i386_rebased =
     rebased_by 0x40_0000 0x1000_0000 i386_fronts (lld_memory I386)
     (apart_as_they_rise (2 ^ 31) i386_fronts refl) (
-      (0x40_2054, (number (lld_memory I386) 4 0x1002 0x40_2054 (0x54 ∷ 0x20 ∷ 0x40 ∷ 0 ∷ []) refl refl refl, refl)), (
-        (0x40_205C, (number (lld_memory I386) 4 0x1007 0x40_205C (0x5C ∷ 0x20 ∷ 0x40 ∷ 0 ∷ []) refl refl refl, refl)), (
+      (0x40_2054, (number (lld_memory I386) 4 0x1002 0x40_2054 (0x54 ∷ 0x20 ∷ 0x40 ∷ 0 ∷ []) refl refl refl, refl)),
+      (
+        (0x40_205C, (number (lld_memory I386) 4 0x1007 0x40_205C (0x5C ∷ 0x20 ∷ 0x40 ∷ 0 ∷ []) refl refl refl, refl)),
+        (
           (0x40_2050, (number (lld_memory I386) 4 0x1013 0x40_2050 (0x50 ∷ 0x20 ∷ 0x40 ∷ 0 ∷ []) refl refl refl, refl)),
           tt,
         ),

@@ -1,6 +1,6 @@
 -- Programs that lld-link 14.0.6 and 19.1.7 wrote for three machines, the same bytes by both: the short imports of
 -- llvm-dlltool 19.1.7, the code of an object before and after the link, the thunk, and the import tables.
-use Rattle.std.specs.Prelude.{◌≡◌, ℕ, ◌+◌, ◌<◌, List, [], ◌∷◌, ◌++◌, bytes_eq, codes, drop, length, slice_get, take, Option, None, Some, if◌then◌else◌}
+use Rattle.std.specs.Prelude.{◌≡◌, ℕ, ◌+◌, List, [], ◌∷◌, ◌++◌, codes, drop, slice_get, take, Option, None, Some}
 use Rattle.std.specs.List.{filter_map}
 use Rattle.implib.specs.declared.coff.object.Relocation.{Relocation}
 use Rattle.implib.specs.declared.machine.MachineType.{MachineType}
@@ -25,8 +25,7 @@ use Rattle.implib_link.specs.Gnu.Moves.{AreInMemory}
 use Rattle.implib_link.specs.Gnu.Operands.{AllLead, HasBranch, HasInstruction, HasOffsetField, HasPageField}
 use Rattle.implib_link.specs.Gnu.Reading.{ReadsAndWrites}
 use Rattle.implib_link.specs.Gnu.Rebased.{Place}
-use Rattle.implib_link.specs.Stub.{jump_reads}
-use Rattle.implib_link.specs.Tables.{AreSteady, AreTables, AreTablesLoaded, CanReadFrom, IsInTable, RiseFrom, Table, Tables, tables_of_lld}
+use Rattle.implib_link.specs.Tables.{AreSteady, AreTables, CanReadFrom, IsInTable, RiseFrom, Table, Tables, tables_of_lld}
 use Rattle.implib_link.specs.Worked.Calls.{given_on}
 use Rattle.implib_link.specs.Worked.Lld.{gee_bytes, mid_bytes, written_by_lld, zeta_bytes}
 use Rattle.implib_link.specs.Worked.Programs.{symbol_of_class, symbol_on}
