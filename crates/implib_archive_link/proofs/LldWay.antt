@@ -1,5 +1,5 @@
 -- The way for lld, from the bytes of an archive to the DLL.
-use Rattle.std.proofs.Common.{◌≡◌, ℕ, ◌+◌, Bool, true, false, List, [], ◌∷◌, ◌++◌, length, map, Option, None, Some, refl, ap, sym, ◌∙◌, subst, inl, inr}
+use Rattle.std.proofs.Common.{◌≡◌, ℕ, ◌+◌, Bool, true, false, List, [], ◌∷◌, ◌++◌, map, Option, None, Some, refl, ap, sym, ◌∙◌, subst, inl, inr}
 use Rattle.std.specs.Prelude.{bytes_eq, nat_le, not, ◌==◌, if◌then◌else◌}
 use Rattle.std.specs.List.{AllByRecursion, Contains, IsDistinct, cons_option, filter, filter_map, flat_map, list_any}
 use Rattle.std.specs.Option.{option_and_then}
@@ -30,7 +30,7 @@ use Rattle.implib_archive.specs.declared.kind.Kind.{Kind}
 use Rattle.implib_archive_link.specs.InBytes.{LinkerMember, objects_for}
 use Rattle.implib_archive_link.specs.LldWay.{AreCalledAlike, IsBuiltByLld, IsWantedBy, LldArrives, asks_of_lld, not_shorts, short_of_export, shorts_in}
 use Rattle.implib_archive_link.specs.Results.{HaveArchive, TakesJust}
-use Rattle.implib_archive_link.proofs.InBytes.{AreTakenBy, PullsBy, TakesBy, kept_of_map, takes_just}
+use Rattle.implib_archive_link.proofs.InBytes.{AreTakenBy, TakesBy, kept_of_map, takes_just}
 use Rattle.implib_link.specs.Flavors.Expansion.{expanded_in, is_import_for}
 use Rattle.implib_link.specs.Flavors.LldImports.{IsLldProgram, if_for, imp_symbols_of, in_small, short_for}
 use Rattle.implib_link.specs.Flavors.LldTables.{IsAskable, IsImportable}
@@ -40,7 +40,7 @@ use Rattle.implib_link.specs.Gnu.Program.{claimed_names}
 use Rattle.implib_link.specs.Gnu.Operands.{AllLead}
 use Rattle.implib_link.specs.Search.Archives.{Library, archive_of, exports_of}
 use Rattle.implib_link.specs.Search.Closed.{claims_of, references_of, unresolved}
-use Rattle.implib_link.specs.Search.MsvcArchives.{IsMsvcArchive, IsMsvcLibrary, is_short_alias}
+use Rattle.implib_link.specs.Search.MsvcArchives.{IsMsvcArchive, IsMsvcLibrary}
 use Rattle.implib_link.specs.Search.Search.{first_listed, is_listed_for}
 use Rattle.implib_link.proofs.Flavors.Claims.{claims_asking, claims_descriptor, claims_null, claims_thunk}
 use Rattle.implib_link.proofs.Flavors.Block.{FitsIn, asking}

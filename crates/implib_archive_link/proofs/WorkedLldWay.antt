@@ -1,13 +1,11 @@
 -- The way for lld by hand, by computing and by the law.
-use Rattle.std.proofs.Common.{◌≡◌, ℕ, ◌+◌, true, false, List, [], ◌∷◌, ◌++◌, codes, map, length, None, Some, refl, ap, sym, ◌∙◌, subst, inl, inr, arith}
+use Rattle.std.proofs.Common.{◌≡◌, ℕ, true, false, List, [], ◌∷◌, codes, map, refl, ap, sym, ◌∙◌, subst, inl, inr, arith}
 use Rattle.std.specs.Prelude.{bytes_eq}
-use Rattle.std.specs.List.{AllByRecursion, Contains, list_any}
+use Rattle.std.specs.List.{Contains, list_any}
 use Rattle.std.proofs.lemmas.Bool.{true≢false}
 use Rattle.implib.specs.declared.machine.MachineType.TheVariants.{AMD64}
 use Rattle.implib.specs.Formats.Constants.{amd64_rel32, class_external}
 use Rattle.implib.specs.Formats.Layout.{encoded_size}
-use Rattle.implib.specs.Formats.ShortImport.{short_import_in}
-use Rattle.implib.specs.Link.Image.{Range}
 use Rattle.implib.specs.Link.Load.{BytesAt}
 use Rattle.implib.specs.Members.MemberSpec.{MemberView}
 use Rattle.implib.specs.Members.Members.{refusal, renamed_refusal}
@@ -23,7 +21,7 @@ use Rattle.implib_archive_link.specs.InBytes.{Second}
 use Rattle.implib_archive_link.specs.LldWay.{AreCalledAlike, IsBuiltByLld, IsWantedBy, LldArrives, asks_of_lld, shorts_in}
 use Rattle.implib_archive_link.specs.Results.{HaveArchive}
 use Rattle.implib_archive_link.specs.WorkedLldWay.{WorkedLldWay, bar_short, calls_linked, is_live, live_shorts, lld_codes, lld_image, lld_libraries, lld_library, lld_linked, lld_memory, lld_own, lld_tables, lld_taken, lld_targets, loud_library, placed_calls, thunk_linked, two_calls}
-use Rattle.implib_archive_link.proofs.InBytes.{AreTakenBy, PullsBy, TakesBy, search_of}
+use Rattle.implib_archive_link.proofs.InBytes.{AreTakenBy, TakesBy, search_of}
 use Rattle.implib_archive_link.proofs.LldWay.{lld_arrives}
 use Rattle.implib_link.specs.Flavors.Expansion.{descriptor_symbol_by_name, expanded_in, import_object}
 use Rattle.implib_link.specs.Flavors.LldImports.{imports_of_lld}
@@ -43,7 +41,7 @@ use Rattle.implib_link.specs.Worked.Calls.{given_on}
 use Rattle.implib_link.specs.Worked.MsvcArchives.{short_named}
 use Rattle.implib_link.specs.Worked.Programs.{symbol_of_class}
 use Rattle.implib_link.proofs.Flavors.LldTables.{built_pieces}
-use Rattle.implib_link.proofs.Search.Lists.{among_any, any_among, contains_among}
+use Rattle.implib_link.proofs.Search.Lists.{among_any, contains_among}
 use Rattle.implib_link.proofs.Worked.Calls.{wide}
 use Rattle.implib_link.proofs.Worked.LinkedCode.{all_needed, only_absolute, rebased_by, relocated_by, relocated_test}
 use Rattle.implib_link.proofs.Worked.Lld.{lld_opened}
