@@ -150,15 +150,19 @@ pub fn bytes_lead_to_calls()
 /// the DLL gives for what it asks for; and a branch to its bare name arrives there by its thunk.
 ///
 /// The listed symbols are distinct, but for those that one library's or one export's members share.
-/// No alias is among the exports that are spoken of.
+/// No alias is among the exports that are spoken of. The search comes to an end, of any members.
 pub fn bytes_lead_to_lld_calls()
-    ensures { (kind : Kind) (linker : LinkerMember) (machine : MachineType)
+    ensures arrives { (kind : Kind) (linker : LinkerMember) (machine : MachineType)
         (libraries : List Library) (own : List Object) →
         HaveArchive kind linker (archive_of libraries) →
         IsMsvcArchive machine libraries →
         AreCalledAlike libraries →
         TakesJust kind linker (archive_of libraries) (asks_of_lld machine own)
         (LldArrives machine libraries own) }
+    ensures ends { (kind : Kind) (linker : LinkerMember) (machine : MachineType)
+        (members : List MemberView) (own : List Object) →
+        HaveArchive kind linker members →
+        IsEnding kind linker members (asks_of_lld machine own) }
 {}
 
 /// Searches by hand in the bytes of archives of two members, of a definition's members, and of
